@@ -80,6 +80,24 @@ fn find<'a, F: Files>(alloc: Global, names: Names<'a>, kept: &Snapshot, files: &
     }
 }
 
+/// What was found in files that are as they were is found in them still; in others it is what they state now.
+fn find_again<'a, F: Files>(
+    alloc: Global,
+    names: Names<'a>,
+    kept: &Snapshot,
+    found: &mut Found<'a>,
+    files: &mut F,
+)
+    requires { WasFound (names_of names) kept.now found.old }
+    ensures found { IsFound (F.holds files.old) (names_of names.entry) kept.now found.new }
+    ensures files { AreKept (F.holds files.old) (F.holds files.new) }
+{
+    if is_found_again(alloc, names, &*found, files) {
+        return;
+    }
+    *found = find(alloc, names, kept, files);
+}
+
 /// What was admitted is offered to the server, and is still there to be offered again. Memory is wanted for a copy of it too.
 fn offer(alloc: Global, server: &mut Server<Engine>, setup: &Setup) -> Result<(), ReloadFault>
     ensures told { TellsReload (world_of server.old.machine) setup.now result (world_of server.new.machine) }
@@ -147,8 +165,6 @@ pub(crate) fn look<'a, F: Files, E: Write>(
         *found = Found::Nothing;
         return Ok(());
     }
-    if !is_found_again(alloc, names, &*found, files) {
-        *found = find(alloc, names, &*kept, files);
-    }
+    find_again(alloc, names, &*kept, found, files);
     act(alloc, server, kept, found, err)
 }

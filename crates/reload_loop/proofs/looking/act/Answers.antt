@@ -1,0 +1,23 @@
+use Rattle.std.proofs.Common.{sym, subst}
+use Rattle.reload_loop.specs.declared.found.Found.{Found}
+use Rattle.reload_loop.specs.Looks.{IsFound, unchanged}
+use Rattle.reload_loop.proofs.Outcomes.{done_look, fault_look, refused_look, untouched}
+use Rattle.reload_loop.proofs.looking.act.Goals as goal
+
+pub returns-in-Nothing-clause-looks : goal.returns-in-Nothing-clause-looks
+returns-in-Nothing-clause-looks g c = λ holds names is.
+    unchanged (subst (λ (f : Found). IsFound holds names c.args.kept.now f) (sym c.in-Nothing.ensures.value) is) (untouched (g.E.Write.contents c.args.err.now))
+
+pub returns-in-Refused-clause-looks : goal.returns-in-Refused-clause-looks
+returns-in-Refused-clause-looks g c = λ holds names is.
+    refused_look holds names _ _ c.in-Refused.read _ c.in-Refused.told _ (subst (λ (f : Found). IsFound holds names c.args.kept.now f) (sym c.in-Refused.ensures.value) is) c.put_refusal.ensures
+
+pub returns-in-Ok-clause-looks : goal.returns-in-Ok-clause-looks
+returns-in-Ok-clause-looks g c = λ holds names is.
+    let f = subst (λ (f : Found). IsFound holds names c.args.kept.now f) (sym c.in-Admitted.ensures.value) is in
+    done_look holds names _ _ _ _ _ c.in-Admitted.setup f.0 f.1.other f.1.states c.in-Ok.ensures.told
+
+pub returns-in-Err-clause-looks : goal.returns-in-Err-clause-looks
+returns-in-Err-clause-looks g c = λ holds names is.
+    let f = subst (λ (f : Found). IsFound holds names c.args.kept.now f) (sym c.in-Admitted.ensures.value) is in
+    fault_look holds names _ _ c.in-Admitted.read _ _ c.in-Admitted.setup c.in-Err.fault _ f.0 f.1.other f.1.states c.in-Err.ensures.told c.put_fault.ensures
