@@ -1,10 +1,11 @@
 //! Why a reload was not done.
 
-ghost use Rattle.std.specs.Prelude.{◌≡◌, Some, IfOk};
+ghost use Rattle.std.specs.Prelude.{◌≡◌, Some};
 ghost use Rattle.runs.specs.Faults.{obstacle_in};
 
 use model::{Obstacle, Text};
 use std::alloc::AllocError;
+use std::mem;
 
 /// Why a reload was not done. What stands against it is the first that does.
 #[derive(Drop)]
@@ -22,6 +23,13 @@ pub enum ReloadFault {
     Memory,
 }
 
+/// A text out of its place.
+fn taken(text: &mut Text) -> Text
+    ensures { result ≡ text.old }
+{
+    mem::replace(text, Text::empty())
+}
+
 impl From<AllocError> for ReloadFault {
     ghost use Rattle.std.specs.Prelude.{◌≡◌};
     ghost use Rattle.runs.specs.declared.faults.ReloadFault.TheVariants.{Memory};
@@ -34,21 +42,21 @@ impl From<AllocError> for ReloadFault {
 }
 
 impl ReloadFault {
-    /// The fault that tells what stands against a reload. Its names are shared.
-    pub fn of(obstacle: &Obstacle) -> Result<ReloadFault, AllocError>
-        ensures { IfOk result (λ fault. obstacle_in fault ≡ Some obstacle.now) }
+    /// The fault that tells what stands against a reload. It takes no memory.
+    pub fn of(mut obstacle: Obstacle) -> ReloadFault
+        ensures { obstacle_in result ≡ Some obstacle }
     {
-        match obstacle {
-            Obstacle::InUse(queue) => Ok(ReloadFault::InUse(queue.clone()?)),
+        match &mut obstacle {
+            Obstacle::InUse(queue) => ReloadFault::InUse(taken(queue)),
             Obstacle::Breaks {
                 queue,
                 key,
                 guarantee,
-            } => Ok(ReloadFault::Breaks {
-                queue: queue.clone()?,
-                key: key.clone()?,
+            } => ReloadFault::Breaks {
+                queue: taken(queue),
+                key: taken(key),
                 guarantee: *guarantee,
-            }),
+            },
         }
     }
 
