@@ -1,12 +1,13 @@
 -- What a reload looks at is what the broker has.
 use Rattle.std.proofs.Common.{◌≡◌, ◌∙◌, ℕ, List, [], get_or, Option, Some, Result, sym, ap, subst, arith}
-use Rattle.std.specs.Prelude.{IfOk, option_map, slice_get, Decides}
+use Rattle.std.specs.Prelude.{IfOk, OnErr, option_map, slice_get, Decides}
 use Rattle.std.proofs.lemmas.Option.{slice_get_within, get_or_from_slice_get}
 use Rattle.std.proofs.lemmas.Result.{IfOk-weaker}
 use Rattle.model.specs.Words.{Text}
 use Rattle.model.specs.Topology.{Topology, IsIn, AreApart}
 use Rattle.model.specs.Guarantee.{Guarantee}
 use Rattle.model.specs.Broker as seen
+use Rattle.model.specs.Broker.{Broker}
 use Rattle.model.specs.declared.obstacles.Obstacle.{Obstacle}
 use Rattle.channel.specs.Open.{open_in, consumer_in}
 use Rattle.depot.specs.Store.{entries_named, queue_at, IsStoreWhole}
@@ -15,6 +16,8 @@ use Rattle.links.specs.Links.{channel_of}
 use Rattle.links.specs.Counting.{is_consumed, HasTaker}
 use Rattle.reloading.specs.Obstacles.{JudgesReload}
 use Rattle.reloading.specs.Standing.{IsConsumed, IsStanding}
+use Rattle.reloading.specs.Wanting.{MayWant}
+use Rattle.reloading.proofs.Wanting.{on_err_too}
 use Rattle.settling.proofs.Settlements.{AreNamed}
 use Rattle.broker_core.specs.Obstacles.{TellsObstacle}
 use Rattle.broker_core.specs.State.{Kept, ArePlaced, broker_of, topology_kept, names_of}
@@ -77,3 +80,13 @@ judged r kept t new gs e stands told =
     IfOk-weaker r (JudgesReload (topology_kept kept) (λ place. queue_at kept.store place) (λ place. is_consumed kept.links place) new gs) (TellsObstacle (topology_kept kept) (broker_of kept) new gs)
     (λ o judges users. judges (broker_of kept) users stands)
     (subst (λ (x : Topology). IfOk r (JudgesReload x (λ place. queue_at kept.store place) (λ place. is_consumed kept.links place) new gs)) e told)
+
+-- what memory may be wanting for, in whatever broker it is so, may be wanting for of the broker
+pub wanted : {E : Type 0} (r : Result (Option Obstacle) E) (kept : Kept) (t new : Topology) → t ≡ topology_kept kept
+    → IsStanding (topology_kept kept) (λ place. queue_at kept.store place) (λ place. is_consumed kept.links place) (broker_of kept)
+    → OnErr r ((b : Broker) → IsStanding t (λ place. queue_at kept.store place) (λ place. is_consumed kept.links place) b → MayWant t new b)
+    → OnErr r (MayWant (topology_kept kept) new (broker_of kept))
+wanted r kept t new e stands wants =
+    on_err_too r ((b : Broker) → IsStanding (topology_kept kept) (λ place. queue_at kept.store place) (λ place. is_consumed kept.links place) b → MayWant (topology_kept kept) new b) (MayWant (topology_kept kept) new (broker_of kept))
+    (λ may. may (broker_of kept) stands)
+    (subst (λ (x : Topology). OnErr r ((b : Broker) → IsStanding x (λ place. queue_at kept.store place) (λ place. is_consumed kept.links place) b → MayWant x new b)) e wants)

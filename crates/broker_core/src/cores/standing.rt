@@ -27,19 +27,22 @@ impl Standing for Core {
 }
 
 impl Core {
-    ghost use Rattle.std.specs.Prelude.{IfOk};
+    ghost use Rattle.std.specs.Prelude.{IfOk, OnErr};
     ghost use Rattle.broker_core.specs.State.{broker_of, topology_kept};
     ghost use Rattle.broker_core.specs.Obstacles.{TellsObstacle};
+    ghost use Rattle.reloading.specs.Wanting.{MayWant};
 
     /// The first thing that stands against a reload to this topology and these guarantees, or nothing where nothing does,
-    /// whoever may log in from then on. Where memory is wanting nothing is told.
+    /// whoever may log in from then on. Where memory is wanting nothing is told; it may be only where no queue in use is gone, or
+    /// where the first that is has a name of more than 22 bytes.
     pub fn obstacle(
         &self,
         alloc: Global,
         topology: &Topology,
         guarantees: &[Guarantee],
     ) -> Result<Option<Obstacle>, AllocError>
-        ensures { IfOk result (TellsObstacle (topology_kept self.now) (broker_of self.now) topology.now guarantees.now) }
+        ensures told { IfOk result (TellsObstacle (topology_kept self.now) (broker_of self.now) topology.now guarantees.now) }
+        ensures wants { OnErr result (MayWant (topology_kept self.now) topology.now (broker_of self.now)) }
     {
         self.depot.is_whole();
         places_are_named();
