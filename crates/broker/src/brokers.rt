@@ -53,6 +53,7 @@ impl Broker {
     ghost use Rattle.model.specs.declared.events.Event.TheVariants as event_is;
     ghost use Rattle.broker_core.specs.State.{nothing};
     ghost use Rattle.broker_core.specs.Obstacles.{TellsObstacle};
+    ghost use Rattle.reloading.specs.Wanting.{MayWant};
     ghost use Rattle.judging.specs.Judged.{IsAsked, WantsNoMemory};
     ghost use Rattle.broker_core.specs.Picked.{IsPick};
     ghost use Rattle.broker_core.specs.declared.picks.Pick.{Pick as Consumer};
@@ -200,14 +201,16 @@ impl Broker {
     }
 
     /// The first thing that stands against a reload to this topology and these guarantees, or nothing where nothing does, whoever
-    /// may log in from then on. Where memory is wanting nothing is told.
+    /// may log in from then on. Where memory is wanting nothing is told; it may be only where no queue in use is gone, or where the
+    /// first that is has a name of more than 22 bytes.
     pub fn obstacle(
         &self,
         alloc: Global,
         topology: &Topology,
         guarantees: &[Guarantee],
     ) -> Result<Option<Obstacle>, AllocError>
-        ensures { IfOk result (TellsObstacle (topology_kept self.now) (broker_of self.now) topology.now guarantees.now) }
+        ensures told { IfOk result (TellsObstacle (topology_kept self.now) (broker_of self.now) topology.now guarantees.now) }
+        ensures wants { OnErr result (MayWant (topology_kept self.now) topology.now (broker_of self.now)) }
     {
         self.core.obstacle(alloc, topology, guarantees)
     }
