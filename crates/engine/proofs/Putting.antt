@@ -1,5 +1,5 @@
 -- What is put in force leaves an engine one.
-use Rattle.std.proofs.Common.{◌≡◌, ◌∙◌, ℕ, List, [], ◌∷◌, Option, None, Result, Err, inl, refl, sym, ap, subst}
+use Rattle.std.proofs.Common.{◌≡◌, ◌∙◌, ℕ, List, [], ◌∷◌, Option, Some, None, Result, Err, inl, refl, sym, ap, subst}
 use Rattle.model.specs.State.{Config}
 use Rattle.model.specs.History.{Occurrence, Of_reload, Reload}
 use Rattle.model.specs.Arrivals.{World, Same, Reloads}
@@ -12,7 +12,8 @@ use Rattle.model.specs.declared.obstacles.Obstacle.{Obstacle}
 use Rattle.model.specs.declared.notes.Note.TheVariants.{Reloaded}
 use Rattle.laws.proofs.Consistency.{stay_consistent}
 use Rattle.laws.proofs.Naming.{worlds_named}
-use Rattle.runs.specs.Reloaded.{IsPutInForce, TellsReload}
+use Rattle.runs.specs.Faults.{obstacle_in}
+use Rattle.runs.specs.Reloaded.{IsPutInForce, TellsReload, IsMemory, wanting}
 use Rattle.runs.specs.declared.faults.ReloadFault.{ReloadFault}
 use Rattle.runs.specs.declared.faults.ReloadFault.TheVariants.{InUse, Breaks, Memory}
 use Rattle.certificate.specs.Admitted.{Admitted}
@@ -125,3 +126,7 @@ not_told old b offered Memory t = refused_same old (record old { broker = b }) (
 pub refused_told : (old : Parts) (b : WithTurn) (offered : Config) (r : Result Unit ReloadFault) (f g : ReloadFault) → r ≡ Err f → f ≡ g → TellsPut old.broker offered (Err g) b
     → TellsReload (world_of old) offered r (world_of (record old { broker = b }))
 refused_told old b offered r f g is same t = subst (λ (z : Result Unit ReloadFault). TellsReload (world_of old) offered z (world_of (record old { broker = b }))) (sym (is ∙ ap Err same)) (not_told old b offered g t)
+
+-- what tells an obstacle is no want of memory
+pub told_is_no_memory : {f : ReloadFault} {o : Obstacle} → obstacle_in f ≡ Some o → IsMemory (Err f) → ⊥
+told_is_no_memory {o = o} e wanting = let none : None ≡ Some o = e in absurd (cc)

@@ -2,6 +2,9 @@
 
 ghost use Rattle.std.specs.Prelude.{List};
 ghost use Rattle.model.specs.declared.messages.User.{User as MayLogIn};
+ghost use Rattle.reloading.specs.Wanting.{MayWant};
+ghost use Rattle.broker.specs.Turns.{topology_kept, broker_of};
+ghost use Rattle.runs.specs.Reloaded.{IsMemory};
 ghost use Rattle.engine.specs.Putting.{TellsPut};
 
 use crate::engines::Engine;
@@ -20,10 +23,11 @@ fn put(
     topology: Topology,
     guarantees: &[Guarantee],
 ) -> Result<(), ReloadFault>
-    ensures { (users : List MayLogIn) → TellsPut broker.old (record { topology = topology; guarantees = guarantees.now; users = users }) result broker.new }
+    ensures put { (users : List MayLogIn) → TellsPut broker.old (record { topology = topology; guarantees = guarantees.now; users = users }) result broker.new }
+    ensures wants { IsMemory result → MayWant (topology_kept broker.old) topology (broker_of broker.old) }
 {
     if let Some(obstacle) = broker.obstacle(alloc, &topology, guarantees)? {
-        return Err(ReloadFault::of(&obstacle)?);
+        return Err(ReloadFault::of(obstacle));
     }
     broker.reload(alloc, topology)?;
     Ok(())
@@ -33,14 +37,16 @@ impl Engine {
     ghost use Rattle.std.specs.Prelude.{◌≡◌, OnErr};
     ghost use Rattle.engine.specs.InForce.{in_force};
     ghost use Rattle.engine.specs.World.{world_of};
-    ghost use Rattle.runs.specs.Reloaded.{TellsReload};
+    ghost use Rattle.runs.specs.Reloaded.{TellsReload, IsMemory};
+    ghost use Rattle.reloading.specs.Wanting.{MayWant};
 
     /// Puts another topology in force, with its guarantees and who may log in. What waits is marked as what stood then, and
     /// connections stay, with their consumers, what they hold, and what they have still to say and to take.
     ///
     /// The first thing that stands against it is told: a queue that is gone while messages wait in it or consumers take
     /// from it, or else a message that by deaths could come where a guarantee forbids it. Then, and where memory is wanting,
-    /// nothing is different.
+    /// nothing is different. Memory may be wanting only where no queue in use is gone, or where the first that is has a name of more
+    /// than 22 bytes.
     pub fn reload(
         &mut self,
         alloc: Global,
@@ -49,6 +55,7 @@ impl Engine {
     ) -> Result<(), ReloadFault>
         ensures told { TellsReload (world_of self.old) (in_force checked users.items) result (world_of self.new) }
         ensures kept { OnErr result (self.new ≡ self.old) }
+        ensures wants { IsMemory result → MayWant (world_of self.old).config.topology checked.topology (world_of self.old).state.broker }
     {
         let (topology, guarantees) = checked.into_parts();
         put(alloc, &mut self.broker, topology, guarantees.as_slice())?;

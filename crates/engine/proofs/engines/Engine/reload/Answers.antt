@@ -1,7 +1,10 @@
-use Rattle.std.proofs.Common.{subst}
+use Rattle.std.proofs.Common.{◌∙◌, ap, subst}
 use Rattle.std.specs.Prelude.{Ok, Err}
 use Rattle.std.proofs.lemmas.Result.{err_from_is_err_and}
-use Rattle.runs.specs.Reloaded.{IsPutInForce, TellsReload}
+use Rattle.model.specs.Topology.{Topology}
+use Rattle.reloading.specs.Wanting.{MayWant}
+use Rattle.broker.specs.Turns.{topology_kept, broker_of}
+use Rattle.runs.specs.Reloaded.{IsPutInForce, TellsReload, IsMemory}
 use Rattle.engine.specs.InForce.{in_force}
 use Rattle.engine.specs.World.{Parts, world_of}
 use Rattle.engine.proofs.Putting.{takes, offered_sound, put_world, put_engine, refused_is, refused_engine, refused_told, tells_offered}
@@ -11,7 +14,7 @@ pub invariant_of-self : goal.invariant_of-self
 invariant_of-self c =
     let i = c.self.inside in
     let old : Parts = record { broker = i.broker; guarantees = i.guarantees.items; users = i.users.items; given = i.given; links = i.links.items } in
-    refused_engine old c.put.new.broker _ c.in_err-put.field-0.0 c.self.invariant (c.in_err-put.ensures c.args.users.items)
+    refused_engine old c.put.new.broker _ c.in_err-put.field-0.0 c.self.invariant (c.in_err-put.ensures.put c.args.users.items)
 
 pub returns-in_err-put-clause-told : goal.returns-in_err-put-clause-told
 returns-in_err-put-clause-told c =
@@ -22,21 +25,31 @@ returns-in_err-put-clause-told c =
     subst (λ (z : Parts). TellsReload (world_of z) (in_force c.args.checked c.args.users.items) c.from_residual.result (world_of (record old { broker = c.put.new.broker }))) c.self.view_is
     (refused_told old c.put.new.broker (in_force c.args.checked c.args.users.items) c.from_residual.result p.0 c.in_err-put.field-0.0 p.1 p.2
     (tells_offered i.broker c.put.new.broker c.args.checked c.args.users.items parts.result.0 c.as_slice.result.now parts.result.1.items (Err c.in_err-put.field-0.0) parts.ensures.topology c.as_slice.ensures.value parts.ensures.guarantees
-    (c.in_err-put.ensures c.args.users.items)))
+    (c.in_err-put.ensures.put c.args.users.items)))
 
 pub returns-in_err-put-clause-kept : goal.returns-in_err-put-clause-kept
 returns-in_err-put-clause-kept c =
     let i = c.self.inside in
     let old : Parts = record { broker = i.broker; guarantees = i.guarantees.items; users = i.users.items; given = i.given; links = i.links.items } in
     let p = err_from_is_err_and c.from_residual.result c.from_residual.ensures.1 in
-    rw (p.1) (rw (← c.self.view_is) (refused_is old c.put.new.broker _ c.in_err-put.field-0.0 (c.in_err-put.ensures c.args.users.items)))
+    rw (p.1) (rw (← c.self.view_is) (refused_is old c.put.new.broker _ c.in_err-put.field-0.0 (c.in_err-put.ensures.put c.args.users.items)))
+
+pub returns-in_err-put-clause-wants : goal.returns-in_err-put-clause-wants
+returns-in_err-put-clause-wants c = λ memory.
+    let i = c.self.inside in
+    let p = err_from_is_err_and c.from_residual.result c.from_residual.ensures.1 in
+    subst (λ (z : Parts). MayWant (world_of z).config.topology c.args.checked.topology (world_of z).state.broker) c.self.view_is
+    (subst (λ (t : Topology). MayWant (topology_kept i.broker) t (broker_of i.broker)) c.into_parts-topology.ensures.topology (c.in_err-put.ensures.wants (subst IsMemory (p.1 ∙ ap Err p.2) memory)))
+
+pub returns-clause-wants : goal.returns-clause-wants
+returns-clause-wants c = λ memory. elim memory [ ]
 
 pub invariant_of-self-2 : goal.invariant_of-self-2
 invariant_of-self-2 c =
     let i = c.self.inside in
     let old : Parts = record { broker = i.broker; guarantees = i.guarantees.items; users = i.users.items; given = i.given; links = i.links.items } in
     let parts = c.into_parts-topology in
-    let tells = tells_offered i.broker c.put.new.broker c.args.checked c.args.users.items parts.result.0 c.as_slice.result.now parts.result.1.items (Ok tt) parts.ensures.topology c.as_slice.ensures.value parts.ensures.guarantees (c.in_ok-put.ensures c.args.users.items) in
+    let tells = tells_offered i.broker c.put.new.broker c.args.checked c.args.users.items parts.result.0 c.as_slice.result.now parts.result.1.items (Ok tt) parts.ensures.topology c.as_slice.ensures.value parts.ensures.guarantees (c.in_ok-put.ensures.put c.args.users.items) in
     put_engine old _ _ c.self.invariant (offered_sound c.args.checked c.args.users.items parts.result.0 parts.result.1.items parts.ensures.topology parts.ensures.guarantees parts.ensures.hold parts.ensures.well_formed)
     (takes old c.put.new.broker c.args.checked c.args.users.items parts.result.1.items parts.ensures.guarantees tells)
 
@@ -45,6 +58,6 @@ returns-clause-told c =
     let i = c.self.inside in
     let old : Parts = record { broker = i.broker; guarantees = i.guarantees.items; users = i.users.items; given = i.given; links = i.links.items } in
     let parts = c.into_parts-topology in
-    let tells = tells_offered i.broker c.put.new.broker c.args.checked c.args.users.items parts.result.0 c.as_slice.result.now parts.result.1.items (Ok tt) parts.ensures.topology c.as_slice.ensures.value parts.ensures.guarantees (c.in_ok-put.ensures c.args.users.items) in
+    let tells = tells_offered i.broker c.put.new.broker c.args.checked c.args.users.items parts.result.0 c.as_slice.result.now parts.result.1.items (Ok tt) parts.ensures.topology c.as_slice.ensures.value parts.ensures.guarantees (c.in_ok-put.ensures.put c.args.users.items) in
     subst (λ (z : Parts). IsPutInForce (world_of z) (in_force c.args.checked c.args.users.items) (world_of (record old { broker = c.put.new.broker; guarantees = parts.result.1.items; users = c.args.users.items }))) c.self.view_is
     (put_world old _ _ (takes old c.put.new.broker c.args.checked c.args.users.items parts.result.1.items parts.ensures.guarantees tells))
