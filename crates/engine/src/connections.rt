@@ -37,6 +37,7 @@ ghost use Rattle.engine.specs.declared.connected.Connected as seen_link;
 
 use crate::connected::Connected;
 use crate::performing::resume_if;
+use crate::places::Places;
 use crate::turning::{Turn, turn_awake};
 use broker::Broker;
 use model::User;
@@ -46,25 +47,23 @@ use std::alloc::{AllocError, Global};
 /// An output of so many bytes pauses its connection.
 const BOUND: usize = 1_048_576;
 
-/// The place of the connection of this number: it is found at once where every connection between it and the first still
-/// stands, and else by a search.
-pub(crate) fn place_of(links: &[Connected], number: u64) -> Option<usize>
+/// The place of the connection of this number: it is found at once where it stands where it was remembered to, and else by a
+/// search.
+pub(crate) fn place_of(links: &[Connected], places: &Places, number: u64) -> Option<usize>
     requires { AreRising 0 links.now }
     ensures place { IsLinkPlace links.now number result }
     ensures within { IfSome result (λ i. i < length links.now) }
 {
-    match place_at_once(links, number) {
+    match place_at_once(links, places.guess(number), number) {
         Some(place) => Some(place),
         None => place_by_search(links, number),
     }
 }
 
-/// The place that it has where no number between the first and it is missing.
-fn place_at_once(links: &[Connected], number: u64) -> Option<usize>
+/// This place, if the connection of this number stands there.
+fn place_at_once(links: &[Connected], place: usize, number: u64) -> Option<usize>
     ensures place { IfSome result (λ i. IsLinkPlace links.now number (Some i)) }
 {
-    let first = links.first()?;
-    let place = number.checked_sub(first.number)? as usize;
     let link = links.get(place)?;
     if link.number == number {
         Some(place)
@@ -121,13 +120,15 @@ fn turn_link(
     }
 }
 
-/// Takes the connection at this place out, where it is over with no output left.
-fn sweep(links: &mut Vec<Connected>, place: usize)
+/// Takes the connection at this place out, where it is over with no output left. Those behind it are remembered where they
+/// stand then.
+fn sweep(places: &mut Places, links: &mut Vec<Connected>, place: usize)
     requires { place < length links.old.items }
     ensures { (l : seen_link.Connected) → get_or links.old.items place l ≡ l → IsSwept links.old.items place l links.new.items }
 {
     if links[place].is_gone() {
         links.remove(place);
+        places.learn_from(links, place);
     }
 }
 
@@ -138,6 +139,7 @@ pub(crate) fn turn_at(
     broker: &mut Broker,
     scratch: &mut Scratch,
     spares: &mut Spares,
+    places: &mut Places,
     links: &mut Vec<Connected>,
     place: usize,
 ) -> Result<Turn, AllocError>
@@ -148,7 +150,7 @@ pub(crate) fn turn_at(
     ensures topology { topology_kept broker.new ≡ topology_kept broker.old }
 {
     let turn = turn_link(alloc, users, broker, scratch, spares, &mut links[place]);
-    sweep(links, place);
+    sweep(places, links, place);
     turn
 }
 
@@ -169,6 +171,7 @@ fn take_from(broker: &mut Broker, spares: &mut Spares, link: &mut Connected, n: 
 pub(crate) fn take_at(
     broker: &mut Broker,
     spares: &mut Spares,
+    places: &mut Places,
     links: &mut Vec<Connected>,
     place: usize,
     n: u64,
@@ -178,7 +181,7 @@ pub(crate) fn take_at(
     ensures topology { topology_kept broker.new ≡ topology_kept broker.old }
 {
     take_from(broker, spares, &mut links[place], n);
-    sweep(links, place);
+    sweep(places, links, place);
 }
 
 /// Puts bytes behind those that the connection has still to read, unless it is over.

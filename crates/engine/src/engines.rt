@@ -17,6 +17,7 @@ ghost use Rattle.engine.specs.InForce.{in_force};
 
 use crate::connected::Connected;
 use crate::connections::{feed_at, place_of, take_at, turn_at};
+use crate::places::Places;
 use crate::pumping::pump_among;
 use crate::turning::Turn;
 use broker::Broker;
@@ -67,6 +68,7 @@ pub struct Engine {
     given: u64,
     /// Those that are not gone, in the order of their numbers.
     links: Vec<Connected>,
+    places: Places,
     scratch: Scratch,
     spares: Spares,
 }
@@ -80,6 +82,7 @@ impl Drop for Engine {
             users: _,
             given: _,
             links: _,
+            places: _,
             scratch: _,
             spares: _,
         } = self;
@@ -110,6 +113,7 @@ impl Engine {
             links: Vec::new(alloc),
             scratch: Scratch::new(alloc)?,
             spares: Spares::new(alloc)?,
+            places: Places::new(alloc)?,
         })
     }
 
@@ -121,6 +125,7 @@ impl Engine {
         ensures { OpenedNew (world_of self.old) result (world_of self.new) }
     {
         let number = next_number(&mut self.links, self.given)?;
+        self.places.learn(number, self.links.len());
         self.links.push_reserved(Connected::new(alloc, number));
         self.given = number;
         Ok(number)
@@ -134,6 +139,7 @@ impl Engine {
     {
         let number = next_number(&mut self.links, self.given)?;
         self.broker.open(alloc, number, 255, u16::from(channels))?;
+        self.places.learn(number, self.links.len());
         self.links.push_reserved(Connected::running(alloc, number));
         self.given = number;
         Ok(number)
@@ -147,7 +153,7 @@ impl Engine {
         ensures err { OnErr result (self.new ≡ self.old) }
         ensures full { OnErr result (room_for self.old c < length bytes.now) }
     {
-        match place_of(&self.links, c) {
+        match place_of(&self.links, &self.places, c) {
             Some(place) => feed_at(&mut self.links, place, bytes),
             None => Ok(()),
         }
@@ -166,13 +172,14 @@ impl Engine {
         ensures awake { OnErr result (is_awake (world_of self.old) c ≡ true) }
         ensures more { OnErr result (HasMore ((world_of self.old).wire c).kept ((world_of self.old).wire c).stream) }
     {
-        match place_of(&self.links, c) {
+        match place_of(&self.links, &self.places, c) {
             Some(place) => turn_at(
                 alloc,
                 self.users.as_slice(),
                 &mut self.broker,
                 &mut self.scratch,
                 &mut self.spares,
+                &mut self.places,
                 &mut self.links,
                 place,
             ),
@@ -196,6 +203,7 @@ impl Engine {
                     &mut self.broker,
                     &mut self.scratch,
                     &mut self.spares,
+                    &self.places,
                     &mut self.links,
                     pick,
                 )?;
@@ -209,10 +217,11 @@ impl Engine {
     pub fn sent(&mut self, c: ConnId, n: u64)
         ensures { TakesAway (world_of self.old) c n (world_of self.new) }
     {
-        if let Some(place) = place_of(&self.links, c) {
+        if let Some(place) = place_of(&self.links, &self.places, c) {
             take_at(
                 &mut self.broker,
                 &mut self.spares,
+                &mut self.places,
                 &mut self.links,
                 place,
                 n,
@@ -224,9 +233,10 @@ impl Engine {
     pub fn lose(&mut self, c: ConnId)
         ensures { IsLost (world_of self.old) c (world_of self.new) }
     {
-        if let Some(place) = place_of(&self.links, c) {
+        if let Some(place) = place_of(&self.links, &self.places, c) {
             self.broker.lose(c);
             self.links.remove(place);
+            self.places.learn_from(&self.links, place);
         }
     }
 
@@ -234,7 +244,7 @@ impl Engine {
     pub fn output(&self, c: ConnId) -> &[u8]
         ensures { result.now ≡ ((world_of self.now).wire c).output }
     {
-        match place_of(&self.links, c) {
+        match place_of(&self.links, &self.places, c) {
             Some(place) => self.links[place].output.bytes(),
             None => &[],
         }
@@ -244,7 +254,7 @@ impl Engine {
     pub fn is_over(&self, c: ConnId) -> bool
         ensures { result ≡ is_over (world_of self.now) c }
     {
-        match place_of(&self.links, c) {
+        match place_of(&self.links, &self.places, c) {
             Some(place) => self.links[place].session.is_over(),
             None => true,
         }
@@ -254,7 +264,7 @@ impl Engine {
     pub fn runs(&self, c: u64) -> bool
         ensures { result ≡ runs (world_of self.now) c }
     {
-        match place_of(&self.links, c) {
+        match place_of(&self.links, &self.places, c) {
             Some(place) => self.links[place].runs(),
             None => false,
         }

@@ -10,6 +10,7 @@ mod connections;
 mod engines;
 mod machines;
 mod performing;
+mod places;
 mod pumping;
 mod reading;
 mod setups;

@@ -10,6 +10,7 @@ ghost use Rattle.engine.specs.Pumping.{LinkPumped, LinksPumped, LinksNotPumped};
 
 use crate::connected::Connected;
 use crate::connections::place_of;
+use crate::places::Places;
 use crate::turning::put_out;
 use broker::{Broker, Pick};
 use model::Note;
@@ -61,6 +62,7 @@ pub(crate) fn pump_among(
     broker: &mut Broker,
     scratch: &mut Scratch,
     spares: &mut Spares,
+    places: &Places,
     links: &mut Vec<Connected>,
     pick: Pick,
 ) -> Result<Vec<Note>, AllocError>
@@ -73,7 +75,7 @@ pub(crate) fn pump_among(
     ensures err { OnErr result (LinksNotPumped (broker_of broker.old) pick.connection links.old.items (broker_of broker.new) links.new.items) }
     ensures topology { topology_kept broker.new ≡ topology_kept broker.old }
 {
-    match place_of(links, pick.connection) {
+    match place_of(links, places, pick.connection) {
         Some(place) => pump_link(alloc, broker, scratch, spares, &mut links[place], pick),
         None => unreachable!(),
     }
