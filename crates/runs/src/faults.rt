@@ -5,6 +5,7 @@ ghost use Rattle.runs.specs.Faults.{obstacle_in};
 
 use model::{Obstacle, Text};
 use std::alloc::AllocError;
+use std::mem;
 
 /// Why a reload was not done. What stands against it is the first that does.
 #[derive(Drop)]
@@ -22,6 +23,13 @@ pub enum ReloadFault {
     Memory,
 }
 
+/// A text out of its place.
+fn taken(text: &mut Text) -> Text
+    ensures { result ≡ text.old }
+{
+    mem::replace(text, Text::empty())
+}
+
 impl From<AllocError> for ReloadFault {
     ghost use Rattle.std.specs.Prelude.{◌≡◌};
     ghost use Rattle.runs.specs.declared.faults.ReloadFault.TheVariants.{Memory};
@@ -34,20 +42,20 @@ impl From<AllocError> for ReloadFault {
 }
 
 impl ReloadFault {
-    /// The fault that tells what stands against a reload.
-    pub fn of(obstacle: Obstacle) -> ReloadFault
+    /// The fault that tells what stands against a reload. It takes no memory.
+    pub fn of(mut obstacle: Obstacle) -> ReloadFault
         ensures { obstacle_in result ≡ Some obstacle }
     {
-        match obstacle {
-            Obstacle::InUse(queue) => ReloadFault::InUse(queue),
+        match &mut obstacle {
+            Obstacle::InUse(queue) => ReloadFault::InUse(taken(queue)),
             Obstacle::Breaks {
                 queue,
                 key,
                 guarantee,
             } => ReloadFault::Breaks {
-                queue,
-                key,
-                guarantee,
+                queue: taken(queue),
+                key: taken(key),
+                guarantee: *guarantee,
             },
         }
     }
