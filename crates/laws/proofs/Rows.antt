@@ -5,12 +5,13 @@ use Rattle.std.specs.Str.{bytes_eq}
 use Rattle.std.proofs.lemmas.Bool.{false≢true}
 use Rattle.std.proofs.lemmas.Fmt.{decimal_digit}
 use Rattle.model.specs.Words.{Text, none, word}
+use Rattle.model.specs.Tracing.{AreSafe}
 use Rattle.model.specs.Topology.{IsIn}
 use Rattle.model.specs.Frames.{Frame, frame_bytes, IsFrame, Begins}
 use Rattle.model.specs.Guarantee.{CoversKey}
 use Rattle.model.specs.Spelling.{method_frame, spelling}
 use Rattle.model.specs.Step.{consume_sends, content_or_none, return_of, returned_notes}
-use Rattle.model.specs.Routing.{Routes, Picks, none as none_picked, default, here, routed}
+use Rattle.model.specs.Routing.{Routes, Picks, none as none_picked, default, here, routed, Later}
 use Rattle.model.specs.Topology.{Topology}
 use Rattle.model.specs.Consuming.{is_in_use, server_tag, first_free}
 use Rattle.model.specs.Broker.{Consumer, Broker}
