@@ -38,7 +38,7 @@ pub fn put_consume(out: &mut Written, queue: &[u8]) {
 }
 
 /// Appends basic.ack of this delivery tag alone.
-fn put_ack(out: &mut Written, tag: u64) {
+pub fn put_ack(out: &mut Written, tag: u64) {
     put_head(out, 13);
     out.put(&[0, 60, 0, 80]);
     out.put(tag.to_be_bytes().as_slice());

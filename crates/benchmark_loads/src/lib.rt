@@ -1,6 +1,7 @@
 //! What benchmarks measure: loads by name, guarantees with their certificates, large files, and what clients write.
 #![tactic(auto)]
 
+pub mod ack_loads;
 pub mod consumers;
 pub mod delivery_loads;
 pub mod files;

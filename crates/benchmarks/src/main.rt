@@ -1,8 +1,9 @@
-//! Benchmarks: what publishes, deliveries, losses, purges, openings and reloads cost the engine, what waiting messages and open
-//! connections take, and how long matchers, routes, large definitions files and certificates take. What is printed is to be read;
-//! nothing tests it.
+//! Benchmarks: what publishes, deliveries, acks, losses, purges, openings and reloads cost the engine, what waiting messages and
+//! open connections take, and how long matchers, routes, large definitions files and certificates take. What is printed is to be
+//! read; nothing tests it.
 #![tactic(auto)]
 
+mod acks;
 mod certificates;
 mod definitions_files;
 mod deliveries;
@@ -19,7 +20,7 @@ use std::{env, io};
 
 /// How the program is called.
 const USAGE: &str =
-    "benchmarks openings|strangers|memory|deliveries|removals|reloads|publishes [NAME]|matchers|routes|files|certificates|all: prints what connections, messages, reloads, matchers, routes, large definitions files and certificates cost";
+    "benchmarks openings|strangers|memory|deliveries|acks|removals|reloads|publishes [NAME]|matchers|routes|files|certificates|all: prints what connections, messages, reloads, matchers, routes, large definitions files and certificates cost";
 
 /// Measures all. Memory comes early, since what is measured later takes what was given back.
 fn measure_all(rt: &HostRuntime) -> io::Result<()> {
@@ -28,6 +29,7 @@ fn measure_all(rt: &HostRuntime) -> io::Result<()> {
     memory::measure_all(rt)?;
     reloads::measure_all(rt)?;
     deliveries::measure_all(rt)?;
+    acks::measure_all(rt)?;
     removals::measure_all(rt)?;
     publishes::measure_all(rt)?;
     matchers::measure_all(rt)?;
@@ -43,6 +45,7 @@ fn measure(rt: &HostRuntime, word: &str) -> io::Result<()> {
         "strangers" => strangers::measure_all(rt),
         "memory" => memory::measure_all(rt),
         "deliveries" => deliveries::measure_all(rt),
+        "acks" => acks::measure_all(rt),
         "removals" => removals::measure_all(rt),
         "reloads" => reloads::measure_all(rt),
         "publishes" => publishes::measure_all(rt),

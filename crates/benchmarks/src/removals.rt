@@ -46,7 +46,7 @@ impl Part for Losing {
 }
 
 /// How many of so many messages are left in the queue `q` to be delivered.
-fn left_of(engine: &mut Measured, alloc: Global, messages: u64) -> u64 {
+pub fn left_of(engine: &mut Measured, alloc: Global, messages: u64) -> u64 {
     let consumer = engine.open_ready();
     let mut consume = Written::new(alloc);
     put_consume(&mut consume, b"q");

@@ -5,3 +5,4 @@ pub mod Seating
 pub mod Numbering
 pub mod Halving
 pub mod Moving
+mod Marking

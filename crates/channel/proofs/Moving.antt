@@ -1,13 +1,12 @@
 -- Queues at other places: each element of a list is changed in turn; tags, numbers and counts stay, and so do names.
-use Rattle.std.proofs.Common.{◌≡◌, ℕ, zero, suc, ◌+◌, ◌<◌, List, [], ◌∷◌, ◌++◌, length, get_or, set, map, take, drop, refl, sym, ap, ◌∙◌, arith}
+use Rattle.std.proofs.Common.{◌≡◌, ℕ, zero, suc, ◌+◌, ◌<◌, List, [], ◌∷◌, ◌++◌, length, get_or, set, map, take, drop, refl, sym, ap, ◌∙◌, arith, Bool, true, false, cond}
 use Rattle.std.specs.List.{AllByRecursion}
 use Rattle.std.proofs.lemmas.List.{length-map, drop-map}
 use Rattle.model.specs.Words.{Text}
 use Rattle.model.specs.Broker as seen
-use Rattle.model.specs.Settling.{Rises}
 use Rattle.model.specs.Prefetch.{is_to, is_delivery, count_to}
 use Rattle.laws.proofs.Counts.{count-map}
-use Rattle.channel.specs.Outstanding.{tag_of, taker_of, AreBefore}
+use Rattle.channel.specs.Outstanding.{taker_of, given_tag, is_waiting, waiting, AreInOrder}
 use Rattle.channel.specs.Seats.{Seated, SeatsAreCounted, AreNumbered, consumers_of, counts_of}
 use Rattle.channel.specs.Open.{Open, outstanding_in, consumer_in, open_in}
 use Rattle.channel.specs.Moving.{outstanding_moved, consumer_moved, seat_moved, open_moved, IsNamedAlike, AreNamedAlike}
@@ -31,25 +30,30 @@ one_changed f xs i d lt = let e : suc i ≡ i + 1 = omega arith in one_more_chan
 
 -- ---- what is outstanding
 
-tag_stays : (places : List ℕ) (os : List Outstanding) (i : ℕ) (d : Outstanding) → tag_of (get_or (map (outstanding_moved places) os) i d) ≡ tag_of (get_or os i d)
-tag_stays places [] i d = refl
-tag_stays places (o ∷ os) zero d = refl
-tag_stays places (o ∷ os) (suc i) d = tag_stays places os i d
+given_stays : (places : List ℕ) (os : List Outstanding) (i : ℕ) (d : Outstanding) → given_tag (get_or (map (outstanding_moved places) os) i d) ≡ given_tag (get_or os i d)
+given_stays places [] i d = refl
+given_stays places (o ∷ os) zero d = refl
+given_stays places (o ∷ os) (suc i) d = given_stays places os i d
 
-pub moved_rises : (places : List ℕ) (os : List Outstanding) → Rises tag_of os → Rises tag_of (map (outstanding_moved places) os)
-moved_rises places os rises i j d lt within =
-    let l = length-map os (outstanding_moved places) in
-    let a = tag_stays places os i d in
-    let b = tag_stays places os j d in
-    let r = rises i j d lt (omega arith) in
-    omega arith
+pub moved_order : (last : ℕ) (places : List ℕ) (os : List Outstanding) → AreInOrder last os → AreInOrder last (map (outstanding_moved places) os)
+moved_order last places os order = record {
+  rises = λ i j d lt within.
+      let l = length-map os (outstanding_moved places) in
+      let a = given_stays places os i d in
+      let b = given_stays places os j d in
+      let r = order.rises i j d lt (omega arith) in
+      omega arith;
+  most = λ k d within. let l = length-map os (outstanding_moved places) in let a = given_stays places os k d in let m = order.most k d (omega arith) in omega arith;
+}
 
-pub moved_before : (tag : ℕ) (places : List ℕ) (os : List Outstanding) → AreBefore tag os → AreBefore tag (map (outstanding_moved places) os)
-moved_before tag places os before k d within =
-    let l = length-map os (outstanding_moved places) in
-    let a = tag_stays places os k d in
-    let r = before k d (omega arith) in
-    omega arith
+pub moved_waiting : (places : List ℕ) (os : List Outstanding) → waiting (map (outstanding_moved places) os) ≡ map (outstanding_moved places) (waiting os)
+moved_waiting places [] = refl
+moved_waiting places (o ∷ os) = go (is_waiting o) (moved_waiting places os)
+  where
+    go : (b : Bool) → waiting (map (outstanding_moved places) os) ≡ map (outstanding_moved places) (waiting os)
+        → cond b (outstanding_moved places o ∷ waiting (map (outstanding_moved places) os)) (waiting (map (outstanding_moved places) os)) ≡ map (outstanding_moved places) (cond b (o ∷ waiting os) (waiting os))
+    go true e = ap (λ (ys : List Outstanding). outstanding_moved places o ∷ ys) e
+    go false e = e
 
 -- behind the start, as everywhere
 pub drop_moved : (places : List ℕ) (start : ℕ) (os : List Outstanding) → drop start (map (outstanding_moved places) os) ≡ map (outstanding_moved places) (drop start os)

@@ -1,13 +1,13 @@
--- What a tag takes of outstanding deliveries whose tags rise.
-use Rattle.std.proofs.Common.{◌≡◌, ℕ, ◌+◌, ◌<◌, ◌≤◌, List, ◌++◌, length, get_or, take, drop, refl, sym, ap, ◌∙◌, arith, Bool, true, false, cond, not, Some, leb, eqb, eq-eqb, inl, inr}
-use Rattle.std.specs.Prelude.{filter, ◌⊎◌, ◌==◌, ◌&&◌}
+-- What a tag takes of outstanding deliveries whose tags rise, with the places between of what was settled before.
+use Rattle.std.proofs.Common.{◌≡◌, ℕ, zero, suc, ◌+◌, ◌<◌, ◌≤◌, List, [], ◌∷◌, ◌++◌, length, get_or, take, drop, refl, sym, ap, ◌∙◌, arith, Bool, true, false, cond, not, Some, leb, eqb, eq-eqb, inl, inr}
+use Rattle.std.specs.Prelude.{filter, ◌⊎◌, ◌==◌, ◌&&◌, ◌||◌, nat_le, if◌then◌else◌}
 use Rattle.std.specs.List.{list_any}
 use Rattle.std.proofs.lemmas.Bool.Decides.{eqb_tells, leb_tells}
 use Rattle.std.proofs.lemmas.List.Kept.{AllPairs-filter}
+use Rattle.std.proofs.lemmas.List.Elements.{filter-append, filter_passes}
 use Rattle.channel.proofs.Runs.{none_any, one_any, PassWithin, passed, failed}
 use Rattle.model.specs.Settling.{has_tag, takes, is_refused, settled, kept, Rises}
-use Rattle.std.proofs.lemmas.List.Elements.{All-filter}
-use Rattle.channel.specs.Outstanding.{tag_of, AreBefore}
+use Rattle.channel.specs.Outstanding.{tag_of, given_tag, is_waiting, waiting, IsTagAt}
 use Rattle.channel.specs.declared.pending.Outstanding.{Outstanding}
 
 not_equal : (a b : ℕ) → ((a ≡ b) → ⊥) → eqb a b ≡ false
@@ -19,51 +19,108 @@ not_le a b h = elim (leb_tells a b) [ inl p ↦ absurd (let q = p.1 in omega ari
 is_le : (a b : ℕ) → a ≤ b → leb a b ≡ true
 is_le a b h = elim (leb_tells a b) [ inl p ↦ p.0 | inr p ↦ absurd (let q = p.1 in omega arith) ]
 
--- the tag at place i
-pub record IsTagAt (os : List Outstanding) (i tag : ℕ) : Type 0 where
-  pub within : i < length os
-  pub there : (d : Outstanding) → (get_or os i d).tag ≡ tag
+-- ---- places and what waits
 
-pub one_passes : (os : List Outstanding) (i tag : ℕ) → Rises tag_of os → IsTagAt os i tag → PassWithin (takes tag_of tag false) os i (i + 1)
+-- what waits has the tag under which it was given out
+pub waits_is : (o : Outstanding) → is_waiting o ≡ true → given_tag o ≡ o.tag
+waits_is o w = go (o.tag == 0) w
+  where
+    go : (b : Bool) → not b ≡ true → cond b o.arrival o.tag ≡ o.tag
+    go true h = absurd (cc)
+    go false h = refl
+
+pub waits_by : (o : Outstanding) → (o.tag ≡ 0 → ⊥) → is_waiting o ≡ true
+waits_by o ne = ap not (not_equal o.tag 0 ne)
+
+pub waits_not : (o : Outstanding) → is_waiting o ≡ true → o.tag ≡ 0 → ⊥
+waits_not o w e = let z : is_waiting o ≡ false = ap not (eq-eqb o.tag 0 e) in let f : false ≡ true = sym z ∙ w in absurd (cc)
+
+pub at_given : (os : List Outstanding) (i tag : ℕ) → IsTagAt os i tag → (d : Outstanding) → given_tag (get_or os i d) ≡ tag
+at_given os i tag h d = waits_is (get_or os i d) (waits_by (get_or os i d) (λ z. h.waits (sym (h.there d) ∙ z))) ∙ h.there d
+
+pub at_waits : (os : List Outstanding) (i tag : ℕ) → IsTagAt os i tag → (d : Outstanding) → is_waiting (get_or os i d) ≡ true
+at_waits os i tag h d = waits_by (get_or os i d) (λ z. h.waits (sym (h.there d) ∙ z))
+
+get_same : (os : List Outstanding) (i : ℕ) (d e : Outstanding) → i < length os → get_or os i d ≡ get_or os i e
+get_same [] i d e lt = absurd (omega arith)
+get_same (x ∷ xs) zero d e lt = refl
+get_same (x ∷ xs) (suc i) d e lt = get_same xs i d e (omega arith)
+
+-- of what waits, those pass that pass as places
+both : (p q : Outstanding → Bool) → ((o : Outstanding) → is_waiting o ≡ true → p o ≡ q o) → (xs : List Outstanding) → filter p (waiting xs) ≡ waiting (filter q xs)
+both p q same [] = refl
+both p q same (x ∷ xs) = go (is_waiting x) (q x) refl (same x) (both p q same xs)
+  where
+    go : (w b : Bool) → is_waiting x ≡ w → (is_waiting x ≡ true → p x ≡ b) → filter p (waiting xs) ≡ waiting (filter q xs)
+        → filter p (cond w (x ∷ waiting xs) (waiting xs)) ≡ waiting (cond b (x ∷ filter q xs) (filter q xs))
+    go true true w e rest = ap (λ (t : Bool). cond t (x ∷ filter p (waiting xs)) (filter p (waiting xs))) (e w) ∙ ap (λ (ys : List Outstanding). x ∷ ys) rest ∙ ap (λ (t : Bool). cond t (x ∷ waiting (filter q xs)) (waiting (filter q xs))) (sym w)
+    go true false w e rest = ap (λ (t : Bool). cond t (x ∷ filter p (waiting xs)) (filter p (waiting xs))) (e w) ∙ rest
+    go false true w e rest = rest ∙ ap (λ (t : Bool). cond t (x ∷ waiting (filter q xs)) (waiting (filter q xs))) (sym w)
+    go false false w e rest = rest
+
+any_in : (p : Outstanding → Bool) (xs : List Outstanding) → list_any p (waiting xs) ≡ list_any (λ o. is_waiting o && p o) xs
+any_in p [] = refl
+any_in p (x ∷ xs) = go (is_waiting x) (any_in p xs)
+  where
+    go : (w : Bool) → list_any p (waiting xs) ≡ list_any (λ o. is_waiting o && p o) xs → list_any p (cond w (x ∷ waiting xs) (waiting xs)) ≡ ((w && p x) || list_any (λ o. is_waiting o && p o) xs)
+    go true e = ap (λ (b : Bool). p x || b) e
+    go false e = e
+
+takes_same : (tag : ℕ) (multiple : Bool) (o : Outstanding) → is_waiting o ≡ true → takes tag_of tag multiple o ≡ takes given_tag tag multiple o
+takes_same tag multiple o w = ap (λ (k : ℕ). if multiple then (if tag == 0 then true else nat_le k tag) else (k == tag)) (sym (waits_is o w))
+
+-- what waits rises
+pub waiting_rises : (os : List Outstanding) → Rises given_tag os → Rises tag_of (waiting os)
+waiting_rises os r i j d lt within =
+    let a = waits_is (get_or (waiting os) i d) (filter_passes is_waiting os i d (omega arith)) in
+    let b = waits_is (get_or (waiting os) j d) (filter_passes is_waiting os j d within) in
+    let l = AllPairs-filter (λ (x y : Outstanding). given_tag x < given_tag y) is_waiting os r i j d lt within in
+    omega arith
+
+take_len : (xs : List Outstanding) → take (length xs) xs ≡ xs
+take_len [] = refl
+take_len (x ∷ xs) = ap (λ (ys : List Outstanding). x ∷ ys) (take_len xs)
+
+drop_len : (xs : List Outstanding) → drop (length xs) xs ≡ []
+drop_len [] = refl
+drop_len (x ∷ xs) = drop_len xs
+
+-- ---- the run of places that a tag takes
+
+one_passes : (os : List Outstanding) (i tag : ℕ) → Rises given_tag os → IsTagAt os i tag → PassWithin (takes given_tag tag false) os i (i + 1)
 one_passes os i tag r h = record {
   order = omega arith;
   within = let w = h.within in omega arith;
-  before = λ k d lt. not_equal _ _ (let a = r k i d lt h.within in let b = h.there d in omega arith);
-  inside = λ k d ge lt. let e : k ≡ i = omega arith in eq-eqb _ _ (ap (λ (z : ℕ). (get_or os z d).tag) e ∙ h.there d);
-  after = λ k d ge lt. not_equal _ _ (let a = r i k d (omega arith) lt in let b = h.there d in omega arith);
+  before = λ k d lt. not_equal _ _ (let a = r k i d lt h.within in let b = at_given os i tag h d in omega arith);
+  inside = λ k d ge lt. let e : k ≡ i = omega arith in eq-eqb _ _ (ap (λ (z : ℕ). given_tag (get_or os z d)) e ∙ at_given os i tag h d);
+  after = λ k d ge lt. not_equal _ _ (let a = r i k d (omega arith) lt in let b = at_given os i tag h d in omega arith);
 }
 
-pub many_pass : (os : List Outstanding) (i tag : ℕ) → (tag ≡ 0 → ⊥) → Rises tag_of os → IsTagAt os i tag → PassWithin (takes tag_of tag true) os 0 (i + 1)
-many_pass os i tag nz r h = record {
+many_pass : (os : List Outstanding) (i tag : ℕ) → Rises given_tag os → IsTagAt os i tag → PassWithin (takes given_tag tag true) os 0 (i + 1)
+many_pass os i tag r h = record {
   order = omega arith;
   within = let w = h.within in omega arith;
   before = λ k d lt. absurd (omega arith);
-  inside = λ k d ge lt. rw (not_equal tag 0 nz) (is_le _ _ (up k d (omega arith)));
-  after = λ k d ge lt. rw (not_equal tag 0 nz) (not_le _ _ (let a = r i k d (omega arith) lt in let b = h.there d in omega arith));
+  inside = λ k d ge lt. rw (not_equal tag 0 h.waits) (is_le _ _ (up k d (omega arith)));
+  after = λ k d ge lt. rw (not_equal tag 0 h.waits) (not_le _ _ (let a = r i k d (omega arith) lt in let b = at_given os i tag h d in omega arith));
 }
   where
-    up : (k : ℕ) (d : Outstanding) → k ≤ i → (get_or os k d).tag ≤ tag
+    up : (k : ℕ) (d : Outstanding) → k ≤ i → given_tag (get_or os k d) ≤ tag
     up k d le = elim (eqb_tells k i) [
-      | inl p ↦ let e = ap (λ (z : ℕ). (get_or os z d).tag) p.1 in let b = h.there d in omega arith
-      | inr p ↦ let lt : k < i = (let q = p.1 in omega arith) in let a = r k i d lt h.within in let b = h.there d in omega arith
+      | inl p ↦ let e = ap (λ (z : ℕ). given_tag (get_or os z d)) p.1 in let b = at_given os i tag h d in omega arith
+      | inr p ↦ let lt : k < i = (let q = p.1 in omega arith) in let a = r k i d lt h.within in let b = at_given os i tag h d in omega arith
     ]
 
-pub all_pass_zero : (os : List Outstanding) → PassWithin (takes tag_of 0 true) os 0 (length os)
-all_pass_zero os = record { order = omega arith; within = omega arith; before = λ k d lt. absurd (omega arith); inside = λ k d ge lt. refl; after = λ k d ge lt. absurd (omega arith) }
-
--- a tag that stands is not refused
-pub not_refused : (os : List Outstanding) (i tag : ℕ) (multiple : Bool) → IsTagAt os i tag → is_refused tag_of tag multiple os ≡ false
-not_refused os i tag multiple h = rw (one_any (has_tag tag_of tag) os i h.within (λ d. eq-eqb _ _ (h.there d))) (same (multiple && (tag == 0)))
+-- a tag that waits is not refused
+not_refused : (os : List Outstanding) (i tag : ℕ) (multiple : Bool) → IsTagAt os i tag → is_refused tag_of tag multiple (waiting os) ≡ false
+not_refused os i tag multiple h = rw (any_in (has_tag tag_of tag) os ∙ one_any (λ o. is_waiting o && has_tag tag_of tag o) os i h.within (λ d. here d)) (same (multiple && (tag == 0)))
   where
     same : (b : Bool) → cond b false false ≡ false
     same true = refl
     same false = refl
 
-pub absent : (os : List Outstanding) (i tag : ℕ) → ((k : ℕ) (d : Outstanding) → k < i → (get_or os k d).tag < tag) → ((k : ℕ) (d : Outstanding) → i ≤ k → k < length os → tag < (get_or os k d).tag) → list_any (has_tag tag_of tag) os ≡ false
-absent os i tag below above = none_any (has_tag tag_of tag) os (λ k d lt. not_equal _ _ (go k d lt))
-  where
-    go : (k : ℕ) (d : Outstanding) → k < length os → ((get_or os k d).tag ≡ tag) → ⊥
-    go k d lt e = elim (leb_tells i k) [ inl p ↦ (let a = above k d p.1 lt in omega arith) | inr p ↦ (let a = below k d p.1 in omega arith) ]
+    here : (d : Outstanding) → (is_waiting (get_or os i d) && has_tag tag_of tag (get_or os i d)) ≡ true
+    here d = ap (λ (b : Bool). b && has_tag tag_of tag (get_or os i d)) (at_waits os i tag h d) ∙ eq-eqb _ _ (h.there d)
 
 unrefused : (tag : ℕ) (multiple : Bool) (os : List Outstanding) → is_refused tag_of tag multiple os ≡ false → settled tag_of tag multiple os ≡ Some (filter (takes tag_of tag multiple) os)
 unrefused tag multiple os e = rw e refl
@@ -71,50 +128,64 @@ unrefused tag multiple os e = rw e refl
 unkept : (tag : ℕ) (multiple : Bool) (os : List Outstanding) → is_refused tag_of tag multiple os ≡ false → kept tag_of tag multiple os ≡ filter (λ o. not (takes tag_of tag multiple o)) os
 unkept tag multiple os e = rw e refl
 
--- the run of places that is taken
+none_left : (xs : List Outstanding) → filter (λ (o : Outstanding). false) xs ≡ []
+none_left [] = refl
+none_left (x ∷ xs) = none_left xs
+
+all_left : (xs : List Outstanding) → filter (λ (o : Outstanding). true) xs ≡ xs
+all_left [] = refl
+all_left (x ∷ xs) = ap (λ (ys : List Outstanding). x ∷ ys) (all_left xs)
+
 pub settle_all : (os : List Outstanding) (tag : ℕ) (multiple : Bool) → tag ≡ 0 → multiple ≡ true
-    → (Some (take (length os) os) ≡ settled tag_of tag multiple os) × (drop (length os) os ≡ kept tag_of tag multiple os)
-settle_all os tag multiple t m = rw (t, m) (ap Some (sym (passed (takes tag_of 0 true) os 0 (length os) (all_pass_zero os))), sym (failed (takes tag_of 0 true) os 0 (length os) (all_pass_zero os)))
+    → (Some (waiting (take (length os) os)) ≡ settled tag_of tag multiple (waiting os)) × (waiting (drop (length os) os) ≡ kept tag_of tag multiple (waiting os))
+settle_all os tag multiple t m = rw (t, m) (ap Some (ap waiting (take_len os) ∙ sym (all_left (waiting os))), ap waiting (drop_len os) ∙ sym (none_left (waiting os)))
 
-pub settle_many : (os : List Outstanding) (i tag : ℕ) (multiple : Bool) → multiple ≡ true → (tag ≡ 0 → ⊥) → Rises tag_of os → IsTagAt os i tag
-    → (Some (take (i + 1) os) ≡ settled tag_of tag multiple os) × (drop (i + 1) os ≡ kept tag_of tag multiple os)
-settle_many os i tag multiple m nz r h = rw m (sym (unrefused tag true os (not_refused os i tag true h) ∙ ap Some (passed (takes tag_of tag true) os 0 (i + 1) (many_pass os i tag nz r h))), sym (unkept tag true os (not_refused os i tag true h) ∙ failed (takes tag_of tag true) os 0 (i + 1) (many_pass os i tag nz r h)))
+pub settle_many : (os : List Outstanding) (i tag : ℕ) (multiple : Bool) → multiple ≡ true → Rises given_tag os → IsTagAt os i tag
+    → (Some (waiting (take (i + 1) os)) ≡ settled tag_of tag multiple (waiting os)) × (waiting (drop (i + 1) os) ≡ kept tag_of tag multiple (waiting os))
+settle_many os i tag multiple m r h = rw m (
+  sym (unrefused tag true (waiting os) (not_refused os i tag true h) ∙ ap Some (both (takes tag_of tag true) (takes given_tag tag true) (takes_same tag true) os ∙ ap waiting (passed (takes given_tag tag true) os 0 (i + 1) (many_pass os i tag r h)))),
+  sym (unkept tag true (waiting os) (not_refused os i tag true h) ∙ both (λ o. not (takes tag_of tag true o)) (λ o. not (takes given_tag tag true o)) (λ o w. ap not (takes_same tag true o w)) os
+      ∙ ap waiting (failed (takes given_tag tag true) os 0 (i + 1) (many_pass os i tag r h))),
+)
 
-pub settle_one : (os : List Outstanding) (i tag : ℕ) (multiple : Bool) → multiple ≡ false → Rises tag_of os → IsTagAt os i tag
-    → (Some (drop i (take (i + 1) os)) ≡ settled tag_of tag multiple os) × (take i os ++ drop (i + 1) os ≡ kept tag_of tag multiple os)
-settle_one os i tag multiple m r h = rw m (sym (unrefused tag false os (not_refused os i tag false h) ∙ ap Some (passed (takes tag_of tag false) os i (i + 1) (one_passes os i tag r h))), sym (unkept tag false os (not_refused os i tag false h) ∙ failed (takes tag_of tag false) os i (i + 1) (one_passes os i tag r h)))
+pub settle_one : (os : List Outstanding) (i tag : ℕ) (multiple : Bool) → multiple ≡ false → Rises given_tag os → IsTagAt os i tag
+    → (Some (waiting (drop i (take (i + 1) os))) ≡ settled tag_of tag multiple (waiting os)) × (waiting (take i os) ++ waiting (drop (i + 1) os) ≡ kept tag_of tag multiple (waiting os))
+settle_one os i tag multiple m r h = rw m (
+  sym (unrefused tag false (waiting os) (not_refused os i tag false h) ∙ ap Some (both (takes tag_of tag false) (takes given_tag tag false) (takes_same tag false) os ∙ ap waiting (passed (takes given_tag tag false) os i (i + 1) (one_passes os i tag r h)))),
+  sym (unkept tag false (waiting os) (not_refused os i tag false h) ∙ both (λ o. not (takes tag_of tag false o)) (λ o. not (takes given_tag tag false o)) (λ o w. ap not (takes_same tag false o w)) os
+      ∙ ap waiting (failed (takes given_tag tag false) os i (i + 1) (one_passes os i tag r h)) ∙ filter-append is_waiting (take i os) (drop (i + 1) os)),
+)
 
-pub absent_by : (os : List Outstanding) (i tag : ℕ) → Rises tag_of os → ((k : ℕ) (d : Outstanding) → k < i → (get_or os k d).tag < tag) → ((k : ℕ) (d : Outstanding) → i ≤ k → k < length os → tag ≤ (get_or os k d).tag) → ((d : Outstanding) → i < length os → (get_or os i d).tag ≡ tag → ⊥) → list_any (has_tag tag_of tag) os ≡ false
-absent_by os i tag r below above here = absent os i tag below (λ k d ge lt. go k d ge lt (eqb_tells k i))
+pub absent_by : (os : List Outstanding) (i tag : ℕ) → Rises given_tag os → ((k : ℕ) (d : Outstanding) → k < i → given_tag (get_or os k d) < tag) → ((k : ℕ) (d : Outstanding) → i ≤ k → k < length os → tag ≤ given_tag (get_or os k d))
+    → (IsTagAt os i tag → ⊥) → list_any (has_tag tag_of tag) (waiting os) ≡ false
+absent_by os i tag r below above here = any_in (has_tag tag_of tag) os ∙ none_any (λ o. is_waiting o && has_tag tag_of tag o) os (λ k d lt. each k d lt (is_waiting (get_or os k d)) refl)
   where
-    go : (k : ℕ) (d : Outstanding) → i ≤ k → k < length os → ((eqb k i ≡ true) × (k ≡ i)) ⊎ ((eqb k i ≡ false) × ((k ≡ i) → ⊥)) → tag < (get_or os k d).tag
-    go k d ge lt (inl p) = let a = above k d ge lt in let b : ((get_or os k d).tag ≡ tag) → ⊥ = (λ e. here d (omega (arith, p.1)) (ap (λ (z : ℕ). (get_or os z d).tag) (sym p.1) ∙ e)) in omega arith
-    go k d ge lt (inr p) = let l : i < length os = omega arith in let a = above i d (omega arith) l in let ne = p.1 in let b = r i k d (omega arith) lt in omega arith
+    stray : (k : ℕ) (d : Outstanding) → k < length os → is_waiting (get_or os k d) ≡ true → (get_or os k d).tag ≡ tag → ((eqb k i ≡ true) × (k ≡ i)) ⊎ ((eqb k i ≡ false) × ((k ≡ i) → ⊥)) → ⊥
+    stray k d lt w e (inl p) = here (record {
+      within = let q = p.1 in omega arith;
+      there = λ x. ap (λ (o : Outstanding). o.tag) (ap (λ (z : ℕ). get_or os z x) (sym p.1) ∙ get_same os k x d lt) ∙ e;
+      waits = λ z. waits_not (get_or os k d) w (e ∙ z);
+    })
+    stray k d lt w e (inr p) =
+        let g = waits_is (get_or os k d) w in
+        let ne = p.1 in
+        elim (leb_tells i k) [
+          | inl q ↦ (let ge = q.1 in let l : i < length os = omega arith in let a = above i d (omega arith) l in let b = r i k d (omega arith) lt in omega arith)
+          | inr q ↦ (let small = q.1 in let a = below k d (omega arith) in omega arith)
+        ]
 
--- what stays outstanding still rises
-pub kept_rises : (tag : ℕ) (multiple : Bool) (os : List Outstanding) → Rises tag_of os → Rises tag_of (kept tag_of tag multiple os)
-kept_rises tag multiple os r = go (is_refused tag_of tag multiple os)
-  where
-    go : (b : Bool) → Rises tag_of (cond b os (filter (λ o. not (takes tag_of tag multiple o)) os))
-    go true = r
-    go false = AllPairs-filter (λ (a b : Outstanding). a.tag < b.tag) (λ o. not (takes tag_of tag multiple o)) os r
+    each : (k : ℕ) (d : Outstanding) → k < length os → (b : Bool) → is_waiting (get_or os k d) ≡ b → (b && has_tag tag_of tag (get_or os k d)) ≡ false
+    each k d lt true w = not_equal _ _ (λ e. stray k d lt w e (eqb_tells k i))
+    each k d lt false w = refl
 
-pub up_to : (os : List Outstanding) (m tag : ℕ) → Rises tag_of os → m < length os → ((d : Outstanding) → (get_or os m d).tag < tag) → (k : ℕ) (d : Outstanding) → k < m + 1 → (get_or os k d).tag < tag
+pub up_to : (os : List Outstanding) (m tag : ℕ) → Rises given_tag os → m < length os → ((d : Outstanding) → given_tag (get_or os m d) < tag) → (k : ℕ) (d : Outstanding) → k < m + 1 → given_tag (get_or os k d) < tag
 up_to os m tag r lt h k d le = elim (eqb_tells k m) [
-  | inl p ↦ let e = ap (λ (z : ℕ). (get_or os z d).tag) p.1 in let b = h d in omega arith
+  | inl p ↦ let e = ap (λ (z : ℕ). given_tag (get_or os z d)) p.1 in let b = h d in omega arith
   | inr p ↦ let ne = p.1 in let a = r k m d (omega arith) lt in let b = h d in omega arith
 ]
 
-pub from_on : (os : List Outstanding) (m tag : ℕ) → Rises tag_of os → ((d : Outstanding) → tag ≤ (get_or os m d).tag) → (k : ℕ) (d : Outstanding) → m ≤ k → k < length os → tag ≤ (get_or os k d).tag
+pub from_on : (os : List Outstanding) (m tag : ℕ) → Rises given_tag os → ((d : Outstanding) → tag ≤ given_tag (get_or os m d)) → (k : ℕ) (d : Outstanding) → m ≤ k → k < length os → tag ≤ given_tag (get_or os k d)
 from_on os m tag r h k d ge lt = elim (eqb_tells k m) [
-  | inl p ↦ let e = ap (λ (z : ℕ). (get_or os z d).tag) p.1 in let b = h d in omega arith
+  | inl p ↦ let e = ap (λ (z : ℕ). given_tag (get_or os z d)) p.1 in let b = h d in omega arith
   | inr p ↦ let ne = p.1 in let a = r m k d (omega arith) lt in let b = h d in omega arith
 ]
-
--- what stays outstanding is still before the next tag
-pub kept_before : (next tag : ℕ) (multiple : Bool) (os : List Outstanding) → AreBefore next os → AreBefore next (kept tag_of tag multiple os)
-kept_before next tag multiple os b = go (is_refused tag_of tag multiple os)
-  where
-    go : (r : Bool) → AreBefore next (cond r os (filter (λ o. not (takes tag_of tag multiple o)) os))
-    go true = b
-    go false = All-filter (λ o. not (takes tag_of tag multiple o)) (λ (o : Outstanding). o.tag < next) os b

@@ -1,12 +1,12 @@
 //! What is kept of an open channel.
 
-ghost use Rattle.std.specs.Prelude.{◌≡◌, ◌<◌, ◌≤◌, List, None, true, false, OnOk, OnErr, is_some, option_map};
+ghost use Rattle.std.specs.Prelude.{◌≡◌, ◌+◌, ◌*◌, ◌<◌, ◌≤◌, List, length, None, true, false, OnOk, OnErr, is_some, option_map};
 ghost use Rattle.model.specs.Words.{Text as Name};
 ghost use Rattle.model.specs.Consuming.{without_consumer};
 ghost use Rattle.model.specs.Settling.{settled};
 ghost use Rattle.model.specs.Step.{started, next_of, is_spent};
 ghost use Rattle.model.specs.Prefetch.{has_tag_left};
-ghost use Rattle.channel.specs.Outstanding.{tag_of};
+ghost use Rattle.channel.specs.Outstanding.{tag_of, waiting};
 ghost use Rattle.channel.specs.Deliveries.{consumer_at};
 ghost use Rattle.channel.specs.Open.{nothing_given, with_qos, given_on, settled_on, without_settled, without_named, consumers_from, open_in, SeatsConsumer, TellsTaker};
 ghost use Rattle.channel.specs.Moving.{open_moved};
@@ -219,16 +219,18 @@ impl Channel {
         self.deliveries.give_settled();
     }
 
-    /// All that is outstanding, in tag order.
+    /// All that is outstanding, in tag order, with the places between of what was settled before: at most as many again, and 32.
     pub fn outstanding(&self) -> &[Outstanding]
-        ensures { result.now ≡ self.now.given.outstanding }
+        ensures all { waiting result.now ≡ self.now.given.outstanding }
+        ensures few { length result.now ≤ 2 * length self.now.given.outstanding + 32 }
     {
         self.deliveries.outstanding()
     }
 
-    /// What this tag settles, in tag order; none where it is refused, with 406. Source: AMQP 0-9-1, basic.ack.
+    /// What this tag settles, in tag order, with the places between of what was settled before; none where it is refused, with
+    /// 406. Source: AMQP 0-9-1, basic.ack.
     pub fn settle(&self, tag: u64, multiple: bool) -> Option<&[Outstanding]>
-        ensures { option_map (λ s. s.now) result ≡ settled tag_of tag multiple self.now.given.outstanding }
+        ensures { option_map (λ s. waiting s.now) result ≡ settled tag_of tag multiple self.now.given.outstanding }
     {
         self.deliveries.settle(tag, multiple)
     }

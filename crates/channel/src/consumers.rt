@@ -1,10 +1,10 @@
 //! The consumers of a channel, and what they may be given.
 
-ghost use Rattle.std.specs.Prelude.{cond, ◌≡◌, ◌<◌, ◌≤◌, ◌-◌, ◌^◌, None, IfSome, length, map, find, filter, count_by, not, option_map, true, vec_len, vec_capacity};
+ghost use Rattle.std.specs.Prelude.{cond, ◌&&◌, ◌≡◌, ◌<◌, ◌≤◌, ◌-◌, ◌^◌, None, IfSome, length, map, find, filter, count_by, not, option_map, true, false, vec_len, vec_capacity};
 ghost use Rattle.model.specs.declared.messages.Taker.TheVariants as taker;
 ghost use Rattle.std.specs.List.{list_any, position_from, All};
-ghost use Rattle.model.specs.Prefetch.{is_to, is_delivery, is_below, count_to, count_given};
-ghost use Rattle.channel.specs.Outstanding.{taker_of};
+ghost use Rattle.model.specs.Prefetch.{is_to, is_delivery, is_below};
+ghost use Rattle.channel.specs.Outstanding.{is_waiting, waiting};
 ghost use Rattle.channel.specs.Seats.{consumers_of, is_numbered, has_name, takes_from, counted_in, counted_out, uncounted, may_held, IsSeatAt, NumbersRise};
 ghost use Rattle.channel.specs.Moving.{seat_moved};
 
@@ -172,26 +172,26 @@ pub(crate) fn one_if_consumed(by: &Taker) -> usize
     if is_consumed(by) { 1 } else { 0 }
 }
 
-/// How many were given to the consumer of this number.
+/// How many of those that wait were given to the consumer of this number.
 pub(crate) fn given_to(given: &[Outstanding], number: u64) -> usize
-    ensures { result ≡ count_to taker_of number given.now }
+    ensures { result ≡ count_by (λ o. is_waiting o && is_to number o.by) given.now }
 {
     let mut count = 0;
     for one in given {
-        if is_its(&one.by, number) {
+        if one.is_waiting() & is_its(&one.by, number) {
             count += 1;
         }
     }
     count
 }
 
-/// How many were given to consumers.
+/// How many of those that wait were given to consumers.
 pub(crate) fn given_to_all(given: &[Outstanding]) -> usize
-    ensures { result ≡ count_given taker_of given.now }
+    ensures { result ≡ count_by (λ o. is_waiting o && is_delivery o.by) given.now }
 {
     let mut count = 0;
     for one in given {
-        if is_consumed(&one.by) {
+        if one.is_waiting() & is_consumed(&one.by) {
             count += 1;
         }
     }
@@ -244,20 +244,31 @@ fn count_one_out(seats: &mut [CountedConsumer], by: &Taker)
     }
 }
 
-/// Counts those no more that are settled, one after another.
-fn count_each_out(seats: &mut [CountedConsumer], gone: &[Outstanding])
+/// Counts this one no more, where it waits.
+fn count_waiting_out(seats: &mut [CountedConsumer], one: &Outstanding)
     requires { NumbersRise (consumers_of seats.old) }
-    ensures { seats.new ≡ map (counted_out gone.now) seats.old }
+    ensures yes { is_waiting one.now ≡ true → seats.new ≡ map (uncounted one.now.by) seats.old }
+    ensures no { is_waiting one.now ≡ false → seats.new ≡ seats.old }
 {
-    for one in gone {
+    if one.is_waiting() {
         count_one_out(seats, &one.by);
     }
 }
 
-/// Counts those no more that are settled.
+/// Counts those that wait no more, one after another.
+fn count_each_out(seats: &mut [CountedConsumer], gone: &[Outstanding])
+    requires { NumbersRise (consumers_of seats.old) }
+    ensures { seats.new ≡ map (counted_out (waiting gone.now)) seats.old }
+{
+    for one in gone {
+        count_waiting_out(seats, one);
+    }
+}
+
+/// Counts those that wait no more.
 pub(crate) fn count_out(seats: &mut Vec<CountedConsumer>, gone: &[Outstanding])
     requires { NumbersRise (consumers_of seats.old.items) }
-    ensures seats { seats.new.items ≡ map (counted_out gone.now) seats.old.items }
+    ensures seats { seats.new.items ≡ map (counted_out (waiting gone.now)) seats.old.items }
     ensures len { vec_len seats.new ≡ vec_len seats.old }
     ensures capacity { vec_capacity seats.new ≡ vec_capacity seats.old }
 {

@@ -21,7 +21,7 @@ pub struct Deliveries {
 }
 
 impl Model for Deliveries {
-    ghost use Rattle.channel.specs.Outstanding.{AreBefore};
+    ghost use Rattle.std.specs.Prelude.{◌<◌};
     ghost use Rattle.channel.specs.Seats.{SeatsAreCounted, AreNumbered};
     ghost use Rattle.channel.specs.Deliveries.{Given};
 
@@ -29,14 +29,14 @@ impl Model for Deliveries {
 
     ghost view = { λ d. record { next_tag = d.next_tag; next_number = d.next_number; next_name = d.next_name; each_limit = d.each_limit; limit = d.limit; consumers = d.seats.consumers; outstanding = d.pending.outstanding; room = d.pending.room; seats = d.seats.room } };
 
-    ghost invariant = { λ d. AreBefore d.next_tag d.pending.outstanding × SeatsAreCounted d.seats d.pending.outstanding × AreNumbered d.next_number d.seats.consumers };
+    ghost invariant = { λ d. (d.pending.last < d.next_tag) × SeatsAreCounted d.seats d.pending.outstanding × AreNumbered d.next_number d.seats.consumers };
 }
 
 impl Deliveries {
-    ghost use Rattle.std.specs.Prelude.{◌≡◌, ◌<◌, ◌≤◌, ◌+◌, ◌-◌, [], true, filter, count_by, not, is_some, option_map, OnOk, OnErr};
+    ghost use Rattle.std.specs.Prelude.{◌≡◌, ◌<◌, ◌≤◌, ◌+◌, ◌-◌, ◌*◌, [], length, true, filter, count_by, not, is_some, option_map, OnOk, OnErr};
     ghost use Rattle.model.specs.Settling.{settled, kept};
     ghost use Rattle.model.specs.Prefetch.{has_tag_left};
-    ghost use Rattle.channel.specs.Outstanding.{tag_of};
+    ghost use Rattle.channel.specs.Outstanding.{tag_of, waiting};
     ghost use Rattle.channel.specs.Seats.{AreNumbered, consumers_of, is_named, takes_from};
     ghost use Rattle.channel.specs.Deliveries.{with_given, with_limit, may_be_given, consumer_at, taker_at, AddsConsumer, ConsumesUnnamed, JudgesSeat, MaySeat};
     ghost use Rattle.channel.specs.Moving.{given_moved};
@@ -67,9 +67,10 @@ impl Deliveries {
         self.pending.reserve(more)
     }
 
-    /// What this tag settles, in tag order; none where it is refused, with 406. Source: AMQP 0-9-1, basic.ack.
+    /// What this tag settles, in tag order, with the places between of what was settled before; none where it is refused, with
+    /// 406. Source: AMQP 0-9-1, basic.ack.
     pub fn settle(&self, tag: u64, multiple: bool) -> Option<&[Outstanding]>
-        ensures { option_map (λ s. s.now) result ≡ settled tag_of tag multiple self.now.outstanding }
+        ensures { option_map (λ s. waiting s.now) result ≡ settled tag_of tag multiple self.now.outstanding }
     {
         self.pending.settle(tag, multiple)
     }
@@ -83,9 +84,10 @@ impl Deliveries {
         self.pending.forget(tag, multiple);
     }
 
-    /// All that is outstanding, in tag order.
+    /// All that is outstanding, in tag order, with the places between of what was settled before: at most as many again, and 32.
     pub fn outstanding(&self) -> &[Outstanding]
-        ensures { result.now ≡ self.now.outstanding }
+        ensures all { waiting result.now ≡ self.now.outstanding }
+        ensures few { length result.now ≤ 2 * length self.now.outstanding + 32 }
     {
         self.pending.all()
     }

@@ -1,77 +1,97 @@
 //! What was given out on a channel and is not settled.
 
-use crate::tags::{behind, forget_in, settled_of};
+use crate::tags::{behind, close_if, count_settled, forget_in, make_place, settled_of};
 use model::Taker;
 use std::alloc::{AllocError, Global};
 use std::marker::Model;
 
-/// A message that was given out and is not settled.
+/// A message that was given out and is not settled, or the place of one that was settled before others.
 #[derive(Clone, Copy)]
 pub struct Outstanding {
-    /// The delivery tag.
+    /// The delivery tag; 0 once it is settled.
     pub tag: u64,
     /// The queue's place in the file of definitions.
     pub queue: usize,
-    /// The queue's own number of the message's arrival there.
+    /// The queue's own number of the message's arrival there; once it is settled, the delivery tag that it had.
     pub arrival: u64,
     /// To whom it was given.
     pub by: Taker,
 }
 
-/// Messages that were given out and are not settled, in the order of their tags: those behind `start`.
+impl Outstanding {
+    ghost use Rattle.std.specs.Prelude.{◌≡◌};
+    ghost use Rattle.channel.specs.Outstanding.{is_waiting};
+
+    /// Whether it waits to be settled.
+    pub fn is_waiting(&self) -> bool
+        ensures { result ≡ is_waiting self.now }
+    {
+        self.tag != 0
+    }
+}
+
+/// Messages that were given out and are not settled, in the order of their tags: those behind `start` that wait. What was
+/// settled before others that wait keeps its place for a while, marked by tag 0.
 #[derive(Drop)]
 pub(crate) struct Unsettled {
     items: Vec<Outstanding>,
     start: usize,
+    /// How many wait.
+    count: usize,
+    /// The last tag that was given out so, 0 before the first.
+    last: u64,
 }
 
 impl Model for Unsettled {
-    ghost use Rattle.std.specs.Prelude.{◌-◌, ◌≤◌, vec_len, vec_capacity, drop};
-    ghost use Rattle.model.specs.Settling.{Rises};
-    ghost use Rattle.channel.specs.Outstanding.{OutstandingList, tag_of};
+    ghost use Rattle.std.specs.Prelude.{◌-◌, vec_capacity, drop};
+    ghost use Rattle.channel.specs.Outstanding.{OutstandingList, AreKept, waiting};
 
     ghost Value = { OutstandingList };
 
-    ghost view = { λ p. record { outstanding = drop p.start p.items.items; room = vec_capacity p.items - vec_len p.items } };
+    ghost view = { λ p. record { outstanding = waiting (drop p.start p.items.items); last = p.last; room = vec_capacity p.items - p.count } };
 
-    ghost invariant = { λ p. (p.start ≤ vec_len p.items) × Rises tag_of (drop p.start p.items.items) };
+    ghost invariant = { λ p. AreKept p.items.items p.start p.count p.last };
 }
 
 impl Unsettled {
-    ghost use Rattle.std.specs.Prelude.{◌≡◌, ◌+◌, ◌<◌, ◌≤◌, ◌^◌, ◌++◌, ◌∷◌, [], ℕ, option_map, OnOk, OnErr, length, get_or, map};
+    ghost use Rattle.std.specs.Prelude.{◌≡◌, ◌+◌, ◌*◌, ◌<◌, ◌≤◌, ◌^◌, ◌++◌, ◌∷◌, [], ℕ, option_map, OnOk, OnErr, length, map};
     ghost use Rattle.model.specs.Settling.{settled, kept, Rises};
-    ghost use Rattle.channel.specs.Outstanding.{tag_of};
+    ghost use Rattle.channel.specs.Outstanding.{tag_of, waiting};
     ghost use Rattle.channel.specs.Seats.{AreParts};
     ghost use Rattle.channel.specs.Moving.{outstanding_moved};
 
     /// Nothing is outstanding. It takes no memory.
     pub(crate) fn new(alloc: Global) -> Unsettled
-        ensures { result.outstanding ≡ [] }
+        ensures outstanding { result.outstanding ≡ [] }
+        ensures last { result.last ≡ 0 }
     {
         Unsettled {
             items: Vec::new(alloc),
             start: 0,
+            count: 0,
+            last: 0,
         }
     }
 
-    /// All that is outstanding, in tag order.
+    /// All that is outstanding, in tag order, with the places of what was settled before.
     pub(crate) fn all(&self) -> &[Outstanding]
-        ensures all { result.now ≡ self.now.outstanding }
+        ensures all { waiting result.now ≡ self.now.outstanding }
         ensures rises { Rises tag_of self.now.outstanding }
+        ensures few { length result.now ≤ 2 * length self.now.outstanding + 32 }
     {
         behind(&self.items, self.start)
     }
 
-    /// What a tag settles, in tag order.
+    /// What a tag settles, in tag order, with the places between of what was settled before.
     pub(crate) fn settle(&self, tag: u64, multiple: bool) -> Option<&[Outstanding]>
-        ensures { option_map (λ s. s.now) result ≡ settled tag_of tag multiple self.now.outstanding }
+        ensures { option_map (λ s. waiting s.now) result ≡ settled tag_of tag multiple self.now.outstanding }
     {
         settled_of(behind(&self.items, self.start), tag, multiple)
     }
 
-    /// What a tag settles, in tag order; nothing where it is refused.
+    /// The same; nothing where the tag is refused.
     pub(crate) fn gone(&self, tag: u64, multiple: bool) -> &[Outstanding]
-        ensures { AreParts self.now.outstanding result.now (kept tag_of tag multiple self.now.outstanding) }
+        ensures { AreParts self.now.outstanding (waiting result.now) (kept tag_of tag multiple self.now.outstanding) }
     {
         match self.settle(tag, multiple) {
             Some(gone) => gone,
@@ -79,37 +99,42 @@ impl Unsettled {
         }
     }
 
-    /// Takes out what a tag settles.
+    /// Takes out what a tag settles. What is kept is closed up where that is more than twice what waits, and 32.
     pub(crate) fn forget(&mut self, tag: u64, multiple: bool)
         ensures outstanding { self.new.outstanding ≡ kept tag_of tag multiple self.old.outstanding }
+        ensures last { self.new.last ≡ self.old.last }
         ensures room { self.old.room ≤ self.new.room }
     {
+        let gone = count_settled(&self.items, self.start, tag, multiple);
         self.start = forget_in(&mut self.items, self.start, tag, multiple);
+        self.count -= gone;
+        let is_wanted = is_sparse(self.items.len(), self.count);
+        self.start = close_if(&mut self.items, self.start, is_wanted);
     }
 
-    /// Makes room for so many more: by what was settled at the front, where that is most of what is kept and is enough, else by a
-    /// growth.
+    /// Makes room for so many more: what is kept is closed up where that is enough and worth while, else by a growth. Memory is
+    /// wanting only where closing up is not enough.
     pub(crate) fn reserve(&mut self, more: usize) -> Result<(), AllocError>
         ensures outstanding { self.new.outstanding ≡ self.old.outstanding }
+        ensures last { self.new.last ≡ self.old.last }
         ensures kept { self.old.room ≤ self.new.room }
         ensures room { OnOk result (more ≤ self.new.room) }
         ensures full { OnErr result (self.old.room < more) }
         ensures err { OnErr result (self.new ≡ self.old) }
     {
-        let start = self.start;
-        if start > self.items.len() / 2
-            && more <= self.items.capacity() - (self.items.len() - start)
-        {
-            drop_front(&mut self.items, start);
-            self.start = 0;
-            return Ok(());
+        let is_enough = more <= self.items.capacity() - self.count;
+        let is_worth = is_enough && is_worth_closing(&self.items, self.count, more);
+        self.start = close_if(&mut self.items, self.start, is_worth);
+        if self.items.reserve(more).is_err() && !is_enough {
+            return Err(AllocError);
         }
-        self.items.reserve(more)
+        Ok(())
     }
 
     /// Each queue that stood at a place of the table stands now at the place that it has there. It takes no memory.
     pub(crate) fn renumber(&mut self, places: &[usize])
         ensures outstanding { self.new.outstanding ≡ map (outstanding_moved places.now) self.old.outstanding }
+        ensures last { self.new.last ≡ self.old.last }
         ensures room { self.new.room ≡ self.old.room }
     {
         renumber_each(&mut self.items, places);
@@ -118,26 +143,37 @@ impl Unsettled {
     /// A message is given out.
     pub(crate) fn push(&mut self, given: Outstanding)
         requires room { 0 < self.old.room }
-        requires rises { (k : ℕ) (d : Outstanding) → k < length self.old.outstanding → (get_or self.old.outstanding k d).tag < given.tag }
+        requires rises { self.old.last < given.tag }
         ensures outstanding { self.new.outstanding ≡ self.old.outstanding ++ given ∷ [] }
+        ensures last { self.new.last ≡ given.tag }
         ensures room { self.new.room + 1 ≡ self.old.room }
         ensures bounded { length self.new.outstanding < 2 ^ 64 }
     {
+        self.start = make_place(&mut self.items, self.start);
         self.items.push_reserved(given);
+        self.count += 1;
+        self.last = given.tag;
     }
 }
 
-ghost use Rattle.std.specs.Prelude.{◌≡◌, ◌+◌, ◌≤◌, vec_len, vec_capacity, drop, map};
+ghost use Rattle.std.specs.Prelude.{◌≡◌, ◌+◌, ◌*◌, ◌≤◌, false, vec_len, vec_capacity, map};
 ghost use Rattle.channel.specs.Moving.{place_now, outstanding_moved};
 
-/// Takes the front away.
-fn drop_front(items: &mut Vec<Outstanding>, n: usize)
-    requires { n ≤ vec_len items.old }
-    ensures items { items.new.items ≡ drop n items.old.items }
-    ensures len { vec_len items.new + n ≡ vec_len items.old }
-    ensures capacity { vec_capacity items.new ≡ vec_capacity items.old }
+/// More places are kept than twice what waits, and 32.
+fn is_sparse(places: usize, count: usize) -> bool
+    requires { count ≤ places }
+    ensures { result ≡ false → places ≤ 2 * count + 32 }
 {
-    items.drain(..n);
+    let settled = places - count;
+    settled > 32 && settled - 32 > count
+}
+
+/// There is no room for so many more behind what is kept, and a quarter of it was settled.
+fn is_worth_closing(items: &Vec<Outstanding>, count: usize, more: usize) -> bool
+    requires { count ≤ vec_len items.now }
+{
+    let places = items.len();
+    more > items.capacity() - places && places - count > places / 4
 }
 
 /// Where the queue stands now that stood at this place; behind the table, at the same one.

@@ -32,7 +32,7 @@ impl Seats {
     ghost use Rattle.std.specs.Prelude.{◌≡◌, ◌+◌, ◌-◌, ◌<◌, ◌≤◌, ◌^◌, ◌++◌, ◌∷◌, [], ℕ, List, length, find, filter, count_by, map, not, ◌==◌, option_map, OnOk, OnErr};
     ghost use Rattle.std.specs.List.{list_any, All};
     ghost use Rattle.model.specs.Prefetch.{count_to};
-    ghost use Rattle.channel.specs.Outstanding.{taker_of};
+    ghost use Rattle.channel.specs.Outstanding.{taker_of, waiting};
     ghost use Rattle.channel.specs.Seats.{SeatsAreCounted, AreParts, NumbersRise, consumers_of, is_named, takes_from};
     ghost use Rattle.channel.specs.Deliveries.{may_of};
     ghost use Rattle.channel.specs.Moving.{consumer_moved, outstanding_moved};
@@ -146,12 +146,12 @@ impl Seats {
         self.given += one_if_consumed(by);
     }
 
-    /// Counts those no more that are settled.
+    /// Counts those no more that are settled now; what was settled before has a place that counts for none.
     pub(crate) fn count_out(&mut self, gone: &[Outstanding])
         requires { NumbersRise self.old.consumers }
         ensures consumers { self.new.consumers ≡ self.old.consumers }
         ensures room { self.new.room ≡ self.old.room }
-        ensures counted { (given left : List Given) → AreParts given gone.now left → SeatsAreCounted self.old given → SeatsAreCounted self.new left }
+        ensures counted { (given left : List Given) → AreParts given (waiting gone.now) left → SeatsAreCounted self.old given → SeatsAreCounted self.new left }
     {
         count_out(&mut self.seats, gone);
         self.given = self.given.saturating_sub(given_to_all(gone));

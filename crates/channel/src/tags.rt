@@ -1,26 +1,33 @@
 //! Which of the outstanding deliveries a tag settles.
 
-ghost use Rattle.std.specs.Prelude.{◌≡◌, ◌+◌, ◌<◌, ◌≤◌, ◌++◌, ℕ, vec_len, vec_capacity, length, take, drop, get_or, IfSome, IfNone, option_map, false};
+ghost use Rattle.std.specs.Prelude.{◌≡◌, ◌+◌, ◌<◌, ◌≤◌, ◌++◌, ℕ, vec_len, vec_capacity, length, take, drop, set, get_or, IfSome, IfNone, option_map, true, false, count_by};
 ghost use Rattle.std.specs.List.{list_any};
 ghost use Rattle.model.specs.Settling.{has_tag, settled, kept, Rises};
-ghost use Rattle.channel.specs.Outstanding.{tag_of};
+ghost use Rattle.channel.specs.Outstanding.{tag_of, given_tag, is_waiting, waiting, marked, IsTagAt, AreInOrder};
 
 use crate::pending::Outstanding;
 
-/// The tag at a place.
+/// The tag under which it was given out, also where it was settled.
+fn given_tag(one: &Outstanding) -> u64
+    ensures { result ≡ given_tag one.now }
+{
+    if one.tag == 0 { one.arrival } else { one.tag }
+}
+
+/// The tag under which the one at this place was given out.
 fn tag_at(given: &[Outstanding], place: usize) -> u64
     requires { place < length given.now }
-    ensures { (d : Outstanding) → (get_or given.now place d).tag ≡ result }
+    ensures { (d : Outstanding) → given_tag (get_or given.now place d) ≡ result }
 {
-    given[place].tag
+    given_tag(&given[place])
 }
 
 /// How many tags are lower, where tags rise.
 fn lower(given: &[Outstanding], tag: u64) -> usize
-    requires { Rises tag_of given.now }
+    requires { Rises given_tag given.now }
     ensures within { result ≤ length given.now }
-    ensures below { (k : ℕ) (d : Outstanding) → k < result → (get_or given.now k d).tag < tag }
-    ensures above { (k : ℕ) (d : Outstanding) → result ≤ k → k < length given.now → tag ≤ (get_or given.now k d).tag }
+    ensures below { (k : ℕ) (d : Outstanding) → k < result → given_tag (get_or given.now k d) < tag }
+    ensures above { (k : ℕ) (d : Outstanding) → result ≤ k → k < length given.now → tag ≤ given_tag (get_or given.now k d) }
 {
     let mut low = 0;
     let mut high = given.len();
@@ -35,15 +42,22 @@ fn lower(given: &[Outstanding], tag: u64) -> usize
     low
 }
 
-/// The place of a tag, where tags rise.
+/// Whether this tag waits at this place.
+fn is_at(given: &[Outstanding], place: usize, tag: u64) -> bool
+    ensures yes { result ≡ true → IsTagAt given.now place tag }
+    ensures no { result ≡ false → IsTagAt given.now place tag → ⊥ }
+{
+    tag != 0 && place < given.len() && given[place].tag == tag
+}
+
+/// The place of a tag that waits, where tags rise.
 fn place_of(given: &[Outstanding], tag: u64) -> Option<usize>
-    requires { Rises tag_of given.now }
-    ensures within { IfSome result (λ i. i < length given.now) }
-    ensures there { (d : Outstanding) → IfSome result (λ i. (get_or given.now i d).tag ≡ tag) }
-    ensures none { IfNone result (list_any (has_tag tag_of tag) given.now ≡ false) }
+    requires { Rises given_tag given.now }
+    ensures there { IfSome result (λ i. IsTagAt given.now i tag) }
+    ensures none { IfNone result (list_any (has_tag tag_of tag) (waiting given.now) ≡ false) }
 {
     let i = lower(given, tag);
-    if i < given.len() && tag_at(given, i) == tag {
+    if is_at(given, i, tag) {
         return Some(i);
     }
     None
@@ -51,12 +65,13 @@ fn place_of(given: &[Outstanding], tag: u64) -> Option<usize>
 
 /// The run of places that a tag settles.
 fn run_of(given: &[Outstanding], tag: u64, multiple: bool) -> Option<(usize, usize)>
-    requires { Rises tag_of given.now }
+    requires { Rises given_tag given.now }
     ensures within { IfSome result (λ r. (r.0 ≤ r.1) × (r.1 ≤ length given.now)) }
-    ensures run { option_map (λ r. drop r.0 (take r.1 given.now)) result ≡ settled tag_of tag multiple given.now }
-    ensures shape { IfSome result (λ r. (r.0 ≡ 0 → ⊥) → r.1 ≡ r.0 + 1) }
-    ensures rest { IfSome result (λ r. take r.0 given.now ++ drop r.1 given.now ≡ kept tag_of tag multiple given.now) }
-    ensures none { IfNone result (kept tag_of tag multiple given.now ≡ given.now) }
+    ensures run { option_map (λ r. waiting (drop r.0 (take r.1 given.now))) result ≡ settled tag_of tag multiple (waiting given.now) }
+    ensures next { IfSome result (λ r. (r.0 ≡ 0 → ⊥) → r.1 ≡ r.0 + 1) }
+    ensures there { IfSome result (λ r. (r.0 ≡ 0 → ⊥) → IsTagAt given.now r.0 tag) }
+    ensures rest { IfSome result (λ r. waiting (take r.0 given.now) ++ waiting (drop r.1 given.now) ≡ kept tag_of tag multiple (waiting given.now)) }
+    ensures none { IfNone result (kept tag_of tag multiple (waiting given.now) ≡ waiting given.now) }
 {
     if multiple && tag == 0 {
         return Some((0, given.len()));
@@ -73,10 +88,10 @@ fn run_of(given: &[Outstanding], tag: u64, multiple: bool) -> Option<(usize, usi
     }
 }
 
-/// What a tag settles.
+/// What a tag settles, with the places between of what was settled before.
 pub(crate) fn settled_of(given: &[Outstanding], tag: u64, multiple: bool) -> Option<&[Outstanding]>
-    requires { Rises tag_of given.now }
-    ensures { option_map (λ s. s.now) result ≡ settled tag_of tag multiple given.now }
+    requires { Rises given_tag given.now }
+    ensures { option_map (λ s. waiting s.now) result ≡ settled tag_of tag multiple (waiting given.now) }
 {
     match run_of(given, tag, multiple) {
         Some((from, to)) => Some(&given[..to][from..]),
@@ -84,14 +99,59 @@ pub(crate) fn settled_of(given: &[Outstanding], tag: u64, multiple: bool) -> Opt
     }
 }
 
-/// Takes one out of the middle.
-fn take_out(items: &mut Vec<Outstanding>, place: usize)
+/// How many of these wait to be settled.
+fn count_waiting(given: &[Outstanding]) -> usize
+    ensures { result ≡ count_by is_waiting given.now }
+{
+    given.iter().filter(|one| one.tag != 0).count()
+}
+
+/// How many a tag settles of those behind `start`.
+pub(crate) fn count_settled(
+    items: &Vec<Outstanding>,
+    start: usize,
+    tag: u64,
+    multiple: bool,
+) -> usize
+    requires start { start ≤ vec_len items.now }
+    requires rises { Rises given_tag (drop start items.now.items) }
+    ensures { result + length (kept tag_of tag multiple (waiting (drop start items.now.items))) ≡ length (waiting (drop start items.now.items)) }
+{
+    match settled_of(behind(items, start), tag, multiple) {
+        Some(gone) => count_waiting(gone),
+        None => 0,
+    }
+}
+
+/// The place of this one once it is settled.
+fn marked(one: &Outstanding) -> Outstanding
+    ensures { result ≡ marked one.now }
+{
+    Outstanding {
+        tag: 0,
+        queue: one.queue,
+        arrival: one.tag,
+        by: one.by,
+    }
+}
+
+/// The one at this place is settled.
+fn mark_in(items: &mut [Outstanding], place: usize)
+    requires { place < length items.old }
+    ensures { (d : Outstanding) → items.new ≡ set items.old place (marked (get_or items.old place d)) }
+{
+    let settled = marked(&items[place]);
+    items[place] = settled;
+}
+
+/// The one at this place is settled.
+fn mark(items: &mut Vec<Outstanding>, place: usize)
     requires { place < vec_len items.old }
-    ensures items { items.new.items ≡ take place items.old.items ++ drop (place + 1) items.old.items }
-    ensures len { vec_len items.new + 1 ≡ vec_len items.old }
+    ensures items { (d : Outstanding) → items.new.items ≡ set items.old.items place (marked (get_or items.old.items place d)) }
+    ensures len { vec_len items.new ≡ vec_len items.old }
     ensures capacity { vec_capacity items.new ≡ vec_capacity items.old }
 {
-    items.remove(place);
+    mark_in(items, place);
 }
 
 /// Those behind the start.
@@ -102,7 +162,8 @@ pub(crate) fn behind(items: &Vec<Outstanding>, start: usize) -> &[Outstanding]
     &items[start..]
 }
 
-/// Takes out what a tag settles of those behind `start`, and tells where the rest starts.
+/// Takes out what a tag settles of those behind `start`: the front moves over it, or its place is marked. Tells where the rest
+/// starts.
 pub(crate) fn forget_in(
     items: &mut Vec<Outstanding>,
     start: usize,
@@ -110,10 +171,11 @@ pub(crate) fn forget_in(
     multiple: bool,
 ) -> usize
     requires start { start ≤ vec_len items.old }
-    requires rises { Rises tag_of (drop start items.old.items) }
+    requires rises { Rises given_tag (drop start items.old.items) }
     ensures start { result ≤ vec_len items.new }
-    ensures kept { drop result items.new.items ≡ kept tag_of tag multiple (drop start items.old.items) }
-    ensures len { vec_len items.new ≤ vec_len items.old }
+    ensures order { (last : ℕ) → AreInOrder last (drop start items.old.items) → AreInOrder last (drop result items.new.items) }
+    ensures kept { waiting (drop result items.new.items) ≡ kept tag_of tag multiple (waiting (drop start items.old.items)) }
+    ensures len { vec_len items.new ≡ vec_len items.old }
     ensures capacity { vec_capacity items.new ≡ vec_capacity items.old }
 {
     match run_of(behind(items, start), tag, multiple) {
@@ -122,9 +184,63 @@ pub(crate) fn forget_in(
             if from == 0 {
                 start + to
             } else {
-                take_out(items, start + from);
+                mark(items, start + from);
                 start
             }
         }
     }
+}
+
+/// What is behind `start` and waits stands at the front, and nothing else.
+fn close_up(items: &mut Vec<Outstanding>, start: usize)
+    requires { start ≤ vec_len items.old }
+    ensures items { items.new.items ≡ waiting (drop start items.old.items) }
+    ensures capacity { vec_capacity items.new ≡ vec_capacity items.old }
+{
+    drop_front(items, start);
+    items.retain(|one| one.tag != 0);
+}
+
+/// Takes the front away.
+fn drop_front(items: &mut Vec<Outstanding>, n: usize)
+    requires { n ≤ vec_len items.old }
+    ensures items { items.new.items ≡ drop n items.old.items }
+    ensures len { vec_len items.new + n ≡ vec_len items.old }
+    ensures capacity { vec_capacity items.new ≡ vec_capacity items.old }
+{
+    items.drain(..n);
+}
+
+/// Closes up what is kept, where that is wanted. Tells where it starts.
+pub(crate) fn close_if(items: &mut Vec<Outstanding>, start: usize, is_wanted: bool) -> usize
+    requires start { start ≤ vec_len items.old }
+    ensures start { result ≤ vec_len items.new }
+    ensures order { (last : ℕ) → AreInOrder last (drop start items.old.items) → AreInOrder last (drop result items.new.items) }
+    ensures waiting { waiting (drop result items.new.items) ≡ waiting (drop start items.old.items) }
+    ensures fewer { vec_len items.new ≤ vec_len items.old }
+    ensures closed { is_wanted ≡ true → vec_len items.new ≡ length (waiting (drop start items.old.items)) }
+    ensures capacity { vec_capacity items.new ≡ vec_capacity items.old }
+{
+    if !is_wanted {
+        return start;
+    }
+    close_up(items, start);
+    0
+}
+
+/// Makes a place for one more by closing up, where there is none and not all wait. Tells where they start.
+pub(crate) fn make_place(items: &mut Vec<Outstanding>, start: usize) -> usize
+    requires start { start ≤ vec_len items.old }
+    requires room { length (waiting (drop start items.old.items)) < vec_capacity items.old }
+    ensures start { result ≤ vec_len items.new }
+    ensures order { (last : ℕ) → AreInOrder last (drop start items.old.items) → AreInOrder last (drop result items.new.items) }
+    ensures waiting { waiting (drop result items.new.items) ≡ waiting (drop start items.old.items) }
+    ensures fewer { vec_len items.new ≤ vec_len items.old }
+    ensures place { vec_len items.new < vec_capacity items.new }
+    ensures capacity { vec_capacity items.new ≡ vec_capacity items.old }
+{
+    if items.len() < items.capacity() {
+        return start;
+    }
+    close_if(items, start, true)
 }

@@ -37,7 +37,7 @@ impl Link {
     ghost use Rattle.model.specs.Step.{started, next_of, channels_up_to, greatest};
     ghost use Rattle.model.specs.declared.methods.Qos.{Qos as Limit};
     ghost use Rattle.model.specs.Settling.{settled};
-    ghost use Rattle.channel.specs.Outstanding.{tag_of};
+    ghost use Rattle.channel.specs.Outstanding.{tag_of, waiting};
     ghost use Rattle.channel.specs.Open.{Open, open_in, with_qos, given_on, settled_on, without_settled, without_named, SeatsConsumer};
     ghost use Rattle.links.specs.Consumers.{TellsOn};
     ghost use Rattle.links.specs.Consumers.{next_number};
@@ -83,9 +83,10 @@ impl Link {
         self.channels.len()
     }
 
-    /// All that is outstanding on this channel, in tag order; nothing where it is not open.
+    /// All that is outstanding on this channel, in tag order, with the places between of what was settled before; nothing where
+    /// it is not open.
     pub fn outstanding(&self, number: u16) -> &[Outstanding]
-        ensures { result.now ≡ outstanding_on (channel_in self.now number) }
+        ensures { waiting result.now ≡ outstanding_on (channel_in self.now number) }
     {
         match self.channel(number) {
             Some(channel) => channel.outstanding(),
@@ -215,9 +216,10 @@ impl Link {
         give_settled_at(&mut self.channels, number);
     }
 
-    /// What this tag settles on this channel, in tag order; none where it is refused.
+    /// What this tag settles on this channel, in tag order, with the places between of what was settled before; none where it is
+    /// refused.
     pub(crate) fn settle(&self, number: u16, tag: u64, multiple: bool) -> Option<&[Outstanding]>
-        ensures { (ch : Open) → channel_in self.now number ≡ Some ch → option_map (λ s. s.now) result ≡ settled tag_of tag multiple ch.given.outstanding }
+        ensures { (ch : Open) → channel_in self.now number ≡ Some ch → option_map (λ s. waiting s.now) result ≡ settled tag_of tag multiple ch.given.outstanding }
     {
         match self.channel(number) {
             Some(channel) => channel.settle(tag, multiple),

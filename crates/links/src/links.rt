@@ -54,7 +54,7 @@ impl Links {
     ghost use Rattle.model.specs.Step.{started, next_of, paused};
     ghost use Rattle.model.specs.declared.methods.Qos.{Qos as Limit};
     ghost use Rattle.model.specs.Settling.{settled};
-    ghost use Rattle.channel.specs.Outstanding.{tag_of};
+    ghost use Rattle.channel.specs.Outstanding.{tag_of, waiting};
     ghost use Rattle.channel.specs.Open.{Open, with_qos, given_on, settled_on, without_settled, without_named, SeatsConsumer};
     ghost use Rattle.links.specs.Counting.{CountsConsumers, HasTaker, is_consumed};
     ghost use Rattle.links.specs.Moving.{links_moved};
@@ -86,9 +86,10 @@ impl Links {
         }
     }
 
-    /// All that is outstanding on this channel, in tag order; nothing where it is not open, or its connection doesn't run.
+    /// All that is outstanding on this channel, in tag order, with the places between of what was settled before; nothing where
+    /// it is not open, or its connection doesn't run.
     pub fn outstanding(&self, connection: u64, number: u16) -> &[Outstanding]
-        ensures { result.now ≡ outstanding_on (channel_of self.now connection number) }
+        ensures { waiting result.now ≡ outstanding_on (channel_of self.now connection number) }
     {
         match self.get(connection) {
             Some(link) => link.outstanding(number),
@@ -273,7 +274,8 @@ impl Links {
         }
     }
 
-    /// What this tag settles on this channel, in tag order; none where it is refused.
+    /// What this tag settles on this channel, in tag order, with the places between of what was settled before; none where it is
+    /// refused.
     pub fn settle(
         &self,
         connection: u64,
@@ -281,7 +283,7 @@ impl Links {
         tag: u64,
         multiple: bool,
     ) -> Option<&[Outstanding]>
-        ensures { (ch : Open) → channel_of self.now connection channel ≡ Some ch → option_map (λ s. s.now) result ≡ settled tag_of tag multiple ch.given.outstanding }
+        ensures { (ch : Open) → channel_of self.now connection channel ≡ Some ch → option_map (λ s. waiting s.now) result ≡ settled tag_of tag multiple ch.given.outstanding }
     {
         match self.get(connection) {
             Some(link) => link.settle(channel, tag, multiple),

@@ -1,3 +1,4 @@
+mod Marked
 mod Purging
 mod Rejections
 pub mod Settlements

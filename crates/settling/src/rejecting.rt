@@ -2,7 +2,7 @@
 
 ghost use Rattle.std.specs.Prelude.{◌≡◌, map, IfOk, OnErr};
 ghost use Rattle.model.specs.Settling.{Rises};
-ghost use Rattle.channel.specs.Outstanding.{tag_of};
+ghost use Rattle.channel.specs.Outstanding.{tag_of, waiting};
 ghost use Rattle.depot.specs.Rejecting.{IsApart};
 ghost use Rattle.links.specs.Placed.{OutstandingAreWithin};
 ghost use Rattle.settling.specs.Settled as settled;
@@ -25,19 +25,21 @@ fn given_of(outstanding: &Outstanding) -> Given
     }
 }
 
-/// The same of each of these.
+/// The same of each of these that waits.
 fn all_given(alloc: Global, gone: &[Outstanding]) -> Result<Vec<Given>, AllocError>
-    ensures { IfOk result (λ given. given.items ≡ map settled.given_of gone.now) }
+    ensures { IfOk result (λ given. given.items ≡ map settled.given_of (waiting gone.now)) }
 {
     let mut given = Vec::new(alloc);
     given.reserve_exact(gone.len())?;
     for outstanding in gone {
-        given.push_reserved(given_of(outstanding));
+        if outstanding.is_waiting() {
+            given.push_reserved(given_of(outstanding));
+        }
     }
     Ok(given)
 }
 
-/// These messages leave their queues by a rejection, in the order of their tags, and die there where the queue has a
+/// Those of these messages that wait leave their queues by a rejection, in the order of their tags, and die there where the queue has a
 /// dead-letter exchange. Tells what is noted of that. Where memory is wanting, nothing has changed.
 pub fn reject(
     alloc: Global,
@@ -46,10 +48,10 @@ pub fn reject(
     channel: u16,
     gone: &[Outstanding],
 ) -> Result<Vec<Note>, AllocError>
-    requires within { OutstandingAreWithin depot.old.topology gone.now }
-    requires ordered { Rises tag_of gone.now }
+    requires within { OutstandingAreWithin depot.old.topology (waiting gone.now) }
+    requires ordered { Rises tag_of (waiting gone.now) }
     requires apart { IsApart depot.old }
-    ensures ok { IfOk result (λ notes. IsRejection depot.old connection channel gone.now notes.items depot.new) }
+    ensures ok { IfOk result (λ notes. IsRejection depot.old connection channel (waiting gone.now) notes.items depot.new) }
     ensures err { OnErr result (depot.new ≡ depot.old) }
 {
     let given = all_given(alloc, gone)?;

@@ -1,13 +1,37 @@
-use Rattle.std.proofs.Common.{◌≡◌, ◌∙◌, ◌+◌, ◌++◌, sym, ap, arith, length-drop, drop, take, List, ℕ}
-use Rattle.channel.proofs.Runs.{drop_out}
+use Rattle.std.proofs.Common.{◌≡◌, ◌∙◌, ◌+◌, ◌++◌, sym, ap, subst, drop, take, get_or, List, ℕ}
+use Rattle.std.proofs.lemmas.List.{get_or-drop}
 use Rattle.model.specs.Settling.{kept}
-use Rattle.channel.specs.Outstanding.{tag_of}
+use Rattle.model.specs.declared.messages.Taker.TheVariants.{Get}
+use Rattle.channel.specs.Outstanding.{tag_of, waiting, IsTagAt, AreInOrder}
 use Rattle.channel.specs.declared.pending.Outstanding.{Outstanding}
+use Rattle.channel.proofs.Marking.{marked_gone, marked_order, drop_marked, passed_order}
 use Rattle.channel.proofs.tags.forget_in.Goals as goal
+
+pub returns-then-from-eq0-clause-order : goal.returns-then-from-eq0-clause-order
+returns-then-from-eq0-clause-order c = λ last order. passed_order c.args.items.now.items c.args.start c.in-Some.to last order
 
 pub returns-else-from-eq0-clause-kept : goal.returns-else-from-eq0-clause-kept
 returns-else-from-eq0-clause-kept c =
-    let live : List Outstanding = drop c.args.start c.args.items.now.items in
-    let a : take c.in-Some.from live ++ drop c.in-Some.to live ≡ kept tag_of c.args.tag c.args.multiple live = rw c.behind.ensures at c.in-Some.ensures.rest in
-    let b : c.in-Some.to ≡ c.in-Some.from + 1 = c.in-Some.ensures.shape c.if-from-eq0.false in
-    ap (λ (xs : List Outstanding). drop c.args.start xs) c.take_out.ensures.items ∙ drop_out c.args.start c.in-Some.from c.args.items.now.items (let w = rw c.behind.ensures at c.in-Some.ensures.within in let k = c.requires.start in let l = length-drop c.args.start c.args.items.now.items in omega (arith, w.1)) ∙ ap (λ (n : ℕ). take c.in-Some.from live ++ drop n live) (sym b) ∙ a
+    let xs : List Outstanding = c.args.items.now.items in
+    let start : ℕ = c.args.start in
+    let live : List Outstanding = drop start xs in
+    let i : ℕ = c.in-Some.from in
+    let none : Outstanding = record { tag = 0; queue = 0; arrival = 0; by = Get } in
+    let o : Outstanding = get_or xs (start + i) none in
+    let at : IsTagAt live i c.args.tag = subst (λ (ys : List Outstanding). IsTagAt ys i c.args.tag) c.behind.ensures (c.in-Some.ensures.there c.if-from-eq0.false) in
+    let next : c.in-Some.to ≡ i + 1 = c.in-Some.ensures.next c.if-from-eq0.false in
+    let rest : waiting (take i live) ++ waiting (drop c.in-Some.to live) ≡ kept tag_of c.args.tag c.args.multiple (waiting live) = rw c.behind.ensures at c.in-Some.ensures.rest in
+    ap (λ (ys : List Outstanding). waiting (drop start ys)) (c.mark.ensures.items none) ∙ ap waiting (drop_marked xs start i o) ∙ marked_gone live i o at.within
+    ∙ ap (λ (n : ℕ). waiting (take i live) ++ waiting (drop n live)) (sym next) ∙ rest
+
+pub returns-else-from-eq0-clause-order : goal.returns-else-from-eq0-clause-order
+returns-else-from-eq0-clause-order c = λ last order.
+    let xs : List Outstanding = c.args.items.now.items in
+    let start : ℕ = c.args.start in
+    let live : List Outstanding = drop start xs in
+    let i : ℕ = c.in-Some.from in
+    let none : Outstanding = record { tag = 0; queue = 0; arrival = 0; by = Get } in
+    let o : Outstanding = get_or xs (start + i) none in
+    let at : IsTagAt live i c.args.tag = subst (λ (ys : List Outstanding). IsTagAt ys i c.args.tag) c.behind.ensures (c.in-Some.ensures.there c.if-from-eq0.false) in
+    let tagged : o.tag ≡ c.args.tag = ap tag_of (sym (get_or-drop start xs i none)) ∙ at.there none in
+    subst (AreInOrder last) (sym (ap (λ (ys : List Outstanding). drop start ys) (c.mark.ensures.items none) ∙ drop_marked xs start i o)) (marked_order live i c.args.tag last o at tagged order)

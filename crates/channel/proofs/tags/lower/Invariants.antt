@@ -1,12 +1,13 @@
 use Rattle.std.proofs.Common.{ℕ, ◌<◌, ◌≤◌, ◌-◌, get_or, length, List}
+use Rattle.channel.specs.Outstanding.{given_tag}
 use Rattle.channel.specs.declared.pending.Outstanding.{Outstanding}
 use Rattle.channel.proofs.tags.lower.Given as goal
 
 pub record Between (os : List Outstanding) (tag low high : ℕ) : Type 0 where
   pub order : low ≤ high
   pub within : high ≤ length os
-  pub below : (k : ℕ) (d : Outstanding) → k < low → (get_or os k d).tag < tag
-  pub above : (k : ℕ) (d : Outstanding) → high ≤ k → k < length os → tag ≤ (get_or os k d).tag
+  pub below : (k : ℕ) (d : Outstanding) → k < low → given_tag (get_or os k d) < tag
+  pub above : (k : ℕ) (d : Outstanding) → high ≤ k → k < length os → tag ≤ given_tag (get_or os k d)
 
 abbrev pub invariant-loop-low : goal.invariant-loop-low
 invariant-loop-low l = Between l.given l.tag l.low l.high

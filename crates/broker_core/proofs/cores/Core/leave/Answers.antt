@@ -5,7 +5,7 @@ use Rattle.model.specs.Broker.{Channel}
 use Rattle.model.specs.Settling.{settled}
 use Rattle.model.specs.Deliveries.{Leaves}
 use Rattle.model.specs.Step.{Settles, channel_or_new}
-use Rattle.channel.specs.Outstanding.{tag_of}
+use Rattle.channel.specs.Outstanding.{tag_of, waiting}
 use Rattle.channel.specs.Open.{Open, open_in}
 use Rattle.links.specs.Links.{channel_of, room_in}
 use Rattle.broker_core.specs.State.{ArePlaced}
@@ -19,7 +19,7 @@ pub returns-in_default-clause-ok : goal.returns-in_default-clause-ok
 returns-in_default-clause-ok c =
     let old : Kept = record { store = c.self.inside.depot; links = c.self.inside.links } in
     let ch = kept_one (channel_of old.links c.args.connection c.args.channel) (kept_there old c.args.self.now c.args.connection c.args.channel c.self.view_is c.requires.there) in
-    let none : settled tag_of c.args.tag c.args.multiple ch.0.given.outstanding ≡ None = sym (c.settle.ensures ch.0 ch.1) ∙ ap (option_map (λ s. s.now)) c.in_default.is in
+    let none : settled tag_of c.args.tag c.args.multiple ch.0.given.outstanding ≡ None = sym (c.settle.ensures ch.0 ch.1) ∙ ap (option_map (λ s. waiting s.now)) c.in_default.is in
     absurd (not_none (names_of old) c.args.tag c.args.multiple ch.0 (accepted_on old c.args.self.now c.args.connection c.args.channel c.args.tag c.args.multiple ch.0 c.self.view_is ch.1 c.requires.accepted) none)
 
 pub notes_of-requires : goal.notes_of-requires
@@ -27,16 +27,16 @@ notes_of-requires c =
     let old : Kept = record { store = c.self.inside.depot; links = c.self.inside.links } in
     let ch = kept_one (channel_of old.links c.args.connection c.args.channel) (kept_there old c.args.self.now c.args.connection c.args.channel c.self.view_is c.requires.there) in
     let placed : ArePlaced old = c.self.invariant in
-    let all : settled tag_of c.args.tag c.args.multiple ch.0.given.outstanding ≡ Some c.in-Some.gone.now = sym (c.settle.ensures ch.0 ch.1) ∙ ap (option_map (λ s. s.now)) c.in-Some.is in
-    gone_within (topology_kept old) c.args.tag c.args.multiple ch.0.given.outstanding c.in-Some.gone.now all (placed c.args.connection c.args.channel ch.0 ch.1).outstanding
+    let all : settled tag_of c.args.tag c.args.multiple ch.0.given.outstanding ≡ Some (waiting c.in-Some.gone.now) = sym (c.settle.ensures ch.0 ch.1) ∙ ap (option_map (λ s. waiting s.now)) c.in-Some.is in
+    gone_within (topology_kept old) c.args.tag c.args.multiple ch.0.given.outstanding (waiting c.in-Some.gone.now) all (placed c.args.connection c.args.channel ch.0 ch.1).outstanding
 
 pub take_out-requires : goal.take_out-requires
 take_out-requires c =
     let old : Kept = record { store = c.self.inside.depot; links = c.self.inside.links } in
     let ch = kept_one (channel_of old.links c.args.connection c.args.channel) (kept_there old c.args.self.now c.args.connection c.args.channel c.self.view_is c.requires.there) in
     let placed : ArePlaced old = c.self.invariant in
-    let all : settled tag_of c.args.tag c.args.multiple ch.0.given.outstanding ≡ Some c.in-Some.gone.now = sym (c.settle.ensures ch.0 ch.1) ∙ ap (option_map (λ s. s.now)) c.in-Some.is in
-    gone_within (topology_kept old) c.args.tag c.args.multiple ch.0.given.outstanding c.in-Some.gone.now all (placed c.args.connection c.args.channel ch.0 ch.1).outstanding
+    let all : settled tag_of c.args.tag c.args.multiple ch.0.given.outstanding ≡ Some (waiting c.in-Some.gone.now) = sym (c.settle.ensures ch.0 ch.1) ∙ ap (option_map (λ s. waiting s.now)) c.in-Some.is in
+    gone_within (topology_kept old) c.args.tag c.args.multiple ch.0.given.outstanding (waiting c.in-Some.gone.now) all (placed c.args.connection c.args.channel ch.0 ch.1).outstanding
 
 pub returns-clause-ok : goal.returns-clause-ok
 returns-clause-ok c =
@@ -47,14 +47,14 @@ returns-clause-ok c =
     let ch = kept_one (channel_of old.links connection number) (kept_there old c.args.self.now connection number c.self.view_is c.requires.there) in
     let agreed : IsAgreed (broker_of old) = subst (λ (k : Kept). IsAgreed (broker_of k)) (sym c.self.view_is) c.requires.agreed in
     let placed : ArePlaced old = c.self.invariant in
-    let all : settled tag_of c.args.tag c.args.multiple ch.0.given.outstanding ≡ Some c.in-Some.gone.now = sym (c.settle.ensures ch.0 ch.1) ∙ ap (option_map (λ s. s.now)) c.in-Some.is in
+    let all : settled tag_of c.args.tag c.args.multiple ch.0.given.outstanding ≡ Some (waiting c.in-Some.gone.now) = sym (c.settle.ensures ch.0 ch.1) ∙ ap (option_map (λ s. waiting s.now)) c.in-Some.is in
     let seen : open_in (names_of old) ch.0 ≡ channel_or_new ((broker_of old).channel connection number) = ap (λ (o : Option Open). channel_or_new (option_map (open_in (names_of old)) o)) (sym ch.1) in
     let sent : c.noting.result.sends.items ≡ [] = c.noting.ensures.sends in
     let noted = c.noting.ensures.notes ∙ c.in_ok-notes.ensures in
     subst (λ (k : Kept). Settles (topology_kept k) (Leaves c.args.cause) (broker_of k) connection number (channel_or_new ((broker_of k).channel connection number)) c.args.tag c.args.multiple [] c.noting.result.sends.items c.noting.result.notes.items (broker_of new)) c.self.view_is
     (subst (λ (x : Channel). Settles (topology_kept old) (Leaves c.args.cause) (broker_of old) connection number x c.args.tag c.args.multiple [] c.noting.result.sends.items c.noting.result.notes.items (broker_of new)) seen
     (rw (sent, noted)
-    (left_is c.places_are_named.ensures c.args.cause old new connection number c.args.tag (room_in (channel_of new.links connection number)) c.args.multiple ch.0 c.in-Some.gone.now c.is_whole.ensures agreed placed ch.1 all c.take_out.ensures (c.forget.ensures ch.0 ch.1))))
+    (left_is c.places_are_named.ensures c.args.cause old new connection number c.args.tag (room_in (channel_of new.links connection number)) c.args.multiple ch.0 (waiting c.in-Some.gone.now) c.is_whole.ensures agreed placed ch.1 all c.take_out.ensures (c.forget.ensures ch.0 ch.1))))
 
 pub invariant_of-self : goal.invariant_of-self
 invariant_of-self c =
@@ -64,10 +64,10 @@ invariant_of-self c =
     let new : Kept = record { store = c.take_out.new.depot; links = c.forget.new.self } in
     let ch = kept_one (channel_of old.links connection number) (kept_there old c.args.self.now connection number c.self.view_is c.requires.there) in
     let placed : ArePlaced old = c.self.invariant in
-    stays_placed old new connection number c.args.tag (room_in (channel_of new.links connection number)) c.args.multiple ch.0 (topology_without connection number c.in-Some.gone.now old new c.take_out.ensures) ch.1 (c.forget.ensures ch.0 ch.1) placed
+    stays_placed old new connection number c.args.tag (room_in (channel_of new.links connection number)) c.args.multiple ch.0 (topology_without connection number (waiting c.in-Some.gone.now) old new c.take_out.ensures) ch.1 (c.forget.ensures ch.0 ch.1) placed
 
 pub returns-clause-topology : goal.returns-clause-topology
 returns-clause-topology c =
     let old : Kept = record { store = c.self.inside.depot; links = c.self.inside.links } in
     let new : Kept = record { store = c.take_out.new.depot; links = c.forget.new.self } in
-    topology_without c.args.connection c.args.channel c.in-Some.gone.now old new c.take_out.ensures ∙ ap topology_kept c.self.view_is
+    topology_without c.args.connection c.args.channel (waiting c.in-Some.gone.now) old new c.take_out.ensures ∙ ap topology_kept c.self.view_is

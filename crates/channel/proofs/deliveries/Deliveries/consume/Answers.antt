@@ -1,8 +1,9 @@
 use Rattle.std.proofs.Common.{◌≡◌, ◌+◌, ◌++◌, ◌∷◌, [], refl, sym, ap, subst, ◌∙◌}
-use Rattle.model.specs.Prefetch.{count_to}
+use Rattle.model.specs.Prefetch.{is_to, count_to}
 use Rattle.channel.specs.Outstanding.{taker_of}
 use Rattle.channel.specs.Seats.{Seated, SeatsAreCounted, AreNumbered}
 use Rattle.channel.specs.declared.consumers.Consumer.{Consumer}
+use Rattle.channel.proofs.Marking.{counted_waiting}
 use Rattle.channel.proofs.Numbering.{numbered_push}
 use Rattle.channel.proofs.deliveries.Deliveries.consume.Goals as goal
 
@@ -15,6 +16,6 @@ invariant_of-self-2 c =
     let was : SeatsAreCounted (record old { room = c.reserve.new.self.room }) os = record { each = c.self.invariant.1.each; all = c.self.invariant.1.all } in
     let pushed : c.push.new.self.consumers ≡ old.consumers ++ one ∷ [] = c.push.ensures.consumers ∙ ap (λ (s : Seated). s.consumers ++ one ∷ []) c.reserve.ensures.same in (
       c.self.invariant.0,
-      c.push.ensures.counted os (subst (λ (s : Seated). SeatsAreCounted s os) (sym c.reserve.ensures.same) was) (c.given_to-held.ensures ∙ ap (count_to taker_of next) c.all.ensures.all),
+      c.push.ensures.counted os (subst (λ (s : Seated). SeatsAreCounted s os) (sym c.reserve.ensures.same) was) (c.given_to-held.ensures ∙ counted_waiting (λ o. is_to next o.by) c.all.result.now ∙ ap (count_to taker_of next) c.all.ensures.all),
       subst (AreNumbered (next + 1)) (sym pushed) (numbered_push next old.consumers one refl c.self.invariant.2),
     )

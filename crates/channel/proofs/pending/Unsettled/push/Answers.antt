@@ -1,14 +1,21 @@
-use Rattle.std.proofs.Common.{arith, rules, ◌<◌, ◌≡◌, ◌++◌, ◌∷◌, [], drop, sym, ◌∙◌, ap, subst, List, length, get_or}
-use Rattle.std.proofs.lemmas.List.Quantifiers.{all_pairs_push}
-use Rattle.channel.proofs.Runs.{drop_push}
-use Rattle.model.specs.Settling.{Rises}
-use Rattle.channel.specs.Outstanding.{OutstandingList, tag_of}
+use Rattle.std.proofs.Common.{◌<◌, ◌++◌, ◌∷◌, [], ◌∙◌, sym, ap, subst, arith, drop, List, ℕ}
+use Rattle.channel.specs.Outstanding.{OutstandingList, waiting}
 use Rattle.channel.specs.declared.pending.Outstanding.{Outstanding}
+use Rattle.channel.proofs.Runs.{drop_push}
+use Rattle.channel.proofs.Marking.{kept_pushed, waiting_pushed}
 use Rattle.channel.proofs.pending.Unsettled.push.Goals as goal
 
 pub invariant_of-self : goal.invariant_of-self
 invariant_of-self c =
-    let e : drop c.self.inside.start c.push_reserved.new.self.items ≡ drop c.self.inside.start c.self.inside.items.items ++ c.args.given ∷ [] = ap (λ (xs : List Outstanding). drop c.self.inside.start xs) c.push_reserved.ensures.items ∙ drop_push c.self.inside.start c.self.inside.items.items _ (search rules) in (
-      let l = c.push_reserved.ensures.len in let b = c.self.invariant.0 in omega arith,
-      subst (Rises tag_of) (sym e) (all_pairs_push (λ a b. a.tag < b.tag) (drop c.self.inside.start c.self.inside.items.items) c.args.given c.self.invariant.1 (λ k d lt. (subst (λ (l : OutstandingList). (k < length l.outstanding → (get_or l.outstanding k d).tag < c.args.given.tag)) (sym c.self.view_is) (λ z. c.requires.rises k d z)) lt)),
-    )
+    let later : c.self.inside.last < c.args.given.tag = subst (λ (l : OutstandingList). l.last < c.args.given.tag) (sym c.self.view_is) c.requires.rises in
+    kept_pushed c.self.inside.items.items c.make_place-self-inside.new.items.items c.push_reserved.new.self.items c.self.inside.start c.make_place-self-inside.result c.self.inside.count c.self.inside.last c.args.given c.self.invariant
+    (let s = c.make_place-self-inside.ensures.start in omega arith) (c.make_place-self-inside.ensures.order c.self.inside.last c.self.invariant.order) c.make_place-self-inside.ensures.waiting (let s = c.make_place-self-inside.ensures.fewer in omega arith) later c.push_reserved.ensures.items
+
+pub returns-clause-outstanding : goal.returns-clause-outstanding
+returns-clause-outstanding c =
+    let front : ℕ = c.make_place-self-inside.result in
+    let new : List Outstanding = c.make_place-self-inside.new.items.items in
+    let later : c.self.inside.last < c.args.given.tag = subst (λ (l : OutstandingList). l.last < c.args.given.tag) (sym c.self.view_is) c.requires.rises in
+    ap (λ (ys : List Outstanding). waiting (drop front ys)) c.push_reserved.ensures.items ∙ ap waiting (drop_push front new (c.args.given ∷ []) (let s = c.make_place-self-inside.ensures.start in omega arith))
+    ∙ waiting_pushed (drop front new) c.self.inside.last c.args.given later ∙ ap (λ (ys : List Outstanding). ys ++ c.args.given ∷ []) c.make_place-self-inside.ensures.waiting
+    ∙ ap (λ (l : OutstandingList). l.outstanding ++ c.args.given ∷ []) c.self.view_is

@@ -1,0 +1,102 @@
+//! What an ack costs that comes out of order, where many deliveries are outstanding.
+
+use crate::deliveries::filled;
+use crate::removals::left_of;
+use benchmark_loads::ack_loads::{AckLoad, load_at};
+use benchmark_loads::consumers::put_consume;
+use measuring::{Keys, Measured, Part, Shape, Written, print_parts};
+use std::alloc::Global;
+use std::io;
+
+/// How many bytes are handed in at once: those of a hundred acks.
+const PIECE: usize = 2_100;
+
+/// A load, as its parts are run.
+#[derive(Drop)]
+struct RunningAcks {
+    alloc: Global,
+    engine: Measured,
+    load: AckLoad,
+    consumer: u64,
+    /// The acks of the part that comes next.
+    acks: Written,
+}
+
+impl RunningAcks {
+    /// How many acks a part has.
+    fn part(&self) -> u64 {
+        self.load.outstanding / 10
+    }
+
+    /// How many messages are not acknowledged, once the consumer is lost.
+    fn left(&mut self) -> u64 {
+        self.engine.lose(self.consumer);
+        left_of(&mut self.engine, self.alloc, self.load.outstanding)
+    }
+
+    fn is_whole(&self) -> bool {
+        self.engine.is_whole() && self.acks.is_whole()
+    }
+}
+
+impl Part for RunningAcks {
+    fn prepare(&mut self, part: u64) {
+        self.acks.clear();
+        let count = self.part();
+        let load = self.load;
+        load.put_acks(&mut self.acks, part.saturating_mul(count), count);
+    }
+
+    fn run(&mut self, _: u64) {
+        self.engine
+            .perform_pieces(self.consumer, self.acks.as_slice(), PIECE);
+    }
+}
+
+/// Has all messages delivered to a consumer.
+fn start(alloc: Global, mut engine: Measured, load: AckLoad) -> RunningAcks {
+    let consumer = engine.open_ready();
+    let mut consume = Written::new(alloc);
+    put_consume(&mut consume, b"q");
+    engine.perform(consumer, consume.as_slice());
+    engine.deliver(load.outstanding);
+    engine.take_output(consumer);
+    RunningAcks {
+        alloc,
+        engine,
+        load,
+        consumer,
+        acks: Written::new(alloc),
+    }
+}
+
+/// Runs a load, and prints what an ack took in each part.
+fn measure_over(rt: &HostRuntime, engine: Measured, load: AckLoad) -> io::Result<()> {
+    let mut running = start(rt.alloc(), engine, load);
+    let part = running.part();
+    print!(rt; "{}:", load.name)?;
+    print_parts(rt, &mut running, part)?;
+    println!(rt; " ns an ack; {} left", running.left())?;
+    if running.is_whole() {
+        return Ok(());
+    }
+    println!(rt; "{}: memory was refused", load.name)
+}
+
+fn measure(rt: &HostRuntime, load: AckLoad) -> io::Result<()> {
+    match filled(rt.alloc(), Shape::Direct, load.outstanding, Keys::One) {
+        Some(engine) => measure_over(rt, engine, load),
+        None => println!(rt; "{}: there is no engine", load.name),
+    }
+}
+
+/// Runs all loads.
+pub fn measure_all(rt: &HostRuntime) -> io::Result<()> {
+    for place in 0..u32::MAX {
+        match load_at(place) {
+            Some(load) => measure(rt, load)?,
+            None => break,
+        }
+    }
+    Ok(())
+}

@@ -1,0 +1,11 @@
+use Rattle.std.proofs.Common.{◌∙◌, arith}
+use Rattle.settling.proofs.Marked.{nothing, within_next, returned_next}
+use Rattle.settling.proofs.leaving.put_back.Goals as goal
+
+pub put_one_back-requires : goal.put_one_back-requires
+put_one_back-requires c = within_next c.args.depot.now.topology c.loop-given.depot.topology c.args.gone.now c.loop-given.given-index nothing c.requires c.loop-given.invariant.topology (let t = c.loop-given-test.true in omega arith)
+
+pub loop-given-preserved : goal.loop-given-preserved
+loop-given-preserved c =
+    let next = returned_next c.args.connection c.args.channel c.args.gone.now c.loop-given.given-index nothing c.loop-given.depot c.put_one_back.new.depot _ (let t = c.loop-given-test.true in omega arith) c.put_one_back.ensures.yes c.put_one_back.ensures.no c.loop-given.invariant.returned in
+    record { topology = next.0 ∙ c.loop-given.invariant.topology; returned = next.1 }
