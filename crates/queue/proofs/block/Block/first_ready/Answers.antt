@@ -7,7 +7,7 @@ use Rattle.queue.specs.Slots.{contents}
 use Rattle.queue.specs.declared.slots.Slot.{Slot}
 use Rattle.queue.proofs.Places.{find_at, none_found}
 use Rattle.queue.proofs.Slotted.{first_by_marks, none_by_marks}
-use Rattle.queue.proofs.indexed.IndexedStore.first_ready.Goals as goal
+use Rattle.queue.proofs.block.Block.first_ready.Goals as goal
 
 pub returns-in-Some : goal.returns-in-Some
 returns-in-Some c = subst (λ (l : Line). option_map (λ e. e.now) c.entry_at.result ≡ find is_ready l.entries) c.self.view_is
