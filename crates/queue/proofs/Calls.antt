@@ -9,7 +9,7 @@ use Rattle.model.specs.declared.messages.Holder.{Holder}
 use Rattle.queue.specs.Line.{requeued}
 use Rattle.queue.specs.Slots.{tally}
 use Rattle.queue.specs.Blocks.{joined, some_pass, size_of, IsCounted}
-use Rattle.queue.proofs.Joined.{FirstIn, joined_found, joined_changed, joined_without, nowhere_in, only_in, part_once, once_left_out}
+use Rattle.queue.proofs.Joined.{FirstIn, joined_found, joined_changed, joined_without, joined_none, nowhere_in, only_in, part_once, once_left_out, none_changed_in, none_without_in}
 use Rattle.queue.proofs.Slotted.{not_found}
 use Rattle.queue.proofs.Counts.{hold_counted, take_counted, remove_counted, release_counted, ready_least, held_least, freed_once}
 
@@ -105,3 +105,24 @@ remove_there ps now ready live bytes live' i holder c h e l =
     go : (o : Option Entry) → find (is_held_as holder) (joined ps) ≡ o → is_some o ≡ true → IsCounted (filter (λ x. not (is_held_as holder x)) (joined ps)) ready live' bytes
     go None e h = absurd (false≢true h)
     go (Some x) e h = remove_counted (joined ps) ready live bytes live' x holder c e l
+
+-- ---- nothing is found
+
+-- No block has one that passes.
+pub record NoneIn {X : Type 0} (p : X → Bool) (ps : List (List X)) : Type 0 where
+  pub no : (k : ℕ) → find p (get_or ps k []) ≡ None
+
+pub nothing_found : {X : Type 0} (p : X → Bool) (ps : List (List X)) → NoneIn p ps → find p (joined ps) ≡ None
+nothing_found p ps n = joined_none p ps (λ k. ap is_some (n.no k))
+
+pub nothing_freed : (ps : List (List Entry)) (holder : Holder) → NoneIn (is_held_as holder) ps → requeued (is_under holder) (joined ps) ≡ joined ps
+nothing_freed ps holder n =
+    let none = nothing_found (is_held_as holder) ps n in
+    freed_once (joined ps) holder (let z = not_found (is_held_as holder) (joined ps) none in omega arith)
+    ∙ none_changed_in (is_held_as holder) freed_now (joined ps) none
+
+pub nothing_left_out : (ps : List (List Entry)) (holder : Holder) → NoneIn (is_held_as holder) ps → filter (λ e. not (is_held_as holder e)) (joined ps) ≡ joined ps
+nothing_left_out ps holder n =
+    let none = nothing_found (is_held_as holder) ps n in
+    once_left_out (is_held_as holder) (joined ps) (let z = not_found (is_held_as holder) (joined ps) none in omega arith)
+    ∙ none_without_in (is_held_as holder) (joined ps) none

@@ -61,7 +61,7 @@ without-behind {X = X} p (x ∷ xs) ys h = go (p x) (without-behind p xs ys) h
     go false r h = ap (λ (zs : List X). x ∷ zs) (r h)
 
 pub tally-both : {X : Type 0} (p : X → Bool) (xs ys : List X) → tally p (xs ++ ys) ≡ tally p xs + tally p ys
-tally-both p [] ys = refl
+tally-both p [] ys = omega arith
 tally-both p (x ∷ xs) ys = let r = tally-both p xs ys in omega arith
 
 pub counted_one : {X : Type 0} (p : X → Bool) (xs : List X) → some_pass p xs ≡ true → 1 ≤ tally p xs
@@ -152,39 +152,40 @@ before_once p (xs ∷ xss) (suc i) (suc k) lt h le = before_once p xss i k (omeg
 pub only_in : {X : Type 0} (p : X → Bool) (xss : List (List X)) (i : ℕ) → some_pass p (get_or xss i []) ≡ true → tally p (joined xss) ≤ 1 → FirstIn p xss i
 only_in p xss i h le = record { there = h; before = λ k lt. before_once p xss i k lt h le }
 
+mapped_none : {X : Type 0} (p : X → Bool) (f : X → X) → ((x : X) → p x ≡ false → f x ≡ x) → (xs : List X) → tally p xs ≡ 0 → map f xs ≡ xs
+mapped_none p f same [] e = refl
+mapped_none {X = X} p f same (x ∷ xs) e = go (p x) refl (mapped_none p f same xs) e
+  where
+    go : (b : Bool) → p x ≡ b → (tally p xs ≡ 0 → map f xs ≡ xs) → num b + tally p xs ≡ 0 → f x ∷ map f xs ≡ x ∷ xs
+    go true h r e = absurd (omega arith)
+    go false h r e = ap (λ (y : X). y ∷ map f xs) (same x h) ∙ ap (λ (ys : List X). x ∷ ys) (r (omega arith))
+
+left_out_none : {X : Type 0} (p : X → Bool) (xs : List X) → tally p xs ≡ 0 → filter (λ x. not (p x)) xs ≡ xs
+left_out_none p [] e = refl
+left_out_none {X = X} p (x ∷ xs) e = go (p x) (left_out_none p xs) e
+  where
+    go : (b : Bool) → (tally p xs ≡ 0 → filter (λ y. not (p y)) xs ≡ xs) → num b + tally p xs ≡ 0 → cond (not b) (x ∷ filter (λ y. not (p y)) xs) (filter (λ y. not (p y)) xs) ≡ x ∷ xs
+    go true r e = absurd (omega arith)
+    go false r e = ap (λ (ys : List X). x ∷ ys) (r (omega arith))
+
 -- all that pass are changed, where at most one does
 pub once_mapped : {X : Type 0} (p : X → Bool) (f g : X → X) → ((x : X) → p x ≡ false → f x ≡ x) → ((x : X) → p x ≡ true → f x ≡ g x) → (xs : List X) → tally p xs ≤ 1 → map f xs ≡ change_first p g xs
 once_mapped p f g same there [] le = refl
-once_mapped {X = X} p f g same there (x ∷ xs) le = go (p x) refl le
+once_mapped {X = X} p f g same there (x ∷ xs) le = go (p x) refl (mapped_none p f same xs) (once_mapped p f g same there xs) le
   where
-    rest : (ys : List X) → tally p ys ≡ 0 → map f ys ≡ ys
-    rest [] e = refl
-    rest (y ∷ ys) e = ap (λ (zs : List X). zs) (step (p y) refl e)
-      where
-        step : (b : Bool) → p y ≡ b → num b + tally p ys ≡ 0 → f y ∷ map f ys ≡ y ∷ ys
-        step true h e = absurd (omega arith)
-        step false h e = let a = same y h in let r = rest ys (omega arith) in cc
-
-    go : (b : Bool) → p x ≡ b → num b + tally p xs ≤ 1 → f x ∷ map f xs ≡ cond b (g x ∷ xs) (x ∷ change_first p g xs)
-    go true h le = let a = there x h in let r = rest xs (omega arith) in cc
-    go false h le = let a = same x h in let r = once_mapped p f g same there xs (omega arith) in cc
+    go : (b : Bool) → p x ≡ b → (tally p xs ≡ 0 → map f xs ≡ xs) → (tally p xs ≤ 1 → map f xs ≡ change_first p g xs) → num b + tally p xs ≤ 1 → f x ∷ map f xs ≡ cond b (g x ∷ xs) (x ∷ change_first p g xs)
+    go true h n r le = ap (λ (y : X). y ∷ map f xs) (there x h) ∙ ap (λ (ys : List X). g x ∷ ys) (n (omega arith))
+    go false h n r le = ap (λ (y : X). y ∷ map f xs) (same x h) ∙ ap (λ (ys : List X). x ∷ ys) (r (omega arith))
 
 -- all that pass are left out, where at most one does
 pub once_left_out : {X : Type 0} (p : X → Bool) (xs : List X) → tally p xs ≤ 1 → filter (λ x. not (p x)) xs ≡ without_first p xs
 once_left_out p [] le = refl
-once_left_out {X = X} p (x ∷ xs) le = go (p x) le
+once_left_out {X = X} p (x ∷ xs) le = go (p x) (left_out_none p xs) (once_left_out p xs) le
   where
-    rest : (ys : List X) → tally p ys ≡ 0 → filter (λ y. not (p y)) ys ≡ ys
-    rest [] e = refl
-    rest (y ∷ ys) e = step (p y) e
-      where
-        step : (b : Bool) → num b + tally p ys ≡ 0 → cond (not b) (y ∷ filter (λ z. not (p z)) ys) (filter (λ z. not (p z)) ys) ≡ y ∷ ys
-        step true e = absurd (omega arith)
-        step false e = ap (λ (zs : List X). y ∷ zs) (rest ys (omega arith))
-
-    go : (b : Bool) → num b + tally p xs ≤ 1 → cond (not b) (x ∷ filter (λ z. not (p z)) xs) (filter (λ z. not (p z)) xs) ≡ cond b xs (x ∷ without_first p xs)
-    go true le = rest xs (omega arith)
-    go false le = ap (λ (zs : List X). x ∷ zs) (once_left_out p xs (omega arith))
+    go : (b : Bool) → (tally p xs ≡ 0 → filter (λ z. not (p z)) xs ≡ xs) → (tally p xs ≤ 1 → filter (λ z. not (p z)) xs ≡ without_first p xs) → num b + tally p xs ≤ 1
+        → cond (not b) (x ∷ filter (λ z. not (p z)) xs) (filter (λ z. not (p z)) xs) ≡ cond b xs (x ∷ without_first p xs)
+    go true n r le = n (omega arith)
+    go false n r le = ap (λ (zs : List X). x ∷ zs) (r (omega arith))
 
 -- ---- the last block
 
@@ -202,9 +203,9 @@ pub joined_mapped : {X : Type 0} (f : X → X) (xss : List (List X)) → joined 
 joined_mapped f [] = refl
 joined_mapped {X = X} f (xs ∷ xss) = ap (λ (zs : List X). map f xs ++ zs) (joined_mapped f xss) ∙ sym (mapped-both xs (joined xss))
   where
-    mapped-both : (as bs : List X) → map f (as ++ bs) ≡ map f as ++ map f bs
-    mapped-both [] bs = refl
-    mapped-both (a ∷ as) bs = ap (λ (zs : List X). f a ∷ zs) (mapped-both as bs)
+    mapped-both : (ys ws : List X) → map f (ys ++ ws) ≡ map f ys ++ map f ws
+    mapped-both [] ws = refl
+    mapped-both (y ∷ ys) ws = ap (λ (zs : List X). f y ∷ zs) (mapped-both ys ws)
 
 -- where none passes, none does in a block
 pub nowhere_in : {X : Type 0} (p : X → Bool) (xss : List (List X)) (i : ℕ) → tally p (joined xss) ≡ 0 → find p (get_or xss i []) ≡ None

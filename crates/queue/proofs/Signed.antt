@@ -1,7 +1,7 @@
 -- Blocks, the bits that say which of them have a ready message, and the room of the last.
 use Rattle.std.proofs.Common.{◌≡◌, ℕ, zero, suc, ◌+◌, ◌<◌, ◌≤◌, List, [], ◌∷◌, ◌++◌, length, get_or, map, filter, refl, sym, ap, ◌∙◌, subst, arith, Bool, true, false, cond, Option, Some, None, find, is_some, inl, inr}
-use Rattle.std.specs.Prelude.{nat_lt, ◌||◌}
-use Rattle.std.proofs.lemmas.Bool.{false≢true}
+use Rattle.std.specs.Prelude.{nat_lt, ◌==◌, ◌||◌}
+use Rattle.std.proofs.lemmas.Bool.{false≢true, ltb-false}
 use Rattle.std.proofs.lemmas.Bool.Decides.{eqb_tells, leb_tells}
 use Rattle.std.proofs.Math.ListN.{set}
 use Rattle.std.proofs.lemmas.List.{get_or-set_same, get_or-set_other, map-set}
@@ -115,12 +115,26 @@ pub room_somewhere : (bs : List Line) → 0 < last_room bs → 0 < length bs
 room_somewhere [] h = absurd (omega arith)
 room_somewhere (b ∷ bs) h = omega arith
 
+-- it has a last one
+pub some_block : (bs : List Line) → (length bs == 0) ≡ false → 0 < length bs
+some_block [] h = absurd (false≢true (sym h))
+some_block (b ∷ bs) h = omega arith
+
 -- ---- blocks that were given back go
 
+neither : (a b : Bool) → (a || b) ≡ false → (a ≡ false) × (b ≡ false)
+neither false b e = (refl, e)
+neither true b e = absurd (false≢true (sym e))
+
 no_entries : (es : List Entry) (room : ℕ) → (nat_lt 0 (length es) || nat_lt 0 room) ≡ false → (es ≡ []) × (room ≡ 0)
-no_entries [] zero e = (refl, refl)
-no_entries [] (suc r) e = absurd (false≢true (sym e))
-no_entries (x ∷ xs) r e = absurd (false≢true (sym e))
+no_entries es room e =
+    let n = neither (nat_lt 0 (length es)) (nat_lt 0 room) e in
+    let z = ltb-false 0 room n.1 in
+    (empty es (ltb-false 0 (length es) n.0), omega (arith, z))
+  where
+    empty : (xs : List Entry) → length xs ≤ 0 → xs ≡ []
+    empty [] h = refl
+    empty (x ∷ xs) h = absurd (omega arith)
 
 pub joined_in_use : (bs : List Line) → joined (parts (filter is_in_use bs)) ≡ joined (parts bs)
 joined_in_use [] = refl
@@ -132,11 +146,12 @@ joined_in_use (b ∷ bs) = go (is_in_use b) refl (joined_in_use bs)
 
 room-in_use : (r r' : ℕ) (bs : List Line) → r ≤ r' → room_after r bs ≤ room_after r' (filter is_in_use bs)
 room-in_use r r' [] le = le
-room-in_use r r' (b ∷ bs) le = go (is_in_use b) refl
+room-in_use r r' (b ∷ bs) le = go (is_in_use b) refl (room-in_use b.room b.room bs (omega arith)) (room-in_use b.room r' bs)
   where
-    go : (u : Bool) → is_in_use b ≡ u → room_after b.room bs ≤ room_after r' (cond u (b ∷ filter is_in_use bs) (filter is_in_use bs))
-    go true h = room-in_use b.room b.room bs (omega arith)
-    go false h = room-in_use b.room r' bs (let z = (no_entries b.entries b.room h).1 in omega arith)
+    go : (u : Bool) → is_in_use b ≡ u → room_after b.room bs ≤ room_after b.room (filter is_in_use bs) → (b.room ≤ r' → room_after b.room bs ≤ room_after r' (filter is_in_use bs))
+        → room_after b.room bs ≤ room_after r' (cond u (b ∷ filter is_in_use bs) (filter is_in_use bs))
+    go true h k d = k
+    go false h k d = d (let z = (no_entries b.entries b.room h).1 in omega (arith, z))
 
 pub room_in_use : (bs : List Line) → last_room bs ≤ last_room (filter is_in_use bs)
 room_in_use bs = room-in_use 0 0 bs (omega arith)

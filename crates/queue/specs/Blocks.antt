@@ -1,5 +1,5 @@
 -- Blocks of messages, one after another (own).
-use Rattle.std.specs.Prelude.{◌≡◌, ℕ, ◌≤◌, ◌+◌, ◌||◌, List, [], ◌∷◌, ◌++◌, length, map, Bool, cond, nat_lt, Option, Some, None, find, is_some, get_or}
+use Rattle.std.specs.Prelude.{◌≡◌, ℕ, ◌≤◌, ◌+◌, ◌-◌, ◌||◌, List, [], ◌∷◌, ◌++◌, length, map, Bool, cond, nat_lt, Option, Some, None, find, is_some, get_or}
 use Rattle.model.specs.Broker.{is_ready, body_bytes}
 use Rattle.model.specs.Entries.{is_held_as}
 use Rattle.model.specs.Reloading.{stood_now}
@@ -34,6 +34,10 @@ room_after room (b ∷ bs) = room_after b.room bs
 -- the room of the last block, or none
 abbrev pub last_room : List Line → ℕ
 last_room blocks = room_after 0 blocks
+
+-- the lesser of the two
+abbrev pub lesser : ℕ → ℕ → ℕ
+lesser a b = a - (a - b)
 
 -- one of them passes
 abbrev pub some_pass : {X : Type 0} → (X → Bool) → List X → Bool

@@ -186,10 +186,10 @@ pub(crate) fn stand_in(blocks: &mut [Block])
 pub(crate) fn room_of(blocks: &[Block]) -> usize
     ensures { result ≡ last_room blocks.now }
 {
-    match blocks.last() {
-        Some(block) => block.room(),
-        None => 0,
+    if blocks.is_empty() {
+        return 0;
     }
+    blocks[blocks.len() - 1].room()
 }
 
 /// Whether so many messages more come into the last block.
@@ -210,6 +210,7 @@ pub(crate) fn reserve_last(blocks: &mut Vec<Block>, more: usize) -> Result<(), A
     ensures room { OnOk result (more ≤ last_room blocks.new.items) }
     ensures len { vec_len blocks.new ≡ vec_len blocks.old }
     ensures capacity { vec_capacity blocks.new ≡ vec_capacity blocks.old }
+    ensures full { OnErr result (last_room blocks.old.items < more) }
 {
     let last = blocks.len() - 1;
     blocks[last].reserve(more)
@@ -285,6 +286,17 @@ fn make_place(blocks: &mut Vec<Block>, signs: &mut Signs) -> Result<(), AllocErr
     signs.grow(blocks.capacity())
 }
 
+/// How many slots a block starts with, which wants so many: the first block grows as it is filled, another has all at once.
+fn slots_for(more: usize, is_first: bool) -> usize
+    ensures { more ≤ result }
+{
+    if is_first || more > BLOCK_SLOTS {
+        more
+    } else {
+        BLOCK_SLOTS
+    }
+}
+
 /// Starts a block with room for so many messages, of which the arrivals have the number `first` or later ones.
 pub(crate) fn start_block(blocks: &mut Vec<Block>, signs: &mut Signs, alloc: Global, first: u64, more: usize) -> Result<(), AllocError>
     requires signed { AreBlocksSigned (parts blocks.old.items) signs.old }
@@ -297,10 +309,7 @@ pub(crate) fn start_block(blocks: &mut Vec<Block>, signs: &mut Signs, alloc: Glo
 {
     make_place(blocks, signs)?;
     let mut block = Block::new(alloc, first);
-    block.reserve(more)?;
-    if !blocks.is_empty() {
-        block.reserve(BLOCK_SLOTS)?;
-    }
+    block.reserve(slots_for(more, blocks.is_empty()))?;
     blocks.push_reserved(block);
     Ok(())
 }

@@ -37,14 +37,14 @@ pub struct Indexed {
 }
 
 impl Model for Indexed {
-    ghost use Rattle.std.specs.Prelude.{◌-◌, min, vec_len, vec_capacity};
+    ghost use Rattle.std.specs.Prelude.{◌-◌, vec_len, vec_capacity};
     ghost use Rattle.queue.specs.Line.{Line};
     ghost use Rattle.queue.specs.Slots.{HasPlaces};
-    ghost use Rattle.queue.specs.Blocks.{parts, joined, last_room, AreBlocksSigned, IsCounted};
+    ghost use Rattle.queue.specs.Blocks.{parts, joined, last_room, lesser, AreBlocksSigned, IsCounted};
 
     ghost Value = { Line };
 
-    ghost view = { λ q. record { entries = joined (parts q.blocks.items); room = min (last_room q.blocks.items) (18446744073709551615 - q.live) } };
+    ghost view = { λ q. record { entries = joined (parts q.blocks.items); room = lesser (last_room q.blocks.items) (18446744073709551615 - q.live) } };
 
     ghost invariant = { λ q. AreBlocksSigned (parts q.blocks.items) q.signs × HasPlaces (vec_len q.blocks) (vec_capacity q.blocks) q.signs.places × IsCounted (joined (parts q.blocks.items)) q.ready_count q.live q.ready_bytes };
 }

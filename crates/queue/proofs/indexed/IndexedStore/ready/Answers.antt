@@ -1,0 +1,8 @@
+use Rattle.std.proofs.Common.{◌≡◌, ◌∙◌, subst}
+use Rattle.model.specs.Broker.{is_ready}
+use Rattle.queue.specs.Line.{Line, ready_count}
+use Rattle.queue.proofs.Places.{tally-filter}
+use Rattle.queue.proofs.indexed.IndexedStore.ready.Goals as goal
+
+pub returns : goal.returns
+returns c = subst (λ (l : Line). c.self.inside.ready_count ≡ ready_count l.entries) c.self.view_is (c.self.invariant.2.ready_count ∙ tally-filter is_ready _)

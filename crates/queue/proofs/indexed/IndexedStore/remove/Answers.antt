@@ -1,0 +1,69 @@
+use Rattle.std.proofs.Common.{◌≡◌, ◌∙◌, ◌<◌, ◌≤◌, ℕ, [], sym, ap, subst, arith, rules, length, List, Option, true, None, find, filter, not, get_or, vec_len}
+use Rattle.model.specs.Broker.{is_ready}
+use Rattle.model.specs.Entries.{is_held_as}
+use Rattle.model.specs.declared.messages.Entry.{Entry}
+use Rattle.queue.specs.Line.{Line}
+use Rattle.queue.specs.Slots.{num, BitTurned}
+use Rattle.queue.specs.Blocks.{parts, joined, some_pass}
+use Rattle.queue.proofs.Joined.{first_within, joined_found}
+use Rattle.queue.proofs.Signed.{signed_now, parts-length}
+use Rattle.queue.proofs.Slotted.{same_places}
+use Rattle.queue.proofs.Calls.{NoneIn, nothing_found, nothing_left_out, held_first, held_there, left_out_is, remove_there}
+use Rattle.queue.proofs.indexed.IndexedStore.remove.Goals as goal
+
+pub overflow_sub-self : goal.overflow_sub-self
+overflow_sub-self c =
+    let t = subst (λ (bs : List Line). some_pass (is_held_as c.args.holder.now) (get_or (parts bs) c.in-Some.place []) ≡ true) c.deref.ensures.value c.in-Some.ensures.some in
+    (held_there _ _ _ _ _ c.args.holder.now c.self.invariant.2 t).0
+
+pub remove_at-requires : goal.remove_at-requires
+remove_at-requires c =
+    let t = subst (λ (bs : List Line). some_pass (is_held_as c.args.holder.now) (get_or (parts bs) c.in-Some.place []) ≡ true) c.deref.ensures.value c.in-Some.ensures.some in
+    let lt = first_within (is_held_as c.args.holder.now) (parts c.self.inside.blocks.items) c.in-Some.place t in
+    let n = parts-length c.self.inside.blocks.items in
+    let l : vec_len c.self.inside.blocks ≡ length c.self.inside.blocks.items = search rules in
+    omega (arith, lt)
+
+pub sign-requires : goal.sign-requires
+sign-requires c =
+    let t = subst (λ (bs : List Line). some_pass (is_held_as c.args.holder.now) (get_or (parts bs) c.in-Some.place []) ≡ true) c.deref.ensures.value c.in-Some.ensures.some in
+    let lt = first_within (is_held_as c.args.holder.now) (parts c.self.inside.blocks.items) c.in-Some.place t in
+    let n = parts-length c.self.inside.blocks.items in
+    let l : vec_len c.self.inside.blocks ≡ length c.self.inside.blocks.items = search rules in
+    let u = c.self.invariant.1.used in
+    omega (arith, lt)
+
+pub invariant_of-self : goal.invariant_of-self
+invariant_of-self c =
+    let t = subst (λ (bs : List Line). some_pass (is_held_as c.args.holder.now) (get_or (parts bs) c.in-Some.place []) ≡ true) c.deref.ensures.value c.in-Some.ensures.some in
+    let least = held_there _ _ _ _ _ c.args.holder.now c.self.invariant.2 t in
+    let turned : BitTurned c.self.inside.signs c.sign.new.signs c.in-Some.place (num (some_pass is_ready (get_or (parts c.remove_at.new.blocks.items) c.in-Some.place [])))
+    = subst (λ (bs : List Line). BitTurned c.self.inside.signs c.sign.new.signs c.in-Some.place (num (some_pass is_ready (get_or (parts bs) c.in-Some.place [])))) c.deref-in-Some.ensures.value c.sign.ensures in (
+      signed_now _ _ _ _ _ _ (first_within (is_held_as c.args.holder.now) _ _ t) c.self.invariant.0 c.remove_at.ensures.parts turned,
+      same_places _ _ _ _ _ _ c.self.invariant.1 c.remove_at.ensures.len c.remove_at.ensures.capacity c.sign.ensures.places,
+      remove_there (parts c.self.inside.blocks.items) (parts c.remove_at.new.blocks.items) _ _ _ _ c.in-Some.place c.args.holder.now c.self.invariant.2 t c.remove_at.ensures.parts (omega (arith, least.0)),
+    )
+
+pub returns-in-None-clause-taken : goal.returns-in-None-clause-taken
+returns-in-None-clause-taken c =
+    let n : NoneIn (is_held_as c.args.holder.now) (parts c.deref.result.now) = record { no = c.in-None.ensures.none } in
+    subst (λ (l : Line). ◌≡◌ {A = Option Entry} None (find (is_held_as c.args.holder.now) l.entries)) c.self.view_is
+    (sym (nothing_found _ _ (subst (λ (bs : List Line). NoneIn (is_held_as c.args.holder.now) (parts bs)) c.deref.ensures.value n)))
+
+pub returns-in-None-clause-entries : goal.returns-in-None-clause-entries
+returns-in-None-clause-entries c =
+    let n : NoneIn (is_held_as c.args.holder.now) (parts c.deref.result.now) = record { no = c.in-None.ensures.none } in
+    subst (λ (l : Line). l.entries ≡ filter (λ e. not (is_held_as c.args.holder.now e)) l.entries) c.self.view_is
+    (sym (nothing_left_out _ c.args.holder.now (subst (λ (bs : List Line). NoneIn (is_held_as c.args.holder.now) (parts bs)) c.deref.ensures.value n)))
+
+pub returns-in-Some-clause-taken : goal.returns-in-Some-clause-taken
+returns-in-Some-clause-taken c =
+    let t = subst (λ (bs : List Line). some_pass (is_held_as c.args.holder.now) (get_or (parts bs) c.in-Some.place []) ≡ true) c.deref.ensures.value c.in-Some.ensures.some in
+    subst (λ (l : Line). c.remove_at.result ≡ find (is_held_as c.args.holder.now) l.entries) c.self.view_is
+    (c.remove_at.ensures.taken ∙ sym (joined_found _ _ _ (held_first _ _ _ _ _ c.args.holder.now c.self.invariant.2 t)))
+
+pub returns-in-Some-clause-entries : goal.returns-in-Some-clause-entries
+returns-in-Some-clause-entries c =
+    let t = subst (λ (bs : List Line). some_pass (is_held_as c.args.holder.now) (get_or (parts bs) c.in-Some.place []) ≡ true) c.deref.ensures.value c.in-Some.ensures.some in
+    subst (λ (l : Line). joined (parts c.remove_at.new.blocks.items) ≡ filter (λ e. not (is_held_as c.args.holder.now e)) l.entries) c.self.view_is
+    (ap (λ (ps : List (List Entry)). joined ps) c.remove_at.ensures.parts ∙ sym (left_out_is _ _ _ _ _ c.args.holder.now c.self.invariant.2 t))
