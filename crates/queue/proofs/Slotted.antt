@@ -97,18 +97,18 @@ same_under h holder g e =
     ∙ ap (λ (n : ℕ). ((g.connection == holder.connection) && (g.channel == n)) && (g.tag == h.tag)) (sym (equal holder.channel h.channel one.1))
     ∙ ap (λ (n : ℕ). ((g.connection == holder.connection) && (g.channel == holder.channel)) && (g.tag == n)) (sym (equal holder.tag h.tag two.1))
 
-same_held : (h holder : Holder) (e : Entry) → is_under h holder ≡ true → is_held_as h e ≡ is_held_as holder e
+pub same_held : (h holder : Holder) (e : Entry) → is_under h holder ≡ true → is_held_as h e ≡ is_held_as holder e
 same_held h holder e u = go e.mark
   where
     go : (m : Mark) → ◌≡◌ {A = Bool} (elim m [ Ready ↦ false | Held g ↦ is_under h g ]) (elim m [ Ready ↦ false | Held g ↦ is_under holder g ])
     go Ready = refl
     go (Held g) = same_under h holder g u
 
-same_count : {X : Type 0} (p q : X → Bool) → ((x : X) → p x ≡ q x) → (xs : List X) → tally p xs ≡ tally q xs
+pub same_count : {X : Type 0} (p q : X → Bool) → ((x : X) → p x ≡ q x) → (xs : List X) → tally p xs ≡ tally q xs
 same_count p q s [] = refl
 same_count p q s (x ∷ xs) = let a = ap num (s x) in let b = same_count p q s xs in omega arith
 
-not_found : {X : Type 0} (p : X → Bool) (xs : List X) → find p xs ≡ None → tally p xs ≡ 0
+pub not_found : {X : Type 0} (p : X → Bool) (xs : List X) → find p xs ≡ None → tally p xs ≡ 0
 not_found p [] e = refl
 not_found p (x ∷ xs) e = go (p x) refl (not_found p xs) e
   where

@@ -52,7 +52,7 @@ fn first_in<'a>(slots: &mut &'a [Slot], blocks: &mut &'a [Block]) -> Option<&'a 
     if let Some(entry) = first_of(slots) {
         return Some(entry);
     }
-    'blocks: while let Some(block) = blocks.split_off_first() {
+    'ahead: while let Some(block) = blocks.split_off_first() {
         *slots = block.slots();
         if let Some(entry) = first_of(slots) {
             return Some(entry);

@@ -4,10 +4,10 @@ use Rattle.queue.specs.Blocks.{parts, joined}
 use Rattle.queue.proofs.walks.first_in.Given as goal
 
 -- nothing stands in the slots, and nothing stood in what was passed
-abbrev pub invariant-blocks : goal.invariant-blocks
-invariant-blocks l =
+abbrev pub invariant-ahead : goal.invariant-ahead
+invariant-ahead l =
     (somes (contents l.slots.now) ≡ [])
     × (joined (parts l.blocks.now) ≡ somes (contents l.fn.slots.now) ++ joined (parts l.fn.blocks.now))
 
-abbrev pub decreases-blocks : goal.decreases-blocks
-decreases-blocks l = length l.blocks.now
+abbrev pub decreases-ahead : goal.decreases-ahead
+decreases-ahead l = length l.blocks.now

@@ -12,28 +12,21 @@ use Rattle.queue.proofs.Calls.{ready_there, hold_there, free_there}
 use Rattle.queue.proofs.indexed.IndexedStore.hold.Goals as goal
 
 pub overflow_sub-self : goal.overflow_sub-self
-overflow_sub-self c = (ready_there _ _ _ _ _ c.self.invariant.2 (first_signed _ _ _ c.self.invariant.0 c.in-Some.ensures.some)).0
+overflow_sub-self c = (ready_there (parts c.self.inside.blocks.items) c.self.inside.ready_count c.self.inside.live c.self.inside.ready_bytes c.in-Some.place c.self.invariant.2 (first_signed (parts c.self.inside.blocks.items) c.self.inside.signs c.in-Some.place c.self.invariant.0 c.in-Some.ensures.some)).0
 
 pub overflow_sub-self-in-Some : goal.overflow_sub-self-in-Some
 overflow_sub-self-in-Some c =
     let size : c.ready_bytes_at.result ≡ size_of body_bytes (find is_ready (get_or (parts c.self.inside.blocks.items) c.in-Some.place []))
     = c.ready_bytes_at.ensures ∙ ap (λ (bs : List Line). size_of body_bytes (find is_ready (get_or (parts bs) c.in-Some.place []))) c.deref.ensures.value in
-    let there = (ready_there _ _ _ _ _ c.self.invariant.2 (first_signed _ _ _ c.self.invariant.0 c.in-Some.ensures.some)).1.1 in
+    let there = (ready_there (parts c.self.inside.blocks.items) c.self.inside.ready_count c.self.inside.live c.self.inside.ready_bytes c.in-Some.place c.self.invariant.2 (first_signed (parts c.self.inside.blocks.items) c.self.inside.signs c.in-Some.place c.self.invariant.0 c.in-Some.ensures.some)).1.1 in
     omega (arith, size, there)
 
-pub hold_at-requires-within : goal.hold_at-requires-within
-hold_at-requires-within c =
-    let lt = first_within is_ready (parts c.self.inside.blocks.items) c.in-Some.place (first_signed _ _ _ c.self.invariant.0 c.in-Some.ensures.some).there in
-    let n = parts-length c.self.inside.blocks.items in
-    let l : vec_len c.self.inside.blocks ≡ length c.self.inside.blocks.items = search rules in
-    omega (arith, lt)
-
-pub hold_at-requires-apart : goal.hold_at-requires-apart
-hold_at-requires-apart c = free_there (parts c.self.inside.blocks.items) c.in-Some.place c.args.holder (subst (λ (l : Line). find (is_held_as c.args.holder) l.entries ≡ None) (sym c.self.view_is) c.requires)
+pub hold_at-arrival-requires-clause-apart : goal.hold_at-arrival-requires-clause-apart
+hold_at-arrival-requires-clause-apart c = free_there (parts c.self.inside.blocks.items) c.in-Some.place c.args.holder (subst (λ (l : Line). find (is_held_as c.args.holder) l.entries ≡ None) (sym c.self.view_is) c.requires)
 
 pub sign-requires : goal.sign-requires
 sign-requires c =
-    let lt = first_within is_ready (parts c.self.inside.blocks.items) c.in-Some.place (first_signed _ _ _ c.self.invariant.0 c.in-Some.ensures.some).there in
+    let lt = first_within is_ready (parts c.self.inside.blocks.items) c.in-Some.place (first_signed (parts c.self.inside.blocks.items) c.self.inside.signs c.in-Some.place c.self.invariant.0 c.in-Some.ensures.some).there in
     let n = parts-length c.self.inside.blocks.items in
     let l : vec_len c.self.inside.blocks ≡ length c.self.inside.blocks.items = search rules in
     let u = c.self.invariant.1.used in
@@ -41,30 +34,30 @@ sign-requires c =
 
 pub invariant_of-self : goal.invariant_of-self
 invariant_of-self c =
-    let first : FirstIn is_ready (parts c.self.inside.blocks.items) c.in-Some.place = first_signed _ _ _ c.self.invariant.0 c.in-Some.ensures.some in
+    let first : FirstIn is_ready (parts c.self.inside.blocks.items) c.in-Some.place = first_signed (parts c.self.inside.blocks.items) c.self.inside.signs c.in-Some.place c.self.invariant.0 c.in-Some.ensures.some in
     let size : c.ready_bytes_at.result ≡ size_of body_bytes (find is_ready (get_or (parts c.self.inside.blocks.items) c.in-Some.place []))
     = c.ready_bytes_at.ensures ∙ ap (λ (bs : List Line). size_of body_bytes (find is_ready (get_or (parts bs) c.in-Some.place []))) c.deref.ensures.value in
-    let least = ready_there _ _ _ _ _ c.self.invariant.2 first in
-    let turned : BitTurned c.self.inside.signs c.sign.new.signs c.in-Some.place (num (some_pass is_ready (get_or (parts c.hold_at.new.blocks.items) c.in-Some.place [])))
+    let least = ready_there (parts c.self.inside.blocks.items) c.self.inside.ready_count c.self.inside.live c.self.inside.ready_bytes c.in-Some.place c.self.invariant.2 first in
+    let turned : BitTurned c.self.inside.signs c.sign.new.signs c.in-Some.place (num (some_pass is_ready (get_or (parts c.hold_at-arrival.new.blocks.items) c.in-Some.place [])))
     = subst (λ (bs : List Line). BitTurned c.self.inside.signs c.sign.new.signs c.in-Some.place (num (some_pass is_ready (get_or (parts bs) c.in-Some.place [])))) c.deref-in-Some.ensures.value c.sign.ensures in (
-      signed_now _ _ _ _ _ _ (first_within is_ready _ _ first.there) c.self.invariant.0 c.hold_at.ensures.parts turned,
-      same_places _ _ _ _ _ _ c.self.invariant.1 c.hold_at.ensures.len c.hold_at.ensures.capacity c.sign.ensures.places,
-      hold_there (parts c.self.inside.blocks.items) (parts c.hold_at.new.blocks.items) _ _ _ _ _ c.ready_bytes_at.result c.in-Some.place c.args.holder c.self.invariant.2 first
-          (subst (λ (l : Line). find (is_held_as c.args.holder) l.entries ≡ None) (sym c.self.view_is) c.requires) c.hold_at.ensures.parts size (omega (arith, least.0)) (let b = least.1.1 in omega (arith, size, b)),
+      signed_now (parts c.self.inside.blocks.items) _ _ c.self.inside.signs c.sign.new.signs c.in-Some.place (first_within is_ready (parts c.self.inside.blocks.items) c.in-Some.place first.there) c.self.invariant.0 c.hold_at-arrival.ensures.parts turned,
+      same_places _ _ _ _ _ _ c.self.invariant.1 c.hold_at-arrival.ensures.len c.hold_at-arrival.ensures.capacity c.sign.ensures.places,
+      hold_there (parts c.self.inside.blocks.items) (parts c.hold_at-arrival.new.blocks.items) _ _ _ _ _ c.ready_bytes_at.result c.in-Some.place c.args.holder c.self.invariant.2 first
+          (subst (λ (l : Line). find (is_held_as c.args.holder) l.entries ≡ None) (sym c.self.view_is) c.requires) c.hold_at-arrival.ensures.parts size (omega (arith, least.0)) (let b = least.1.1 in omega (arith, size, b)),
     )
 
 pub returns-in-None-clause-told : goal.returns-in-None-clause-told
 returns-in-None-clause-told c = subst (λ (l : Line). false ≡ is_some (find is_ready l.entries)) c.self.view_is
-    (ap is_some (sym (joined_none is_ready _ (none_signed _ _ c.self.invariant.0 c.in-None.ensures.none))))
+    (ap is_some (sym (joined_none is_ready (parts c.self.inside.blocks.items) (none_signed (parts c.self.inside.blocks.items) c.self.inside.signs c.self.invariant.0 c.in-None.ensures.none))))
 
 pub returns-in-None-clause-entries : goal.returns-in-None-clause-entries
 returns-in-None-clause-entries c = subst (λ (l : Line). l.entries ≡ change_first is_ready (held_as c.args.holder) l.entries) c.self.view_is
-    (sym (none_changed_in is_ready _ _ (joined_none is_ready _ (none_signed _ _ c.self.invariant.0 c.in-None.ensures.none))))
+    (sym (none_changed_in is_ready (held_as c.args.holder) (joined (parts c.self.inside.blocks.items)) (joined_none is_ready (parts c.self.inside.blocks.items) (none_signed (parts c.self.inside.blocks.items) c.self.inside.signs c.self.invariant.0 c.in-None.ensures.none))))
 
 pub returns-in-Some-clause-told : goal.returns-in-Some-clause-told
-returns-in-Some-clause-told c = subst (λ (l : Line). is_some c.hold_at.result ≡ is_some (find is_ready l.entries)) c.self.view_is
-    (c.hold_at.ensures.told ∙ sym (ap is_some (joined_found is_ready _ _ (first_signed _ _ _ c.self.invariant.0 c.in-Some.ensures.some))))
+returns-in-Some-clause-told c = subst (λ (l : Line). is_some c.hold_at-arrival.result ≡ is_some (find is_ready l.entries)) c.self.view_is
+    (c.hold_at-arrival.ensures.told ∙ sym (ap is_some (joined_found is_ready (parts c.self.inside.blocks.items) c.in-Some.place (first_signed (parts c.self.inside.blocks.items) c.self.inside.signs c.in-Some.place c.self.invariant.0 c.in-Some.ensures.some))))
 
 pub returns-in-Some-clause-entries : goal.returns-in-Some-clause-entries
-returns-in-Some-clause-entries c = subst (λ (l : Line). joined (parts c.hold_at.new.blocks.items) ≡ change_first is_ready (held_as c.args.holder) l.entries) c.self.view_is
-    (ap (λ (ps : List (List Entry)). joined ps) c.hold_at.ensures.parts ∙ sym (joined_changed is_ready _ _ _ (first_signed _ _ _ c.self.invariant.0 c.in-Some.ensures.some)))
+returns-in-Some-clause-entries c = subst (λ (l : Line). joined (parts c.hold_at-arrival.new.blocks.items) ≡ change_first is_ready (held_as c.args.holder) l.entries) c.self.view_is
+    (ap (λ (ps : List (List Entry)). joined ps) c.hold_at-arrival.ensures.parts ∙ sym (joined_changed is_ready (held_as c.args.holder) (parts c.self.inside.blocks.items) c.in-Some.place (first_signed (parts c.self.inside.blocks.items) c.self.inside.signs c.in-Some.place c.self.invariant.0 c.in-Some.ensures.some)))

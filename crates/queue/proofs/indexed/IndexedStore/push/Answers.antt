@@ -14,13 +14,13 @@ use Rattle.queue.proofs.indexed.IndexedStore.push.Goals as goal
 
 pub overflow_add-self : goal.overflow_add-self
 overflow_add-self c =
-    let a = (counts_most _ _ _ _ c.self.invariant.2).0 in
+    let a = (counts_most (joined (parts c.self.inside.blocks.items)) c.self.inside.ready_count c.self.inside.live c.self.inside.ready_bytes c.self.invariant.2).0 in
     let r = lesser_least _ _ (subst (λ (l : Line). 0 < l.room) (sym c.self.view_is) c.requires) in
     omega (arith, a, r.1)
 
 pub overflow_add-self-2 : goal.overflow_add-self-2
 overflow_add-self-2 c =
-    let most = (counts_most _ _ _ _ c.self.invariant.2).1 in
+    let most = (counts_most (joined (parts c.self.inside.blocks.items)) c.self.inside.ready_count c.self.inside.live c.self.inside.ready_bytes c.self.invariant.2).1 in
     omega (arith, most)
 
 pub overflow_add-self-3 : goal.overflow_add-self-3
@@ -28,31 +28,28 @@ overflow_add-self-3 c =
     let r = lesser_least _ _ (subst (λ (l : Line). 0 < l.room) (sym c.self.view_is) c.requires) in
     omega (arith, r.1)
 
-pub push_last-requires : goal.push_last-requires
-push_last-requires c = (lesser_least _ _ (subst (λ (l : Line). 0 < l.room) (sym c.self.view_is) c.requires)).0
-
 pub set_ready-requires : goal.set_ready-requires
-set_ready-requires c = let p = c.push_last.ensures.place in let u = c.self.invariant.1.used in omega (arith)
+set_ready-requires c = let p = c.push_last-place.ensures.place in let u = c.self.invariant.1.used in omega (arith)
 
 pub invariant_of-self : goal.invariant_of-self
 invariant_of-self c =
     let size : c.len.result ≡ length c.args.message.content.body = c.len.ensures ∙ ap (λ (x : Content). length x.body) c.content.ensures in
-    let p = c.push_last.ensures.place in
+    let p = c.push_last-place.ensures.place in
     let n = parts-length c.self.inside.blocks.items in
     let l : vec_len c.self.inside.blocks ≡ length c.self.inside.blocks.items = search rules in
-    let last : c.push_last.result + 1 ≡ length (parts c.self.inside.blocks.items) = omega arith in (
-      subst (λ (ps : List (List Entry)). AreBlocksSigned ps c.set_ready.new.self) (sym c.push_last.ensures.parts)
-          (signed_at _ _ _ _ _ (omega arith) c.self.invariant.0 (subst (λ (b : Bool). BitTurned c.self.inside.signs c.set_ready.new.self c.push_last.result (num b)) (sym (ready_at_end (get_or (parts c.self.inside.blocks.items) c.push_last.result []) c.args.message)) c.set_ready.ensures)),
-      same_places _ _ _ _ _ _ c.self.invariant.1 c.push_last.ensures.len c.push_last.ensures.capacity c.set_ready.ensures.places,
-      subst (λ (es : List Entry). IsCounted es _ _ _) (sym (ap (λ (ps : List (List Entry)). joined ps) c.push_last.ensures.parts ∙ joined_end (parts c.self.inside.blocks.items) c.push_last.result (record { message = c.args.message; mark = Ready } ∷ []) last))
+    let last : c.push_last-place.result + 1 ≡ length (parts c.self.inside.blocks.items) = omega arith in (
+      subst (λ (ps : List (List Entry)). AreBlocksSigned ps c.set_ready.new.self) (sym c.push_last-place.ensures.parts)
+          (signed_at (parts c.self.inside.blocks.items) _ c.self.inside.signs c.set_ready.new.self c.push_last-place.result (omega arith) c.self.invariant.0 (subst (λ (b : Bool). BitTurned c.self.inside.signs c.set_ready.new.self c.push_last-place.result (num b)) (sym (ready_at_end (get_or (parts c.self.inside.blocks.items) c.push_last-place.result []) c.args.message)) c.set_ready.ensures)),
+      same_places _ _ _ _ _ _ c.self.invariant.1 c.push_last-place.ensures.len c.push_last-place.ensures.capacity c.set_ready.ensures.places,
+      subst (λ (es : List Entry). IsCounted es _ _ _) (sym (ap (λ (ps : List (List Entry)). joined ps) c.push_last-place.ensures.parts ∙ joined_end (parts c.self.inside.blocks.items) c.push_last-place.result (record { message = c.args.message; mark = Ready } ∷ []) last))
           (push_counted _ _ _ _ _ _ _ c.args.message c.self.invariant.2 (omega (arith, size)) refl refl (ap (λ (k : ℕ). c.self.inside.ready_bytes + k) size)),
     )
 
 pub returns-clause-entries : goal.returns-clause-entries
 returns-clause-entries c =
-    let p = c.push_last.ensures.place in
+    let p = c.push_last-place.ensures.place in
     let n = parts-length c.self.inside.blocks.items in
     let l : vec_len c.self.inside.blocks ≡ length c.self.inside.blocks.items = search rules in
-    let last : c.push_last.result + 1 ≡ length (parts c.self.inside.blocks.items) = omega arith in
-    subst (λ (l : Line). joined (parts c.push_last.new.blocks.items) ≡ l.entries ++ record { message = c.args.message; mark = Ready } ∷ []) c.self.view_is
-    (ap (λ (ps : List (List Entry)). joined ps) c.push_last.ensures.parts ∙ joined_end (parts c.self.inside.blocks.items) c.push_last.result (record { message = c.args.message; mark = Ready } ∷ []) last)
+    let last : c.push_last-place.result + 1 ≡ length (parts c.self.inside.blocks.items) = omega arith in
+    subst (λ (l : Line). joined (parts c.push_last-place.new.blocks.items) ≡ l.entries ++ record { message = c.args.message; mark = Ready } ∷ []) c.self.view_is
+    (ap (λ (ps : List (List Entry)). joined ps) c.push_last-place.ensures.parts ∙ joined_end (parts c.self.inside.blocks.items) c.push_last-place.result (record { message = c.args.message; mark = Ready } ∷ []) last)

@@ -15,7 +15,7 @@ use Rattle.queue.proofs.indexed.IndexedStore.release.Goals as goal
 pub overflow_add-self : goal.overflow_add-self
 overflow_add-self c =
     let t = subst (λ (bs : List Line). some_pass (is_held_as c.args.holder.now) (get_or (parts bs) c.in-Some.place []) ≡ true) c.deref.ensures.value c.in-Some.ensures.some in
-    let least = (held_there _ _ _ _ _ c.args.holder.now c.self.invariant.2 t).1.0 in
+    let least = (held_there (parts c.self.inside.blocks.items) c.self.inside.ready_count c.self.inside.live c.self.inside.ready_bytes c.in-Some.place c.args.holder.now c.self.invariant.2 t).1.0 in
     omega (arith, least)
 
 pub overflow_add-self-in-Some : goal.overflow_add-self-in-Some
@@ -23,8 +23,8 @@ overflow_add-self-in-Some c =
     let t = subst (λ (bs : List Line). some_pass (is_held_as c.args.holder.now) (get_or (parts bs) c.in-Some.place []) ≡ true) c.deref.ensures.value c.in-Some.ensures.some in
     let size : c.held_bytes_at.result ≡ size_of body_bytes (find (is_held_as c.args.holder.now) (get_or (parts c.self.inside.blocks.items) c.in-Some.place []))
     = c.held_bytes_at.ensures ∙ ap (λ (bs : List Line). size_of body_bytes (find (is_held_as c.args.holder.now) (get_or (parts bs) c.in-Some.place []))) c.deref-in-Some.ensures.value in
-    let least = (held_there _ _ _ _ _ c.args.holder.now c.self.invariant.2 t).1.1 in
-    let most = (counts_most _ _ _ _ c.self.invariant.2).1 in
+    let least = (held_there (parts c.self.inside.blocks.items) c.self.inside.ready_count c.self.inside.live c.self.inside.ready_bytes c.in-Some.place c.args.holder.now c.self.invariant.2 t).1.1 in
+    let most = (counts_most (joined (parts c.self.inside.blocks.items)) c.self.inside.ready_count c.self.inside.live c.self.inside.ready_bytes c.self.invariant.2).1 in
     omega (arith, size, least, most)
 
 pub free_at-requires : goal.free_at-requires
@@ -51,7 +51,7 @@ invariant_of-self c =
     = c.held_bytes_at.ensures ∙ ap (λ (bs : List Line). size_of body_bytes (find (is_held_as c.args.holder.now) (get_or (parts bs) c.in-Some.place []))) c.deref-in-Some.ensures.value in
     let turned : BitTurned c.self.inside.signs c.sign.new.signs c.in-Some.place (num (some_pass is_ready (get_or (parts c.free_at.new.blocks.items) c.in-Some.place [])))
     = subst (λ (bs : List Line). BitTurned c.self.inside.signs c.sign.new.signs c.in-Some.place (num (some_pass is_ready (get_or (parts bs) c.in-Some.place [])))) c.deref-in-Some-2.ensures.value c.sign.ensures in (
-      signed_now _ _ _ _ _ _ (first_within (is_held_as c.args.holder.now) _ _ t) c.self.invariant.0 c.free_at.ensures.parts turned,
+      signed_now (parts c.self.inside.blocks.items) _ _ c.self.inside.signs c.sign.new.signs c.in-Some.place (first_within (is_held_as c.args.holder.now) (parts c.self.inside.blocks.items) c.in-Some.place t) c.self.invariant.0 c.free_at.ensures.parts turned,
       same_places _ _ _ _ _ _ c.self.invariant.1 c.free_at.ensures.len c.free_at.ensures.capacity c.sign.ensures.places,
       release_there (parts c.self.inside.blocks.items) (parts c.free_at.new.blocks.items) _ _ _ _ _ c.held_bytes_at.result c.in-Some.place c.args.holder.now c.self.invariant.2 t c.free_at.ensures.parts size refl refl,
     )
@@ -60,22 +60,22 @@ pub returns-in-None-clause-told : goal.returns-in-None-clause-told
 returns-in-None-clause-told c =
     let n : NoneIn (is_held_as c.args.holder.now) (parts c.deref.result.now) = record { no = c.in-None.ensures.none } in
     subst (λ (l : Line). false ≡ is_some (find (is_held_as c.args.holder.now) l.entries)) c.self.view_is
-    (ap is_some (sym (nothing_found _ _ (subst (λ (bs : List Line). NoneIn (is_held_as c.args.holder.now) (parts bs)) c.deref.ensures.value n))))
+    (ap is_some (sym (nothing_found (is_held_as c.args.holder.now) (parts c.self.inside.blocks.items) (subst (λ (bs : List Line). NoneIn (is_held_as c.args.holder.now) (parts bs)) c.deref.ensures.value n))))
 
 pub returns-in-None-clause-entries : goal.returns-in-None-clause-entries
 returns-in-None-clause-entries c =
     let n : NoneIn (is_held_as c.args.holder.now) (parts c.deref.result.now) = record { no = c.in-None.ensures.none } in
     subst (λ (l : Line). l.entries ≡ requeued (is_under c.args.holder.now) l.entries) c.self.view_is
-    (sym (nothing_freed _ c.args.holder.now (subst (λ (bs : List Line). NoneIn (is_held_as c.args.holder.now) (parts bs)) c.deref.ensures.value n)))
+    (sym (nothing_freed (parts c.self.inside.blocks.items) c.args.holder.now (subst (λ (bs : List Line). NoneIn (is_held_as c.args.holder.now) (parts bs)) c.deref.ensures.value n)))
 
 pub returns-in-Some-clause-told : goal.returns-in-Some-clause-told
 returns-in-Some-clause-told c =
     let t = subst (λ (bs : List Line). some_pass (is_held_as c.args.holder.now) (get_or (parts bs) c.in-Some.place []) ≡ true) c.deref.ensures.value c.in-Some.ensures.some in
     subst (λ (l : Line). true ≡ is_some (find (is_held_as c.args.holder.now) l.entries)) c.self.view_is
-    (sym (ap is_some (joined_found _ _ _ (held_first _ _ _ _ _ c.args.holder.now c.self.invariant.2 t)) ∙ t))
+    (sym (ap is_some (joined_found (is_held_as c.args.holder.now) (parts c.self.inside.blocks.items) c.in-Some.place (held_first (parts c.self.inside.blocks.items) c.self.inside.ready_count c.self.inside.live c.self.inside.ready_bytes c.in-Some.place c.args.holder.now c.self.invariant.2 t)) ∙ t))
 
 pub returns-in-Some-clause-entries : goal.returns-in-Some-clause-entries
 returns-in-Some-clause-entries c =
     let t = subst (λ (bs : List Line). some_pass (is_held_as c.args.holder.now) (get_or (parts bs) c.in-Some.place []) ≡ true) c.deref.ensures.value c.in-Some.ensures.some in
     subst (λ (l : Line). joined (parts c.free_at.new.blocks.items) ≡ requeued (is_under c.args.holder.now) l.entries) c.self.view_is
-    (ap (λ (ps : List (List Entry)). joined ps) c.free_at.ensures.parts ∙ sym (freed_there_is _ _ _ _ _ c.args.holder.now c.self.invariant.2 t))
+    (ap (λ (ps : List (List Entry)). joined ps) c.free_at.ensures.parts ∙ sym (freed_there_is (parts c.self.inside.blocks.items) c.self.inside.ready_count c.self.inside.live c.self.inside.ready_bytes c.in-Some.place c.args.holder.now c.self.invariant.2 t))

@@ -14,15 +14,7 @@ use Rattle.queue.proofs.indexed.IndexedStore.remove.Goals as goal
 pub overflow_sub-self : goal.overflow_sub-self
 overflow_sub-self c =
     let t = subst (λ (bs : List Line). some_pass (is_held_as c.args.holder.now) (get_or (parts bs) c.in-Some.place []) ≡ true) c.deref.ensures.value c.in-Some.ensures.some in
-    (held_there _ _ _ _ _ c.args.holder.now c.self.invariant.2 t).0
-
-pub remove_at-requires : goal.remove_at-requires
-remove_at-requires c =
-    let t = subst (λ (bs : List Line). some_pass (is_held_as c.args.holder.now) (get_or (parts bs) c.in-Some.place []) ≡ true) c.deref.ensures.value c.in-Some.ensures.some in
-    let lt = first_within (is_held_as c.args.holder.now) (parts c.self.inside.blocks.items) c.in-Some.place t in
-    let n = parts-length c.self.inside.blocks.items in
-    let l : vec_len c.self.inside.blocks ≡ length c.self.inside.blocks.items = search rules in
-    omega (arith, lt)
+    (held_there (parts c.self.inside.blocks.items) c.self.inside.ready_count c.self.inside.live c.self.inside.ready_bytes c.in-Some.place c.args.holder.now c.self.invariant.2 t).0
 
 pub sign-requires : goal.sign-requires
 sign-requires c =
@@ -36,34 +28,34 @@ sign-requires c =
 pub invariant_of-self : goal.invariant_of-self
 invariant_of-self c =
     let t = subst (λ (bs : List Line). some_pass (is_held_as c.args.holder.now) (get_or (parts bs) c.in-Some.place []) ≡ true) c.deref.ensures.value c.in-Some.ensures.some in
-    let least = held_there _ _ _ _ _ c.args.holder.now c.self.invariant.2 t in
-    let turned : BitTurned c.self.inside.signs c.sign.new.signs c.in-Some.place (num (some_pass is_ready (get_or (parts c.remove_at.new.blocks.items) c.in-Some.place [])))
+    let least = held_there (parts c.self.inside.blocks.items) c.self.inside.ready_count c.self.inside.live c.self.inside.ready_bytes c.in-Some.place c.args.holder.now c.self.invariant.2 t in
+    let turned : BitTurned c.self.inside.signs c.sign.new.signs c.in-Some.place (num (some_pass is_ready (get_or (parts c.remove_at-entry.new.blocks.items) c.in-Some.place [])))
     = subst (λ (bs : List Line). BitTurned c.self.inside.signs c.sign.new.signs c.in-Some.place (num (some_pass is_ready (get_or (parts bs) c.in-Some.place [])))) c.deref-in-Some.ensures.value c.sign.ensures in (
-      signed_now _ _ _ _ _ _ (first_within (is_held_as c.args.holder.now) _ _ t) c.self.invariant.0 c.remove_at.ensures.parts turned,
-      same_places _ _ _ _ _ _ c.self.invariant.1 c.remove_at.ensures.len c.remove_at.ensures.capacity c.sign.ensures.places,
-      remove_there (parts c.self.inside.blocks.items) (parts c.remove_at.new.blocks.items) _ _ _ _ c.in-Some.place c.args.holder.now c.self.invariant.2 t c.remove_at.ensures.parts (omega (arith, least.0)),
+      signed_now (parts c.self.inside.blocks.items) _ _ c.self.inside.signs c.sign.new.signs c.in-Some.place (first_within (is_held_as c.args.holder.now) (parts c.self.inside.blocks.items) c.in-Some.place t) c.self.invariant.0 c.remove_at-entry.ensures.parts turned,
+      same_places _ _ _ _ _ _ c.self.invariant.1 c.remove_at-entry.ensures.len c.remove_at-entry.ensures.capacity c.sign.ensures.places,
+      remove_there (parts c.self.inside.blocks.items) (parts c.remove_at-entry.new.blocks.items) _ _ _ _ c.in-Some.place c.args.holder.now c.self.invariant.2 t c.remove_at-entry.ensures.parts (omega (arith, least.0)),
     )
 
 pub returns-in-None-clause-taken : goal.returns-in-None-clause-taken
 returns-in-None-clause-taken c =
     let n : NoneIn (is_held_as c.args.holder.now) (parts c.deref.result.now) = record { no = c.in-None.ensures.none } in
     subst (λ (l : Line). ◌≡◌ {A = Option Entry} None (find (is_held_as c.args.holder.now) l.entries)) c.self.view_is
-    (sym (nothing_found _ _ (subst (λ (bs : List Line). NoneIn (is_held_as c.args.holder.now) (parts bs)) c.deref.ensures.value n)))
+    (sym (nothing_found (is_held_as c.args.holder.now) (parts c.self.inside.blocks.items) (subst (λ (bs : List Line). NoneIn (is_held_as c.args.holder.now) (parts bs)) c.deref.ensures.value n)))
 
 pub returns-in-None-clause-entries : goal.returns-in-None-clause-entries
 returns-in-None-clause-entries c =
     let n : NoneIn (is_held_as c.args.holder.now) (parts c.deref.result.now) = record { no = c.in-None.ensures.none } in
     subst (λ (l : Line). l.entries ≡ filter (λ e. not (is_held_as c.args.holder.now e)) l.entries) c.self.view_is
-    (sym (nothing_left_out _ c.args.holder.now (subst (λ (bs : List Line). NoneIn (is_held_as c.args.holder.now) (parts bs)) c.deref.ensures.value n)))
+    (sym (nothing_left_out (parts c.self.inside.blocks.items) c.args.holder.now (subst (λ (bs : List Line). NoneIn (is_held_as c.args.holder.now) (parts bs)) c.deref.ensures.value n)))
 
 pub returns-in-Some-clause-taken : goal.returns-in-Some-clause-taken
 returns-in-Some-clause-taken c =
     let t = subst (λ (bs : List Line). some_pass (is_held_as c.args.holder.now) (get_or (parts bs) c.in-Some.place []) ≡ true) c.deref.ensures.value c.in-Some.ensures.some in
-    subst (λ (l : Line). c.remove_at.result ≡ find (is_held_as c.args.holder.now) l.entries) c.self.view_is
-    (c.remove_at.ensures.taken ∙ sym (joined_found _ _ _ (held_first _ _ _ _ _ c.args.holder.now c.self.invariant.2 t)))
+    subst (λ (l : Line). c.remove_at-entry.result ≡ find (is_held_as c.args.holder.now) l.entries) c.self.view_is
+    (c.remove_at-entry.ensures.taken ∙ sym (joined_found (is_held_as c.args.holder.now) (parts c.self.inside.blocks.items) c.in-Some.place (held_first (parts c.self.inside.blocks.items) c.self.inside.ready_count c.self.inside.live c.self.inside.ready_bytes c.in-Some.place c.args.holder.now c.self.invariant.2 t)))
 
 pub returns-in-Some-clause-entries : goal.returns-in-Some-clause-entries
 returns-in-Some-clause-entries c =
     let t = subst (λ (bs : List Line). some_pass (is_held_as c.args.holder.now) (get_or (parts bs) c.in-Some.place []) ≡ true) c.deref.ensures.value c.in-Some.ensures.some in
-    subst (λ (l : Line). joined (parts c.remove_at.new.blocks.items) ≡ filter (λ e. not (is_held_as c.args.holder.now e)) l.entries) c.self.view_is
-    (ap (λ (ps : List (List Entry)). joined ps) c.remove_at.ensures.parts ∙ sym (left_out_is _ _ _ _ _ c.args.holder.now c.self.invariant.2 t))
+    subst (λ (l : Line). joined (parts c.remove_at-entry.new.blocks.items) ≡ filter (λ e. not (is_held_as c.args.holder.now e)) l.entries) c.self.view_is
+    (ap (λ (ps : List (List Entry)). joined ps) c.remove_at-entry.ensures.parts ∙ sym (left_out_is (parts c.self.inside.blocks.items) c.self.inside.ready_count c.self.inside.live c.self.inside.ready_bytes c.in-Some.place c.args.holder.now c.self.invariant.2 t))

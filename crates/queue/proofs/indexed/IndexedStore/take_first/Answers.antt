@@ -12,28 +12,21 @@ use Rattle.queue.proofs.Calls.{ready_there, take_there}
 use Rattle.queue.proofs.indexed.IndexedStore.take_first.Goals as goal
 
 pub overflow_sub-self : goal.overflow_sub-self
-overflow_sub-self c = (ready_there _ _ _ _ _ c.self.invariant.2 (first_signed _ _ _ c.self.invariant.0 c.in-Some.ensures.some)).0
+overflow_sub-self c = (ready_there (parts c.self.inside.blocks.items) c.self.inside.ready_count c.self.inside.live c.self.inside.ready_bytes c.in-Some.place c.self.invariant.2 (first_signed (parts c.self.inside.blocks.items) c.self.inside.signs c.in-Some.place c.self.invariant.0 c.in-Some.ensures.some)).0
 
 pub overflow_sub-self-in-Some : goal.overflow_sub-self-in-Some
 overflow_sub-self-in-Some c =
     let size : c.ready_bytes_at.result ≡ size_of body_bytes (find is_ready (get_or (parts c.self.inside.blocks.items) c.in-Some.place []))
     = c.ready_bytes_at.ensures ∙ ap (λ (bs : List Line). size_of body_bytes (find is_ready (get_or (parts bs) c.in-Some.place []))) c.deref.ensures.value in
-    let there = (ready_there _ _ _ _ _ c.self.invariant.2 (first_signed _ _ _ c.self.invariant.0 c.in-Some.ensures.some)).1.1 in
+    let there = (ready_there (parts c.self.inside.blocks.items) c.self.inside.ready_count c.self.inside.live c.self.inside.ready_bytes c.in-Some.place c.self.invariant.2 (first_signed (parts c.self.inside.blocks.items) c.self.inside.signs c.in-Some.place c.self.invariant.0 c.in-Some.ensures.some)).1.1 in
     omega (arith, size, there)
 
 pub overflow_sub-self-in-Some-2 : goal.overflow_sub-self-in-Some-2
-overflow_sub-self-in-Some-2 c = (ready_there _ _ _ _ _ c.self.invariant.2 (first_signed _ _ _ c.self.invariant.0 c.in-Some.ensures.some)).1.0
-
-pub take_at-requires : goal.take_at-requires
-take_at-requires c =
-    let lt = first_within is_ready (parts c.self.inside.blocks.items) c.in-Some.place (first_signed _ _ _ c.self.invariant.0 c.in-Some.ensures.some).there in
-    let n = parts-length c.self.inside.blocks.items in
-    let l : vec_len c.self.inside.blocks ≡ length c.self.inside.blocks.items = search rules in
-    omega (arith, lt)
+overflow_sub-self-in-Some-2 c = (ready_there (parts c.self.inside.blocks.items) c.self.inside.ready_count c.self.inside.live c.self.inside.ready_bytes c.in-Some.place c.self.invariant.2 (first_signed (parts c.self.inside.blocks.items) c.self.inside.signs c.in-Some.place c.self.invariant.0 c.in-Some.ensures.some)).1.0
 
 pub sign-requires : goal.sign-requires
 sign-requires c =
-    let lt = first_within is_ready (parts c.self.inside.blocks.items) c.in-Some.place (first_signed _ _ _ c.self.invariant.0 c.in-Some.ensures.some).there in
+    let lt = first_within is_ready (parts c.self.inside.blocks.items) c.in-Some.place (first_signed (parts c.self.inside.blocks.items) c.self.inside.signs c.in-Some.place c.self.invariant.0 c.in-Some.ensures.some).there in
     let n = parts-length c.self.inside.blocks.items in
     let l : vec_len c.self.inside.blocks ≡ length c.self.inside.blocks.items = search rules in
     let u = c.self.invariant.1.used in
@@ -41,30 +34,30 @@ sign-requires c =
 
 pub invariant_of-self : goal.invariant_of-self
 invariant_of-self c =
-    let first : FirstIn is_ready (parts c.self.inside.blocks.items) c.in-Some.place = first_signed _ _ _ c.self.invariant.0 c.in-Some.ensures.some in
+    let first : FirstIn is_ready (parts c.self.inside.blocks.items) c.in-Some.place = first_signed (parts c.self.inside.blocks.items) c.self.inside.signs c.in-Some.place c.self.invariant.0 c.in-Some.ensures.some in
     let size : c.ready_bytes_at.result ≡ size_of body_bytes (find is_ready (get_or (parts c.self.inside.blocks.items) c.in-Some.place []))
     = c.ready_bytes_at.ensures ∙ ap (λ (bs : List Line). size_of body_bytes (find is_ready (get_or (parts bs) c.in-Some.place []))) c.deref.ensures.value in
-    let least = ready_there _ _ _ _ _ c.self.invariant.2 first in
-    let turned : BitTurned c.self.inside.signs c.sign.new.signs c.in-Some.place (num (some_pass is_ready (get_or (parts c.take_at.new.blocks.items) c.in-Some.place [])))
+    let least = ready_there (parts c.self.inside.blocks.items) c.self.inside.ready_count c.self.inside.live c.self.inside.ready_bytes c.in-Some.place c.self.invariant.2 first in
+    let turned : BitTurned c.self.inside.signs c.sign.new.signs c.in-Some.place (num (some_pass is_ready (get_or (parts c.take_at-entry.new.blocks.items) c.in-Some.place [])))
     = subst (λ (bs : List Line). BitTurned c.self.inside.signs c.sign.new.signs c.in-Some.place (num (some_pass is_ready (get_or (parts bs) c.in-Some.place [])))) c.deref-in-Some.ensures.value c.sign.ensures in (
-      signed_now _ _ _ _ _ _ (first_within is_ready _ _ first.there) c.self.invariant.0 c.take_at.ensures.parts turned,
-      same_places _ _ _ _ _ _ c.self.invariant.1 c.take_at.ensures.len c.take_at.ensures.capacity c.sign.ensures.places,
-      take_there (parts c.self.inside.blocks.items) (parts c.take_at.new.blocks.items) _ _ _ _ _ _ c.ready_bytes_at.result c.in-Some.place c.self.invariant.2 first
-          c.take_at.ensures.parts size (omega (arith, least.0)) (let l = least.1.0 in omega (arith, l)) (let b = least.1.1 in omega (arith, size, b)),
+      signed_now (parts c.self.inside.blocks.items) _ _ c.self.inside.signs c.sign.new.signs c.in-Some.place (first_within is_ready (parts c.self.inside.blocks.items) c.in-Some.place first.there) c.self.invariant.0 c.take_at-entry.ensures.parts turned,
+      same_places _ _ _ _ _ _ c.self.invariant.1 c.take_at-entry.ensures.len c.take_at-entry.ensures.capacity c.sign.ensures.places,
+      take_there (parts c.self.inside.blocks.items) (parts c.take_at-entry.new.blocks.items) _ _ _ _ _ _ c.ready_bytes_at.result c.in-Some.place c.self.invariant.2 first
+          c.take_at-entry.ensures.parts size (omega (arith, least.0)) (let l = least.1.0 in omega (arith, l)) (let b = least.1.1 in omega (arith, size, b)),
     )
 
 pub returns-in-None-clause-taken : goal.returns-in-None-clause-taken
 returns-in-None-clause-taken c = subst (λ (l : Line). ◌≡◌ {A = Option Entry} None (find is_ready l.entries)) c.self.view_is
-    (sym (joined_none is_ready _ (none_signed _ _ c.self.invariant.0 c.in-None.ensures.none)))
+    (sym (joined_none is_ready (parts c.self.inside.blocks.items) (none_signed (parts c.self.inside.blocks.items) c.self.inside.signs c.self.invariant.0 c.in-None.ensures.none)))
 
 pub returns-in-None-clause-entries : goal.returns-in-None-clause-entries
 returns-in-None-clause-entries c = subst (λ (l : Line). l.entries ≡ without_first is_ready l.entries) c.self.view_is
-    (sym (none_without_in is_ready _ (joined_none is_ready _ (none_signed _ _ c.self.invariant.0 c.in-None.ensures.none))))
+    (sym (none_without_in is_ready (joined (parts c.self.inside.blocks.items)) (joined_none is_ready (parts c.self.inside.blocks.items) (none_signed (parts c.self.inside.blocks.items) c.self.inside.signs c.self.invariant.0 c.in-None.ensures.none))))
 
 pub returns-in-Some-clause-taken : goal.returns-in-Some-clause-taken
-returns-in-Some-clause-taken c = subst (λ (l : Line). c.take_at.result ≡ find is_ready l.entries) c.self.view_is
-    (c.take_at.ensures.taken ∙ sym (joined_found is_ready _ _ (first_signed _ _ _ c.self.invariant.0 c.in-Some.ensures.some)))
+returns-in-Some-clause-taken c = subst (λ (l : Line). c.take_at-entry.result ≡ find is_ready l.entries) c.self.view_is
+    (c.take_at-entry.ensures.taken ∙ sym (joined_found is_ready (parts c.self.inside.blocks.items) c.in-Some.place (first_signed (parts c.self.inside.blocks.items) c.self.inside.signs c.in-Some.place c.self.invariant.0 c.in-Some.ensures.some)))
 
 pub returns-in-Some-clause-entries : goal.returns-in-Some-clause-entries
-returns-in-Some-clause-entries c = subst (λ (l : Line). joined (parts c.take_at.new.blocks.items) ≡ without_first is_ready l.entries) c.self.view_is
-    (ap (λ (ps : List (List Entry)). joined ps) c.take_at.ensures.parts ∙ sym (joined_without is_ready _ _ (first_signed _ _ _ c.self.invariant.0 c.in-Some.ensures.some)))
+returns-in-Some-clause-entries c = subst (λ (l : Line). joined (parts c.take_at-entry.new.blocks.items) ≡ without_first is_ready l.entries) c.self.view_is
+    (ap (λ (ps : List (List Entry)). joined ps) c.take_at-entry.ensures.parts ∙ sym (joined_without is_ready (parts c.self.inside.blocks.items) c.in-Some.place (first_signed (parts c.self.inside.blocks.items) c.self.inside.signs c.in-Some.place c.self.invariant.0 c.in-Some.ensures.some)))
