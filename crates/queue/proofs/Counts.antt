@@ -1,6 +1,5 @@
 -- What is kept beside the entries of a queue, at each change.
-use Rattle.std.proofs.Common.{◌≡◌, ℕ, zero, suc, ◌+◌, ◌*◌, ◌<◌, ◌≤◌, List, [], ◌∷◌, ◌++◌, length, map, filter, refl, sym, ap, ◌∙◌, subst, arith, Bool, true, false, cond, not, Option, Some, None, find}
-use Rattle.std.specs.Prelude.{nat_lt}
+use Rattle.std.proofs.Common.{◌≡◌, ℕ, ◌+◌, ◌*◌, ◌<◌, ◌≤◌, List, [], ◌∷◌, ◌++◌, length, map, filter, refl, sym, ap, ◌∙◌, subst, arith, Bool, true, false, cond, not, Some, None, find}
 use Rattle.std.proofs.lemmas.Bool.{le-ltb, ltb-false}
 use Rattle.model.specs.Broker.{is_ready, body_bytes}
 use Rattle.model.specs.Entries.{freed, is_under, is_held_as, held_as, freed_now, change_first, without_first}
@@ -8,8 +7,8 @@ use Rattle.model.specs.declared.messages.Entry.{Entry}
 use Rattle.model.specs.Message.{Message}
 use Rattle.model.specs.declared.messages.Holder.{Holder}
 use Rattle.model.specs.declared.messages.Mark.TheVariants.{Ready}
-use Rattle.queue.specs.Slots.{num, tally, slot_has, changed}
-use Rattle.queue.specs.Blocks.{total, ready_size, is_long, size_of, IsCounted}
+use Rattle.queue.specs.Slots.{num, tally}
+use Rattle.queue.specs.Blocks.{total, ready_size, is_long, IsCounted}
 use Rattle.queue.proofs.Places.{tally-most}
 use Rattle.queue.proofs.Joined.{once_mapped, once_left_out}
 use Rattle.queue.proofs.Slotted.{held_not_ready, ready_not_held, freed_there, freed_same, same_held, same_count, not_found}
@@ -159,13 +158,13 @@ pub remove_counted : (es : List Entry) (ready live bytes live' : ℕ) (e : Entry
     → live' + 1 ≡ live → IsCounted (filter (λ x. not (is_held_as holder x)) es) ready live' bytes
 remove_counted es ready live bytes live' e holder c found l =
     subst (λ (xs : List Entry). IsCounted xs ready live' bytes) (sym (once_left_out (is_held_as holder) es (c.apart holder))) (
-      let not_ready = held_ready holder e (passes (is_held_as holder) es e found) in record {
-        ready_count = (let t = tally-without is_ready (is_held_as holder) es e found in let n = ap num not_ready in let a = c.ready_count in omega arith);
-        live_count = (let t = length-without (is_held_as holder) es e found in let a = c.live_count in omega arith);
-        sum = (let t = total-without ready_size (is_held_as holder) es e found in let n = held_bytes_of e not_ready in let a = c.sum in omega arith);
-        apart = λ h. (let t = tally-without (is_held_as h) (is_held_as holder) es e found in let a = c.apart h in omega arith);
-        short = (let t = tally-without is_long (is_held_as holder) es e found in let a = c.short in omega arith);
-      })
+    let not_ready = held_ready holder e (passes (is_held_as holder) es e found) in record {
+      ready_count = (let t = tally-without is_ready (is_held_as holder) es e found in let n = ap num not_ready in let a = c.ready_count in omega arith);
+      live_count = (let t = length-without (is_held_as holder) es e found in let a = c.live_count in omega arith);
+      sum = (let t = total-without ready_size (is_held_as holder) es e found in let n = held_bytes_of e not_ready in let a = c.sum in omega arith);
+      apart = λ h. (let t = tally-without (is_held_as h) (is_held_as holder) es e found in let a = c.apart h in omega arith);
+      short = (let t = tally-without is_long (is_held_as holder) es e found in let a = c.short in omega arith);
+    })
 
 -- freeing what is held under a tag changes one entry
 pub freed_once : (es : List Entry) (holder : Holder) → tally (is_held_as holder) es ≤ 1 → map (freed (is_under holder)) es ≡ change_first (is_held_as holder) freed_now es
@@ -176,13 +175,13 @@ pub release_counted : (es : List Entry) (ready live bytes ready' bytes' : ℕ) (
     → ready' ≡ ready + 1 → bytes' ≡ bytes + body_bytes e → IsCounted (map (freed (is_under holder)) es) ready' live bytes'
 release_counted es ready live bytes ready' bytes' e holder c found r b =
     subst (λ (xs : List Entry). IsCounted xs ready' live bytes') (sym (freed_once es holder (c.apart holder))) (
-      let not_ready = held_ready holder e (passes (is_held_as holder) es e found) in record {
-        ready_count = (let t = tally-changed is_ready (is_held_as holder) freed_now es e found in let n = ap num not_ready in let a = c.ready_count in omega arith);
-        live_count = c.live_count ∙ sym (length-changed (is_held_as holder) freed_now es e found);
-        sum = (let t = total-changed ready_size (is_held_as holder) freed_now es e found in let n = held_bytes_of e not_ready in let a = c.sum in omega arith);
-        apart = λ h. (let t = tally-changed (is_held_as h) (is_held_as holder) freed_now es e found in let a = c.apart h in omega arith);
-        short = (let t = tally-changed is_long (is_held_as holder) freed_now es e found in let a = c.short in omega arith);
-      })
+    let not_ready = held_ready holder e (passes (is_held_as holder) es e found) in record {
+      ready_count = (let t = tally-changed is_ready (is_held_as holder) freed_now es e found in let n = ap num not_ready in let a = c.ready_count in omega arith);
+      live_count = c.live_count ∙ sym (length-changed (is_held_as holder) freed_now es e found);
+      sum = (let t = total-changed ready_size (is_held_as holder) freed_now es e found in let n = held_bytes_of e not_ready in let a = c.sum in omega arith);
+      apart = λ h. (let t = tally-changed (is_held_as h) (is_held_as holder) freed_now es e found in let a = c.apart h in omega arith);
+      short = (let t = tally-changed is_long (is_held_as holder) freed_now es e found in let a = c.short in omega arith);
+    })
 
 -- one more comes
 pub push_counted : (es : List Entry) (ready live bytes ready' live' bytes' : ℕ) (m : Message) → IsCounted es ready live bytes → length m.content.body ≤ 18446744073709551615

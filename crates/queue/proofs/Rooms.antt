@@ -1,5 +1,5 @@
 -- The lesser of two rooms.
-use Rattle.std.proofs.Common.{◌≡◌, ℕ, ◌+◌, ◌-◌, ◌<◌, ◌≤◌, arith}
+use Rattle.std.proofs.Common.{◌≡◌, ℕ, ◌+◌, ◌<◌, ◌≤◌, arith}
 use Rattle.queue.specs.Blocks.{lesser}
 
 -- where the lesser is something both are

@@ -1,5 +1,5 @@
 -- Blocks, the bits that say which of them have a ready message, and the room of the last.
-use Rattle.std.proofs.Common.{◌≡◌, ℕ, zero, suc, ◌+◌, ◌<◌, ◌≤◌, List, [], ◌∷◌, ◌++◌, length, get_or, map, filter, refl, sym, ap, ◌∙◌, subst, arith, Bool, true, false, cond, Option, Some, None, find, is_some, inl, inr}
+use Rattle.std.proofs.Common.{◌≡◌, ℕ, zero, suc, ◌+◌, ◌<◌, ◌≤◌, List, [], ◌∷◌, ◌++◌, length, get_or, map, filter, refl, sym, ap, ◌∙◌, subst, arith, Bool, true, false, cond, Some, find, is_some, inl, inr}
 use Rattle.std.specs.Prelude.{nat_lt, ◌==◌, ◌||◌}
 use Rattle.std.proofs.lemmas.Bool.{false≢true, ltb-false}
 use Rattle.std.proofs.lemmas.Bool.Decides.{eqb_tells, leb_tells}
@@ -10,9 +10,9 @@ use Rattle.model.specs.Reloading.{stood_now}
 use Rattle.model.specs.declared.messages.Entry.{Entry}
 use Rattle.model.specs.Message.{Message}
 use Rattle.model.specs.declared.messages.Mark.TheVariants.{Ready}
-use Rattle.marks.specs.Places.{IsNextMark, Differs, bit_of}
+use Rattle.marks.specs.Places.{IsNextMark, bit_of}
 use Rattle.queue.specs.Line.{Line}
-use Rattle.queue.specs.Slots.{num, SlotBits, BitTurned, HasPlaces}
+use Rattle.queue.specs.Slots.{num, SlotBits, BitTurned}
 use Rattle.queue.specs.Blocks.{parts, joined, room_after, last_room, some_pass, is_in_use, stood_block, AreBlocksSigned}
 use Rattle.queue.proofs.Places.{num-some, num-none}
 use Rattle.queue.proofs.Joined.{FirstIn, joined_mapped}

@@ -16,7 +16,7 @@ use Rattle.marks.specs.Places.{IsNextMark, Differs, bit_of}
 use Rattle.queue.specs.Line.{ready_count}
 use Rattle.queue.specs.declared.slots.Slot.{Slot}
 use Rattle.queue.specs.Slots.{somes, slot_has, changed, num, tally, SlotBits, BitTurned, SlotsAreMarked, AreSigned, BitsShow, HasPlaces, contents}
-use Rattle.queue.proofs.Places.{num-some, num-none, within, FirstAt, NonePasses, counted, tally-most, somes-most, count-set, length-set, count-fewer, OnlyAt}
+use Rattle.queue.proofs.Places.{num-some, num-none, within, FirstAt, NonePasses, counted, tally-most, somes-most, count-set, length-set, OnlyAt}
 
 -- ---- one entry
 

@@ -35,7 +35,12 @@ pub(crate) fn ready_bytes_at(blocks: &[Block], place: usize) -> usize
 }
 
 /// The message in this block that is held under this tag.
-pub(crate) fn held_at<'a>(blocks: &'a [Block], place: usize, holder: &Holder, arrival: u64) -> Option<&'a Entry>
+pub(crate) fn held_at<'a>(
+    blocks: &'a [Block],
+    place: usize,
+    holder: &Holder,
+    arrival: u64,
+) -> Option<&'a Entry>
     ensures { option_map (λ e. e.now) result ≡ find (is_held_as holder.now) (get_or (parts blocks.now) place []) }
 {
     if place >= blocks.len() {
@@ -160,7 +165,13 @@ pub(crate) fn take_at(blocks: &mut Vec<Block>, place: usize, alloc: Global) -> O
 }
 
 /// Takes the message of this block out that is held under this tag. A block that is empty then is given back.
-pub(crate) fn remove_at(blocks: &mut Vec<Block>, place: usize, holder: &Holder, arrival: u64, alloc: Global) -> Option<Entry>
+pub(crate) fn remove_at(
+    blocks: &mut Vec<Block>,
+    place: usize,
+    holder: &Holder,
+    arrival: u64,
+    alloc: Global,
+) -> Option<Entry>
     requires { place < vec_len blocks.old }
     ensures taken { result ≡ find (is_held_as holder.now) (get_or (parts blocks.old.items) place []) }
     ensures parts { parts blocks.new.items ≡ slice_set (parts blocks.old.items) place (filter (λ e. not (is_held_as holder.now e)) (get_or (parts blocks.old.items) place [])) }
@@ -298,7 +309,13 @@ fn slots_for(more: usize, is_first: bool) -> usize
 }
 
 /// Starts a block with room for so many messages, of which the arrivals have the number `first` or later ones.
-pub(crate) fn start_block(blocks: &mut Vec<Block>, signs: &mut Signs, alloc: Global, first: u64, more: usize) -> Result<(), AllocError>
+pub(crate) fn start_block(
+    blocks: &mut Vec<Block>,
+    signs: &mut Signs,
+    alloc: Global,
+    first: u64,
+    more: usize,
+) -> Result<(), AllocError>
     requires signed { AreBlocksSigned (parts blocks.old.items) signs.old }
     requires places { HasPlaces (vec_len blocks.old) (vec_capacity blocks.old) signs.old.places }
     ensures signed { AreBlocksSigned (parts blocks.new.items) signs.new }

@@ -5,11 +5,11 @@ ghost use Rattle.model.specs.Broker.{is_ready};
 ghost use Rattle.queue.specs.Line.{ready_count};
 ghost use Rattle.model.specs.Entries.{number_of};
 
+use crate::block::Block;
 use crate::blocks::{
     first_ready_at, free_at, held_at, held_bytes_at, hold_at, last_fits, place_held, push_last,
     ready_bytes_at, remove_at, reserve_last, room_of, sign, stand_in, start_block, take_at,
 };
-use crate::block::Block;
 use crate::signs::Signs;
 use crate::stores::Store;
 use crate::walks::Walk;

@@ -1,4 +1,4 @@
-use Rattle.std.proofs.Common.{◌≡◌, ◌≤◌, ◌∙◌, ap, sym, subst, rules, List, filter}
+use Rattle.std.proofs.Common.{◌≤◌, ◌∙◌, ap, sym, subst, rules, List}
 use Rattle.std.proofs.lemmas.Fn.{filter_same}
 use Rattle.queue.specs.Line.{Line}
 use Rattle.queue.specs.Blocks.{parts, joined, last_room, is_in_use}

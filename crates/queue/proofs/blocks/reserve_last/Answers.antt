@@ -1,6 +1,5 @@
 use Rattle.std.proofs.Common.{◌≡◌, ◌≤◌, ◌<◌, ◌+◌, ◌-◌, ℕ, rules, arith, length, sym, subst, vec_len}
 use Rattle.std.specs.Prelude.{OnOk, OnErr}
-use Rattle.queue.specs.Blocks.{last_room}
 use Rattle.queue.proofs.Signed.{parts-kept, room_is, room_at_last}
 use Rattle.queue.proofs.blocks.reserve_last.Goals as goal
 

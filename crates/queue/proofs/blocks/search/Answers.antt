@@ -1,4 +1,4 @@
-use Rattle.std.proofs.Common.{◌≡◌, ◌∙◌, ap, length, arith, inl, inr, List, None, find}
+use Rattle.std.proofs.Common.{ap, length, arith, inl, inr, List, find}
 use Rattle.std.proofs.lemmas.Bool.Decides.{leb_tells}
 use Rattle.model.specs.Entries.{is_held_as}
 use Rattle.model.specs.declared.messages.Entry.{Entry}

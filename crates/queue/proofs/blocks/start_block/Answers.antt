@@ -1,4 +1,4 @@
-use Rattle.std.proofs.Common.{◌≡◌, ◌≤◌, ◌∙◌, ◌++◌, ◌∷◌, [], ap, sym, subst, List, arith}
+use Rattle.std.proofs.Common.{◌∙◌, ap, sym, subst, List, arith}
 use Rattle.model.specs.declared.messages.Entry.{Entry}
 use Rattle.queue.specs.Line.{Line}
 use Rattle.queue.specs.Blocks.{parts, joined, last_room, AreBlocksSigned}

@@ -1,4 +1,4 @@
-use Rattle.std.proofs.Common.{◌≡◌, ◌∙◌, ◌<◌, ◌≤◌, ℕ, [], sym, ap, subst, arith, rules, length, true, false, List, None, find, get_or, is_some, vec_len}
+use Rattle.std.proofs.Common.{◌≡◌, ◌∙◌, [], sym, ap, subst, arith, rules, length, false, List, None, find, get_or, is_some, vec_len}
 use Rattle.model.specs.Broker.{is_ready, body_bytes}
 use Rattle.model.specs.Entries.{is_held_as, held_as, change_first}
 use Rattle.model.specs.declared.messages.Entry.{Entry}

@@ -1,10 +1,10 @@
-use Rattle.std.proofs.Common.{◌≡◌, ◌∙◌, ◌<◌, ◌≤◌, ◌+◌, ◌-◌, ◌∷◌, ◌++◌, [], ℕ, sym, ap, refl, subst, arith, rules, length, get_or, List, Bool, vec_len}
+use Rattle.std.proofs.Common.{◌≡◌, ◌∙◌, ◌<◌, ◌+◌, ◌-◌, ◌∷◌, ◌++◌, [], ℕ, sym, ap, refl, subst, arith, rules, length, get_or, List, Bool, vec_len}
 use Rattle.model.specs.declared.messages.Mark.TheVariants.{Ready}
 use Rattle.model.specs.declared.messages.Entry.{Entry}
 use Rattle.model.specs.declared.contents.Content.{Content}
 use Rattle.queue.specs.Line.{Line}
 use Rattle.queue.specs.Slots.{num, BitTurned}
-use Rattle.queue.specs.Blocks.{parts, joined, AreBlocksSigned, IsCounted}
+use Rattle.queue.specs.Blocks.{parts, joined, last_room, AreBlocksSigned, IsCounted}
 use Rattle.queue.proofs.Joined.{joined_end}
 use Rattle.queue.proofs.Signed.{signed_at, ready_at_end, parts-length}
 use Rattle.queue.proofs.Slotted.{same_places}
@@ -15,7 +15,7 @@ use Rattle.queue.proofs.indexed.IndexedStore.push.Goals as goal
 pub overflow_add-self : goal.overflow_add-self
 overflow_add-self c =
     let a = (counts_most (joined (parts c.self.inside.blocks.items)) c.self.inside.ready_count c.self.inside.live c.self.inside.ready_bytes c.self.invariant.2).0 in
-    let r = lesser_least _ _ (subst (λ (l : Line). 0 < l.room) (sym c.self.view_is) c.requires) in
+    let r = lesser_least (last_room c.self.inside.blocks.items) (18446744073709551615 - c.self.inside.live) (subst (λ (l : Line). 0 < l.room) (sym c.self.view_is) c.requires) in
     omega (arith, a, r.1)
 
 pub overflow_add-self-2 : goal.overflow_add-self-2
@@ -25,7 +25,7 @@ overflow_add-self-2 c =
 
 pub overflow_add-self-3 : goal.overflow_add-self-3
 overflow_add-self-3 c =
-    let r = lesser_least _ _ (subst (λ (l : Line). 0 < l.room) (sym c.self.view_is) c.requires) in
+    let r = lesser_least (last_room c.self.inside.blocks.items) (18446744073709551615 - c.self.inside.live) (subst (λ (l : Line). 0 < l.room) (sym c.self.view_is) c.requires) in
     omega (arith, r.1)
 
 pub set_ready-requires : goal.set_ready-requires
@@ -41,7 +41,7 @@ invariant_of-self c =
       subst (λ (ps : List (List Entry)). AreBlocksSigned ps c.set_ready.new.self) (sym c.push_last-place.ensures.parts)
           (signed_at (parts c.self.inside.blocks.items) _ c.self.inside.signs c.set_ready.new.self c.push_last-place.result (omega arith) c.self.invariant.0 (subst (λ (b : Bool). BitTurned c.self.inside.signs c.set_ready.new.self c.push_last-place.result (num b)) (sym (ready_at_end (get_or (parts c.self.inside.blocks.items) c.push_last-place.result []) c.args.message)) c.set_ready.ensures)),
       same_places _ _ _ _ _ _ c.self.invariant.1 c.push_last-place.ensures.len c.push_last-place.ensures.capacity c.set_ready.ensures.places,
-      subst (λ (es : List Entry). IsCounted es _ _ _) (sym (ap (λ (ps : List (List Entry)). joined ps) c.push_last-place.ensures.parts ∙ joined_end (parts c.self.inside.blocks.items) c.push_last-place.result (record { message = c.args.message; mark = Ready } ∷ []) last))
+      subst (λ (es : List Entry). IsCounted es (c.self.inside.ready_count + 1) (c.self.inside.live + 1) (c.self.inside.ready_bytes + c.len.result)) (sym (ap (λ (ps : List (List Entry)). joined ps) c.push_last-place.ensures.parts ∙ joined_end (parts c.self.inside.blocks.items) c.push_last-place.result (record { message = c.args.message; mark = Ready } ∷ []) last))
           (push_counted _ _ _ _ _ _ _ c.args.message c.self.invariant.2 (omega (arith, size)) refl refl (ap (λ (k : ℕ). c.self.inside.ready_bytes + k) size)),
     )
 

@@ -1,4 +1,4 @@
-use Rattle.std.proofs.Common.{◌≡◌, ◌∙◌, ◌<◌, ◌≤◌, ◌+◌, ℕ, [], sym, ap, refl, subst, arith, rules, length, List, Option, true, false, None, find, is_some, get_or, vec_len}
+use Rattle.std.proofs.Common.{◌≡◌, ◌∙◌, [], sym, ap, refl, subst, arith, rules, length, List, true, false, find, is_some, get_or, vec_len}
 use Rattle.model.specs.Broker.{is_ready, body_bytes}
 use Rattle.model.specs.Entries.{is_under, is_held_as}
 use Rattle.model.specs.declared.messages.Entry.{Entry}

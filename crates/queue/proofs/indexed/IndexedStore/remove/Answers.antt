@@ -1,4 +1,4 @@
-use Rattle.std.proofs.Common.{◌≡◌, ◌∙◌, ◌<◌, ◌≤◌, ℕ, [], sym, ap, subst, arith, rules, length, List, Option, true, None, find, filter, not, get_or, vec_len}
+use Rattle.std.proofs.Common.{◌≡◌, ◌∙◌, [], sym, ap, subst, arith, rules, length, List, Option, true, None, find, filter, not, get_or, vec_len}
 use Rattle.model.specs.Broker.{is_ready}
 use Rattle.model.specs.Entries.{is_held_as}
 use Rattle.model.specs.declared.messages.Entry.{Entry}

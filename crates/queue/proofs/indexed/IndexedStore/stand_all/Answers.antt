@@ -1,7 +1,6 @@
 use Rattle.std.proofs.Common.{◌≡◌, ◌∙◌, ◌-◌, ℕ, List, drop, length, ap, map}
 use Rattle.std.proofs.lemmas.List.{take_at}
 use Rattle.model.specs.Reloading.{stood_now}
-use Rattle.model.specs.declared.messages.Entry.{Entry}
 use Rattle.queue.specs.Line.{Line}
 use Rattle.queue.specs.Blocks.{parts, joined, last_room, lesser, stood_block}
 use Rattle.queue.proofs.Stood.{stood_counted}

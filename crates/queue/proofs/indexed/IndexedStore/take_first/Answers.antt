@@ -1,4 +1,4 @@
-use Rattle.std.proofs.Common.{◌≡◌, ◌∙◌, ◌<◌, ◌≤◌, ℕ, [], sym, ap, subst, arith, rules, length, List, Option, None, find, get_or, vec_len}
+use Rattle.std.proofs.Common.{◌≡◌, ◌∙◌, [], sym, ap, subst, arith, rules, length, List, Option, None, find, get_or, vec_len}
 use Rattle.model.specs.Broker.{is_ready, body_bytes}
 use Rattle.model.specs.Entries.{without_first}
 use Rattle.model.specs.declared.messages.Entry.{Entry}
