@@ -11,7 +11,7 @@ use Rattle.queue.specs.Slots.{num, tally}
 use Rattle.queue.specs.Blocks.{total, ready_size, is_long, IsCounted}
 use Rattle.queue.proofs.Places.{tally-most}
 use Rattle.queue.proofs.Joined.{once_mapped, once_left_out}
-use Rattle.queue.proofs.Slotted.{held_not_ready, ready_not_held, freed_there, freed_same, same_held, same_count, not_found}
+use Rattle.queue.proofs.Slotted.{held_not_ready, freed_there, freed_same, same_held, same_count, not_found}
 
 -- ---- sums
 
@@ -87,9 +87,6 @@ counted_found : {X : Type 0} (p : X → Bool) (xs : List X) (x : X) → find p x
 counted_found p xs x e = let a = tally-without p p xs x e in let b = ap num (passes p xs x e) in omega arith
 
 -- ---- one entry
-
-ready_held : (h : Holder) (e : Entry) → is_ready e ≡ true → is_held_as h e ≡ false
-ready_held h e r = ready_not_held (is_under h) (Some e) r
 
 held_ready : (h : Holder) (e : Entry) → is_held_as h e ≡ true → is_ready e ≡ false
 held_ready h e r = held_not_ready (is_under h) (Some e) r

@@ -254,7 +254,3 @@ signed_done bs bits place places le len s k = elim (leb_tells places k) [
   | inl q ↦ s.above k q.1 ∙ sym (ap (λ (es : List Entry). num (some_pass is_ready es)) (parts-past bs k (let h = q.1 in omega arith)))
   | inr q ↦ let h = q.1 in s.below k (omega arith)
 ]
-
--- the bits past the last block are 0
-pub signed_past : (bs : List Line) (bits : SlotBits) (k : ℕ) → AreBlocksSigned (parts bs) bits → length bs ≤ k → bit_of bits.ready k ≡ 0
-signed_past bs bits k s le = s k ∙ ap (λ (es : List Entry). num (some_pass is_ready es)) (parts-past bs k le)

@@ -75,10 +75,6 @@ pub slot_freed : (mine : Holder → Bool) (o : Option Entry) → slot_has (is_he
 slot_freed mine None h = absurd (false≢true h)
 slot_freed mine (Some e) h = ap Some (freed_there mine e h)
 
-pub slot_same : (mine : Holder → Bool) (o : Option Entry) → slot_has (is_held_by mine) o ≡ false → changed (freed mine) o ≡ o
-slot_same mine None h = refl
-slot_same mine (Some e) h = ap Some (freed_same mine e h)
-
 -- ---- one tag
 
 both : (a b : Bool) → (a && b) ≡ true → (a ≡ true) × (b ≡ true)

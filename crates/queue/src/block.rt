@@ -9,7 +9,7 @@ use std::alloc::{AllocError, Global};
 use std::marker::Model;
 
 /// A block has no more slots than this, but where more are asked for at once.
-pub(crate) const BLOCK_SLOTS: usize = 512;
+pub(crate) const BLOCK_SLOTS: usize = 1024;
 
 /// Messages that came one after another, ready or held.
 ///
@@ -135,7 +135,10 @@ impl Block {
     pub(crate) fn has_ready(&self) -> bool
         ensures { result ≡ is_some (find is_ready self.now.entries) }
     {
-        self.first_ready().is_some()
+        match self.signs.first_ready() {
+            Some(_) => true,
+            None => false,
+        }
     }
 
     /// The first message that can be given out.

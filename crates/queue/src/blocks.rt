@@ -241,12 +241,22 @@ pub(crate) fn push_last(blocks: &mut Vec<Block>, arrival: u64, message: Message)
     last
 }
 
+/// Whether a message in this block can be given out.
+fn has_ready_at(blocks: &[Block], place: usize) -> bool
+    ensures { result ≡ some_pass is_ready (get_or (parts blocks.now) place []) }
+{
+    if place >= blocks.len() {
+        return false;
+    }
+    blocks[place].has_ready()
+}
+
 /// Sets the bit of this block as it is.
 pub(crate) fn sign(blocks: &[Block], signs: &mut Signs, place: usize)
     requires { place < signs.old.places }
     ensures { BitTurned signs.old signs.new place (num (some_pass is_ready (get_or (parts blocks.now) place []))) }
 {
-    if first_ready_at(blocks, place).is_some() {
+    if has_ready_at(blocks, place) {
         signs.set_ready(place);
     } else {
         signs.clear(place);
