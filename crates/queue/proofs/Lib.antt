@@ -9,4 +9,3 @@ pub mod Joined
 pub mod Counts
 pub mod Signed
 pub mod Calls
-pub mod Rooms

@@ -1,5 +1,5 @@
 -- Blocks of messages, one after another (own).
-use Rattle.std.specs.Prelude.{◌≡◌, ℕ, ◌≤◌, ◌+◌, ◌-◌, ◌||◌, List, [], ◌∷◌, ◌++◌, length, map, Bool, cond, nat_lt, Option, Some, None, find, is_some, get_or}
+use Rattle.std.specs.Prelude.{◌≡◌, ℕ, ◌≤◌, ◌+◌, ◌||◌, List, [], ◌∷◌, ◌++◌, length, map, Bool, cond, nat_lt, Option, Some, None, find, is_some, get_or}
 use Rattle.model.specs.Broker.{is_ready, body_bytes}
 use Rattle.model.specs.Entries.{is_held_as}
 use Rattle.model.specs.Reloading.{stood_now}
@@ -35,9 +35,10 @@ room_after room (b ∷ bs) = room_after b.room bs
 abbrev pub last_room : List Line → ℕ
 last_room blocks = room_after 0 blocks
 
--- the lesser of the two
-abbrev pub lesser : ℕ → ℕ → ℕ
-lesser a b = a - (a - b)
+-- The last block has the room that is promised, and so many messages more can be counted.
+pub record HasRoom (room last live : ℕ) : Type 0 where
+  pub there : room ≤ last
+  pub few : room + live ≤ 18446744073709551615
 
 -- one of them passes
 abbrev pub some_pass : {X : Type 0} → (X → Bool) → List X → Bool

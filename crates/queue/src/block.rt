@@ -121,6 +121,11 @@ impl Block {
         self.live > 0 || self.room() > 0
     }
 
+    /// Whether this block has all the slots that a block has.
+    pub(crate) fn is_whole(&self) -> bool {
+        self.slots.capacity() >= BLOCK_SLOTS
+    }
+
     /// Gives the memory back, if no message stands here.
     pub(crate) fn give_back(&mut self, alloc: Global)
         ensures { self.new.entries ≡ self.old.entries }

@@ -184,6 +184,23 @@ pub(crate) fn remove_at(
     entry
 }
 
+/// Gives the memory of a whole block back in which no message stands, if no room is promised.
+pub(crate) fn give_back_spare(blocks: &mut Vec<Block>, place: usize, room: usize, alloc: Global)
+    requires within { place < vec_len blocks.old }
+    requires room { room ≤ last_room blocks.old.items }
+    ensures parts { parts blocks.new.items ≡ parts blocks.old.items }
+    ensures room { room ≤ last_room blocks.new.items }
+    ensures len { vec_len blocks.new ≡ vec_len blocks.old }
+    ensures capacity { vec_capacity blocks.new ≡ vec_capacity blocks.old }
+{
+    if room > 0 {
+        return;
+    }
+    if blocks[place].is_whole() {
+        blocks[place].give_back(alloc);
+    }
+}
+
 /// All that stands here stood here when a reload was done.
 pub(crate) fn stand_in(blocks: &mut [Block])
     ensures { blocks.new ≡ map stood_block blocks.old }
@@ -194,7 +211,7 @@ pub(crate) fn stand_in(blocks: &mut [Block])
 }
 
 /// How many pushes into the last block need no memory.
-pub(crate) fn room_of(blocks: &[Block]) -> usize
+fn room_of(blocks: &[Block]) -> usize
     ensures { result ≡ last_room blocks.now }
 {
     if blocks.is_empty() {
@@ -204,7 +221,7 @@ pub(crate) fn room_of(blocks: &[Block]) -> usize
 }
 
 /// Whether so many messages more come into the last block.
-pub(crate) fn last_fits(blocks: &[Block], more: usize) -> bool
+fn last_fits(blocks: &[Block], more: usize) -> bool
     ensures { result ≡ true → 0 < length blocks.now }
 {
     match blocks.last() {
@@ -214,7 +231,7 @@ pub(crate) fn last_fits(blocks: &[Block], more: usize) -> bool
 }
 
 /// Makes room for so many messages more in the last block.
-pub(crate) fn reserve_last(blocks: &mut Vec<Block>, more: usize) -> Result<(), AllocError>
+fn reserve_last(blocks: &mut Vec<Block>, more: usize) -> Result<(), AllocError>
     requires { 0 < vec_len blocks.old }
     ensures parts { parts blocks.new.items ≡ parts blocks.old.items }
     ensures kept { last_room blocks.old.items ≤ last_room blocks.new.items }
@@ -319,7 +336,7 @@ fn slots_for(more: usize, is_first: bool) -> usize
 }
 
 /// Starts a block with room for so many messages, of which the arrivals have the number `first` or later ones.
-pub(crate) fn start_block(
+fn start_block(
     blocks: &mut Vec<Block>,
     signs: &mut Signs,
     alloc: Global,
@@ -339,4 +356,30 @@ pub(crate) fn start_block(
     block.reserve(slots_for(more, blocks.is_empty()))?;
     blocks.push_reserved(block);
     Ok(())
+}
+
+/// Makes room for so many messages more in the last block: grows it while it is short, and else starts another, of which the
+/// arrivals have the number `first` or later ones.
+pub(crate) fn make_room(
+    blocks: &mut Vec<Block>,
+    signs: &mut Signs,
+    alloc: Global,
+    first: u64,
+    more: usize,
+) -> Result<(), AllocError>
+    requires signed { AreBlocksSigned (parts blocks.old.items) signs.old }
+    requires places { HasPlaces (vec_len blocks.old) (vec_capacity blocks.old) signs.old.places }
+    ensures signed { AreBlocksSigned (parts blocks.new.items) signs.new }
+    ensures places { HasPlaces (vec_len blocks.new) (vec_capacity blocks.new) signs.new.places }
+    ensures entries { joined (parts blocks.new.items) ≡ joined (parts blocks.old.items) }
+    ensures room { OnOk result (more ≤ last_room blocks.new.items) }
+    ensures kept { OnErr result (last_room blocks.old.items ≤ last_room blocks.new.items) }
+{
+    if more <= room_of(blocks) {
+        return Ok(());
+    }
+    if last_fits(blocks, more) {
+        return reserve_last(blocks, more);
+    }
+    start_block(blocks, signs, alloc, first, more)
 }

@@ -7,8 +7,8 @@ ghost use Rattle.model.specs.Entries.{number_of};
 
 use crate::block::Block;
 use crate::blocks::{
-    first_ready_at, free_at, held_at, held_bytes_at, hold_at, last_fits, place_held, push_last,
-    ready_bytes_at, remove_at, reserve_last, room_of, sign, stand_in, start_block, take_at,
+    first_ready_at, free_at, give_back_spare, held_at, held_bytes_at, hold_at, make_room,
+    place_held, push_last, ready_bytes_at, remove_at, sign, stand_in, take_at,
 };
 use crate::signs::Signs;
 use crate::stores::Store;
@@ -32,21 +32,23 @@ pub struct Indexed {
     ready_bytes: u128,
     /// How many messages stand here. There are never more than can be counted so.
     live: usize,
+    /// How many pushes were promised room that are not done yet.
+    room: usize,
     /// How many messages came so far.
     arrived: u64,
 }
 
 impl Model for Indexed {
-    ghost use Rattle.std.specs.Prelude.{◌-◌, vec_len, vec_capacity};
+    ghost use Rattle.std.specs.Prelude.{vec_len, vec_capacity};
     ghost use Rattle.queue.specs.Line.{Line};
     ghost use Rattle.queue.specs.Slots.{HasPlaces};
-    ghost use Rattle.queue.specs.Blocks.{parts, joined, last_room, lesser, AreBlocksSigned, IsCounted};
+    ghost use Rattle.queue.specs.Blocks.{parts, joined, last_room, AreBlocksSigned, IsCounted, HasRoom};
 
     ghost Value = { Line };
 
-    ghost view = { λ q. record { entries = joined (parts q.blocks.items); room = lesser (last_room q.blocks.items) (18446744073709551615 - q.live) } };
+    ghost view = { λ q. record { entries = joined (parts q.blocks.items); room = q.room } };
 
-    ghost invariant = { λ q. AreBlocksSigned (parts q.blocks.items) q.signs × HasPlaces (vec_len q.blocks) (vec_capacity q.blocks) q.signs.places × IsCounted (joined (parts q.blocks.items)) q.ready_count q.live q.ready_bytes };
+    ghost invariant = { λ q. AreBlocksSigned (parts q.blocks.items) q.signs × HasPlaces (vec_len q.blocks) (vec_capacity q.blocks) q.signs.places × IsCounted (joined (parts q.blocks.items)) q.ready_count q.live q.ready_bytes × HasRoom q.room (last_room q.blocks.items) q.live };
 }
 
 impl Store for Indexed {
@@ -60,34 +62,35 @@ impl Store for Indexed {
             ready_count: 0,
             ready_bytes: 0,
             live: 0,
+            room: 0,
             arrived: 0,
         }
     }
 
     /// Grows the last block while it is short, and then starts another.
     fn reserve(&mut self, more: usize) -> Result<(), AllocError> {
+        if more <= self.room {
+            return Ok(());
+        }
         if more > usize::MAX - self.live {
             return Err(AllocError);
         }
-        if more <= room_of(&self.blocks) {
-            return Ok(());
-        }
-        if last_fits(&self.blocks, more) {
-            return reserve_last(&mut self.blocks, more);
-        }
-        start_block(
+        make_room(
             &mut self.blocks,
             &mut self.signs,
             self.alloc,
             self.arrived,
             more,
-        )
+        )?;
+        self.room = more;
+        Ok(())
     }
 
     fn push(&mut self, message: Message) {
         self.ready_count += 1;
         self.ready_bytes += message.content().body.len() as u128;
         self.live += 1;
+        self.room -= 1;
         let place = push_last(&mut self.blocks, self.arrived, message);
         self.signs.set_ready(place);
         self.arrived = self.arrived.wrapping_add(1);
@@ -130,6 +133,7 @@ impl Store for Indexed {
                 self.ready_bytes -= ready_bytes_at(&self.blocks, place) as u128;
                 self.live -= 1;
                 let entry = take_at(&mut self.blocks, place, self.alloc);
+                give_back_spare(&mut self.blocks, place, self.room, self.alloc);
                 sign(&self.blocks, &mut self.signs, place);
                 entry
             }
@@ -162,6 +166,7 @@ impl Store for Indexed {
             Some(place) => {
                 self.live -= 1;
                 let entry = remove_at(&mut self.blocks, place, holder, arrival, self.alloc);
+                give_back_spare(&mut self.blocks, place, self.room, self.alloc);
                 sign(&self.blocks, &mut self.signs, place);
                 entry
             }

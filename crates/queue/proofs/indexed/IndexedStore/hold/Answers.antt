@@ -44,6 +44,7 @@ invariant_of-self c =
       same_places _ _ _ _ _ _ c.self.invariant.1 c.hold_at-arrival.ensures.len c.hold_at-arrival.ensures.capacity c.sign.ensures.places,
       hold_there (parts c.self.inside.blocks.items) (parts c.hold_at-arrival.new.blocks.items) _ _ _ _ _ c.ready_bytes_at.result c.in-Some.place c.args.holder c.self.invariant.2 first
           (subst (λ (l : Line). find (is_held_as c.args.holder) l.entries ≡ None) (sym c.self.view_is) c.requires) c.hold_at-arrival.ensures.parts size (omega (arith, least.0)) (let b = least.1.1 in omega (arith, size, b)),
+      record { there = (let t = c.self.invariant.3.there in let r = c.hold_at-arrival.ensures.room in omega (arith, t, r)); few = (let f = c.self.invariant.3.few in omega (arith, f)) },
     )
 
 pub returns-in-None-clause-told : goal.returns-in-None-clause-told

@@ -54,6 +54,7 @@ invariant_of-self c =
       signed_now (parts c.self.inside.blocks.items) _ _ c.self.inside.signs c.sign.new.signs c.in-Some.place (first_within (is_held_as c.args.holder.now) (parts c.self.inside.blocks.items) c.in-Some.place t) c.self.invariant.0 c.free_at.ensures.parts turned,
       same_places _ _ _ _ _ _ c.self.invariant.1 c.free_at.ensures.len c.free_at.ensures.capacity c.sign.ensures.places,
       release_there (parts c.self.inside.blocks.items) (parts c.free_at.new.blocks.items) _ _ _ _ _ c.held_bytes_at.result c.in-Some.place c.args.holder.now c.self.invariant.2 t c.free_at.ensures.parts size refl refl,
+      record { there = (let t = c.self.invariant.3.there in let r = c.free_at.ensures.room in omega (arith, t, r)); few = (let f = c.self.invariant.3.few in omega (arith, f)) },
     )
 
 pub returns-in-None-clause-told : goal.returns-in-None-clause-told

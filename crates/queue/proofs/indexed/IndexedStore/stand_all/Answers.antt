@@ -1,8 +1,8 @@
-use Rattle.std.proofs.Common.{◌≡◌, ◌∙◌, ◌-◌, ℕ, List, drop, length, ap, map}
+use Rattle.std.proofs.Common.{◌≡◌, ◌∙◌, List, arith, drop, length, ap, map}
 use Rattle.std.proofs.lemmas.List.{take_at}
 use Rattle.model.specs.Reloading.{stood_now}
 use Rattle.queue.specs.Line.{Line}
-use Rattle.queue.specs.Blocks.{parts, joined, last_room, lesser, stood_block}
+use Rattle.queue.specs.Blocks.{parts, joined, stood_block}
 use Rattle.queue.proofs.Stood.{stood_counted}
 use Rattle.queue.proofs.Signed.{joined_stood, room_stood, signed_stood}
 use Rattle.queue.proofs.indexed.IndexedStore.stand_all.Goals as goal
@@ -16,6 +16,7 @@ invariant_of-self c =
       signed_stood c.self.inside.blocks.items c.self.inside.signs c.self.invariant.0,
       c.self.invariant.1,
       rw (joined_stood c.self.inside.blocks.items) (stood_counted (joined (parts c.self.inside.blocks.items)) c.self.inside.ready_count c.self.inside.live c.self.inside.ready_bytes c.self.invariant.2),
+      record { there = (let t = c.self.invariant.3.there in let r = room_stood c.self.inside.blocks.items in omega (arith, t, r)); few = c.self.invariant.3.few },
     )
 
 pub returns-clause-entries : goal.returns-clause-entries
@@ -26,11 +27,3 @@ returns-clause-entries c =
     ap (λ (bs : List Line). joined (parts bs)) (back ∙ is)
     ∙ joined_stood c.self.inside.blocks.items
     ∙ ap (λ (l : Line). map stood_now l.entries) c.self.view_is
-
-pub returns-clause-room : goal.returns-clause-room
-returns-clause-room c =
-    let new = c.stand_in.new.blocks in
-    let back = take_at new (drop (length new) c.self.inside.blocks.items) c.self.inside.blocks.len (c.stand_in.auto.blocks ∙ c.deref_mut.ensures.len) in
-    let is : new ≡ map stood_block c.self.inside.blocks.items = c.stand_in.ensures ∙ ap (λ (bs : List Line). map stood_block bs) c.deref_mut.ensures.value in
-    ap (λ (r : ℕ). lesser r (18446744073709551615 - c.self.inside.live)) (ap (λ (bs : List Line). last_room bs) (back ∙ is) ∙ room_stood c.self.inside.blocks.items)
-    ∙ ap (λ (l : Line). l.room) c.self.view_is

@@ -38,12 +38,13 @@ invariant_of-self c =
     let size : c.ready_bytes_at.result ≡ size_of body_bytes (find is_ready (get_or (parts c.self.inside.blocks.items) c.in-Some.place []))
     = c.ready_bytes_at.ensures ∙ ap (λ (bs : List Line). size_of body_bytes (find is_ready (get_or (parts bs) c.in-Some.place []))) c.deref.ensures.value in
     let least = ready_there (parts c.self.inside.blocks.items) c.self.inside.ready_count c.self.inside.live c.self.inside.ready_bytes c.in-Some.place c.self.invariant.2 first in
-    let turned : BitTurned c.self.inside.signs c.sign.new.signs c.in-Some.place (num (some_pass is_ready (get_or (parts c.take_at-entry.new.blocks.items) c.in-Some.place [])))
+    let turned : BitTurned c.self.inside.signs c.sign.new.signs c.in-Some.place (num (some_pass is_ready (get_or (parts c.give_back_spare.new.blocks.items) c.in-Some.place [])))
     = subst (λ (bs : List Line). BitTurned c.self.inside.signs c.sign.new.signs c.in-Some.place (num (some_pass is_ready (get_or (parts bs) c.in-Some.place [])))) c.deref-in-Some.ensures.value c.sign.ensures in (
-      signed_now (parts c.self.inside.blocks.items) _ _ c.self.inside.signs c.sign.new.signs c.in-Some.place (first_within is_ready (parts c.self.inside.blocks.items) c.in-Some.place first.there) c.self.invariant.0 c.take_at-entry.ensures.parts turned,
-      same_places _ _ _ _ _ _ c.self.invariant.1 c.take_at-entry.ensures.len c.take_at-entry.ensures.capacity c.sign.ensures.places,
-      take_there (parts c.self.inside.blocks.items) (parts c.take_at-entry.new.blocks.items) _ _ _ _ _ _ c.ready_bytes_at.result c.in-Some.place c.self.invariant.2 first
-          c.take_at-entry.ensures.parts size (omega (arith, least.0)) (let l = least.1.0 in omega (arith, l)) (let b = least.1.1 in omega (arith, size, b)),
+      signed_now (parts c.self.inside.blocks.items) _ _ c.self.inside.signs c.sign.new.signs c.in-Some.place (first_within is_ready (parts c.self.inside.blocks.items) c.in-Some.place first.there) c.self.invariant.0 (c.give_back_spare.ensures.parts ∙ c.take_at-entry.ensures.parts) turned,
+      same_places _ _ _ _ _ _ c.self.invariant.1 (c.give_back_spare.ensures.len ∙ c.take_at-entry.ensures.len) (c.give_back_spare.ensures.capacity ∙ c.take_at-entry.ensures.capacity) c.sign.ensures.places,
+      take_there (parts c.self.inside.blocks.items) (parts c.give_back_spare.new.blocks.items) _ _ _ _ _ _ c.ready_bytes_at.result c.in-Some.place c.self.invariant.2 first
+          (c.give_back_spare.ensures.parts ∙ c.take_at-entry.ensures.parts) size (omega (arith, least.0)) (let l = least.1.0 in omega (arith, l)) (let b = least.1.1 in omega (arith, size, b)),
+      record { there = c.give_back_spare.ensures.room; few = (let f = c.self.invariant.3.few in let o = least.1.0 in omega (arith, f, o)) },
     )
 
 pub returns-in-None-clause-taken : goal.returns-in-None-clause-taken
@@ -59,5 +60,5 @@ returns-in-Some-clause-taken c = subst (λ (l : Line). c.take_at-entry.result �
     (c.take_at-entry.ensures.taken ∙ sym (joined_found is_ready (parts c.self.inside.blocks.items) c.in-Some.place (first_signed (parts c.self.inside.blocks.items) c.self.inside.signs c.in-Some.place c.self.invariant.0 c.in-Some.ensures.some)))
 
 pub returns-in-Some-clause-entries : goal.returns-in-Some-clause-entries
-returns-in-Some-clause-entries c = subst (λ (l : Line). joined (parts c.take_at-entry.new.blocks.items) ≡ without_first is_ready l.entries) c.self.view_is
-    (ap (λ (ps : List (List Entry)). joined ps) c.take_at-entry.ensures.parts ∙ sym (joined_without is_ready (parts c.self.inside.blocks.items) c.in-Some.place (first_signed (parts c.self.inside.blocks.items) c.self.inside.signs c.in-Some.place c.self.invariant.0 c.in-Some.ensures.some)))
+returns-in-Some-clause-entries c = subst (λ (l : Line). joined (parts c.give_back_spare.new.blocks.items) ≡ without_first is_ready l.entries) c.self.view_is
+    (ap (λ (ps : List (List Entry)). joined ps) (c.give_back_spare.ensures.parts ∙ c.take_at-entry.ensures.parts) ∙ sym (joined_without is_ready (parts c.self.inside.blocks.items) c.in-Some.place (first_signed (parts c.self.inside.blocks.items) c.self.inside.signs c.in-Some.place c.self.invariant.0 c.in-Some.ensures.some)))
