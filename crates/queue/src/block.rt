@@ -126,13 +126,13 @@ impl Block {
         self.slots.capacity() >= BLOCK_SLOTS
     }
 
-    /// Gives the memory back, if no message stands here.
+    /// Gives the memory back, if no message stands here. The slots go last: the system takes memory back when a large piece is freed.
     pub(crate) fn give_back(&mut self, alloc: Global)
         ensures { self.new.entries ≡ self.old.entries }
     {
         if self.live == 0 {
-            self.slots = Vec::new(alloc);
             self.signs = Signs::empty(alloc);
+            self.slots = Vec::new(alloc);
         }
     }
 
