@@ -5,3 +5,7 @@ pub mod Purging
 pub mod Firsts
 pub mod Changing
 pub mod Stood
+pub mod Joined
+pub mod Counts
+pub mod Signed
+pub mod Calls

@@ -154,14 +154,6 @@ somes-most [] = omega arith
 somes-most (None ∷ xs) = let r = somes-most xs in omega arith
 somes-most (Some x ∷ xs) = let r = somes-most xs in omega arith
 
--- fewer pass than there are slots, where one does not
-pub count-fewer : {X : Type 0} (p : X → Bool) (slots : List (Option X)) (i : ℕ) → i < length slots → slot_has p (get_or slots i None) ≡ false → tally p (somes slots) < length slots
-count-fewer p [] i lt h = absurd (omega arith)
-count-fewer p (None ∷ xs) zero lt h = let a = tally-most p (somes xs) in let b = somes-most xs in omega arith
-count-fewer p (Some x ∷ xs) zero lt h = let a = tally-most p (somes xs) in let b = somes-most xs in let n = ap num h in omega arith
-count-fewer p (None ∷ xs) (suc i) lt h = let r = count-fewer p xs i (omega arith) h in omega arith
-count-fewer p (Some x ∷ xs) (suc i) lt h = let r = count-fewer p xs i (omega arith) h in let n = num-most (p x) in omega arith
-
 -- ---- the only one that passes
 
 pub record OnlyAt {X : Type 0} (p : X → Bool) (slots : List (Option X)) (i : ℕ) : Type 0 where

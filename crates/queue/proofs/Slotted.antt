@@ -16,7 +16,7 @@ use Rattle.marks.specs.Places.{IsNextMark, Differs, bit_of}
 use Rattle.queue.specs.Line.{ready_count}
 use Rattle.queue.specs.declared.slots.Slot.{Slot}
 use Rattle.queue.specs.Slots.{somes, slot_has, changed, num, tally, SlotBits, BitTurned, SlotsAreMarked, AreSigned, BitsShow, HasPlaces, contents}
-use Rattle.queue.proofs.Places.{num-some, num-none, within, FirstAt, NonePasses, counted, tally-most, somes-most, count-set, length-set, count-fewer, OnlyAt}
+use Rattle.queue.proofs.Places.{num-some, num-none, within, FirstAt, NonePasses, counted, tally-most, somes-most, count-set, length-set, OnlyAt}
 
 -- ---- one entry
 
@@ -75,10 +75,6 @@ pub slot_freed : (mine : Holder → Bool) (o : Option Entry) → slot_has (is_he
 slot_freed mine None h = absurd (false≢true h)
 slot_freed mine (Some e) h = ap Some (freed_there mine e h)
 
-pub slot_same : (mine : Holder → Bool) (o : Option Entry) → slot_has (is_held_by mine) o ≡ false → changed (freed mine) o ≡ o
-slot_same mine None h = refl
-slot_same mine (Some e) h = ap Some (freed_same mine e h)
-
 -- ---- one tag
 
 both : (a b : Bool) → (a && b) ≡ true → (a ≡ true) × (b ≡ true)
@@ -97,18 +93,18 @@ same_under h holder g e =
     ∙ ap (λ (n : ℕ). ((g.connection == holder.connection) && (g.channel == n)) && (g.tag == h.tag)) (sym (equal holder.channel h.channel one.1))
     ∙ ap (λ (n : ℕ). ((g.connection == holder.connection) && (g.channel == holder.channel)) && (g.tag == n)) (sym (equal holder.tag h.tag two.1))
 
-same_held : (h holder : Holder) (e : Entry) → is_under h holder ≡ true → is_held_as h e ≡ is_held_as holder e
+pub same_held : (h holder : Holder) (e : Entry) → is_under h holder ≡ true → is_held_as h e ≡ is_held_as holder e
 same_held h holder e u = go e.mark
   where
     go : (m : Mark) → ◌≡◌ {A = Bool} (elim m [ Ready ↦ false | Held g ↦ is_under h g ]) (elim m [ Ready ↦ false | Held g ↦ is_under holder g ])
     go Ready = refl
     go (Held g) = same_under h holder g u
 
-same_count : {X : Type 0} (p q : X → Bool) → ((x : X) → p x ≡ q x) → (xs : List X) → tally p xs ≡ tally q xs
+pub same_count : {X : Type 0} (p q : X → Bool) → ((x : X) → p x ≡ q x) → (xs : List X) → tally p xs ≡ tally q xs
 same_count p q s [] = refl
 same_count p q s (x ∷ xs) = let a = ap num (s x) in let b = same_count p q s xs in omega arith
 
-not_found : {X : Type 0} (p : X → Bool) (xs : List X) → find p xs ≡ None → tally p xs ≡ 0
+pub not_found : {X : Type 0} (p : X → Bool) (xs : List X) → find p xs ≡ None → tally p xs ≡ 0
 not_found p [] e = refl
 not_found p (x ∷ xs) e = go (p x) refl (not_found p xs) e
   where
@@ -155,18 +151,16 @@ marked_push p slots v bit bit' m d j = elim (eqb_tells j (length slots)) [
 -- ---- one slot is written
 
 -- What was written, and how the counts changed.
-record Written (slots : List (Option Entry)) (v : Option Entry) (bits bits' : SlotBits) (ready ready' live live' i : ℕ) : Type 0 where
+record Written (slots : List (Option Entry)) (v : Option Entry) (bits bits' : SlotBits) (live live' i : ℕ) : Type 0 where
   there : i < length slots
   turned : BitTurned bits bits' i (num (slot_has is_ready v))
-  ready_count : ready' + num (slot_has is_ready (get_or slots i None)) ≡ ready + num (slot_has is_ready v)
   live_count : live' + num (is_some (get_or slots i None)) ≡ live + num (is_some v)
   apart : (h : Holder) → tally (is_held_as h) (somes (set slots i v)) ≤ 1
 
-shows_set : (slots : List (Option Entry)) (v : Option Entry) (bits bits' : SlotBits) (ready ready' live live' i : ℕ) → BitsShow slots bits ready live
-    → Written slots v bits bits' ready ready' live live' i → BitsShow (set slots i v) bits' ready' live'
-shows_set slots v bits bits' ready ready' live live' i s w = record {
+shows_set : (slots : List (Option Entry)) (v : Option Entry) (bits bits' : SlotBits) (live live' i : ℕ) → BitsShow slots bits live
+    → Written slots v bits bits' live live' i → BitsShow (set slots i v) bits' live'
+shows_set slots v bits bits' live live' i s w = record {
   signed = signed_set slots v bits bits' i w.there s.signed w.turned;
-  ready_count = (let a = s.ready_count in let b = w.ready_count in let c = count-set is_ready slots i v w.there in omega arith);
   live_count = (let a = s.live_count in let b = w.live_count in let c = length-set slots i v w.there in omega arith);
   apart = w.apart;
 }
@@ -189,70 +183,65 @@ apart_held slots i holder h true e lt r f le =
 
 -- ---- the calls
 
-pub hold_shows : (slots now : List (Option Entry)) (bits bits' : SlotBits) (ready ready' live i : ℕ) (holder : Holder) → BitsShow slots bits ready live → IsNextMark (bit_of bits.ready) 0 i
-    → BitTurned bits bits' i 0 → now ≡ set slots i (changed (held_as holder) (get_or slots i None)) → find (is_held_as holder) (somes slots) ≡ None → ready' + 1 ≡ ready
-    → BitsShow now bits' ready' live
-hold_shows slots now bits bits' ready ready' live i holder s n t e f r =
+pub hold_shows : (slots now : List (Option Entry)) (bits bits' : SlotBits) (live i : ℕ) (holder : Holder) → BitsShow slots bits live → IsNextMark (bit_of bits.ready) 0 i
+    → BitTurned bits bits' i 0 → now ≡ set slots i (changed (held_as holder) (get_or slots i None)) → find (is_held_as holder) (somes slots) ≡ None
+    → BitsShow now bits' live
+hold_shows slots now bits bits' live i holder s n t e f =
     let o : Option Entry = get_or slots i None in
     let v : Option Entry = changed (held_as holder) o in
     let p : FirstAt is_ready slots i = first_by_marks is_ready slots (bit_of bits.ready) i s.signed n in
     let lt : i < length slots = within is_ready slots i p.there in
-    subst (λ (xs : List (Option Entry)). BitsShow xs bits' ready' live) (sym e) (shows_set slots v bits bits' ready ready' live live i s (record {
+    subst (λ (xs : List (Option Entry)). BitsShow xs bits' live) (sym e) (shows_set slots v bits bits' live live i s (record {
       there = lt;
       turned = subst (λ (b : Bool). BitTurned bits bits' i (num b)) (sym (held_not_free holder o)) t;
-      ready_count = (let a = ap num p.there in let b = ap num (held_not_free holder o) in omega arith);
       live_count = ap (λ (b : Bool). live + num b) (sym (still_some (held_as holder) o));
       apart = λ h. apart_held slots i holder h (is_under h holder) refl lt p.there f (s.apart h);
     }))
 
-pub take_shows : (slots now : List (Option Entry)) (bits bits' : SlotBits) (ready ready' live live' i : ℕ) → BitsShow slots bits ready live → IsNextMark (bit_of bits.ready) 0 i
-    → BitTurned bits bits' i 0 → now ≡ set slots i None → ready' + 1 ≡ ready → live' + 1 ≡ live → BitsShow now bits' ready' live'
-take_shows slots now bits bits' ready ready' live live' i s n t e r l =
+pub take_shows : (slots now : List (Option Entry)) (bits bits' : SlotBits) (live live' i : ℕ) → BitsShow slots bits live → IsNextMark (bit_of bits.ready) 0 i
+    → BitTurned bits bits' i 0 → now ≡ set slots i None → live' + 1 ≡ live → BitsShow now bits' live'
+take_shows slots now bits bits' live live' i s n t e l =
     let p : FirstAt is_ready slots i = first_by_marks is_ready slots (bit_of bits.ready) i s.signed n in
     let lt : i < length slots = within is_ready slots i p.there in
-    subst (λ (xs : List (Option Entry)). BitsShow xs bits' ready' live') (sym e) (shows_set slots None bits bits' ready ready' live live' i s (record {
+    subst (λ (xs : List (Option Entry)). BitsShow xs bits' live') (sym e) (shows_set slots None bits bits' live live' i s (record {
       there = lt;
       turned = t;
-      ready_count = (let a = ap num p.there in omega arith);
       live_count = (let a = ap num (some_of is_ready (get_or slots i None) p.there) in omega arith);
       apart = λ h. apart_less slots None i h lt (s.apart h) refl;
     }))
 
-pub release_shows : (slots now : List (Option Entry)) (bits bits' : SlotBits) (ready ready' live i : ℕ) (holder : Holder) → BitsShow slots bits ready live
-    → slot_has (is_held_as holder) (get_or slots i None) ≡ true → BitTurned bits bits' i 1 → now ≡ set slots i (changed freed_now (get_or slots i None)) → ready' ≡ ready + 1
-    → BitsShow now bits' ready' live
-release_shows slots now bits bits' ready ready' live i holder s h t e r =
+pub release_shows : (slots now : List (Option Entry)) (bits bits' : SlotBits) (live i : ℕ) (holder : Holder) → BitsShow slots bits live
+    → slot_has (is_held_as holder) (get_or slots i None) ≡ true → BitTurned bits bits' i 1 → now ≡ set slots i (changed freed_now (get_or slots i None))
+    → BitsShow now bits' live
+release_shows slots now bits bits' live i holder s h t e =
     let o : Option Entry = get_or slots i None in
     let v : Option Entry = changed freed_now o in
     let lt : i < length slots = within (is_held_as holder) slots i h in
     let f : slot_has is_ready v ≡ true = now_free (is_held_as holder) o h in
-    subst (λ (xs : List (Option Entry)). BitsShow xs bits' ready' live) (sym e) (shows_set slots v bits bits' ready ready' live live i s (record {
+    subst (λ (xs : List (Option Entry)). BitsShow xs bits' live) (sym e) (shows_set slots v bits bits' live live i s (record {
       there = lt;
       turned = subst (λ (b : Bool). BitTurned bits bits' i (num b)) (sym f) t;
-      ready_count = (let a = ap num (held_not_ready (is_under holder) o h) in let b = ap num f in omega arith);
       live_count = ap (λ (b : Bool). live + num b) (sym (still_some freed_now o));
       apart = λ g. apart_less slots v i g lt (s.apart g) (ready_not_held (is_under g) v f);
     }))
 
-pub remove_shows : (slots now : List (Option Entry)) (bits bits' : SlotBits) (ready live live' i : ℕ) (holder : Holder) → BitsShow slots bits ready live
-    → slot_has (is_held_as holder) (get_or slots i None) ≡ true → BitTurned bits bits' i 0 → now ≡ set slots i None → live' + 1 ≡ live → BitsShow now bits' ready live'
-remove_shows slots now bits bits' ready live live' i holder s h t e l =
+pub remove_shows : (slots now : List (Option Entry)) (bits bits' : SlotBits) (live live' i : ℕ) (holder : Holder) → BitsShow slots bits live
+    → slot_has (is_held_as holder) (get_or slots i None) ≡ true → BitTurned bits bits' i 0 → now ≡ set slots i None → live' + 1 ≡ live → BitsShow now bits' live'
+remove_shows slots now bits bits' live live' i holder s h t e l =
     let lt : i < length slots = within (is_held_as holder) slots i h in
-    subst (λ (xs : List (Option Entry)). BitsShow xs bits' ready live') (sym e) (shows_set slots None bits bits' ready ready live live' i s (record {
+    subst (λ (xs : List (Option Entry)). BitsShow xs bits' live') (sym e) (shows_set slots None bits bits' live live' i s (record {
       there = lt;
       turned = t;
-      ready_count = (let a = ap num (held_not_ready (is_under holder) (get_or slots i None) h) in omega arith);
       live_count = (let a = ap num (some_of (is_held_as holder) (get_or slots i None) h) in omega arith);
       apart = λ g. apart_less slots None i g lt (s.apart g) refl;
     }))
 
-pub push_shows : (slots now : List (Option Entry)) (bits bits' : SlotBits) (ready ready' live live' : ℕ) (m : Message) → BitsShow slots bits ready live
-    → BitTurned bits bits' (length slots) 1 → now ≡ slots ++ Some (record { message = m; mark = Ready }) ∷ [] → ready' ≡ ready + 1 → live' ≡ live + 1 → BitsShow now bits' ready' live'
-push_shows slots now bits bits' ready ready' live live' m s t e r l =
+pub push_shows : (slots now : List (Option Entry)) (bits bits' : SlotBits) (live live' : ℕ) (m : Message) → BitsShow slots bits live
+    → BitTurned bits bits' (length slots) 1 → now ≡ slots ++ Some (record { message = m; mark = Ready }) ∷ [] → live' ≡ live + 1 → BitsShow now bits' live'
+push_shows slots now bits bits' live live' m s t e l =
     let v : Entry = record { message = m; mark = Ready } in
-    subst (λ (xs : List (Option Entry)). BitsShow xs bits' ready' live') (sym e) (record {
+    subst (λ (xs : List (Option Entry)). BitsShow xs bits' live') (sym e) (record {
       signed = marked_push is_ready slots (Some v) _ _ s.signed t.turned;
-      ready_count = (let a = s.ready_count in let b = counted_end is_ready slots v in omega arith);
       live_count = (let a = s.live_count in let b = length_end slots v in omega arith);
       apart = λ h. (let a = s.apart h in let b = counted_end (is_held_as h) slots v in omega arith);
     })
@@ -267,35 +256,31 @@ push_shows slots now bits bits' ready ready' live live' m s t e r l =
     length_end (None ∷ xs) x = length_end xs x
     length_end (Some y ∷ xs) x = let r = length_end xs x in omega arith
 
--- the counts have room for a step
-pub ready_least : (slots : List (Option Entry)) (bits : SlotBits) (ready live i : ℕ) → BitsShow slots bits ready live → IsNextMark (bit_of bits.ready) 0 i → (1 ≤ ready) × (1 ≤ live)
-ready_least slots bits ready live i s n =
+-- the count has room for a step
+pub ready_least : (slots : List (Option Entry)) (bits : SlotBits) (live i : ℕ) → BitsShow slots bits live → IsNextMark (bit_of bits.ready) 0 i → 1 ≤ live
+ready_least slots bits live i s n =
     let p : FirstAt is_ready slots i = first_by_marks is_ready slots (bit_of bits.ready) i s.signed n in
     let c = counted is_ready slots i p.there in
     let m = tally-most is_ready (somes slots) in
-    let a = s.ready_count in let b = s.live_count in
-    (omega arith, omega arith)
+    let b = s.live_count in
+    omega arith
 
-pub held_least : (slots : List (Option Entry)) (bits : SlotBits) (ready live i : ℕ) (holder : Holder) → BitsShow slots bits ready live
-    → slot_has (is_held_as holder) (get_or slots i None) ≡ true → (1 ≤ live) × (ready < length slots)
-held_least slots bits ready live i holder s t =
+pub held_least : (slots : List (Option Entry)) (bits : SlotBits) (live i : ℕ) (holder : Holder) → BitsShow slots bits live
+    → slot_has (is_held_as holder) (get_or slots i None) ≡ true → 1 ≤ live
+held_least slots bits live i holder s t =
     let c = counted (is_held_as holder) slots i t in
     let m = tally-most (is_held_as holder) (somes slots) in
-    let f = count-fewer is_ready slots i (within (is_held_as holder) slots i t) (held_not_ready (is_under holder) (get_or slots i None) t) in
-    let a = s.ready_count in let b = s.live_count in
-    (omega arith, omega arith)
+    let b = s.live_count in
+    omega arith
 
 -- what is held under a tag is the only such entry
-pub only_held : (slots : List (Option Entry)) (bits : SlotBits) (ready live i : ℕ) (holder : Holder) → BitsShow slots bits ready live
+pub only_held : (slots : List (Option Entry)) (bits : SlotBits) (live i : ℕ) (holder : Holder) → BitsShow slots bits live
     → slot_has (is_held_as holder) (get_or slots i None) ≡ true → OnlyAt (is_held_as holder) slots i
-only_held slots bits ready live i holder s t = record { there = t; only = s.apart holder }
+only_held slots bits live i holder s t = record { there = t; only = s.apart holder }
 
--- the counts are at most what there is
-pub counts_most : (slots : List (Option Entry)) (bits : SlotBits) (ready live : ℕ) → BitsShow slots bits ready live → (ready ≤ live) × (live ≤ length slots)
-counts_most slots bits ready live s =
-    let m = tally-most is_ready (somes slots) in let n = somes-most slots in
-    let a = s.ready_count in let b = s.live_count in
-    (omega arith, omega arith)
+-- the count is at most what there is
+pub live_most : (slots : List (Option Entry)) (bits : SlotBits) (live : ℕ) → BitsShow slots bits live → live ≤ length slots
+live_most slots bits live s = let n = somes-most slots in let b = s.live_count in omega arith
 
 pub same_places : (slots slots' capacity capacity' places places' : ℕ) → HasPlaces slots capacity places → slots' ≡ slots → capacity' ≡ capacity → places' ≡ places → HasPlaces slots' capacity' places'
 same_places slots slots' capacity capacity' places places' h a b c = record { used = (let u = h.used in omega arith); kept = (let k = h.kept in omega arith) }

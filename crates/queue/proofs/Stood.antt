@@ -5,7 +5,8 @@ use Rattle.model.specs.Broker.{is_ready}
 use Rattle.model.specs.Entries.{is_held_as}
 use Rattle.model.specs.declared.messages.Entry.{Entry}
 use Rattle.queue.specs.declared.slots.Slot.{Slot}
-use Rattle.queue.specs.Slots.{contents, somes, slot_has, changed, num, tally, total, ready_size, is_long, SlotBits, BitsShow, BytesShow}
+use Rattle.queue.specs.Slots.{contents, somes, slot_has, changed, num, tally, SlotBits, BitsShow}
+use Rattle.queue.specs.Blocks.{total, ready_size, is_long, IsCounted}
 use Rattle.queue.proofs.Slotted.{contents-length, contents-written}
 use Rattle.queue.proofs.Changing.{changed_next}
 
@@ -39,21 +40,23 @@ length-mapped f (x ∷ xs) = ap suc (length-mapped f xs)
 
 -- ---- the marks, the counts and the bytes
 
-pub stood_shows : (os : List (Option Entry)) (bits : SlotBits) (ready live : ℕ) → BitsShow os bits ready live → BitsShow (map (changed stood_now) os) bits ready live
-stood_shows os bits ready live s =
+pub stood_shows : (os : List (Option Entry)) (bits : SlotBits) (live : ℕ) → BitsShow os bits live → BitsShow (map (changed stood_now) os) bits live
+stood_shows os bits live s =
     let same = somes-changed stood_now os in record {
       signed = λ i. s.signed i ∙ ap num (sym (has_changed is_ready stood_now (λ e. refl) (get_or os i None)) ∙ ap (slot_has is_ready) (sym (there_changed stood_now os i)));
-      ready_count = s.ready_count ∙ sym (tally-mapped is_ready stood_now (λ e. refl) (somes os)) ∙ ap (tally is_ready) (sym same);
       live_count = s.live_count ∙ sym (length-mapped stood_now (somes os)) ∙ ap length (sym same);
       apart = λ holder. subst (λ (n : ℕ). n ≤ 1) (sym (tally-mapped (is_held_as holder) stood_now (λ e. refl) (somes os)) ∙ ap (tally (is_held_as holder)) (sym same)) (s.apart holder);
     }
 
-pub stood_keeps : (os : List (Option Entry)) (bytes : ℕ) → BytesShow (somes os) bytes → BytesShow (somes (map (changed stood_now) os)) bytes
-stood_keeps os bytes s =
-    let same = somes-changed stood_now os in record {
-      sum = s.sum ∙ sym (total-mapped ready_size stood_now (λ e. refl) (somes os)) ∙ ap (total ready_size) (sym same);
-      short = ap (tally is_long) same ∙ tally-mapped is_long stood_now (λ e. refl) (somes os) ∙ s.short;
-    }
+-- so it is with the entries of a queue
+pub stood_counted : (es : List Entry) (ready live bytes : ℕ) → IsCounted es ready live bytes → IsCounted (map stood_now es) ready live bytes
+stood_counted es ready live bytes c = record {
+  ready_count = c.ready_count ∙ sym (tally-mapped is_ready stood_now (λ e. refl) es);
+  live_count = c.live_count ∙ sym (length-mapped stood_now es);
+  sum = c.sum ∙ sym (total-mapped ready_size stood_now (λ e. refl) es);
+  apart = λ holder. subst (λ (n : ℕ). n ≤ 1) (sym (tally-mapped (is_held_as holder) stood_now (λ e. refl) es)) (c.apart holder);
+  short = tally-mapped is_long stood_now (λ e. refl) es ∙ c.short;
+}
 
 -- ---- slot by slot
 

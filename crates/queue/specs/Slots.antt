@@ -1,6 +1,6 @@
 -- Slots in the order of arrival, of which some are empty (own).
-use Rattle.std.specs.Prelude.{◌≡◌, ℕ, ◌≤◌, ◌+◌, List, [], ◌∷◌, length, map, Bool, false, cond, nat_lt, Option, Some, None, get_or}
-use Rattle.model.specs.Broker.{is_ready, body_bytes}
+use Rattle.std.specs.Prelude.{◌≡◌, ℕ, ◌≤◌, ◌+◌, List, [], ◌∷◌, length, map, Bool, false, cond, Option, Some, None, get_or}
+use Rattle.model.specs.Broker.{is_ready}
 use Rattle.model.specs.declared.messages.Entry.{Entry}
 use Rattle.model.specs.declared.messages.Holder.{Holder}
 use Rattle.marks.specs.Places.{bit_of, Differs}
@@ -36,17 +36,7 @@ abbrev pub tally : {X : Type 0} → (X → Bool) → List X → ℕ
 tally p [] = 0
 tally p (x ∷ xs) = num (p x) + tally p xs
 
--- for how much the slot counts, where each that stands in one counts for so much
-abbrev pub slot_size : {X : Type 0} → (X → ℕ) → Option X → ℕ
-slot_size f None = 0
-slot_size f (Some x) = f x
-
--- for how much all count together
-abbrev pub total : {X : Type 0} → (X → ℕ) → List X → ℕ
-total f [] = 0
-total f (x ∷ xs) = f x + total f xs
-
--- the words of the set of ready slots, and how many slots it has room for
+-- the words of the set of ready places, and how many places it has room for
 pub record SlotBits : Type 0 where
   pub ready : List ℕ
   pub places : ℕ
@@ -55,7 +45,7 @@ pub record SlotBits : Type 0 where
 abbrev pub SameBits : SlotBits → SlotBits → Type 0
 SameBits old new = (k : ℕ) → bit_of new.ready k ≡ bit_of old.ready k
 
--- Only this slot's bit differs: it is this.
+-- Only this place's bit differs: it is this.
 pub record BitTurned (old new : SlotBits) (place bit : ℕ) : Type 0 where
   pub turned : Differs (bit_of old.ready) (bit_of new.ready) place bit
   pub places : new.places ≡ old.places
@@ -69,24 +59,10 @@ abbrev pub AreSigned : List (Option Entry) → SlotBits → Type 0
 AreSigned slots bits = SlotsAreMarked is_ready slots (bit_of bits.ready)
 
 -- What is kept beside the slots is true of them, and no two messages are held under one tag.
-pub record BitsShow (slots : List (Option Entry)) (bits : SlotBits) (ready live : ℕ) : Type 0 where
+pub record BitsShow (slots : List (Option Entry)) (bits : SlotBits) (live : ℕ) : Type 0 where
   pub signed : AreSigned slots bits
-  pub ready_count : ready ≡ tally is_ready (somes slots)
   pub live_count : live ≡ length (somes slots)
   pub apart : (holder : Holder) → tally (is_held_as holder) (somes slots) ≤ 1
-
--- the bytes of the body, where the message is ready
-abbrev pub ready_size : Entry → ℕ
-ready_size e = cond (is_ready e) (body_bytes e) 0
-
--- the body has more bytes than 64 bits can count
-abbrev pub is_long : Entry → Bool
-is_long e = nat_lt 18446744073709551615 (body_bytes e)
-
--- The bytes of the ready bodies are kept. No body is so long that their sum could leave 128 bits.
-pub record BytesShow (entries : List Entry) (bytes : ℕ) : Type 0 where
-  pub sum : bytes ≡ total ready_size entries
-  pub short : tally is_long entries ≡ 0
 
 -- There is room for so many slots, each with its bit.
 pub record HasPlaces (slots capacity places : ℕ) : Type 0 where

@@ -1,47 +1,54 @@
-//! A queue in slots by arrival, of which the ready ones are marked.
+//! A queue in blocks, of which those with a ready message are marked.
 
 ghost use Rattle.std.specs.Prelude.{◌≡◌, ◌+◌, ◌≤◌, ◌++◌, map, filter, not, vec_len, vec_capacity};
 ghost use Rattle.model.specs.Broker.{is_ready};
 ghost use Rattle.queue.specs.Line.{ready_count};
 ghost use Rattle.model.specs.Entries.{number_of};
 
-use crate::signs::SlotSigns;
-use crate::slots::{
-    Slot, append, bytes_at, close_gaps, entry_at, free_at, hold_at, place_held, stand_in, take_at,
+use crate::block::Block;
+use crate::blocks::{
+    first_ready_at, free_at, give_back_spare, held_at, held_bytes_at, hold_at, make_room,
+    place_held, push_last, ready_bytes_at, remove_at, sign, stand_in, take_at,
 };
+use crate::signs::Signs;
 use crate::stores::Store;
 use crate::walks::Walk;
-use model::{Entry, Holder, Mark, Message};
+use model::{Entry, Holder, Message};
 use std::alloc::{AllocError, Global};
 use std::marker::Model;
 
 /// Messages in the order in which they came, ready or held.
 ///
-/// Each stands in a slot, which stays empty once it is gone; `reserve` closes the gaps. A mark for each slot says whether it
-/// is ready, so that the first ready message is found without a scan. How many are ready, and how many bytes their bodies
-/// have, is kept.
+/// They stand in blocks. What comes goes into the last one, and where that is full `reserve` starts another, so that no call
+/// moves more messages than a block has. A block is given back once its last message is gone. A mark for each block says
+/// whether a ready message stands in it. How many are ready, and how many bytes their bodies have, is kept.
 #[derive(Drop)]
 pub struct Indexed {
-    slots: Vec<Slot>,
-    signs: SlotSigns,
+    alloc: Global,
+    blocks: Vec<Block>,
+    signs: Signs,
     ready_count: usize,
     /// The bytes of the bodies of the ready messages. As many bodies as there can be, each as long as can be, fit.
     ready_bytes: u128,
+    /// How many messages stand here. There are never more than can be counted so.
     live: usize,
+    /// How many pushes were promised room that are not done yet.
+    room: usize,
     /// How many messages came so far.
     arrived: u64,
 }
 
 impl Model for Indexed {
-    ghost use Rattle.std.specs.Prelude.{◌-◌, vec_len, vec_capacity};
+    ghost use Rattle.std.specs.Prelude.{vec_len, vec_capacity};
     ghost use Rattle.queue.specs.Line.{Line};
-    ghost use Rattle.queue.specs.Slots.{contents, somes, BitsShow, BytesShow, HasPlaces};
+    ghost use Rattle.queue.specs.Slots.{HasPlaces};
+    ghost use Rattle.queue.specs.Blocks.{parts, joined, last_room, AreBlocksSigned, IsCounted, HasRoom};
 
     ghost Value = { Line };
 
-    ghost view = { λ q. record { entries = somes (contents q.slots.items); room = q.signs.places - vec_len q.slots } };
+    ghost view = { λ q. record { entries = joined (parts q.blocks.items); room = q.room } };
 
-    ghost invariant = { λ q. BitsShow (contents q.slots.items) q.signs q.ready_count q.live × HasPlaces (vec_len q.slots) (vec_capacity q.slots) q.signs.places × BytesShow (somes (contents q.slots.items)) q.ready_bytes };
+    ghost invariant = { λ q. AreBlocksSigned (parts q.blocks.items) q.signs × HasPlaces (vec_len q.blocks) (vec_capacity q.blocks) q.signs.places × IsCounted (joined (parts q.blocks.items)) q.ready_count q.live q.ready_bytes × HasRoom q.room (last_room q.blocks.items) q.live };
 }
 
 impl Store for Indexed {
@@ -49,39 +56,43 @@ impl Store for Indexed {
 
     fn new(alloc: Global) -> Indexed {
         Indexed {
-            slots: Vec::new(alloc),
-            signs: SlotSigns::empty(alloc),
+            alloc,
+            blocks: Vec::new(alloc),
+            signs: Signs::empty(alloc),
             ready_count: 0,
             ready_bytes: 0,
             live: 0,
+            room: 0,
             arrived: 0,
         }
     }
 
-    /// Closes gaps where more than half of the slots are empty, and grows where that is not enough.
+    /// Grows the last block while it is short, and then starts another.
     fn reserve(&mut self, more: usize) -> Result<(), AllocError> {
-        if more <= self.signs.places() - self.slots.len() {
+        if more <= self.room {
             return Ok(());
         }
-        close_gaps(&mut self.slots, &mut self.signs, self.live);
-        self.slots.reserve(more)?;
-        self.signs.grow(self.slots.capacity())
+        if more > usize::MAX - self.live {
+            return Err(AllocError);
+        }
+        make_room(
+            &mut self.blocks,
+            &mut self.signs,
+            self.alloc,
+            self.arrived,
+            more,
+        )?;
+        self.room = more;
+        Ok(())
     }
 
     fn push(&mut self, message: Message) {
-        let bytes = message.content().body.len();
-        self.signs.set_ready(self.slots.len());
-        append(
-            &mut self.slots,
-            self.arrived,
-            Entry {
-                message,
-                mark: Mark::Ready,
-            },
-        );
         self.ready_count += 1;
-        self.ready_bytes += bytes as u128;
+        self.ready_bytes += message.content().body.len() as u128;
         self.live += 1;
+        self.room -= 1;
+        let place = push_last(&mut self.blocks, self.arrived, message);
+        self.signs.set_ready(place);
         self.arrived = self.arrived.wrapping_add(1);
     }
 
@@ -95,7 +106,7 @@ impl Store for Indexed {
 
     fn first_ready(&self) -> Option<&Entry> {
         match self.signs.first_ready() {
-            Some(place) => entry_at(&self.slots, place),
+            Some(place) => first_ready_at(&self.blocks, place),
             None => None,
         }
     }
@@ -105,10 +116,11 @@ impl Store for Indexed {
         match self.signs.first_ready() {
             None => None,
             Some(place) => {
-                self.signs.clear(place);
                 self.ready_count -= 1;
-                self.ready_bytes -= bytes_at(&self.slots, place) as u128;
-                Some(hold_at(&mut self.slots, place, holder))
+                self.ready_bytes -= ready_bytes_at(&self.blocks, place) as u128;
+                let arrival = hold_at(&mut self.blocks, place, holder);
+                sign(&self.blocks, &mut self.signs, place);
+                arrival
             }
         }
     }
@@ -117,42 +129,46 @@ impl Store for Indexed {
         match self.signs.first_ready() {
             None => None,
             Some(place) => {
-                self.signs.clear(place);
                 self.ready_count -= 1;
-                self.ready_bytes -= bytes_at(&self.slots, place) as u128;
+                self.ready_bytes -= ready_bytes_at(&self.blocks, place) as u128;
                 self.live -= 1;
-                take_at(&mut self.slots, place)
+                let entry = take_at(&mut self.blocks, place, self.alloc);
+                give_back_spare(&mut self.blocks, place, self.room, self.alloc);
+                sign(&self.blocks, &mut self.signs, place);
+                entry
             }
         }
     }
 
     fn held(&self, holder: &Holder, arrival: u64) -> Option<&Entry> {
-        match place_held(&self.slots, holder, arrival) {
-            Some(place) => entry_at(&self.slots, place),
+        match place_held(&self.blocks, holder, arrival) {
+            Some(place) => held_at(&self.blocks, place, holder, arrival),
             None => None,
         }
     }
 
     fn release(&mut self, holder: &Holder, arrival: u64) -> bool {
-        match place_held(&self.slots, holder, arrival) {
+        match place_held(&self.blocks, holder, arrival) {
             None => false,
             Some(place) => {
-                free_at(&mut self.slots, place);
-                self.signs.set_ready(place);
                 self.ready_count += 1;
-                self.ready_bytes += bytes_at(&self.slots, place) as u128;
+                self.ready_bytes += held_bytes_at(&self.blocks, place, holder, arrival) as u128;
+                free_at(&mut self.blocks, place, holder, arrival);
+                sign(&self.blocks, &mut self.signs, place);
                 true
             }
         }
     }
 
     fn remove(&mut self, holder: &Holder, arrival: u64) -> Option<Entry> {
-        match place_held(&self.slots, holder, arrival) {
+        match place_held(&self.blocks, holder, arrival) {
             None => None,
             Some(place) => {
-                self.signs.clear(place);
                 self.live -= 1;
-                take_at(&mut self.slots, place)
+                let entry = remove_at(&mut self.blocks, place, holder, arrival, self.alloc);
+                give_back_spare(&mut self.blocks, place, self.room, self.alloc);
+                sign(&self.blocks, &mut self.signs, place);
+                entry
             }
         }
     }
@@ -164,11 +180,11 @@ impl Store for Indexed {
 
     /// It takes time for each slot.
     fn stand_all(&mut self) {
-        stand_in(&mut self.slots);
+        stand_in(&mut self.blocks);
     }
 
     fn walk(&self) -> Walk<'_> {
-        Walk::of_slots(&self.slots)
+        Walk::of_blocks(&self.blocks)
     }
 }
 

@@ -5,6 +5,8 @@
 //! all of them could. `Store` says what each call does; `Listed` does so over a plain vector, and `Indexed` without a scan.
 #![tactic(auto)]
 
+mod block;
+mod blocks;
 mod entries;
 mod indexed;
 mod limits;

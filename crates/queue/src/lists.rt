@@ -7,7 +7,7 @@ ghost use Rattle.model.specs.Broker.{is_ready};
 ghost use Rattle.model.specs.Entries.{is_under, is_held_as, held_as, change_first, without_first, number_of};
 ghost use Rattle.model.specs.Reloading.{stood_now};
 ghost use Rattle.queue.specs.Line as seen_line;
-ghost use Rattle.queue.specs.Slots as slots;
+ghost use Rattle.queue.specs.Blocks as blocks;
 ghost use Rattle.queue.specs.Line.{requeued};
 
 use crate::entries::{free_under, hold, is_free, is_held_under, stand};
@@ -22,7 +22,7 @@ pub(crate) fn ready_count(entries: &[Entry]) -> usize
 
 /// How many bytes the body of the entry has if it is ready, else none.
 fn ready_size(entry: &Entry) -> usize
-    ensures { result ≡ slots.ready_size entry.now }
+    ensures { result ≡ blocks.ready_size entry.now }
 {
     if is_free(entry) {
         entry.message.content().body.len()

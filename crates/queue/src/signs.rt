@@ -1,4 +1,4 @@
-//! Which slots have a ready message.
+//! Which places have a ready message: slots of a block, or blocks of a queue.
 
 ghost use Rattle.std.specs.Prelude.{◌≡◌};
 
@@ -6,18 +6,18 @@ use marks::{Flat, Over, Places};
 use std::alloc::{AllocError, Global};
 use std::marker::Model;
 
-/// A bit for each slot.
-type SlotMarks = Over<Over<Flat>>;
+/// A bit for each place. Two words find the first of 4,096.
+type Marks = Over<Flat>;
 
-/// The set of slots with a ready message.
+/// The set of places with a ready message.
 #[derive(Drop)]
-pub(crate) struct SlotSigns {
-    ready: SlotMarks,
-    /// There is room for the slots below this.
+pub(crate) struct Signs {
+    ready: Marks,
+    /// There is room for the places below this.
     places: usize,
 }
 
-impl Model for SlotSigns {
+impl Model for Signs {
     ghost use Rattle.std.specs.Prelude.{◌≤◌, ◌*◌, length};
     ghost use Rattle.queue.specs.Slots.{SlotBits};
 
@@ -28,23 +28,23 @@ impl Model for SlotSigns {
     ghost invariant = { λ s. s.places ≤ length s.ready * 64 };
 }
 
-impl SlotSigns {
+impl Signs {
     ghost use Rattle.std.specs.Prelude.{◌≡◌, ◌<◌, ◌≤◌, ℕ, OnOk, OnErr, IfSome, IfNone};
     ghost use Rattle.marks.specs.Places.{bit_of, IsNextMark};
     ghost use Rattle.queue.specs.Slots.{SameBits, BitTurned};
 
-    /// An empty set, with room for no slot. It takes no memory.
-    pub(crate) fn empty(alloc: Global) -> SlotSigns
+    /// An empty set, with room for no place. It takes no memory.
+    pub(crate) fn empty(alloc: Global) -> Signs
         ensures ready { (k : ℕ) → bit_of result.ready k ≡ 0 }
         ensures places { result.places ≡ 0 }
     {
-        SlotSigns {
-            ready: <Over<Over<Flat>>>::empty(alloc),
+        Signs {
+            ready: <Over<Flat>>::empty(alloc),
             places: 0,
         }
     }
 
-    /// Makes room for the slots below this. What is in the set stays, also where memory is wanting.
+    /// Makes room for the places below this. What is in the set stays, also where memory is wanting.
     pub(crate) fn grow(&mut self, places: usize) -> Result<(), AllocError>
         ensures same { SameBits self.old self.new }
         ensures room { OnOk result (self.new.places ≡ places) }
@@ -55,14 +55,14 @@ impl SlotSigns {
         Ok(())
     }
 
-    /// How many slots there is room for.
+    /// How many places there is room for.
     pub(crate) fn places(&self) -> usize
         ensures { result ≡ self.now.places }
     {
         self.places
     }
 
-    /// The first slot with a ready message.
+    /// The first place with a ready message.
     pub(crate) fn first_ready(&self) -> Option<usize>
         ensures some { IfSome result (λ place. IsNextMark (bit_of self.now.ready) 0 place) }
         ensures none { IfNone result ((k : ℕ) → bit_of self.now.ready k ≡ 0) }
@@ -70,7 +70,7 @@ impl SlotSigns {
         self.ready.first()
     }
 
-    /// A ready message stands in the slot.
+    /// A ready message stands at the place.
     pub(crate) fn set_ready(&mut self, place: usize)
         requires { place < self.old.places }
         ensures { BitTurned self.old self.new place 1 }
@@ -78,7 +78,7 @@ impl SlotSigns {
         self.ready.set(place);
     }
 
-    /// Nothing stands in the slot, or a message that is held.
+    /// No ready message stands at the place.
     pub(crate) fn clear(&mut self, place: usize)
         requires { place < self.old.places }
         ensures { BitTurned self.old self.new place 0 }

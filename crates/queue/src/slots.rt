@@ -1,17 +1,17 @@
 //! Slots in the order of arrival, and which of them are ready.
 
 ghost use Rattle.std.specs.Prelude.{◌≡◌, ◌+◌, ◌<◌, ◌≤◌, ◌++◌, ◌∷◌, [], ℕ, false, true, length, map, get_or, vec_len, vec_capacity, slice_set, option_map, IfSome, IfNone, Some, None};
-ghost use Rattle.model.specs.Broker.{is_ready, body_bytes};
+ghost use Rattle.model.specs.Broker.{is_ready};
 ghost use Rattle.model.specs.Entries.{is_held_as, held_as, freed_now};
 ghost use Rattle.model.specs.Reloading.{stood_now};
 ghost use Rattle.marks.specs.Places.{bit_of};
-ghost use Rattle.queue.specs.Slots.{contents, somes, slot_has, slot_size, changed, num, AreSigned, BitTurned};
+ghost use Rattle.queue.specs.Slots.{contents, somes, slot_has, changed, num, AreSigned, BitTurned};
 
 use crate::entries::{free, hold, is_free, is_held_under, stand};
-use crate::signs::SlotSigns;
+use crate::signs::Signs;
 use model::{Entry, Holder};
 
-/// One place of a queue: the number of the arrival there, and what arrived, until it goes.
+/// One place of a block: the number of the arrival there, and what arrived, until it goes.
 #[derive(Drop)]
 pub(crate) struct Slot {
     pub(crate) arrival: u64,
@@ -62,16 +62,6 @@ fn is_held_at(slots: &[Slot], place: usize, holder: &Holder) -> bool
     match entry_at(slots, place) {
         Some(entry) => is_held_under(entry, holder),
         None => false,
-    }
-}
-
-/// How many bytes the body has of what stands at this place; none where nothing does.
-pub(crate) fn bytes_at(slots: &[Slot], place: usize) -> usize
-    ensures { result ≡ slot_size body_bytes (get_or (contents slots.now) place None) }
-{
-    match entry_at(slots, place) {
-        Some(entry) => entry.message.content().body.len(),
-        None => 0,
     }
 }
 
@@ -186,7 +176,7 @@ fn drop_empty(slots: &mut Vec<Slot>)
 }
 
 /// Sets the bit of this place as its slot is.
-fn sign(slots: &[Slot], signs: &mut SlotSigns, place: usize)
+fn sign(slots: &[Slot], signs: &mut Signs, place: usize)
     requires { place < signs.old.places }
     ensures { BitTurned signs.old signs.new place (num (slot_has is_ready (get_or (contents slots.now) place None))) }
 {
@@ -203,7 +193,7 @@ fn sign(slots: &[Slot], signs: &mut SlotSigns, place: usize)
 }
 
 /// Sets the bits below `places` as their slots are.
-fn sign_all(slots: &[Slot], signs: &mut SlotSigns, places: usize)
+fn sign_all(slots: &[Slot], signs: &mut Signs, places: usize)
     requires within { places ≤ signs.old.places }
     requires slots { length slots.now ≤ places }
     requires ready { (k : ℕ) → places ≤ k → bit_of signs.old.ready k ≡ 0 }
@@ -216,7 +206,7 @@ fn sign_all(slots: &[Slot], signs: &mut SlotSigns, places: usize)
 }
 
 /// Closes the gaps, where more than half of the slots are empty: then none is empty any more. Each has its bit.
-pub(crate) fn close_gaps(slots: &mut Vec<Slot>, signs: &mut SlotSigns, live: usize)
+pub(crate) fn close_gaps(slots: &mut Vec<Slot>, signs: &mut Signs, live: usize)
     requires within { vec_len slots.old ≤ signs.old.places }
     requires signed { AreSigned (contents slots.old.items) signs.old }
     ensures signed { AreSigned (contents slots.new.items) signs.new }

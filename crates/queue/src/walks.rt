@@ -1,18 +1,20 @@
 //! The entries of a queue, gone over in the order of arrival.
 
-ghost use Rattle.std.specs.Prelude.{◌≡◌, ◌∷◌, [], MatchOption};
+ghost use Rattle.std.specs.Prelude.{◌≡◌, ◌∷◌, ◌++◌, [], MatchOption};
 ghost use Rattle.queue.specs.Slots.{contents, somes};
+ghost use Rattle.queue.specs.Blocks.{parts, joined};
 ghost use Rattle.queue.specs.Walks.{entries_ahead};
 
+use crate::block::Block;
 use crate::slots::Slot;
 use model::Entry;
 use std::marker::Model;
 
-/// What is not gone over yet: entries, or slots of which some are empty.
+/// What is not gone over yet: entries, or slots of which some are empty and the blocks behind them.
 #[derive(Drop)]
 enum Ahead<'a> {
     Entries(&'a [Entry]),
-    Slots(&'a [Slot]),
+    Blocks(&'a [Slot], &'a [Block]),
 }
 
 /// A walk over the entries of a queue, ready and held, in the order of arrival: those that are still to come.
@@ -43,19 +45,35 @@ fn first_of<'a>(slots: &mut &'a [Slot]) -> Option<&'a Entry>
     None
 }
 
+/// The first entry of these slots and of the blocks behind them, which go on behind it.
+fn first_in<'a>(slots: &mut &'a [Slot], blocks: &mut &'a [Block]) -> Option<&'a Entry>
+    ensures { MatchOption result ((somes (contents slots.old.now) ++ joined (parts blocks.old.now) ≡ []) × (somes (contents slots.new.now) ++ joined (parts blocks.new.now) ≡ [])) (λ e. somes (contents slots.old.now) ++ joined (parts blocks.old.now) ≡ e.now ∷ (somes (contents slots.new.now) ++ joined (parts blocks.new.now))) }
+{
+    if let Some(entry) = first_of(slots) {
+        return Some(entry);
+    }
+    'ahead: while let Some(block) = blocks.split_off_first() {
+        *slots = block.slots();
+        if let Some(entry) = first_of(slots) {
+            return Some(entry);
+        }
+    }
+    None
+}
+
 /// The first entry, and it goes on behind it.
 fn next_of<'a>(ahead: &mut Ahead<'a>) -> Option<&'a Entry>
     ensures { MatchOption result ((entries_ahead ahead.old ≡ []) × (entries_ahead ahead.new ≡ [])) (λ e. entries_ahead ahead.old ≡ e.now ∷ entries_ahead ahead.new) }
 {
     match ahead {
         Ahead::Entries(entries) => entries.split_off_first(),
-        Ahead::Slots(slots) => first_of(slots),
+        Ahead::Blocks(slots, blocks) => first_in(slots, blocks),
     }
 }
 
 impl<'a> Walk<'a> {
     ghost use Rattle.std.specs.Prelude.{◌≡◌, []};
-    ghost use Rattle.queue.specs.Slots.{contents, somes};
+    ghost use Rattle.queue.specs.Blocks.{parts, joined};
 
     /// A walk over nothing.
     pub fn empty() -> Walk<'a>
@@ -73,12 +91,12 @@ impl<'a> Walk<'a> {
         }
     }
 
-    /// A walk over all that stands in these slots.
-    pub(crate) fn of_slots(slots: &'a [Slot]) -> Walk<'a>
-        ensures { result ≡ somes (contents slots.now) }
+    /// A walk over all that stands in these blocks.
+    pub(crate) fn of_blocks(blocks: &'a [Block]) -> Walk<'a>
+        ensures { result ≡ joined (parts blocks.now) }
     {
         Walk {
-            ahead: Ahead::Slots(slots),
+            ahead: Ahead::Blocks(&[], blocks),
         }
     }
 }

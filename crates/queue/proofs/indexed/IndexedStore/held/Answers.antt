@@ -1,24 +1,22 @@
-use Rattle.std.proofs.Common.{◌≡◌, ◌∙◌, sym, ap, subst, List, true, Option, None, find, get_or}
+use Rattle.std.proofs.Common.{◌≡◌, ◌∙◌, [], sym, ap, subst, List, true, Option, None, find, get_or}
 use Rattle.std.specs.Prelude.{option_map}
 use Rattle.model.specs.declared.messages.Entry.{Entry}
-use Rattle.queue.specs.Line.{Line}
 use Rattle.model.specs.Entries.{is_held_as}
-use Rattle.queue.specs.Slots.{contents, slot_has}
-use Rattle.queue.specs.declared.slots.Slot.{Slot}
-use Rattle.queue.proofs.Places.{find_at, none_found, only_first}
-use Rattle.queue.proofs.Slotted.{only_held}
-use Rattle.queue.proofs.Places.{NonePasses}
+use Rattle.queue.specs.Line.{Line}
+use Rattle.queue.specs.Blocks.{parts, some_pass}
+use Rattle.queue.proofs.Joined.{joined_found}
+use Rattle.queue.proofs.Calls.{NoneIn, nothing_found, held_first}
 use Rattle.queue.proofs.indexed.IndexedStore.held.Goals as goal
 
 pub returns-in-None : goal.returns-in-None
 returns-in-None c =
-    let n : NonePasses (is_held_as c.args.holder.now) (contents c.deref.result.now) = record { no = c.in-None.ensures.none } in
+    let n : NoneIn (is_held_as c.args.holder.now) (parts c.deref.result.now) = record { no = c.in-None.ensures.none } in
     subst (λ (l : Line). ◌≡◌ {A = Option Entry} None (find (is_held_as c.args.holder.now) l.entries)) c.self.view_is
-    (sym (none_found _ _ (subst (λ (ss : List Slot). NonePasses (is_held_as c.args.holder.now) (contents ss)) c.deref.ensures.value n)))
+    (sym (nothing_found (is_held_as c.args.holder.now) (parts c.self.inside.blocks.items) (subst (λ (bs : List Line). NoneIn (is_held_as c.args.holder.now) (parts bs)) c.deref.ensures.value n)))
 
 pub returns-in-Some : goal.returns-in-Some
 returns-in-Some c =
-    let t = subst (λ (ss : List Slot). slot_has (is_held_as c.args.holder.now) (get_or (contents ss) c.in-Some.place None) ≡ true) c.deref.ensures.value c.in-Some.ensures.some in
-    subst (λ (l : Line). option_map (λ e. e.now) c.entry_at.result ≡ find (is_held_as c.args.holder.now) l.entries) c.self.view_is
-    (c.entry_at.ensures ∙ ap (λ (ss : List Slot). get_or (contents ss) c.in-Some.place None) c.deref-in-Some.ensures.value
-    ∙ sym (find_at _ _ _ (only_first _ _ _ (only_held _ _ _ _ _ c.args.holder.now c.self.invariant.0 t))))
+    let t = subst (λ (bs : List Line). some_pass (is_held_as c.args.holder.now) (get_or (parts bs) c.in-Some.place []) ≡ true) c.deref.ensures.value c.in-Some.ensures.some in
+    subst (λ (l : Line). option_map (λ e. e.now) c.held_at.result ≡ find (is_held_as c.args.holder.now) l.entries) c.self.view_is
+    (c.held_at.ensures ∙ ap (λ (bs : List Line). find (is_held_as c.args.holder.now) (get_or (parts bs) c.in-Some.place [])) c.deref-in-Some.ensures.value
+    ∙ sym (joined_found (is_held_as c.args.holder.now) (parts c.self.inside.blocks.items) c.in-Some.place (held_first (parts c.self.inside.blocks.items) c.self.inside.ready_count c.self.inside.live c.self.inside.ready_bytes c.in-Some.place c.args.holder.now c.self.invariant.2 t)))

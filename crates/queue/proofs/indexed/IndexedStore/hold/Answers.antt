@@ -1,50 +1,64 @@
-use Rattle.std.proofs.Common.{◌≡◌, ◌∙◌, sym, ap, subst, arith, true, false, List, None, find, get_or, is_some}
+use Rattle.std.proofs.Common.{◌≡◌, ◌∙◌, [], sym, ap, subst, arith, rules, length, false, List, None, find, get_or, is_some, vec_len}
 use Rattle.model.specs.Broker.{is_ready, body_bytes}
-use Rattle.queue.specs.Line.{Line}
 use Rattle.model.specs.Entries.{is_held_as, held_as, change_first}
-use Rattle.queue.specs.Slots.{contents, somes, slot_size}
-use Rattle.queue.specs.declared.slots.Slot.{Slot}
-use Rattle.queue.proofs.Bytes.{bytes_least, hold_keeps}
-use Rattle.queue.proofs.Places.{FirstAt, change_at, some_at, none_found, none_changed}
-use Rattle.queue.proofs.Slotted.{first_by_marks, none_by_marks, hold_shows, ready_least, same_places}
+use Rattle.model.specs.declared.messages.Entry.{Entry}
+use Rattle.queue.specs.Line.{Line}
+use Rattle.queue.specs.Slots.{num, BitTurned}
+use Rattle.queue.specs.Blocks.{parts, joined, some_pass, size_of}
+use Rattle.queue.proofs.Joined.{FirstIn, first_within, joined_found, joined_changed, joined_none, none_changed_in}
+use Rattle.queue.proofs.Signed.{first_signed, none_signed, signed_now, parts-length}
+use Rattle.queue.proofs.Slotted.{same_places}
+use Rattle.queue.proofs.Calls.{ready_there, hold_there, free_there}
 use Rattle.queue.proofs.indexed.IndexedStore.hold.Goals as goal
 
 pub overflow_sub-self : goal.overflow_sub-self
-overflow_sub-self c = (ready_least _ _ _ _ _ c.self.invariant.0 c.in-Some.ensures.some).0
+overflow_sub-self c = (ready_there (parts c.self.inside.blocks.items) c.self.inside.ready_count c.self.inside.live c.self.inside.ready_bytes c.in-Some.place c.self.invariant.2 (first_signed (parts c.self.inside.blocks.items) c.self.inside.signs c.in-Some.place c.self.invariant.0 c.in-Some.ensures.some)).0
 
 pub overflow_sub-self-in-Some : goal.overflow_sub-self-in-Some
 overflow_sub-self-in-Some c =
-    let first : FirstAt is_ready (contents c.self.inside.slots.items) c.in-Some.place = first_by_marks is_ready _ _ _ c.self.invariant.0.signed c.in-Some.ensures.some in
-    let size : c.bytes_at.result ≡ slot_size body_bytes (get_or (contents c.self.inside.slots.items) c.in-Some.place None)
-    = c.bytes_at.ensures ∙ ap (λ (ss : List Slot). slot_size body_bytes (get_or (contents ss) c.in-Some.place None)) c.deref.ensures.value in
-    let there = bytes_least (contents c.self.inside.slots.items) c.self.inside.ready_bytes c.in-Some.place c.self.invariant.2 first.there in
+    let size : c.ready_bytes_at.result ≡ size_of body_bytes (find is_ready (get_or (parts c.self.inside.blocks.items) c.in-Some.place []))
+    = c.ready_bytes_at.ensures ∙ ap (λ (bs : List Line). size_of body_bytes (find is_ready (get_or (parts bs) c.in-Some.place []))) c.deref.ensures.value in
+    let there = (ready_there (parts c.self.inside.blocks.items) c.self.inside.ready_count c.self.inside.live c.self.inside.ready_bytes c.in-Some.place c.self.invariant.2 (first_signed (parts c.self.inside.blocks.items) c.self.inside.signs c.in-Some.place c.self.invariant.0 c.in-Some.ensures.some)).1.1 in
     omega (arith, size, there)
+
+pub hold_at-arrival-requires-clause-apart : goal.hold_at-arrival-requires-clause-apart
+hold_at-arrival-requires-clause-apart c = free_there (parts c.self.inside.blocks.items) c.in-Some.place c.args.holder (subst (λ (l : Line). find (is_held_as c.args.holder) l.entries ≡ None) (sym c.self.view_is) c.requires)
+
+pub sign-requires : goal.sign-requires
+sign-requires c =
+    let lt = first_within is_ready (parts c.self.inside.blocks.items) c.in-Some.place (first_signed (parts c.self.inside.blocks.items) c.self.inside.signs c.in-Some.place c.self.invariant.0 c.in-Some.ensures.some).there in
+    let n = parts-length c.self.inside.blocks.items in
+    let l : vec_len c.self.inside.blocks ≡ length c.self.inside.blocks.items = search rules in
+    let u = c.self.invariant.1.used in
+    omega (arith, lt)
 
 pub invariant_of-self : goal.invariant_of-self
 invariant_of-self c =
-    let first : FirstAt is_ready (contents c.self.inside.slots.items) c.in-Some.place = first_by_marks is_ready _ _ _ c.self.invariant.0.signed c.in-Some.ensures.some in
-    let size : c.bytes_at.result ≡ slot_size body_bytes (get_or (contents c.self.inside.slots.items) c.in-Some.place None)
-    = c.bytes_at.ensures ∙ ap (λ (ss : List Slot). slot_size body_bytes (get_or (contents ss) c.in-Some.place None)) c.deref.ensures.value in
-    let there = bytes_least (contents c.self.inside.slots.items) c.self.inside.ready_bytes c.in-Some.place c.self.invariant.2 first.there in
-    let least = ready_least _ _ _ _ _ c.self.invariant.0 c.in-Some.ensures.some in (
-      hold_shows _ _ _ _ _ _ _ _ c.args.holder c.self.invariant.0 c.in-Some.ensures.some c.clear.ensures c.hold_at.ensures.contents
-          (subst (λ (l : Line). find (is_held_as c.args.holder) l.entries ≡ None) (sym c.self.view_is) c.requires) (omega (arith, least.0)),
-      same_places _ _ _ _ _ _ c.self.invariant.1 c.hold_at.ensures.len c.hold_at.ensures.capacity c.clear.ensures.places,
-      hold_keeps (contents c.self.inside.slots.items) (contents c.hold_at.new.slots.items) c.self.inside.ready_bytes _ c.in-Some.place c.args.holder c.self.invariant.2 first.there c.hold_at.ensures.contents (omega (arith, size, there)),
+    let first : FirstIn is_ready (parts c.self.inside.blocks.items) c.in-Some.place = first_signed (parts c.self.inside.blocks.items) c.self.inside.signs c.in-Some.place c.self.invariant.0 c.in-Some.ensures.some in
+    let size : c.ready_bytes_at.result ≡ size_of body_bytes (find is_ready (get_or (parts c.self.inside.blocks.items) c.in-Some.place []))
+    = c.ready_bytes_at.ensures ∙ ap (λ (bs : List Line). size_of body_bytes (find is_ready (get_or (parts bs) c.in-Some.place []))) c.deref.ensures.value in
+    let least = ready_there (parts c.self.inside.blocks.items) c.self.inside.ready_count c.self.inside.live c.self.inside.ready_bytes c.in-Some.place c.self.invariant.2 first in
+    let turned : BitTurned c.self.inside.signs c.sign.new.signs c.in-Some.place (num (some_pass is_ready (get_or (parts c.hold_at-arrival.new.blocks.items) c.in-Some.place [])))
+    = subst (λ (bs : List Line). BitTurned c.self.inside.signs c.sign.new.signs c.in-Some.place (num (some_pass is_ready (get_or (parts bs) c.in-Some.place [])))) c.deref-in-Some.ensures.value c.sign.ensures in (
+      signed_now (parts c.self.inside.blocks.items) _ _ c.self.inside.signs c.sign.new.signs c.in-Some.place (first_within is_ready (parts c.self.inside.blocks.items) c.in-Some.place first.there) c.self.invariant.0 c.hold_at-arrival.ensures.parts turned,
+      same_places _ _ _ _ _ _ c.self.invariant.1 c.hold_at-arrival.ensures.len c.hold_at-arrival.ensures.capacity c.sign.ensures.places,
+      hold_there (parts c.self.inside.blocks.items) (parts c.hold_at-arrival.new.blocks.items) _ _ _ _ _ c.ready_bytes_at.result c.in-Some.place c.args.holder c.self.invariant.2 first
+          (subst (λ (l : Line). find (is_held_as c.args.holder) l.entries ≡ None) (sym c.self.view_is) c.requires) c.hold_at-arrival.ensures.parts size (omega (arith, least.0)) (let b = least.1.1 in omega (arith, size, b)),
+      record { there = (let t = c.self.invariant.3.there in let r = c.hold_at-arrival.ensures.room in omega (arith, t, r)); few = (let f = c.self.invariant.3.few in omega (arith, f)) },
     )
 
 pub returns-in-None-clause-told : goal.returns-in-None-clause-told
 returns-in-None-clause-told c = subst (λ (l : Line). false ≡ is_some (find is_ready l.entries)) c.self.view_is
-    (ap is_some (sym (none_found is_ready _ (none_by_marks is_ready _ _ c.self.invariant.0.signed c.in-None.ensures.none))))
+    (ap is_some (sym (joined_none is_ready (parts c.self.inside.blocks.items) (none_signed (parts c.self.inside.blocks.items) c.self.inside.signs c.self.invariant.0 c.in-None.ensures.none))))
 
 pub returns-in-None-clause-entries : goal.returns-in-None-clause-entries
 returns-in-None-clause-entries c = subst (λ (l : Line). l.entries ≡ change_first is_ready (held_as c.args.holder) l.entries) c.self.view_is
-    (sym (none_changed is_ready _ _ (none_by_marks is_ready _ _ c.self.invariant.0.signed c.in-None.ensures.none)))
+    (sym (none_changed_in is_ready (held_as c.args.holder) (joined (parts c.self.inside.blocks.items)) (joined_none is_ready (parts c.self.inside.blocks.items) (none_signed (parts c.self.inside.blocks.items) c.self.inside.signs c.self.invariant.0 c.in-None.ensures.none))))
 
 pub returns-in-Some-clause-told : goal.returns-in-Some-clause-told
-returns-in-Some-clause-told c = subst (λ (l : Line). true ≡ is_some (find is_ready l.entries)) c.self.view_is
-    (sym (some_at is_ready _ _ (first_by_marks is_ready _ _ _ c.self.invariant.0.signed c.in-Some.ensures.some)))
+returns-in-Some-clause-told c = subst (λ (l : Line). is_some c.hold_at-arrival.result ≡ is_some (find is_ready l.entries)) c.self.view_is
+    (c.hold_at-arrival.ensures.told ∙ sym (ap is_some (joined_found is_ready (parts c.self.inside.blocks.items) c.in-Some.place (first_signed (parts c.self.inside.blocks.items) c.self.inside.signs c.in-Some.place c.self.invariant.0 c.in-Some.ensures.some))))
 
 pub returns-in-Some-clause-entries : goal.returns-in-Some-clause-entries
-returns-in-Some-clause-entries c = subst (λ (l : Line). somes (contents c.hold_at.new.slots.items) ≡ change_first is_ready (held_as c.args.holder) l.entries) c.self.view_is
-    (ap somes c.hold_at.ensures.contents ∙ sym (change_at is_ready _ _ _ (first_by_marks is_ready _ _ _ c.self.invariant.0.signed c.in-Some.ensures.some)))
+returns-in-Some-clause-entries c = subst (λ (l : Line). joined (parts c.hold_at-arrival.new.blocks.items) ≡ change_first is_ready (held_as c.args.holder) l.entries) c.self.view_is
+    (ap (λ (ps : List (List Entry)). joined ps) c.hold_at-arrival.ensures.parts ∙ sym (joined_changed is_ready (held_as c.args.holder) (parts c.self.inside.blocks.items) c.in-Some.place (first_signed (parts c.self.inside.blocks.items) c.self.inside.signs c.in-Some.place c.self.invariant.0 c.in-Some.ensures.some)))

@@ -1,62 +1,82 @@
-use Rattle.std.proofs.Common.{◌≡◌, ◌∙◌, ◌+◌, ℕ, sym, ap, refl, subst, arith, rules, List, length, true, false, Option, None, find, is_some, get_or, vec_len}
+use Rattle.std.proofs.Common.{◌≡◌, ◌∙◌, [], sym, ap, refl, subst, arith, rules, length, List, true, false, find, is_some, get_or, vec_len}
+use Rattle.model.specs.Broker.{is_ready, body_bytes}
+use Rattle.model.specs.Entries.{is_under, is_held_as}
 use Rattle.model.specs.declared.messages.Entry.{Entry}
 use Rattle.queue.specs.Line.{Line, requeued}
-use Rattle.model.specs.Entries.{is_under, is_held_as}
-use Rattle.model.specs.Broker.{body_bytes}
-use Rattle.queue.specs.Slots.{contents, somes, slot_has, slot_size}
-use Rattle.queue.specs.declared.slots.Slot.{Slot}
-use Rattle.queue.proofs.Places.{some_at, none_found, none_mapped, only_first, only_mapped}
-use Rattle.queue.proofs.Bytes.{bytes_most, release_keeps}
-use Rattle.queue.proofs.Slotted.{release_shows, held_least, only_held, same_places, contents-length, freed_same, slot_freed}
-use Rattle.std.proofs.Math.ListN.{set}
-use Rattle.queue.proofs.Places.{NonePasses}
+use Rattle.queue.specs.Slots.{num, BitTurned}
+use Rattle.queue.specs.Blocks.{parts, joined, some_pass, size_of}
+use Rattle.queue.proofs.Joined.{first_within, joined_found}
+use Rattle.queue.proofs.Signed.{signed_now, parts-length}
+use Rattle.queue.proofs.Slotted.{same_places}
+use Rattle.queue.proofs.Counts.{counts_most}
+use Rattle.queue.proofs.Calls.{NoneIn, nothing_found, nothing_freed, held_first, held_there, freed_there_is, release_there}
 use Rattle.queue.proofs.indexed.IndexedStore.release.Goals as goal
 
 pub overflow_add-self : goal.overflow_add-self
 overflow_add-self c =
-    let t = subst (λ (ss : List Slot). slot_has (is_held_as c.args.holder.now) (get_or (contents ss) c.in-Some.place None) ≡ true) c.deref.ensures.value c.in-Some.ensures.some in
-    let h = held_least _ _ _ _ _ c.args.holder.now c.self.invariant.0 t in
-    let n = contents-length c.self.inside.slots.items in
-    let l : vec_len c.self.inside.slots ≡ length c.self.inside.slots.items = search rules in
-    omega (arith, h.1)
+    let t = subst (λ (bs : List Line). some_pass (is_held_as c.args.holder.now) (get_or (parts bs) c.in-Some.place []) ≡ true) c.deref.ensures.value c.in-Some.ensures.some in
+    let least = (held_there (parts c.self.inside.blocks.items) c.self.inside.ready_count c.self.inside.live c.self.inside.ready_bytes c.in-Some.place c.args.holder.now c.self.invariant.2 t).1.0 in
+    omega (arith, least)
 
 pub overflow_add-self-in-Some : goal.overflow_add-self-in-Some
 overflow_add-self-in-Some c =
-    let most = bytes_most (contents c.self.inside.slots.items) c.self.inside.ready_bytes c.self.invariant.2 in
-    let n = contents-length c.self.inside.slots.items in
-    let l : vec_len c.self.inside.slots ≡ length c.self.inside.slots.items = search rules in
-    omega (arith, most)
+    let t = subst (λ (bs : List Line). some_pass (is_held_as c.args.holder.now) (get_or (parts bs) c.in-Some.place []) ≡ true) c.deref.ensures.value c.in-Some.ensures.some in
+    let size : c.held_bytes_at.result ≡ size_of body_bytes (find (is_held_as c.args.holder.now) (get_or (parts c.self.inside.blocks.items) c.in-Some.place []))
+    = c.held_bytes_at.ensures ∙ ap (λ (bs : List Line). size_of body_bytes (find (is_held_as c.args.holder.now) (get_or (parts bs) c.in-Some.place []))) c.deref-in-Some.ensures.value in
+    let least = (held_there (parts c.self.inside.blocks.items) c.self.inside.ready_count c.self.inside.live c.self.inside.ready_bytes c.in-Some.place c.args.holder.now c.self.invariant.2 t).1.1 in
+    let most = (counts_most (joined (parts c.self.inside.blocks.items)) c.self.inside.ready_count c.self.inside.live c.self.inside.ready_bytes c.self.invariant.2).1 in
+    omega (arith, size, least, most)
+
+pub free_at-requires : goal.free_at-requires
+free_at-requires c =
+    let t = subst (λ (bs : List Line). some_pass (is_held_as c.args.holder.now) (get_or (parts bs) c.in-Some.place []) ≡ true) c.deref.ensures.value c.in-Some.ensures.some in
+    let lt = first_within (is_held_as c.args.holder.now) (parts c.self.inside.blocks.items) c.in-Some.place t in
+    let n = parts-length c.self.inside.blocks.items in
+    let l : vec_len c.self.inside.blocks ≡ length c.self.inside.blocks.items = search rules in
+    omega (arith, lt)
+
+pub sign-requires : goal.sign-requires
+sign-requires c =
+    let t = subst (λ (bs : List Line). some_pass (is_held_as c.args.holder.now) (get_or (parts bs) c.in-Some.place []) ≡ true) c.deref.ensures.value c.in-Some.ensures.some in
+    let lt = first_within (is_held_as c.args.holder.now) (parts c.self.inside.blocks.items) c.in-Some.place t in
+    let n = parts-length c.self.inside.blocks.items in
+    let l : vec_len c.self.inside.blocks ≡ length c.self.inside.blocks.items = search rules in
+    let u = c.self.invariant.1.used in
+    omega (arith, lt)
 
 pub invariant_of-self : goal.invariant_of-self
 invariant_of-self c =
-    let size : c.bytes_at.result ≡ slot_size body_bytes (get_or (contents c.free_at.new.slots.items) c.in-Some.place None)
-    = c.bytes_at.ensures ∙ ap (λ (ss : List Slot). slot_size body_bytes (get_or (contents ss) c.in-Some.place None)) c.deref-in-Some.ensures.value in
-    let t = subst (λ (ss : List Slot). slot_has (is_held_as c.args.holder.now) (get_or (contents ss) c.in-Some.place None) ≡ true) c.deref.ensures.value c.in-Some.ensures.some in (
-      release_shows _ _ _ _ _ _ _ _ c.args.holder.now c.self.invariant.0 t c.set_ready.ensures c.free_at.ensures.contents refl,
-      same_places _ _ _ _ _ _ c.self.invariant.1 c.free_at.ensures.len c.free_at.ensures.capacity c.set_ready.ensures.places,
-      release_keeps (contents c.self.inside.slots.items) (contents c.free_at.new.slots.items) c.self.inside.ready_bytes _ c.in-Some.place (is_under c.args.holder.now) c.self.invariant.2 t c.free_at.ensures.contents (ap (λ (k : ℕ). c.self.inside.ready_bytes + k) size),
+    let t = subst (λ (bs : List Line). some_pass (is_held_as c.args.holder.now) (get_or (parts bs) c.in-Some.place []) ≡ true) c.deref.ensures.value c.in-Some.ensures.some in
+    let size : c.held_bytes_at.result ≡ size_of body_bytes (find (is_held_as c.args.holder.now) (get_or (parts c.self.inside.blocks.items) c.in-Some.place []))
+    = c.held_bytes_at.ensures ∙ ap (λ (bs : List Line). size_of body_bytes (find (is_held_as c.args.holder.now) (get_or (parts bs) c.in-Some.place []))) c.deref-in-Some.ensures.value in
+    let turned : BitTurned c.self.inside.signs c.sign.new.signs c.in-Some.place (num (some_pass is_ready (get_or (parts c.free_at.new.blocks.items) c.in-Some.place [])))
+    = subst (λ (bs : List Line). BitTurned c.self.inside.signs c.sign.new.signs c.in-Some.place (num (some_pass is_ready (get_or (parts bs) c.in-Some.place [])))) c.deref-in-Some-2.ensures.value c.sign.ensures in (
+      signed_now (parts c.self.inside.blocks.items) _ _ c.self.inside.signs c.sign.new.signs c.in-Some.place (first_within (is_held_as c.args.holder.now) (parts c.self.inside.blocks.items) c.in-Some.place t) c.self.invariant.0 c.free_at.ensures.parts turned,
+      same_places _ _ _ _ _ _ c.self.invariant.1 c.free_at.ensures.len c.free_at.ensures.capacity c.sign.ensures.places,
+      release_there (parts c.self.inside.blocks.items) (parts c.free_at.new.blocks.items) _ _ _ _ _ c.held_bytes_at.result c.in-Some.place c.args.holder.now c.self.invariant.2 t c.free_at.ensures.parts size refl refl,
+      record { there = (let t = c.self.invariant.3.there in let r = c.free_at.ensures.room in omega (arith, t, r)); few = (let f = c.self.invariant.3.few in omega (arith, f)) },
     )
 
 pub returns-in-None-clause-told : goal.returns-in-None-clause-told
 returns-in-None-clause-told c =
-    let n : NonePasses (is_held_as c.args.holder.now) (contents c.deref.result.now) = record { no = c.in-None.ensures.none } in
+    let n : NoneIn (is_held_as c.args.holder.now) (parts c.deref.result.now) = record { no = c.in-None.ensures.none } in
     subst (λ (l : Line). false ≡ is_some (find (is_held_as c.args.holder.now) l.entries)) c.self.view_is
-    (ap is_some (sym (none_found _ _ (subst (λ (ss : List Slot). NonePasses (is_held_as c.args.holder.now) (contents ss)) c.deref.ensures.value n))))
+    (ap is_some (sym (nothing_found (is_held_as c.args.holder.now) (parts c.self.inside.blocks.items) (subst (λ (bs : List Line). NoneIn (is_held_as c.args.holder.now) (parts bs)) c.deref.ensures.value n))))
 
 pub returns-in-None-clause-entries : goal.returns-in-None-clause-entries
 returns-in-None-clause-entries c =
-    let n : NonePasses (is_held_as c.args.holder.now) (contents c.deref.result.now) = record { no = c.in-None.ensures.none } in
+    let n : NoneIn (is_held_as c.args.holder.now) (parts c.deref.result.now) = record { no = c.in-None.ensures.none } in
     subst (λ (l : Line). l.entries ≡ requeued (is_under c.args.holder.now) l.entries) c.self.view_is
-    (sym (none_mapped _ _ (freed_same (is_under c.args.holder.now)) _ (subst (λ (ss : List Slot). NonePasses (is_held_as c.args.holder.now) (contents ss)) c.deref.ensures.value n)))
+    (sym (nothing_freed (parts c.self.inside.blocks.items) c.args.holder.now (subst (λ (bs : List Line). NoneIn (is_held_as c.args.holder.now) (parts bs)) c.deref.ensures.value n)))
 
 pub returns-in-Some-clause-told : goal.returns-in-Some-clause-told
 returns-in-Some-clause-told c =
-    let t = subst (λ (ss : List Slot). slot_has (is_held_as c.args.holder.now) (get_or (contents ss) c.in-Some.place None) ≡ true) c.deref.ensures.value c.in-Some.ensures.some in
+    let t = subst (λ (bs : List Line). some_pass (is_held_as c.args.holder.now) (get_or (parts bs) c.in-Some.place []) ≡ true) c.deref.ensures.value c.in-Some.ensures.some in
     subst (λ (l : Line). true ≡ is_some (find (is_held_as c.args.holder.now) l.entries)) c.self.view_is
-    (sym (some_at _ _ _ (only_first _ _ _ (only_held _ _ _ _ _ c.args.holder.now c.self.invariant.0 t))))
+    (sym (ap is_some (joined_found (is_held_as c.args.holder.now) (parts c.self.inside.blocks.items) c.in-Some.place (held_first (parts c.self.inside.blocks.items) c.self.inside.ready_count c.self.inside.live c.self.inside.ready_bytes c.in-Some.place c.args.holder.now c.self.invariant.2 t)) ∙ t))
 
 pub returns-in-Some-clause-entries : goal.returns-in-Some-clause-entries
 returns-in-Some-clause-entries c =
-    let t = subst (λ (ss : List Slot). slot_has (is_held_as c.args.holder.now) (get_or (contents ss) c.in-Some.place None) ≡ true) c.deref.ensures.value c.in-Some.ensures.some in
-    subst (λ (l : Line). somes (contents c.free_at.new.slots.items) ≡ requeued (is_under c.args.holder.now) l.entries) c.self.view_is
-    (ap somes (c.free_at.ensures.contents ∙ ap (λ (o : Option Entry). set (contents c.self.inside.slots.items) c.in-Some.place o) (sym (slot_freed (is_under c.args.holder.now) _ t))) ∙ sym (only_mapped _ _ (freed_same (is_under c.args.holder.now)) _ _ (only_held _ _ _ _ _ c.args.holder.now c.self.invariant.0 t)))
+    let t = subst (λ (bs : List Line). some_pass (is_held_as c.args.holder.now) (get_or (parts bs) c.in-Some.place []) ≡ true) c.deref.ensures.value c.in-Some.ensures.some in
+    subst (λ (l : Line). joined (parts c.free_at.new.blocks.items) ≡ requeued (is_under c.args.holder.now) l.entries) c.self.view_is
+    (ap (λ (ps : List (List Entry)). joined ps) c.free_at.ensures.parts ∙ sym (freed_there_is (parts c.self.inside.blocks.items) c.self.inside.ready_count c.self.inside.live c.self.inside.ready_bytes c.in-Some.place c.args.holder.now c.self.invariant.2 t))

@@ -1,30 +1,29 @@
-use Rattle.std.proofs.Common.{◌≡◌, ◌∙◌, List, Option, drop, length, ap, map}
+use Rattle.std.proofs.Common.{◌≡◌, ◌∙◌, List, arith, drop, length, ap, map}
 use Rattle.std.proofs.lemmas.List.{take_at}
 use Rattle.model.specs.Reloading.{stood_now}
-use Rattle.model.specs.declared.messages.Entry.{Entry}
 use Rattle.queue.specs.Line.{Line}
-use Rattle.queue.specs.Slots.{changed, contents, somes}
-use Rattle.queue.specs.declared.slots.Slot.{Slot}
-use Rattle.queue.proofs.Stood.{somes-changed, stood_keeps, stood_shows}
+use Rattle.queue.specs.Blocks.{parts, joined, stood_block}
+use Rattle.queue.proofs.Stood.{stood_counted}
+use Rattle.queue.proofs.Signed.{joined_stood, room_stood, signed_stood}
 use Rattle.queue.proofs.indexed.IndexedStore.stand_all.Goals as goal
 
 pub invariant_of-self : goal.invariant_of-self
 invariant_of-self c =
-    let new = c.stand_in.new.slots in
-    let back = take_at new (drop (length new) c.self.inside.slots.items) c.self.inside.slots.len (c.stand_in.auto.slots ∙ c.deref_mut.ensures.len) in
-    let is : contents new ≡ map (changed stood_now) (contents c.self.inside.slots.items) = c.stand_in.ensures ∙ ap (λ (ss : List Slot). map (changed stood_now) (contents ss)) c.deref_mut.ensures.value in
+    let new = c.stand_in.new.blocks in
+    let back = take_at new (drop (length new) c.self.inside.blocks.items) c.self.inside.blocks.len (c.stand_in.auto.blocks ∙ c.deref_mut.ensures.len) in
+    let is : new ≡ map stood_block c.self.inside.blocks.items = c.stand_in.ensures ∙ ap (λ (bs : List Line). map stood_block bs) c.deref_mut.ensures.value in
     rw (back, is) (
-      stood_shows (contents c.self.inside.slots.items) _ _ _ c.self.invariant.0,
+      signed_stood c.self.inside.blocks.items c.self.inside.signs c.self.invariant.0,
       c.self.invariant.1,
-      stood_keeps (contents c.self.inside.slots.items) _ c.self.invariant.2,
+      rw (joined_stood c.self.inside.blocks.items) (stood_counted (joined (parts c.self.inside.blocks.items)) c.self.inside.ready_count c.self.inside.live c.self.inside.ready_bytes c.self.invariant.2),
+      record { there = (let t = c.self.invariant.3.there in let r = room_stood c.self.inside.blocks.items in omega (arith, t, r)); few = c.self.invariant.3.few },
     )
 
 pub returns-clause-entries : goal.returns-clause-entries
 returns-clause-entries c =
-    let new = c.stand_in.new.slots in
-    let back = take_at new (drop (length new) c.self.inside.slots.items) c.self.inside.slots.len (c.stand_in.auto.slots ∙ c.deref_mut.ensures.len) in
-    let is : contents new ≡ map (changed stood_now) (contents c.self.inside.slots.items) = c.stand_in.ensures ∙ ap (λ (ss : List Slot). map (changed stood_now) (contents ss)) c.deref_mut.ensures.value in
-    ap (λ (ss : List Slot). somes (contents ss)) back
-    ∙ ap (λ (os : List (Option Entry)). somes os) is
-    ∙ somes-changed stood_now (contents c.self.inside.slots.items)
+    let new = c.stand_in.new.blocks in
+    let back = take_at new (drop (length new) c.self.inside.blocks.items) c.self.inside.blocks.len (c.stand_in.auto.blocks ∙ c.deref_mut.ensures.len) in
+    let is : new ≡ map stood_block c.self.inside.blocks.items = c.stand_in.ensures ∙ ap (λ (bs : List Line). map stood_block bs) c.deref_mut.ensures.value in
+    ap (λ (bs : List Line). joined (parts bs)) (back ∙ is)
+    ∙ joined_stood c.self.inside.blocks.items
     ∙ ap (λ (l : Line). map stood_now l.entries) c.self.view_is

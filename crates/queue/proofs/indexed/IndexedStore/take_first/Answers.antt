@@ -1,53 +1,64 @@
-use Rattle.std.proofs.Common.{◌≡◌, ◌∙◌, sym, ap, subst, arith, List, Option, None, find, get_or}
+use Rattle.std.proofs.Common.{◌≡◌, ◌∙◌, [], sym, ap, subst, arith, rules, length, List, Option, None, find, get_or, vec_len}
 use Rattle.model.specs.Broker.{is_ready, body_bytes}
+use Rattle.model.specs.Entries.{without_first}
 use Rattle.model.specs.declared.messages.Entry.{Entry}
 use Rattle.queue.specs.Line.{Line}
-use Rattle.model.specs.Entries.{without_first}
-use Rattle.queue.specs.Slots.{contents, somes, slot_size}
-use Rattle.queue.specs.declared.slots.Slot.{Slot}
-use Rattle.queue.proofs.Bytes.{bytes_least, take_keeps}
-use Rattle.queue.proofs.Places.{FirstAt, remove_at, find_at, none_found, none_removed}
-use Rattle.queue.proofs.Slotted.{first_by_marks, none_by_marks, take_shows, ready_least, same_places}
+use Rattle.queue.specs.Slots.{num, BitTurned}
+use Rattle.queue.specs.Blocks.{parts, joined, some_pass, size_of}
+use Rattle.queue.proofs.Joined.{FirstIn, first_within, joined_found, joined_without, joined_none, none_without_in}
+use Rattle.queue.proofs.Signed.{first_signed, none_signed, signed_now, parts-length}
+use Rattle.queue.proofs.Slotted.{same_places}
+use Rattle.queue.proofs.Calls.{ready_there, take_there}
 use Rattle.queue.proofs.indexed.IndexedStore.take_first.Goals as goal
 
 pub overflow_sub-self : goal.overflow_sub-self
-overflow_sub-self c = (ready_least _ _ _ _ _ c.self.invariant.0 c.in-Some.ensures.some).0
+overflow_sub-self c = (ready_there (parts c.self.inside.blocks.items) c.self.inside.ready_count c.self.inside.live c.self.inside.ready_bytes c.in-Some.place c.self.invariant.2 (first_signed (parts c.self.inside.blocks.items) c.self.inside.signs c.in-Some.place c.self.invariant.0 c.in-Some.ensures.some)).0
 
 pub overflow_sub-self-in-Some : goal.overflow_sub-self-in-Some
 overflow_sub-self-in-Some c =
-    let first : FirstAt is_ready (contents c.self.inside.slots.items) c.in-Some.place = first_by_marks is_ready _ _ _ c.self.invariant.0.signed c.in-Some.ensures.some in
-    let size : c.bytes_at.result ≡ slot_size body_bytes (get_or (contents c.self.inside.slots.items) c.in-Some.place None)
-    = c.bytes_at.ensures ∙ ap (λ (ss : List Slot). slot_size body_bytes (get_or (contents ss) c.in-Some.place None)) c.deref.ensures.value in
-    let there = bytes_least (contents c.self.inside.slots.items) c.self.inside.ready_bytes c.in-Some.place c.self.invariant.2 first.there in
+    let size : c.ready_bytes_at.result ≡ size_of body_bytes (find is_ready (get_or (parts c.self.inside.blocks.items) c.in-Some.place []))
+    = c.ready_bytes_at.ensures ∙ ap (λ (bs : List Line). size_of body_bytes (find is_ready (get_or (parts bs) c.in-Some.place []))) c.deref.ensures.value in
+    let there = (ready_there (parts c.self.inside.blocks.items) c.self.inside.ready_count c.self.inside.live c.self.inside.ready_bytes c.in-Some.place c.self.invariant.2 (first_signed (parts c.self.inside.blocks.items) c.self.inside.signs c.in-Some.place c.self.invariant.0 c.in-Some.ensures.some)).1.1 in
     omega (arith, size, there)
 
 pub overflow_sub-self-in-Some-2 : goal.overflow_sub-self-in-Some-2
-overflow_sub-self-in-Some-2 c = (ready_least _ _ _ _ _ c.self.invariant.0 c.in-Some.ensures.some).1
+overflow_sub-self-in-Some-2 c = (ready_there (parts c.self.inside.blocks.items) c.self.inside.ready_count c.self.inside.live c.self.inside.ready_bytes c.in-Some.place c.self.invariant.2 (first_signed (parts c.self.inside.blocks.items) c.self.inside.signs c.in-Some.place c.self.invariant.0 c.in-Some.ensures.some)).1.0
+
+pub sign-requires : goal.sign-requires
+sign-requires c =
+    let lt = first_within is_ready (parts c.self.inside.blocks.items) c.in-Some.place (first_signed (parts c.self.inside.blocks.items) c.self.inside.signs c.in-Some.place c.self.invariant.0 c.in-Some.ensures.some).there in
+    let n = parts-length c.self.inside.blocks.items in
+    let l : vec_len c.self.inside.blocks ≡ length c.self.inside.blocks.items = search rules in
+    let u = c.self.invariant.1.used in
+    omega (arith, lt)
 
 pub invariant_of-self : goal.invariant_of-self
 invariant_of-self c =
-    let first : FirstAt is_ready (contents c.self.inside.slots.items) c.in-Some.place = first_by_marks is_ready _ _ _ c.self.invariant.0.signed c.in-Some.ensures.some in
-    let size : c.bytes_at.result ≡ slot_size body_bytes (get_or (contents c.self.inside.slots.items) c.in-Some.place None)
-    = c.bytes_at.ensures ∙ ap (λ (ss : List Slot). slot_size body_bytes (get_or (contents ss) c.in-Some.place None)) c.deref.ensures.value in
-    let there = bytes_least (contents c.self.inside.slots.items) c.self.inside.ready_bytes c.in-Some.place c.self.invariant.2 first.there in
-    let least = ready_least _ _ _ _ _ c.self.invariant.0 c.in-Some.ensures.some in (
-      take_shows _ _ _ _ _ _ _ _ _ c.self.invariant.0 c.in-Some.ensures.some c.clear.ensures c.take_at.ensures.contents (omega (arith, least.0)) (omega (arith, least.1)),
-      same_places _ _ _ _ _ _ c.self.invariant.1 c.take_at.ensures.len c.take_at.ensures.capacity c.clear.ensures.places,
-      take_keeps (contents c.self.inside.slots.items) (contents c.take_at.new.slots.items) c.self.inside.ready_bytes _ c.in-Some.place c.self.invariant.2 first.there c.take_at.ensures.contents (omega (arith, size, there)),
+    let first : FirstIn is_ready (parts c.self.inside.blocks.items) c.in-Some.place = first_signed (parts c.self.inside.blocks.items) c.self.inside.signs c.in-Some.place c.self.invariant.0 c.in-Some.ensures.some in
+    let size : c.ready_bytes_at.result ≡ size_of body_bytes (find is_ready (get_or (parts c.self.inside.blocks.items) c.in-Some.place []))
+    = c.ready_bytes_at.ensures ∙ ap (λ (bs : List Line). size_of body_bytes (find is_ready (get_or (parts bs) c.in-Some.place []))) c.deref.ensures.value in
+    let least = ready_there (parts c.self.inside.blocks.items) c.self.inside.ready_count c.self.inside.live c.self.inside.ready_bytes c.in-Some.place c.self.invariant.2 first in
+    let turned : BitTurned c.self.inside.signs c.sign.new.signs c.in-Some.place (num (some_pass is_ready (get_or (parts c.give_back_spare.new.blocks.items) c.in-Some.place [])))
+    = subst (λ (bs : List Line). BitTurned c.self.inside.signs c.sign.new.signs c.in-Some.place (num (some_pass is_ready (get_or (parts bs) c.in-Some.place [])))) c.deref-in-Some.ensures.value c.sign.ensures in (
+      signed_now (parts c.self.inside.blocks.items) _ _ c.self.inside.signs c.sign.new.signs c.in-Some.place (first_within is_ready (parts c.self.inside.blocks.items) c.in-Some.place first.there) c.self.invariant.0 (c.give_back_spare.ensures.parts ∙ c.take_at-entry.ensures.parts) turned,
+      same_places _ _ _ _ _ _ c.self.invariant.1 (c.give_back_spare.ensures.len ∙ c.take_at-entry.ensures.len) (c.give_back_spare.ensures.capacity ∙ c.take_at-entry.ensures.capacity) c.sign.ensures.places,
+      take_there (parts c.self.inside.blocks.items) (parts c.give_back_spare.new.blocks.items) _ _ _ _ _ _ c.ready_bytes_at.result c.in-Some.place c.self.invariant.2 first
+          (c.give_back_spare.ensures.parts ∙ c.take_at-entry.ensures.parts) size (omega (arith, least.0)) (let l = least.1.0 in omega (arith, l)) (let b = least.1.1 in omega (arith, size, b)),
+      record { there = c.give_back_spare.ensures.room; few = (let f = c.self.invariant.3.few in let o = least.1.0 in omega (arith, f, o)) },
     )
 
 pub returns-in-None-clause-taken : goal.returns-in-None-clause-taken
 returns-in-None-clause-taken c = subst (λ (l : Line). ◌≡◌ {A = Option Entry} None (find is_ready l.entries)) c.self.view_is
-    (sym (none_found is_ready _ (none_by_marks is_ready _ _ c.self.invariant.0.signed c.in-None.ensures.none)))
+    (sym (joined_none is_ready (parts c.self.inside.blocks.items) (none_signed (parts c.self.inside.blocks.items) c.self.inside.signs c.self.invariant.0 c.in-None.ensures.none)))
 
 pub returns-in-None-clause-entries : goal.returns-in-None-clause-entries
 returns-in-None-clause-entries c = subst (λ (l : Line). l.entries ≡ without_first is_ready l.entries) c.self.view_is
-    (sym (none_removed is_ready _ (none_by_marks is_ready _ _ c.self.invariant.0.signed c.in-None.ensures.none)))
+    (sym (none_without_in is_ready (joined (parts c.self.inside.blocks.items)) (joined_none is_ready (parts c.self.inside.blocks.items) (none_signed (parts c.self.inside.blocks.items) c.self.inside.signs c.self.invariant.0 c.in-None.ensures.none))))
 
 pub returns-in-Some-clause-taken : goal.returns-in-Some-clause-taken
-returns-in-Some-clause-taken c = subst (λ (l : Line). c.take_at.result ≡ find is_ready l.entries) c.self.view_is
-    (c.take_at.ensures.taken ∙ sym (find_at is_ready _ _ (first_by_marks is_ready _ _ _ c.self.invariant.0.signed c.in-Some.ensures.some)))
+returns-in-Some-clause-taken c = subst (λ (l : Line). c.take_at-entry.result ≡ find is_ready l.entries) c.self.view_is
+    (c.take_at-entry.ensures.taken ∙ sym (joined_found is_ready (parts c.self.inside.blocks.items) c.in-Some.place (first_signed (parts c.self.inside.blocks.items) c.self.inside.signs c.in-Some.place c.self.invariant.0 c.in-Some.ensures.some)))
 
 pub returns-in-Some-clause-entries : goal.returns-in-Some-clause-entries
-returns-in-Some-clause-entries c = subst (λ (l : Line). somes (contents c.take_at.new.slots.items) ≡ without_first is_ready l.entries) c.self.view_is
-    (ap somes c.take_at.ensures.contents ∙ sym (remove_at is_ready _ _ (first_by_marks is_ready _ _ _ c.self.invariant.0.signed c.in-Some.ensures.some)))
+returns-in-Some-clause-entries c = subst (λ (l : Line). joined (parts c.give_back_spare.new.blocks.items) ≡ without_first is_ready l.entries) c.self.view_is
+    (ap (λ (ps : List (List Entry)). joined ps) (c.give_back_spare.ensures.parts ∙ c.take_at-entry.ensures.parts) ∙ sym (joined_without is_ready (parts c.self.inside.blocks.items) c.in-Some.place (first_signed (parts c.self.inside.blocks.items) c.self.inside.signs c.in-Some.place c.self.invariant.0 c.in-Some.ensures.some)))

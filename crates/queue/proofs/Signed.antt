@@ -1,0 +1,256 @@
+-- Blocks, the bits that say which of them have a ready message, and the room of the last.
+use Rattle.std.proofs.Common.{◌≡◌, ℕ, zero, suc, ◌+◌, ◌<◌, ◌≤◌, List, [], ◌∷◌, ◌++◌, length, get_or, map, filter, refl, sym, ap, ◌∙◌, subst, arith, Bool, true, false, cond, Some, find, is_some, inl, inr}
+use Rattle.std.specs.Prelude.{nat_lt, ◌==◌, ◌||◌}
+use Rattle.std.proofs.lemmas.Bool.{false≢true, ltb-false}
+use Rattle.std.proofs.lemmas.Bool.Decides.{eqb_tells, leb_tells}
+use Rattle.std.proofs.Math.ListN.{set}
+use Rattle.std.proofs.lemmas.List.{get_or-set_same, get_or-set_other, map-set}
+use Rattle.model.specs.Broker.{is_ready}
+use Rattle.model.specs.Reloading.{stood_now}
+use Rattle.model.specs.declared.messages.Entry.{Entry}
+use Rattle.model.specs.Message.{Message}
+use Rattle.model.specs.declared.messages.Mark.TheVariants.{Ready}
+use Rattle.marks.specs.Places.{IsNextMark, bit_of}
+use Rattle.queue.specs.Line.{Line}
+use Rattle.queue.specs.Slots.{num, SlotBits, BitTurned}
+use Rattle.queue.specs.Blocks.{parts, joined, room_after, last_room, some_pass, is_in_use, stood_block, AreBlocksSigned}
+use Rattle.queue.proofs.Places.{num-some, num-none}
+use Rattle.queue.proofs.Joined.{FirstIn, joined_mapped}
+
+-- ---- blocks and what stands in them
+
+pub parts-length : (bs : List Line) → length (parts bs) ≡ length bs
+parts-length [] = refl
+parts-length (b ∷ bs) = ap suc (parts-length bs)
+
+pub parts-past : (bs : List Line) (k : ℕ) → length bs ≤ k → get_or (parts bs) k [] ≡ []
+parts-past [] k h = refl
+parts-past (b ∷ bs) zero h = absurd (omega arith)
+parts-past (b ∷ bs) (suc k) h = parts-past bs k (omega arith)
+
+pub parts-at : (bs : List Line) (i : ℕ) (d : Line) → i < length bs → (get_or bs i d).entries ≡ get_or (parts bs) i []
+parts-at [] i d lt = absurd (omega arith)
+parts-at (b ∷ bs) zero d lt = refl
+parts-at (b ∷ bs) (suc i) d lt = parts-at bs i d (omega arith)
+
+-- what stands in this one
+pub part_of : (bs : List Line) (i : ℕ) (d : Line) → i < length bs → d ≡ get_or bs i d → d.entries ≡ get_or (parts bs) i []
+part_of bs i d lt e = ap (λ (b : Line). b.entries) e ∙ parts-at bs i d lt
+
+-- a block is changed, where this one stood
+pub parts-written : (bs : List Line) (i : ℕ) (d b : Line) (f : List Entry → List Entry) → i < length bs → d ≡ get_or bs i d → b.entries ≡ f d.entries
+    → parts (set bs i b) ≡ set (parts bs) i (f (get_or (parts bs) i []))
+parts-written bs i d b f lt e w =
+    map-set (λ (x : Line). x.entries) bs i b
+    ∙ ap (λ (v : List Entry). set (parts bs) i v) (w ∙ ap f (part_of bs i d lt e))
+
+set_same : {X : Type 0} (xs : List X) (i : ℕ) (d : X) → set xs i (get_or xs i d) ≡ xs
+set_same [] i d = refl
+set_same (x ∷ xs) zero d = refl
+set_same {X = X} (x ∷ xs) (suc i) d = ap (λ (ys : List X). x ∷ ys) (set_same xs i d)
+
+-- it has the same entries as before
+pub parts-kept : (bs : List Line) (i : ℕ) (d b : Line) → i < length bs → d ≡ get_or bs i d → b.entries ≡ d.entries → parts (set bs i b) ≡ parts bs
+parts-kept bs i d b lt e w = parts-written bs i d b (λ es. es) lt e w ∙ set_same (parts bs) i []
+
+pub parts-end : (bs : List Line) (b : Line) → b.entries ≡ [] → parts (bs ++ b ∷ []) ≡ parts bs ++ [] ∷ []
+parts-end [] b e = ap (λ (es : List Entry). es ∷ []) e
+parts-end (x ∷ xs) b e = ap (λ (ps : List (List Entry)). x.entries ∷ ps) (parts-end xs b e)
+
+-- ---- the room of the last
+
+room-written : (r : ℕ) (bs : List Line) (i : ℕ) (b : Line) → i < length bs → b.room ≡ (get_or bs i b).room → room_after r (set bs i b) ≡ room_after r bs
+room-written r [] i b lt e = refl
+room-written r (x ∷ xs) zero b lt e = ap (λ (n : ℕ). room_after n xs) e
+room-written r (x ∷ xs) (suc i) b lt e = room-written x.room xs i b (omega arith) e
+
+at_default : (bs : List Line) (i : ℕ) (d b : Line) → i < length bs → get_or bs i d ≡ get_or bs i b
+at_default [] i d b lt = absurd (omega arith)
+at_default (x ∷ xs) zero d b lt = refl
+at_default (x ∷ xs) (suc i) d b lt = at_default xs i d b (omega arith)
+
+-- a block is changed, with the same room
+pub room_kept : (bs : List Line) (i : ℕ) (d b : Line) → i < length bs → d ≡ get_or bs i d → b.room ≡ d.room → last_room (set bs i b) ≡ last_room bs
+room_kept bs i d b lt e w = room-written 0 bs i b lt (w ∙ ap (λ (x : Line). x.room) (e ∙ at_default bs i d b lt))
+
+-- a block that isn't the last is changed
+room-inner : (r : ℕ) (bs : List Line) (i : ℕ) (b : Line) → i + 1 < length bs → room_after r (set bs i b) ≡ room_after r bs
+room-inner r [] i b lt = refl
+room-inner r (x ∷ []) zero b lt = absurd (omega arith)
+room-inner r (x ∷ y ∷ ys) zero b lt = refl
+room-inner r (x ∷ xs) (suc i) b lt = room-inner x.room xs i b (omega arith)
+
+pub room_inside : (bs : List Line) (i : ℕ) (b : Line) → i + 1 < length bs → last_room (set bs i b) ≡ last_room bs
+room_inside bs i b lt = room-inner 0 bs i b lt
+
+-- the last one is changed
+room-last : (r : ℕ) (bs : List Line) (i : ℕ) (b : Line) → i + 1 ≡ length bs → room_after r (set bs i b) ≡ b.room
+room-last r [] i b e = absurd (omega arith)
+room-last r (x ∷ []) zero b e = refl
+room-last r (x ∷ y ∷ ys) zero b e = absurd (omega arith)
+room-last r (x ∷ xs) (suc i) b e = room-last x.room xs i b (omega arith)
+
+pub room_at_last : (bs : List Line) (i : ℕ) (b : Line) → i + 1 ≡ length bs → last_room (set bs i b) ≡ b.room
+room_at_last bs i b e = room-last 0 bs i b e
+
+room-is : (r : ℕ) (bs : List Line) (i : ℕ) (d : Line) → i + 1 ≡ length bs → room_after r bs ≡ (get_or bs i d).room
+room-is r [] i d e = absurd (omega arith)
+room-is r (x ∷ []) zero d e = refl
+room-is r (x ∷ y ∷ ys) zero d e = absurd (omega arith)
+room-is r (x ∷ xs) (suc i) d e = room-is x.room xs i d (omega arith)
+
+-- the room is that of the one at the last place
+pub room_is : (bs : List Line) (i : ℕ) (d : Line) → i + 1 ≡ length bs → d ≡ get_or bs i d → last_room bs ≡ d.room
+room_is bs i d e at = room-is 0 bs i d e ∙ ap (λ (x : Line). x.room) (sym at)
+
+room-end : (r : ℕ) (bs : List Line) (b : Line) → room_after r (bs ++ b ∷ []) ≡ b.room
+room-end r [] b = refl
+room-end r (x ∷ xs) b = room-end x.room xs b
+
+pub room_at_end : (bs : List Line) (b : Line) → last_room (bs ++ b ∷ []) ≡ b.room
+room_at_end bs b = room-end 0 bs b
+
+-- where there is room there is a block
+pub room_somewhere : (bs : List Line) → 0 < last_room bs → 0 < length bs
+room_somewhere [] h = absurd (omega arith)
+room_somewhere (b ∷ bs) h = omega arith
+
+-- it has a last one
+pub some_block : (bs : List Line) → (length bs == 0) ≡ false → 0 < length bs
+some_block [] h = absurd (false≢true (sym h))
+some_block (b ∷ bs) h = omega arith
+
+-- ---- blocks that were given back go
+
+neither : (a b : Bool) → (a || b) ≡ false → (a ≡ false) × (b ≡ false)
+neither false b e = (refl, e)
+neither true b e = absurd (false≢true (sym e))
+
+no_entries : (es : List Entry) (room : ℕ) → (nat_lt 0 (length es) || nat_lt 0 room) ≡ false → (es ≡ []) × (room ≡ 0)
+no_entries es room e =
+    let n = neither (nat_lt 0 (length es)) (nat_lt 0 room) e in
+    let z = ltb-false 0 room n.1 in
+    (empty es (ltb-false 0 (length es) n.0), omega (arith, z))
+  where
+    empty : (xs : List Entry) → length xs ≤ 0 → xs ≡ []
+    empty [] h = refl
+    empty (x ∷ xs) h = absurd (omega arith)
+
+pub joined_in_use : (bs : List Line) → joined (parts (filter is_in_use bs)) ≡ joined (parts bs)
+joined_in_use [] = refl
+joined_in_use (b ∷ bs) = go (is_in_use b) refl (joined_in_use bs)
+  where
+    go : (u : Bool) → is_in_use b ≡ u → joined (parts (filter is_in_use bs)) ≡ joined (parts bs) → joined (parts (cond u (b ∷ filter is_in_use bs) (filter is_in_use bs))) ≡ b.entries ++ joined (parts bs)
+    go true h r = ap (λ (es : List Entry). b.entries ++ es) r
+    go false h r = r ∙ ap (λ (es : List Entry). es ++ joined (parts bs)) (sym (no_entries b.entries b.room h).0)
+
+room-in_use : (r r' : ℕ) (bs : List Line) → r ≤ r' → room_after r bs ≤ room_after r' (filter is_in_use bs)
+room-in_use r r' [] le = le
+room-in_use r r' (b ∷ bs) le = go (is_in_use b) refl (room-in_use b.room b.room bs (omega arith)) (room-in_use b.room r' bs)
+  where
+    go : (u : Bool) → is_in_use b ≡ u → room_after b.room bs ≤ room_after b.room (filter is_in_use bs) → (b.room ≤ r' → room_after b.room bs ≤ room_after r' (filter is_in_use bs))
+        → room_after b.room bs ≤ room_after r' (cond u (b ∷ filter is_in_use bs) (filter is_in_use bs))
+    go true h k d = k
+    go false h k d = d (let z = (no_entries b.entries b.room h).1 in omega (arith, z))
+
+pub room_in_use : (bs : List Line) → last_room bs ≤ last_room (filter is_in_use bs)
+room_in_use bs = room-in_use 0 0 bs (omega arith)
+
+-- ---- all marked as what stood
+
+parts-stood : (bs : List Line) → parts (map stood_block bs) ≡ map (λ (es : List Entry). map stood_now es) (parts bs)
+parts-stood [] = refl
+parts-stood (b ∷ bs) = ap (λ (ps : List (List Entry)). map stood_now b.entries ∷ ps) (parts-stood bs)
+
+pub joined_stood : (bs : List Line) → joined (parts (map stood_block bs)) ≡ map stood_now (joined (parts bs))
+joined_stood bs = ap (λ (ps : List (List Entry)). joined ps) (parts-stood bs) ∙ joined_mapped stood_now (parts bs)
+
+room-stood : (r : ℕ) (bs : List Line) → room_after r (map stood_block bs) ≡ room_after r bs
+room-stood r [] = refl
+room-stood r (b ∷ bs) = room-stood b.room bs
+
+pub room_stood : (bs : List Line) → last_room (map stood_block bs) ≡ last_room bs
+room_stood bs = room-stood 0 bs
+
+part-stood : (ps : List (List Entry)) (i : ℕ) → get_or (map (λ (es : List Entry). map stood_now es) ps) i [] ≡ map stood_now (get_or ps i [])
+part-stood [] i = refl
+part-stood (p ∷ ps) zero = refl
+part-stood (p ∷ ps) (suc i) = part-stood ps i
+
+ready-stood : (es : List Entry) → some_pass is_ready (map stood_now es) ≡ some_pass is_ready es
+ready-stood [] = refl
+ready-stood (e ∷ es) = go (is_ready e) (ready-stood es)
+  where
+    go : (b : Bool) → some_pass is_ready (map stood_now es) ≡ some_pass is_ready es → is_some (cond b (Some (stood_now e)) (find is_ready (map stood_now es))) ≡ is_some (cond b (Some e) (find is_ready es))
+    go true r = refl
+    go false r = r
+
+pub signed_stood : (bs : List Line) (bits : SlotBits) → AreBlocksSigned (parts bs) bits → AreBlocksSigned (parts (map stood_block bs)) bits
+signed_stood bs bits s i = s i ∙ ap num (sym (ready-stood (get_or (parts bs) i [])) ∙ ap (some_pass is_ready) (sym (part-stood (parts bs) i) ∙ ap (λ (ps : List (List Entry)). get_or ps i []) (sym (parts-stood bs))))
+
+-- ---- the bits
+
+pub first_signed : (ps : List (List Entry)) (bits : SlotBits) (i : ℕ) → AreBlocksSigned ps bits → IsNextMark (bit_of bits.ready) 0 i → FirstIn is_ready ps i
+first_signed ps bits i s n = record { there = num-some _ (sym (s i) ∙ n.there); before = λ k lt. num-none _ (sym (s k) ∙ n.before k (omega arith) lt) }
+
+pub none_signed : (ps : List (List Entry)) (bits : SlotBits) → AreBlocksSigned ps bits → ((k : ℕ) → bit_of bits.ready k ≡ 0) → (k : ℕ) → some_pass is_ready (get_or ps k []) ≡ false
+none_signed ps bits s z k = num-none _ (sym (s k) ∙ z k)
+
+-- a block is changed, and its bit with it
+pub signed_at : (ps : List (List Entry)) (v : List Entry) (bits bits' : SlotBits) (i : ℕ) → i < length ps → AreBlocksSigned ps bits
+    → BitTurned bits bits' i (num (some_pass is_ready v)) → AreBlocksSigned (set ps i v) bits'
+signed_at ps v bits bits' i lt s t j = elim (eqb_tells j i) [
+  | inl q ↦ ap (bit_of bits'.ready) q.1 ∙ t.turned.there ∙ ap (λ (es : List Entry). num (some_pass is_ready es)) (sym (get_or-set_same ps i v [] lt) ∙ ap (λ (k : ℕ). get_or (set ps i v) k []) (sym q.1))
+  | inr q ↦ t.turned.others j q.1 ∙ s j ∙ ap (λ (es : List Entry). num (some_pass is_ready es)) (sym (get_or-set_other ps i j v [] q.1))
+]
+
+-- so it is where the bit was set as the changed block is
+pub signed_now : (ps now : List (List Entry)) (v : List Entry) (bits bits' : SlotBits) (i : ℕ) → i < length ps → AreBlocksSigned ps bits → now ≡ set ps i v
+    → BitTurned bits bits' i (num (some_pass is_ready (get_or now i []))) → AreBlocksSigned now bits'
+signed_now ps now v bits bits' i lt s e t =
+    subst (λ (xs : List (List Entry)). AreBlocksSigned xs bits') (sym e)
+    (signed_at ps v bits bits' i lt s (subst (λ (es : List Entry). BitTurned bits bits' i (num (some_pass is_ready es))) (ap (λ (xs : List (List Entry)). get_or xs i []) e ∙ get_or-set_same ps i v [] lt) t))
+
+pub ready_at_end : (es : List Entry) (m : Message) → some_pass is_ready (es ++ record { message = m; mark = Ready } ∷ []) ≡ true
+ready_at_end [] m = refl
+ready_at_end (e ∷ es) m = go (is_ready e) (ready_at_end es m)
+  where
+    v : Entry
+    v = record { message = m; mark = Ready }
+
+    go : (b : Bool) → some_pass is_ready (es ++ v ∷ []) ≡ true → is_some (cond b (Some e) (find is_ready (es ++ v ∷ []))) ≡ true
+    go true r = refl
+    go false r = r
+
+empty-end : (ps : List (List Entry)) (i : ℕ) → get_or (ps ++ [] ∷ []) i [] ≡ get_or ps i []
+empty-end [] zero = refl
+empty-end [] (suc i) = refl
+empty-end (p ∷ ps) zero = refl
+empty-end (p ∷ ps) (suc i) = empty-end ps i
+
+-- an empty block comes
+pub signed_end : (ps : List (List Entry)) (bits : SlotBits) → AreBlocksSigned ps bits → AreBlocksSigned (ps ++ [] ∷ []) bits
+signed_end ps bits s i = s i ∙ ap (λ (es : List Entry). num (some_pass is_ready es)) (sym (empty-end ps i))
+
+-- ---- bits set one after another
+
+-- The bits below a place are as their blocks are, and those from `places` on are 0.
+pub record SignedBelow (ps : List (List Entry)) (bits : SlotBits) (place places : ℕ) : Type 0 where
+  pub below : (k : ℕ) → k < place → bit_of bits.ready k ≡ num (some_pass is_ready (get_or ps k []))
+  pub above : (k : ℕ) → places ≤ k → bit_of bits.ready k ≡ 0
+
+pub signed_more : (ps : List (List Entry)) (bits bits' : SlotBits) (place places : ℕ) → place < places → SignedBelow ps bits place places
+    → BitTurned bits bits' place (num (some_pass is_ready (get_or ps place []))) → SignedBelow ps bits' (place + 1) places
+signed_more ps bits bits' place places lt s t = record {
+  below = λ k l. elim (eqb_tells k place) [
+    | inl q ↦ ap (bit_of bits'.ready) q.1 ∙ t.turned.there ∙ ap (λ (j : ℕ). num (some_pass is_ready (get_or ps j []))) (sym q.1)
+    | inr q ↦ let ne = q.1 in t.turned.others k q.1 ∙ s.below k (omega arith)
+  ];
+  above = λ k ge. t.turned.others k (λ e. absurd (omega arith)) ∙ s.above k ge;
+}
+
+pub signed_done : (bs : List Line) (bits : SlotBits) (place places : ℕ) → places ≤ place → length bs ≤ places → SignedBelow (parts bs) bits place places → AreBlocksSigned (parts bs) bits
+signed_done bs bits place places le len s k = elim (leb_tells places k) [
+  | inl q ↦ s.above k q.1 ∙ sym (ap (λ (es : List Entry). num (some_pass is_ready es)) (parts-past bs k (let h = q.1 in omega arith)))
+  | inr q ↦ let h = q.1 in s.below k (omega arith)
+]

@@ -1,0 +1,11 @@
+use Rattle.std.proofs.Common.{rules}
+use Rattle.model.specs.Entries.{is_under}
+use Rattle.queue.specs.Line.{requeued}
+use Rattle.queue.proofs.Signed.{parts-written, room_kept}
+use Rattle.queue.proofs.blocks.free_at.Goals as goal
+
+pub returns-clause-parts : goal.returns-clause-parts
+returns-clause-parts c = parts-written c.args.blocks.now.items c.args.place c.index_mut.result.now _ (requeued (is_under c.args.holder.now)) (search rules) (search rules) c.release.ensures.entries
+
+pub returns-clause-room : goal.returns-clause-room
+returns-clause-room c = room_kept c.args.blocks.now.items c.args.place c.index_mut.result.now _ (search rules) (search rules) c.release.ensures.room

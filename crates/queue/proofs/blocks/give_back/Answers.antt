@@ -1,0 +1,9 @@
+use Rattle.std.proofs.Common.{rules, arith}
+use Rattle.queue.proofs.Signed.{parts-kept, room_inside}
+use Rattle.queue.proofs.blocks.give_back.Goals as goal
+
+pub returns-then-place-len-clause-parts : goal.returns-then-place-len-clause-parts
+returns-then-place-len-clause-parts c = parts-kept c.args.blocks.now.items c.args.place c.index_mut.result.now _ (search rules) (search rules) c.give_back.ensures
+
+pub returns-then-place-len-clause-room : goal.returns-then-place-len-clause-room
+returns-then-place-len-clause-room c = room_inside c.args.blocks.now.items c.args.place _ (omega arith)

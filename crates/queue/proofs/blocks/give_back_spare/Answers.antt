@@ -1,0 +1,6 @@
+use Rattle.std.proofs.Common.{rules}
+use Rattle.queue.proofs.Signed.{parts-kept}
+use Rattle.queue.proofs.blocks.give_back_spare.Goals as goal
+
+pub returns-then-is_whole-clause-parts : goal.returns-then-is_whole-clause-parts
+returns-then-is_whole-clause-parts c = parts-kept c.args.blocks.now.items c.args.place c.index_mut.result.now _ (search rules) (search rules) c.give_back.ensures

@@ -1,0 +1,11 @@
+use Rattle.std.proofs.Common.{rules}
+use Rattle.model.specs.Broker.{is_ready}
+use Rattle.model.specs.Entries.{change_first, held_as}
+use Rattle.queue.proofs.Signed.{parts-written, room_kept}
+use Rattle.queue.proofs.blocks.hold_at.Goals as goal
+
+pub returns-clause-parts : goal.returns-clause-parts
+returns-clause-parts c = parts-written c.args.blocks.now.items c.args.place c.index_mut.result.now _ (change_first is_ready (held_as c.args.holder)) (search rules) (search rules) c.hold.ensures.entries
+
+pub returns-clause-room : goal.returns-clause-room
+returns-clause-room c = room_kept c.args.blocks.now.items c.args.place c.index_mut.result.now _ (search rules) (search rules) c.hold.ensures.room

@@ -1,0 +1,31 @@
+use Rattle.std.proofs.Common.{◌≡◌, ◌≤◌, ◌<◌, ◌+◌, ◌-◌, ℕ, rules, arith, length, sym, subst, vec_len}
+use Rattle.std.specs.Prelude.{OnOk, OnErr}
+use Rattle.queue.proofs.Signed.{parts-kept, room_is, room_at_last}
+use Rattle.queue.proofs.blocks.reserve_last.Goals as goal
+
+pub returns-clause-parts : goal.returns-clause-parts
+returns-clause-parts c = parts-kept c.args.blocks.now.items (c.len-last.result - 1) c.index_mut.result.now _ (search rules) (search rules) c.reserve.ensures.entries
+
+pub returns-clause-kept : goal.returns-clause-kept
+returns-clause-kept c =
+    let l : vec_len c.args.blocks.now ≡ length c.args.blocks.now.items = search rules in
+    let n = c.len-last.ensures in
+    let last : (c.len-last.result - 1) + 1 ≡ length c.args.blocks.now.items = omega (arith) in
+    let a = room_at_last c.args.blocks.now.items (c.len-last.result - 1) c.reserve.new.self last in
+    let b = room_is c.args.blocks.now.items (c.len-last.result - 1) c.index_mut.result.now last (search rules) in
+    let k = c.reserve.ensures.kept in
+    omega (arith, a, b, k)
+
+pub returns-clause-room : goal.returns-clause-room
+returns-clause-room c =
+    let l : vec_len c.args.blocks.now ≡ length c.args.blocks.now.items = search rules in
+    let n = c.len-last.ensures in
+    let last : (c.len-last.result - 1) + 1 ≡ length c.args.blocks.now.items = omega (arith) in
+    subst (λ (r : ℕ). OnOk c.reserve.result (c.args.more ≤ r)) (sym (room_at_last c.args.blocks.now.items (c.len-last.result - 1) c.reserve.new.self last)) c.reserve.ensures.room
+
+pub returns-clause-full : goal.returns-clause-full
+returns-clause-full c =
+    let l : vec_len c.args.blocks.now ≡ length c.args.blocks.now.items = search rules in
+    let n = c.len-last.ensures in
+    let last : (c.len-last.result - 1) + 1 ≡ length c.args.blocks.now.items = omega (arith) in
+    subst (λ (r : ℕ). OnErr c.reserve.result (r < c.args.more)) (sym (room_is c.args.blocks.now.items (c.len-last.result - 1) c.index_mut.result.now last (search rules))) c.reserve.ensures.full

@@ -1,0 +1,8 @@
+use Rattle.std.proofs.Common.{◌≡◌, ℕ, ◌<◌, [], get_or, find, None}
+use Rattle.model.specs.Entries.{is_held_as}
+use Rattle.queue.specs.Blocks.{parts}
+use Rattle.queue.proofs.blocks.search.Given as goal
+
+-- in none of the blocks passed is a message held so
+abbrev pub invariant-loop-place : goal.invariant-loop-place
+invariant-loop-place l = (k : ℕ) → k < l.place → find (is_held_as l.holder) (get_or (parts l.blocks) k []) ≡ None

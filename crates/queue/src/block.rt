@@ -1,0 +1,248 @@
+//! A block: messages in slots by arrival, of which the ready ones are marked.
+
+use crate::signs::Signs;
+use crate::slots::{
+    Slot, append, close_gaps, entry_at, free_at, hold_at, place_held, stand_in, take_at,
+};
+use model::{Entry, Holder, Mark, Message};
+use std::alloc::{AllocError, Global};
+use std::marker::Model;
+
+/// A block has no more slots than this, but where more are asked for at once.
+pub(crate) const BLOCK_SLOTS: usize = 1024;
+
+/// Messages that came one after another, ready or held.
+///
+/// Each stands in a slot, which stays empty once it is gone; `reserve` closes the gaps. A mark for each slot says whether it
+/// is ready, so that the first ready message is found without a scan.
+#[derive(Drop)]
+pub(crate) struct Block {
+    slots: Vec<Slot>,
+    signs: Signs,
+    /// How many messages stand here.
+    live: usize,
+    /// The arrivals here have this number or later ones.
+    first: u64,
+}
+
+impl Model for Block {
+    ghost use Rattle.std.specs.Prelude.{◌-◌, vec_len, vec_capacity};
+    ghost use Rattle.queue.specs.Line.{Line};
+    ghost use Rattle.queue.specs.Slots.{contents, somes, BitsShow, HasPlaces};
+
+    ghost Value = { Line };
+
+    ghost view = { λ b. record { entries = somes (contents b.slots.items); room = b.signs.places - vec_len b.slots } };
+
+    ghost invariant = { λ b. BitsShow (contents b.slots.items) b.signs b.live × HasPlaces (vec_len b.slots) (vec_capacity b.slots) b.signs.places };
+}
+
+impl Block {
+    ghost use Rattle.std.specs.Prelude.{◌≡◌, ◌+◌, ◌<◌, ◌≤◌, ◌∷◌, ◌++◌, [], OnOk, OnErr, None, find, filter, not, is_some, option_map};
+    ghost use Rattle.model.specs.Broker.{is_ready};
+    ghost use Rattle.model.specs.Entries.{is_under, is_held_as, held_as, change_first, without_first};
+    ghost use Rattle.model.specs.declared.messages.Mark.TheVariants.{Ready};
+    ghost use Rattle.queue.specs.Blocks.{is_in_use, stood_block};
+    ghost use Rattle.queue.specs.Line.{requeued};
+    ghost use Rattle.queue.specs.Slots.{contents, somes};
+
+    /// A block with no message, for arrivals with this number or later ones. It takes no memory.
+    pub(crate) fn new(alloc: Global, first: u64) -> Block
+        ensures { result.entries ≡ [] }
+    {
+        Block {
+            slots: Vec::new(alloc),
+            signs: Signs::empty(alloc),
+            live: 0,
+            first,
+        }
+    }
+
+    /// The arrivals here have this number or later ones.
+    pub(crate) fn first(&self) -> u64 {
+        self.first
+    }
+
+    /// How many pushes need no memory.
+    pub(crate) fn room(&self) -> usize
+        ensures { result ≡ self.now.room }
+    {
+        self.signs.places() - self.slots.len()
+    }
+
+    /// Whether so many messages more leave this a block of the usual size.
+    pub(crate) fn fits(&self, more: usize) -> bool {
+        let used = if self.live <= self.slots.len() / 2 {
+            self.live
+        } else {
+            self.slots.len()
+        };
+        used == 0 || more <= BLOCK_SLOTS.saturating_sub(used)
+    }
+
+    /// Makes room for so many messages more: closes gaps where more than half of the slots are empty, and grows where
+    /// that is not enough.
+    pub(crate) fn reserve(&mut self, more: usize) -> Result<(), AllocError>
+        ensures entries { self.new.entries ≡ self.old.entries }
+        ensures kept { self.old.room ≤ self.new.room }
+        ensures room { OnOk result (more ≤ self.new.room) }
+        ensures full { OnErr result (self.old.room < more) }
+    {
+        if more <= self.signs.places() - self.slots.len() {
+            return Ok(());
+        }
+        close_gaps(&mut self.slots, &mut self.signs, self.live);
+        self.slots.reserve(more)?;
+        self.signs.grow(self.slots.capacity())
+    }
+
+    /// The message comes to the end, with this number of its arrival, and is ready. There is room for it.
+    pub(crate) fn push(&mut self, arrival: u64, message: Message)
+        requires { 0 < self.old.room }
+        ensures entries { self.new.entries ≡ self.old.entries ++ record { message = message; mark = Ready } ∷ [] }
+        ensures room { self.new.room + 1 ≡ self.old.room }
+    {
+        self.signs.set_ready(self.slots.len());
+        append(
+            &mut self.slots,
+            arrival,
+            Entry {
+                message,
+                mark: Mark::Ready,
+            },
+        );
+        self.live += 1;
+    }
+
+    /// Whether messages stand here, or there is room for some.
+    pub(crate) fn is_in_use(&self) -> bool
+        ensures { result ≡ is_in_use self.now }
+    {
+        self.live > 0 || self.room() > 0
+    }
+
+    /// Whether this block has all the slots that a block has.
+    pub(crate) fn is_whole(&self) -> bool {
+        self.slots.capacity() >= BLOCK_SLOTS
+    }
+
+    /// Gives the memory back, if no message stands here. The slots go last: the system takes memory back when a large piece is freed.
+    pub(crate) fn give_back(&mut self, alloc: Global)
+        ensures { self.new.entries ≡ self.old.entries }
+    {
+        if self.live == 0 {
+            self.signs = Signs::empty(alloc);
+            self.slots = Vec::new(alloc);
+        }
+    }
+
+    /// Whether a message can be given out.
+    pub(crate) fn has_ready(&self) -> bool
+        ensures { result ≡ is_some (find is_ready self.now.entries) }
+    {
+        match self.signs.first_ready() {
+            Some(_) => true,
+            None => false,
+        }
+    }
+
+    /// The first message that can be given out.
+    pub(crate) fn first_ready(&self) -> Option<&Entry>
+        ensures { option_map (λ e. e.now) result ≡ find is_ready self.now.entries }
+    {
+        match self.signs.first_ready() {
+            Some(place) => entry_at(&self.slots, place),
+            None => None,
+        }
+    }
+
+    /// Gives the first ready message out, if there is one: it is held from now on. Tells the number of its arrival. Nothing is
+    /// held under this tag yet.
+    pub(crate) fn hold(&mut self, holder: Holder) -> Option<u64>
+        requires { find (is_held_as holder) self.old.entries ≡ None }
+        ensures told { is_some result ≡ is_some (find is_ready self.old.entries) }
+        ensures entries { self.new.entries ≡ change_first is_ready (held_as holder) self.old.entries }
+        ensures room { self.new.room ≡ self.old.room }
+    {
+        match self.signs.first_ready() {
+            None => None,
+            Some(place) => {
+                self.signs.clear(place);
+                Some(hold_at(&mut self.slots, place, holder))
+            }
+        }
+    }
+
+    /// Takes the first ready message out, if there is one.
+    pub(crate) fn take_first(&mut self) -> Option<Entry>
+        ensures taken { result ≡ find is_ready self.old.entries }
+        ensures entries { self.new.entries ≡ without_first is_ready self.old.entries }
+        ensures room { self.new.room ≡ self.old.room }
+    {
+        match self.signs.first_ready() {
+            None => None,
+            Some(place) => {
+                self.signs.clear(place);
+                self.live -= 1;
+                take_at(&mut self.slots, place)
+            }
+        }
+    }
+
+    /// The message that is held under this tag, whatever number stands beside it.
+    pub(crate) fn held(&self, holder: &Holder, arrival: u64) -> Option<&Entry>
+        ensures { option_map (λ e. e.now) result ≡ find (is_held_as holder.now) self.now.entries }
+    {
+        match place_held(&self.slots, holder, arrival) {
+            Some(place) => entry_at(&self.slots, place),
+            None => None,
+        }
+    }
+
+    /// The message that is held under this tag is ready again, in its place and marked redelivered. Tells whether there is
+    /// one.
+    pub(crate) fn release(&mut self, holder: &Holder, arrival: u64) -> bool
+        ensures told { result ≡ is_some (find (is_held_as holder.now) self.old.entries) }
+        ensures entries { self.new.entries ≡ requeued (is_under holder.now) self.old.entries }
+        ensures room { self.new.room ≡ self.old.room }
+    {
+        match place_held(&self.slots, holder, arrival) {
+            None => false,
+            Some(place) => {
+                free_at(&mut self.slots, place);
+                self.signs.set_ready(place);
+                true
+            }
+        }
+    }
+
+    /// Takes the message out that is held under this tag, if there is one.
+    pub(crate) fn remove(&mut self, holder: &Holder, arrival: u64) -> Option<Entry>
+        ensures taken { result ≡ find (is_held_as holder.now) self.old.entries }
+        ensures entries { self.new.entries ≡ filter (λ e. not (is_held_as holder.now e)) self.old.entries }
+        ensures room { self.new.room ≡ self.old.room }
+    {
+        match place_held(&self.slots, holder, arrival) {
+            None => None,
+            Some(place) => {
+                self.signs.clear(place);
+                self.live -= 1;
+                take_at(&mut self.slots, place)
+            }
+        }
+    }
+
+    /// Each message that stands here, ready or held, stood here when a reload was done.
+    pub(crate) fn stand_all(&mut self)
+        ensures { self.new ≡ stood_block self.old }
+    {
+        stand_in(&mut self.slots);
+    }
+
+    /// The slots, in the order of arrival.
+    pub(crate) fn slots(&self) -> &[Slot]
+        ensures { somes (contents result.now) ≡ self.now.entries }
+    {
+        &self.slots
+    }
+}

@@ -1,0 +1,385 @@
+//! Blocks of messages, one after another.
+
+ghost use Rattle.std.specs.Prelude.{◌≡◌, ◌+◌, ◌<◌, ◌≤◌, ◌++◌, ◌∷◌, [], ℕ, true, length, map, get_or, filter, find, not, is_some, vec_len, vec_capacity, slice_set, option_map, IfSome, IfNone, OnOk, OnErr, None};
+ghost use Rattle.model.specs.Broker.{is_ready, body_bytes};
+ghost use Rattle.model.specs.Entries.{is_under, is_held_as, held_as, change_first, without_first};
+ghost use Rattle.model.specs.declared.messages.Mark.TheVariants.{Ready};
+ghost use Rattle.marks.specs.Places.{bit_of};
+ghost use Rattle.queue.specs.Line.{requeued};
+ghost use Rattle.queue.specs.Slots.{num, BitTurned, HasPlaces};
+ghost use Rattle.queue.specs.Blocks.{parts, joined, last_room, some_pass, size_of, stood_block, AreBlocksSigned};
+
+use crate::block::{BLOCK_SLOTS, Block};
+use crate::signs::Signs;
+use model::{Entry, Holder, Message};
+use std::alloc::{AllocError, Global};
+
+/// The first message in this block that can be given out.
+pub(crate) fn first_ready_at(blocks: &[Block], place: usize) -> Option<&Entry>
+    ensures { option_map (λ e. e.now) result ≡ find is_ready (get_or (parts blocks.now) place []) }
+{
+    if place >= blocks.len() {
+        return None;
+    }
+    blocks[place].first_ready()
+}
+
+/// How many bytes the body has of the first message in this block that can be given out; none where none can.
+pub(crate) fn ready_bytes_at(blocks: &[Block], place: usize) -> usize
+    ensures { result ≡ size_of body_bytes (find is_ready (get_or (parts blocks.now) place [])) }
+{
+    match first_ready_at(blocks, place) {
+        Some(entry) => entry.message.content().body.len(),
+        None => 0,
+    }
+}
+
+/// The message in this block that is held under this tag.
+pub(crate) fn held_at<'a>(
+    blocks: &'a [Block],
+    place: usize,
+    holder: &Holder,
+    arrival: u64,
+) -> Option<&'a Entry>
+    ensures { option_map (λ e. e.now) result ≡ find (is_held_as holder.now) (get_or (parts blocks.now) place []) }
+{
+    if place >= blocks.len() {
+        return None;
+    }
+    blocks[place].held(holder, arrival)
+}
+
+/// How many bytes the body has of the message in this block that is held under this tag; none where none is.
+pub(crate) fn held_bytes_at(blocks: &[Block], place: usize, holder: &Holder, arrival: u64) -> usize
+    ensures { result ≡ size_of body_bytes (find (is_held_as holder.now) (get_or (parts blocks.now) place [])) }
+{
+    match held_at(blocks, place, holder, arrival) {
+        Some(entry) => entry.message.content().body.len(),
+        None => 0,
+    }
+}
+
+/// Whether a message in this block is held under this tag.
+fn is_held_at(blocks: &[Block], place: usize, holder: &Holder, arrival: u64) -> bool
+    ensures { result ≡ some_pass (is_held_as holder.now) (get_or (parts blocks.now) place []) }
+{
+    held_at(blocks, place, holder, arrival).is_some()
+}
+
+/// The number from which on the arrivals of this block are.
+fn first_at(blocks: &[Block], place: usize) -> u64
+    requires { place < length blocks.now }
+{
+    blocks[place].first()
+}
+
+/// The place of the last block of which the arrivals may have this number.
+fn place_of(blocks: &[Block], arrival: u64) -> usize {
+    let mut low = 0;
+    let mut high = blocks.len();
+    while low < high {
+        let middle = low + (high - low) / 2;
+        if first_at(blocks, middle) <= arrival {
+            low = middle + 1;
+        } else {
+            high = middle;
+        }
+    }
+    low.saturating_sub(1)
+}
+
+/// The first block with a message that is held under this tag.
+fn search(blocks: &[Block], holder: &Holder, arrival: u64) -> Option<usize>
+    ensures some { IfSome result (λ i. some_pass (is_held_as holder.now) (get_or (parts blocks.now) i []) ≡ true) }
+    ensures none { IfNone result ((k : ℕ) → find (is_held_as holder.now) (get_or (parts blocks.now) k []) ≡ None) }
+{
+    for place in 0..blocks.len() {
+        if is_held_at(blocks, place, holder, arrival) {
+            return Some(place);
+        }
+    }
+    None
+}
+
+/// The block with the message that is held under this tag. It is found at once where `arrival` is the number of its arrival.
+pub(crate) fn place_held(blocks: &[Block], holder: &Holder, arrival: u64) -> Option<usize>
+    ensures some { IfSome result (λ i. some_pass (is_held_as holder.now) (get_or (parts blocks.now) i []) ≡ true) }
+    ensures none { IfNone result ((k : ℕ) → find (is_held_as holder.now) (get_or (parts blocks.now) k []) ≡ None) }
+{
+    let place = place_of(blocks, arrival);
+    if is_held_at(blocks, place, holder, arrival) {
+        return Some(place);
+    }
+    search(blocks, holder, arrival)
+}
+
+/// Gives the first ready message of this block out. Tells the number of its arrival. Nothing here is held under this tag yet.
+pub(crate) fn hold_at(blocks: &mut Vec<Block>, place: usize, holder: Holder) -> Option<u64>
+    requires within { place < vec_len blocks.old }
+    requires apart { find (is_held_as holder) (get_or (parts blocks.old.items) place []) ≡ None }
+    ensures told { is_some result ≡ some_pass is_ready (get_or (parts blocks.old.items) place []) }
+    ensures parts { parts blocks.new.items ≡ slice_set (parts blocks.old.items) place (change_first is_ready (held_as holder) (get_or (parts blocks.old.items) place [])) }
+    ensures room { last_room blocks.new.items ≡ last_room blocks.old.items }
+    ensures len { vec_len blocks.new ≡ vec_len blocks.old }
+    ensures capacity { vec_capacity blocks.new ≡ vec_capacity blocks.old }
+{
+    blocks[place].hold(holder)
+}
+
+/// The message in this block that is held under this tag is ready again, and marked redelivered.
+pub(crate) fn free_at(blocks: &mut Vec<Block>, place: usize, holder: &Holder, arrival: u64)
+    requires { place < vec_len blocks.old }
+    ensures parts { parts blocks.new.items ≡ slice_set (parts blocks.old.items) place (requeued (is_under holder.now) (get_or (parts blocks.old.items) place [])) }
+    ensures room { last_room blocks.new.items ≡ last_room blocks.old.items }
+    ensures len { vec_len blocks.new ≡ vec_len blocks.old }
+    ensures capacity { vec_capacity blocks.new ≡ vec_capacity blocks.old }
+{
+    blocks[place].release(holder, arrival);
+}
+
+/// Gives the memory of this block back, if no message stands in it and it isn't the last.
+fn give_back(blocks: &mut Vec<Block>, place: usize, alloc: Global)
+    requires { place < vec_len blocks.old }
+    ensures parts { parts blocks.new.items ≡ parts blocks.old.items }
+    ensures room { last_room blocks.new.items ≡ last_room blocks.old.items }
+    ensures len { vec_len blocks.new ≡ vec_len blocks.old }
+    ensures capacity { vec_capacity blocks.new ≡ vec_capacity blocks.old }
+{
+    if place + 1 < blocks.len() {
+        blocks[place].give_back(alloc);
+    }
+}
+
+/// Takes the first ready message of this block out. A block that is empty then is given back.
+pub(crate) fn take_at(blocks: &mut Vec<Block>, place: usize, alloc: Global) -> Option<Entry>
+    requires { place < vec_len blocks.old }
+    ensures taken { result ≡ find is_ready (get_or (parts blocks.old.items) place []) }
+    ensures parts { parts blocks.new.items ≡ slice_set (parts blocks.old.items) place (without_first is_ready (get_or (parts blocks.old.items) place [])) }
+    ensures room { last_room blocks.new.items ≡ last_room blocks.old.items }
+    ensures len { vec_len blocks.new ≡ vec_len blocks.old }
+    ensures capacity { vec_capacity blocks.new ≡ vec_capacity blocks.old }
+{
+    let entry = blocks[place].take_first();
+    give_back(blocks, place, alloc);
+    entry
+}
+
+/// Takes the message of this block out that is held under this tag. A block that is empty then is given back.
+pub(crate) fn remove_at(
+    blocks: &mut Vec<Block>,
+    place: usize,
+    holder: &Holder,
+    arrival: u64,
+    alloc: Global,
+) -> Option<Entry>
+    requires { place < vec_len blocks.old }
+    ensures taken { result ≡ find (is_held_as holder.now) (get_or (parts blocks.old.items) place []) }
+    ensures parts { parts blocks.new.items ≡ slice_set (parts blocks.old.items) place (filter (λ e. not (is_held_as holder.now e)) (get_or (parts blocks.old.items) place [])) }
+    ensures room { last_room blocks.new.items ≡ last_room blocks.old.items }
+    ensures len { vec_len blocks.new ≡ vec_len blocks.old }
+    ensures capacity { vec_capacity blocks.new ≡ vec_capacity blocks.old }
+{
+    let entry = blocks[place].remove(holder, arrival);
+    give_back(blocks, place, alloc);
+    entry
+}
+
+/// Gives the memory of a whole block back in which no message stands, if no room is promised.
+pub(crate) fn give_back_spare(blocks: &mut Vec<Block>, place: usize, room: usize, alloc: Global)
+    requires within { place < vec_len blocks.old }
+    requires room { room ≤ last_room blocks.old.items }
+    ensures parts { parts blocks.new.items ≡ parts blocks.old.items }
+    ensures room { room ≤ last_room blocks.new.items }
+    ensures len { vec_len blocks.new ≡ vec_len blocks.old }
+    ensures capacity { vec_capacity blocks.new ≡ vec_capacity blocks.old }
+{
+    if room > 0 {
+        return;
+    }
+    if blocks[place].is_whole() {
+        blocks[place].give_back(alloc);
+    }
+}
+
+/// All that stands here stood here when a reload was done.
+pub(crate) fn stand_in(blocks: &mut [Block])
+    ensures { blocks.new ≡ map stood_block blocks.old }
+{
+    for block in blocks.iter_mut() {
+        block.stand_all();
+    }
+}
+
+/// How many pushes into the last block need no memory.
+fn room_of(blocks: &[Block]) -> usize
+    ensures { result ≡ last_room blocks.now }
+{
+    if blocks.is_empty() {
+        return 0;
+    }
+    blocks[blocks.len() - 1].room()
+}
+
+/// Whether so many messages more come into the last block.
+fn last_fits(blocks: &[Block], more: usize) -> bool
+    ensures { result ≡ true → 0 < length blocks.now }
+{
+    match blocks.last() {
+        Some(block) => block.fits(more),
+        None => false,
+    }
+}
+
+/// Makes room for so many messages more in the last block.
+fn reserve_last(blocks: &mut Vec<Block>, more: usize) -> Result<(), AllocError>
+    requires { 0 < vec_len blocks.old }
+    ensures parts { parts blocks.new.items ≡ parts blocks.old.items }
+    ensures kept { last_room blocks.old.items ≤ last_room blocks.new.items }
+    ensures room { OnOk result (more ≤ last_room blocks.new.items) }
+    ensures len { vec_len blocks.new ≡ vec_len blocks.old }
+    ensures capacity { vec_capacity blocks.new ≡ vec_capacity blocks.old }
+    ensures full { OnErr result (last_room blocks.old.items < more) }
+{
+    let last = blocks.len() - 1;
+    blocks[last].reserve(more)
+}
+
+/// The message comes to the end of the last block, with this number of its arrival, and is ready. Tells the place of the block.
+pub(crate) fn push_last(blocks: &mut Vec<Block>, arrival: u64, message: Message) -> usize
+    requires { 0 < last_room blocks.old.items }
+    ensures place { result + 1 ≡ vec_len blocks.old }
+    ensures parts { parts blocks.new.items ≡ slice_set (parts blocks.old.items) result (get_or (parts blocks.old.items) result [] ++ record { message = message; mark = Ready } ∷ []) }
+    ensures room { last_room blocks.new.items + 1 ≡ last_room blocks.old.items }
+    ensures len { vec_len blocks.new ≡ vec_len blocks.old }
+    ensures capacity { vec_capacity blocks.new ≡ vec_capacity blocks.old }
+{
+    let last = blocks.len() - 1;
+    blocks[last].push(arrival, message);
+    last
+}
+
+/// Whether a message in this block can be given out.
+fn has_ready_at(blocks: &[Block], place: usize) -> bool
+    ensures { result ≡ some_pass is_ready (get_or (parts blocks.now) place []) }
+{
+    if place >= blocks.len() {
+        return false;
+    }
+    blocks[place].has_ready()
+}
+
+/// Sets the bit of this block as it is.
+pub(crate) fn sign(blocks: &[Block], signs: &mut Signs, place: usize)
+    requires { place < signs.old.places }
+    ensures { BitTurned signs.old signs.new place (num (some_pass is_ready (get_or (parts blocks.now) place []))) }
+{
+    if has_ready_at(blocks, place) {
+        signs.set_ready(place);
+    } else {
+        signs.clear(place);
+    }
+}
+
+/// Sets the bits below `places` as their blocks are.
+fn sign_all(blocks: &[Block], signs: &mut Signs, places: usize)
+    requires within { places ≤ signs.old.places }
+    requires blocks { length blocks.now ≤ places }
+    requires ready { (k : ℕ) → places ≤ k → bit_of signs.old.ready k ≡ 0 }
+    ensures signed { AreBlocksSigned (parts blocks.now) signs.new }
+    ensures places { signs.new.places ≡ signs.old.places }
+{
+    for place in 0..places {
+        sign(blocks, signs, place);
+    }
+}
+
+/// Takes the blocks out that were given back.
+fn drop_given_back(blocks: &mut Vec<Block>)
+    ensures entries { joined (parts blocks.new.items) ≡ joined (parts blocks.old.items) }
+    ensures room { last_room blocks.old.items ≤ last_room blocks.new.items }
+    ensures len { vec_len blocks.new ≤ vec_len blocks.old }
+    ensures capacity { vec_capacity blocks.new ≡ vec_capacity blocks.old }
+{
+    blocks.retain(|block| block.is_in_use());
+}
+
+/// Makes room for one block more. The blocks that were given back go before the list of blocks grows, and it grows where more
+/// than half of it is in use.
+fn make_place(blocks: &mut Vec<Block>, signs: &mut Signs) -> Result<(), AllocError>
+    requires signed { AreBlocksSigned (parts blocks.old.items) signs.old }
+    requires places { HasPlaces (vec_len blocks.old) (vec_capacity blocks.old) signs.old.places }
+    ensures signed { AreBlocksSigned (parts blocks.new.items) signs.new }
+    ensures places { HasPlaces (vec_len blocks.new) (vec_capacity blocks.new) signs.new.places }
+    ensures entries { joined (parts blocks.new.items) ≡ joined (parts blocks.old.items) }
+    ensures kept { last_room blocks.old.items ≤ last_room blocks.new.items }
+    ensures room { OnOk result (vec_len blocks.new < signs.new.places) }
+{
+    let places = blocks.len();
+    if places < signs.places() {
+        return Ok(());
+    }
+    drop_given_back(blocks);
+    sign_all(blocks, signs, places);
+    blocks.reserve_exact(blocks.len() + 1)?;
+    signs.grow(blocks.capacity())
+}
+
+/// How many slots a block starts with, which wants so many: the first block grows as it is filled, another has all at once.
+fn slots_for(more: usize, is_first: bool) -> usize
+    ensures { more ≤ result }
+{
+    if is_first || more > BLOCK_SLOTS {
+        more
+    } else {
+        BLOCK_SLOTS
+    }
+}
+
+/// Starts a block with room for so many messages, of which the arrivals have the number `first` or later ones.
+fn start_block(
+    blocks: &mut Vec<Block>,
+    signs: &mut Signs,
+    alloc: Global,
+    first: u64,
+    more: usize,
+) -> Result<(), AllocError>
+    requires signed { AreBlocksSigned (parts blocks.old.items) signs.old }
+    requires places { HasPlaces (vec_len blocks.old) (vec_capacity blocks.old) signs.old.places }
+    ensures signed { AreBlocksSigned (parts blocks.new.items) signs.new }
+    ensures places { HasPlaces (vec_len blocks.new) (vec_capacity blocks.new) signs.new.places }
+    ensures entries { joined (parts blocks.new.items) ≡ joined (parts blocks.old.items) }
+    ensures room { OnOk result (more ≤ last_room blocks.new.items) }
+    ensures kept { OnErr result (last_room blocks.old.items ≤ last_room blocks.new.items) }
+{
+    make_place(blocks, signs)?;
+    let mut block = Block::new(alloc, first);
+    block.reserve(slots_for(more, blocks.is_empty()))?;
+    blocks.push_reserved(block);
+    Ok(())
+}
+
+/// Makes room for so many messages more in the last block: grows it while it is short, and else starts another, of which the
+/// arrivals have the number `first` or later ones.
+pub(crate) fn make_room(
+    blocks: &mut Vec<Block>,
+    signs: &mut Signs,
+    alloc: Global,
+    first: u64,
+    more: usize,
+) -> Result<(), AllocError>
+    requires signed { AreBlocksSigned (parts blocks.old.items) signs.old }
+    requires places { HasPlaces (vec_len blocks.old) (vec_capacity blocks.old) signs.old.places }
+    ensures signed { AreBlocksSigned (parts blocks.new.items) signs.new }
+    ensures places { HasPlaces (vec_len blocks.new) (vec_capacity blocks.new) signs.new.places }
+    ensures entries { joined (parts blocks.new.items) ≡ joined (parts blocks.old.items) }
+    ensures room { OnOk result (more ≤ last_room blocks.new.items) }
+    ensures kept { OnErr result (last_room blocks.old.items ≤ last_room blocks.new.items) }
+{
+    if more <= room_of(blocks) {
+        return Ok(());
+    }
+    if last_fits(blocks, more) {
+        return reserve_last(blocks, more);
+    }
+    start_block(blocks, signs, alloc, first, more)
+}
