@@ -6,13 +6,13 @@ use assembly::{Fault, Stream};
 use broker::Broker;
 use certificate::{Checked, Refutation, disprove, refutes};
 use channel::Channel;
-use engine::{Engine, Turn};
+use engine::{Engine, ReloadFault, Turn};
 use frame::{Read, read_frame};
 use headers::read_size;
 use login::accepts;
 use model::{Get, Holder, Message, Method, Nack, Taker, Text, User};
 use queue::{Indexed, Store};
-use scenario_parts::{MESSAGE, Unmet, expect, expect_bytes, expect_number, value_of};
+use scenario_parts::{MESSAGE, Unmet, expect, expect_bytes, expect_number, in_force, value_of};
 use session::Session;
 use std::alloc::{AllocError, Global};
 
@@ -50,6 +50,7 @@ pub(crate) struct Frugal {
     message: Option<Message>,
     broker: Broker,
     engine: Engine,
+    lacking: Option<Checked>,
 }
 
 /// A stream that met a frame that is too long.
@@ -126,6 +127,11 @@ fn too_long(alloc: Global) -> Result<Refutation, AllocError> {
     Ok(Refutation::new(key, Vec::new(alloc)))
 }
 
+/// What is admitted of a topology that has no queue.
+fn without_queues(alloc: Global) -> Result<Checked, Unmet> {
+    in_force(alloc, Vec::new(alloc), Vec::new(alloc), Vec::new(alloc))
+}
+
 /// A session runs, and ends.
 fn expect_session() -> Result<(), Unmet> {
     let mut session = Session::running();
@@ -157,6 +163,7 @@ impl Frugal {
             message: Some(message),
             broker: holding_broker(alloc)?,
             engine: new_engine(alloc)?,
+            lacking: Some(without_queues(alloc)?),
         })
     }
 
@@ -266,6 +273,16 @@ impl Frugal {
         expect("connection 3 is over", self.engine.is_over(3))
     }
 
+    /// A reload that lacks a queue in use is refused for it.
+    fn expect_reload(&mut self, alloc: Global) -> Result<(), Unmet> {
+        let lacking = value_of("what lacks the queue", self.lacking.take().ok_or(()))?;
+        let is_told = match self.engine.reload(alloc, lacking, Vec::new(alloc)) {
+            Err(ReloadFault::InUse(queue)) => queue.as_bytes() == b"audit".as_slice(),
+            _ => false,
+        };
+        expect("the queue in use is told", is_told)
+    }
+
     /// A connection is lost, and its consumer takes nothing more.
     fn expect_loss(&mut self, alloc: Global, room: &mut Room) -> Result<(), Unmet> {
         self.engine.lose(1);
@@ -289,6 +306,8 @@ impl Frugal {
         self.expect_broker(alloc)?;
         room.take_all(alloc);
         self.expect_queue()?;
+        room.take_all(alloc);
+        self.expect_reload(alloc)?;
         room.take_all(alloc);
         self.expect_loss(alloc, room)
     }

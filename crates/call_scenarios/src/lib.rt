@@ -6,6 +6,7 @@ mod dead_routes;
 mod engines;
 mod filing;
 mod frugal;
+mod large_outputs;
 mod nothing_left;
 mod parts;
 mod room;
@@ -32,6 +33,11 @@ fn tell_engines(sums: &mut Sums, rt: &HostRuntime) -> io::Result<()> {
         rt,
         "an_engine_opens_1024_connections_and_no_more",
         engines::an_engine_opens_1024_connections_and_no_more(alloc),
+    )?;
+    sums.tell(
+        rt,
+        "a_delivery_comes_behind_a_large_output",
+        large_outputs::a_delivery_comes_behind_a_large_output(alloc),
     )?;
     sums.tell(
         rt,
