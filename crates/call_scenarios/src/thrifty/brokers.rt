@@ -17,6 +17,15 @@ fn perform(alloc: Global, broker: &mut Broker, event: &Event) -> Result<(), Unme
     Ok(())
 }
 
+/// Delivers a message.
+fn deliver(alloc: Global, broker: &mut Broker) -> Result<(), Unmet> {
+    let Some(pick) = broker.pick() else {
+        return Err(Unmet::Claim("a message can be delivered"));
+    };
+    value_of("Broker::pump", broker.pump(alloc, pick))?;
+    Ok(())
+}
+
 /// A consumer that may hold one message has one, under the delivery tag 1, while another waits.
 fn deliver_one(alloc: Global, broker: &mut Broker) -> Result<(), Unmet> {
     let limit = Method::BasicQos(Qos {
@@ -35,11 +44,7 @@ fn deliver_one(alloc: Global, broker: &mut Broker) -> Result<(), Unmet> {
         let publish = command(Method::BasicPublish(publish), Some(content));
         perform(alloc, broker, &publish)?;
     }
-    let Some(pick) = broker.pick() else {
-        return Err(Unmet::Claim("a message can be delivered"));
-    };
-    value_of("Broker::pump", broker.pump(alloc, pick))?;
-    Ok(())
+    deliver(alloc, broker)
 }
 
 /// A broker of which connection 1 runs, whose consumer has what it may.
