@@ -276,7 +276,8 @@ impl Frugal {
     /// A reload that lacks a queue in use is refused for it.
     fn expect_reload(&mut self, alloc: Global) -> Result<(), Unmet> {
         let lacking = value_of("what lacks the queue", self.lacking.take().ok_or(()))?;
-        let is_told = match self.engine.reload(alloc, lacking, Vec::new(alloc)) {
+        let reload = self.engine.reload(alloc, lacking, Vec::new(alloc));
+        let is_told = match &reload {
             Err(ReloadFault::InUse(queue)) => queue.as_bytes() == b"audit".as_slice(),
             _ => false,
         };

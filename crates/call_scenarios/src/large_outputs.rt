@@ -72,10 +72,11 @@ fn full_engine(alloc: Global) -> Result<Engine, Unmet> {
 pub(crate) fn a_delivery_comes_behind_a_large_output(alloc: Global) -> Result<(), Unmet> {
     let mut engine = full_engine(alloc)?;
     let delivered = value_of("Engine::pump", engine.pump(alloc))?;
-    expect(
-        "it is delivered to connection 1",
-        matches!(delivered, Some(delivered) if delivered.connection == 1),
-    )?;
+    let connection = match &delivered {
+        Some(delivered) => delivered.connection,
+        None => 0,
+    };
+    expect_number("the connection of the delivery", connection, 1)?;
     let output = engine.output(1);
     expect_number(
         "the length of the output",
