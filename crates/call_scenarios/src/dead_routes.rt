@@ -60,17 +60,21 @@ fn expect_letter(topology: &Topology, queue: &[u8], key: &[u8]) -> Result<(), Un
     expect_bytes("the key", letter.key, key)
 }
 
+/// Expects that a queue without a dead-letter exchange sends no message on, nor one that is not there.
+fn expect_none(topology: &Topology) -> Result<(), Unmet> {
+    let has_plain = topology.dead_letter(b"plain", b"a").is_some();
+    expect(
+        "a queue without a dead-letter exchange sends none on",
+        !has_plain,
+    )?;
+    let has_absent = topology.dead_letter(b"absent", b"a").is_some();
+    expect("a queue that is not there sends none on", !has_absent)
+}
+
 /// A dead letter is sent to the exchange of its queue, under the queue's key or its own.
 pub(crate) fn a_dead_letter_goes_to_the_exchange_of_its_queue(alloc: Global) -> Result<(), Unmet> {
     let topology = topology(alloc)?;
     expect_letter(&topology, b"fixed", b"pay")?;
     expect_letter(&topology, b"kept", b"a")?;
-    expect(
-        "a queue without a dead-letter exchange sends none on",
-        topology.dead_letter(b"plain", b"a").is_none(),
-    )?;
-    expect(
-        "a queue that is not there sends none on",
-        topology.dead_letter(b"absent", b"a").is_none(),
-    )
+    expect_none(&topology)
 }
