@@ -8,24 +8,24 @@ ghost use Rattle.topic_match.specs.Places.{AreMatches};
 ghost use Rattle.topic_match.specs.Walks.{AreMet, told_in};
 
 use crate::building::nodes_of;
-use crate::counts::trues;
+use crate::counts::{Counts, trues};
 use crate::ends::{ending, rising_at};
 use crate::matchers::Matcher;
 use crate::nodes::{Met, Node};
 use crate::patterns::Pattern;
-use crate::pieces::split;
+use crate::pieces::{KeyWord, words_in};
 use crate::places::Places;
 use crate::steps::steps_of;
 use crate::walks::walk;
-use model::Text;
+use smallvec::SmallVec;
 use std::alloc::{AllocError, Global};
 use std::marker::Model;
 
 /// How many words no token matches: none.
-fn first_counts(alloc: Global, words: &[Text]) -> Result<Vec<bool>, AllocError>
+fn first_counts(alloc: Global, words: &[KeyWord<'_>]) -> Result<Counts, AllocError>
     ensures { IfOk result (λ counts. AreCounts [] words.now counts.items) }
 {
-    let mut counts = Vec::new(alloc);
+    let mut counts = SmallVec::new(alloc);
     counts.push(true)?;
     for place in 0..words.len() {
         counts.push(false)?;
@@ -50,7 +50,7 @@ fn met_by(
     patterns: &[Pattern],
     nodes: &[Node],
     chains: &[usize],
-    words: &[Text],
+    words: &[KeyWord<'_>],
 ) -> Result<Vec<Met>, AllocError>
     requires { AreLinked patterns.now nodes.now chains.now }
     ensures { IfOk result (λ met. AreMet patterns.now nodes.now words.now (Begins []) met.items) }
@@ -110,7 +110,7 @@ impl Trie {
         if self.patterns.is_empty() {
             return Ok((Vec::new(alloc), 0));
         }
-        let words = split(alloc, key)?;
+        let words = words_in(alloc, key)?;
         let met = met_by(
             alloc,
             self.patterns.as_slice(),

@@ -10,8 +10,8 @@ use crate::children::child;
 use crate::counts::{counts_after, has_some};
 use crate::nodes::{Met, Node};
 use crate::patterns::Pattern;
+use crate::pieces::KeyWord;
 use crate::steps::Step;
-use model::Text;
 use std::alloc::{AllocError, Global};
 
 /// The node that a token leads to, where its beginning matches some of the first words.
@@ -20,20 +20,19 @@ fn step(
     patterns: &[Pattern],
     nodes: &[Node],
     chains: &[usize],
-    words: &[Text],
+    words: &[KeyWord<'_>],
     from: &Met,
-    by: &Step,
+    by: &Step<'_>,
 ) -> Result<Option<Met>, AllocError>
     requires linked { AreLinked patterns.now nodes.now chains.now }
     requires within { from.now.node < length nodes.now }
     requires counted { AreCounts (beginning_at patterns.now nodes.now from.now.node) words.now from.now.counts.items }
     ensures { IfOk result (λ o. MatchOption o (IsBarren patterns.now nodes.now words.now from.now.node by.now) (λ next. IsStep patterns.now nodes.now words.now from.now.node by.now next.node next.counts.items)) }
 {
-    let token = by.token();
-    let Some(node) = child(patterns, nodes, chains, from.node, token, by.mark()) else {
+    let Some(node) = child(patterns, nodes, chains, from.node, by) else {
         return Ok(None);
     };
-    let counts = counts_after(alloc, token, words, from.counts.as_slice())?;
+    let counts = counts_after(alloc, by, words, from.counts.as_slice())?;
     if !has_some(counts.as_slice()) {
         return Ok(None);
     }
@@ -46,8 +45,8 @@ pub fn walk(
     patterns: &[Pattern],
     nodes: &[Node],
     chains: &[usize],
-    steps: &[Step],
-    words: &[Text],
+    steps: &[Step<'_>],
+    words: &[KeyWord<'_>],
     from: Met,
     met: &mut Vec<Met>,
 ) -> Result<(), AllocError>

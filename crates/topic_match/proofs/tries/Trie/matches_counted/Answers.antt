@@ -16,7 +16,7 @@ rising_at-requires c =
     ((let n : c.len.result ≡ length c.in_ok-words.words.items = search rules in n) ∙ ap (λ (z : List Text). length z) c.in_ok-words.ensures)
     (sound c.self.inside.patterns.items c.self.inside.nodes.items c.self.inside.chains.items c.self.inside.ends.items c.self.inside.places.items (words c.args.key.now) c.in_ok-met.met.items c.self.invariant
     (same_met c.as_slice.result.now c.self.inside.patterns.items c.as_slice-2.result.now c.self.inside.nodes.items c.as_slice-4.result.now (words c.args.key.now) c.in_ok-met.met.items
-    c.as_slice.ensures.value c.as_slice-2.ensures.value (c.as_slice-4.ensures.value ∙ c.in_ok-words.ensures) c.in_ok-met.ensures))
+    c.as_slice.ensures.value c.as_slice-2.ensures.value (c.as_slice-4.ensures ∙ c.in_ok-words.ensures) c.in_ok-met.ensures))
 
 pub returns-clause-places : goal.returns-clause-places
 returns-clause-places c =
@@ -24,7 +24,7 @@ returns-clause-places c =
     (law c.self.inside.patterns.items c.self.inside.nodes.items c.self.inside.chains.items c.self.inside.ends.items c.self.inside.places.items c.args.key.now c.in_ok-met.met.items c.in_ok-places.places.items
     c.self.invariant
     (same_met c.as_slice.result.now c.self.inside.patterns.items c.as_slice-2.result.now c.self.inside.nodes.items c.as_slice-4.result.now (words c.args.key.now) c.in_ok-met.met.items
-    c.as_slice.ensures.value c.as_slice-2.ensures.value (c.as_slice-4.ensures.value ∙ c.in_ok-words.ensures) c.in_ok-met.ensures)
+    c.as_slice.ensures.value c.as_slice-2.ensures.value (c.as_slice-4.ensures ∙ c.in_ok-words.ensures) c.in_ok-met.ensures)
     (same_rising c.as_slice-5.result.now c.self.inside.places.items c.as_slice-6.result.now c.in_ok-met.met.items c.len.result (length (words c.args.key.now)) c.in_ok-places.places.items
     c.as_slice-5.ensures.value c.as_slice-6.ensures.value ((let n : c.len.result ≡ length c.in_ok-words.words.items = search rules in n) ∙ ap (λ (z : List Text). length z) c.in_ok-words.ensures) c.in_ok-places.ensures))
 
@@ -34,5 +34,5 @@ returns-clause-count c =
     (counted c.self.inside.patterns.items c.self.inside.nodes.items c.self.inside.chains.items c.self.inside.ends.items c.self.inside.places.items c.args.key.now c.in_ok-met.met.items c.told_in.result
     c.self.invariant (let h : 0 < length c.self.inside.patterns.items = search rules in h)
     (same_met c.as_slice.result.now c.self.inside.patterns.items c.as_slice-2.result.now c.self.inside.nodes.items c.as_slice-4.result.now (words c.args.key.now) c.in_ok-met.met.items
-    c.as_slice.ensures.value c.as_slice-2.ensures.value (c.as_slice-4.ensures.value ∙ c.in_ok-words.ensures) c.in_ok-met.ensures)
+    c.as_slice.ensures.value c.as_slice-2.ensures.value (c.as_slice-4.ensures ∙ c.in_ok-words.ensures) c.in_ok-met.ensures)
     (c.told_in.ensures ∙ ap (λ (z : List Met). told_in z) c.as_slice-7.ensures.value))
