@@ -6,6 +6,7 @@ ghost use Rattle.model.specs.declared.texts.Token.TheVariants.{Word};
 ghost use Rattle.topic_match.specs.Walks.{AreSteps};
 
 use crate::children::mixed;
+use crate::nodes::Exits;
 use crate::pieces::KeyWord;
 use model::Token;
 use smallvec::SmallVec;
@@ -61,6 +62,7 @@ impl<'a> Step<'a> {
     ghost use Rattle.model.specs.declared.texts.Token.TheVariants.{Word, One, Any};
     ghost use Rattle.topic_match.specs.Nodes.{mark_of};
     ghost use Rattle.topic_match.specs.Counts.{stands_after, stands_first};
+    ghost use Rattle.topic_match.specs.Exits.{has_exit};
 
     /// A step by `#`.
     pub fn any() -> Step<'a>
@@ -130,6 +132,17 @@ impl<'a> Step<'a> {
             Taken::Exactly(bytes) => word.as_bytes() == bytes,
             Taken::Single => false,
             Taken::Several => false,
+        }
+    }
+
+    /// Whether it may go by one of these exits.
+    pub fn may_go(&self, exits: Exits) -> bool
+        ensures { result ≡ has_exit exits self.now }
+    {
+        match self.taken {
+            Taken::Exactly(_) => exits.word,
+            Taken::Single => exits.one,
+            Taken::Several => exits.any,
         }
     }
 

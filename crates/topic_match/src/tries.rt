@@ -1,8 +1,9 @@
 //! A list of patterns as the tree of their beginnings.
 
-ghost use Rattle.std.specs.Prelude.{◌≡◌, [], IfOk};
+ghost use Rattle.std.specs.Prelude.{◌≡◌, [], length, IfOk};
 ghost use Rattle.topic_match.specs.Beginnings.{Begins, IsCounted};
 ghost use Rattle.topic_match.specs.Counts.{AreCounts};
+ghost use Rattle.topic_match.specs.Exits.{AreExits};
 ghost use Rattle.topic_match.specs.Nodes.{AreLinked};
 ghost use Rattle.topic_match.specs.Places.{AreMatches};
 ghost use Rattle.topic_match.specs.Walks.{AreMet, told_in};
@@ -10,8 +11,9 @@ ghost use Rattle.topic_match.specs.Walks.{AreMet, told_in};
 use crate::building::nodes_of;
 use crate::counts::{Counts, trues};
 use crate::ends::{ending, rising_at};
+use crate::exits::exits_of;
 use crate::matchers::Matcher;
-use crate::nodes::{Met, Node};
+use crate::nodes::{Exits, Links, Met, Node};
 use crate::patterns::Pattern;
 use crate::pieces::{KeyWord, words_in};
 use crate::places::Places;
@@ -48,12 +50,12 @@ fn told_in(met: &[Met]) -> u128
 fn met_by(
     alloc: Global,
     patterns: &[Pattern],
-    nodes: &[Node],
-    chains: &[usize],
+    links: &Links<'_>,
     words: &[KeyWord<'_>],
 ) -> Result<Vec<Met>, AllocError>
-    requires { AreLinked patterns.now nodes.now chains.now }
-    ensures { IfOk result (λ met. AreMet patterns.now nodes.now words.now (Begins []) met.items) }
+    requires linked { AreLinked patterns.now links.now.nodes.now links.now.chains.now }
+    requires exits { AreExits patterns.now links.now.nodes.now (length links.now.nodes.now) links.now.exits.now }
+    ensures { IfOk result (λ met. AreMet patterns.now links.now.nodes.now words.now (Begins []) met.items) }
 {
     let steps = steps_of(alloc, words)?;
     let root = Met {
@@ -64,8 +66,7 @@ fn met_by(
     walk(
         alloc,
         patterns,
-        nodes,
-        chains,
+        links,
         steps.as_slice(),
         words,
         root,
@@ -82,18 +83,21 @@ pub struct Trie {
     chains: Vec<usize>,
     ends: Vec<usize>,
     places: Vec<Places>,
+    exits: Vec<Exits>,
 }
 
 impl Model for Trie {
     ghost use Rattle.std.specs.Prelude.{List};
     ghost use Rattle.model.specs.declared.texts.Token.{Token};
+    ghost use Rattle.std.specs.Prelude.{length};
+    ghost use Rattle.topic_match.specs.Exits.{AreExits};
     ghost use Rattle.topic_match.specs.Tries.{IsTrie};
 
     ghost Value = { List (List Token) };
 
     ghost view = { λ t. t.patterns.items };
 
-    ghost invariant = { λ t. IsTrie t.patterns.items t.nodes.items t.chains.items t.ends.items t.places.items };
+    ghost invariant = { λ t. IsTrie t.patterns.items t.nodes.items t.chains.items t.ends.items t.places.items × AreExits t.patterns.items t.nodes.items (length t.nodes.items) t.exits.items };
 }
 
 impl Trie {
@@ -114,8 +118,11 @@ impl Trie {
         let met = met_by(
             alloc,
             self.patterns.as_slice(),
-            self.nodes.as_slice(),
-            self.chains.as_slice(),
+            &Links {
+                nodes: self.nodes.as_slice(),
+                chains: self.chains.as_slice(),
+                exits: self.exits.as_slice(),
+            },
             words.as_slice(),
         )?;
         let places = rising_at(alloc, self.places.as_slice(), met.as_slice(), words.len())?;
@@ -129,12 +136,14 @@ impl Matcher for Trie {
     fn new(alloc: Global, patterns: Vec<Pattern>) -> Result<Trie, AllocError> {
         let (nodes, chains, ends) = nodes_of(alloc, patterns.as_slice())?;
         let places = ending(alloc, nodes.len(), ends.as_slice())?;
+        let exits = exits_of(alloc, patterns.as_slice(), nodes.as_slice())?;
         Ok(Trie {
             patterns,
             nodes,
             chains,
             ends,
             places,
+            exits,
         })
     }
 
