@@ -322,8 +322,9 @@ const FITTING_IN_THE_END: &[Version] = &[
     WITHOUT_AUDIT,
 ];
 
-/// How often the definitions are read then: as above, twice at the fifth look, and once at the sixth.
-const READS_IN_THE_END: u64 = 14;
+/// How often the definitions are read then: as above; three times at the fifth look, which compares them with what was admitted at the
+/// fourth, too; and once at the sixth.
+const READS_IN_THE_END: u64 = 15;
 
 /// How many publishes come before the fifth look, which is behind the tenth turn.
 const BEFORE_THE_FIFTH: u64 = 9;
