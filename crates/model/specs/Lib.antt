@@ -18,6 +18,7 @@ pub mod Message
 pub mod Sharing
 pub mod Broker
 pub mod Entries
+pub mod Placed
 pub mod Entering
 pub mod Deaths
 pub mod Deliveries

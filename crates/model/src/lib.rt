@@ -6,6 +6,7 @@
 
 mod bodies;
 mod contents;
+mod deliveries;
 mod events;
 mod messages;
 mod methods;
@@ -20,6 +21,7 @@ mod topologies;
 
 pub use bodies::Body;
 pub use contents::{Content, Fields, Form, Properties};
+pub use deliveries::{ChannelId, Delivery};
 pub use events::{Arrival, Command, Event, Phase, Send};
 pub use messages::{Entry, Holder, Mark, Message, Taker, User};
 pub use methods::{

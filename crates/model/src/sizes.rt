@@ -4,6 +4,7 @@
 
 use crate::bodies::Body;
 use crate::contents::{Content, Properties};
+use crate::deliveries::Delivery;
 use crate::events::{Command, Event, Send};
 use crate::messages::{Entry, Message};
 use crate::methods::{Method, Publish};
@@ -21,6 +22,8 @@ const _: () = prove!(size_of::<Content>() == 64);
 const _: () = prove!(size_of::<Message>() == 16);
 
 const _: () = prove!(size_of::<Entry>() <= 64);
+
+const _: () = prove!(size_of::<Delivery>() <= 40);
 
 const _: () = prove!(size_of::<Publish>() <= 64);
 
