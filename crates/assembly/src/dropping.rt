@@ -52,7 +52,8 @@ pub(crate) fn drop_piece(pending: &mut Awaited, frame: &Frame<'_>) -> Result<Opt
     requires dropped { IsDropped pending.old }
     requires spelled { IsSpelledSoFar pending.old }
     ensures spelled { IsSpelledSoFar pending.new }
-    ensures does { (keeps : Bool) → TakesEffect (TakesPayload keeps (pending_of pending.old) (seen frame.now)) (pending_of pending.old) result (pending_of pending.new) }
+    ensures does { (keeps : Bool) → TakesEffect (TakesPayload keeps (pending_of pending.old) (seen frame.now))
+        (pending_of pending.old) result (pending_of pending.new) }
 {
     match pending {
         Awaited::Drops(dropping) => {

@@ -27,7 +27,8 @@ pub(crate) fn take_frame(
 ) -> Result<Option<Command>, Fault>
     requires { AreSpelledSoFar contents.old.items }
     ensures spelled { AreSpelledSoFar contents.new.items }
-    ensures does { DoesAt (TakesOn keeps (pending_at contents.old.items frame.now.channel) (seen frame.now)) frame.now.channel (pending_at contents.old.items) result (pending_at contents.new.items) }
+    ensures does { DoesAt (TakesOn keeps (pending_at contents.old.items frame.now.channel) (seen frame.now))
+        frame.now.channel (pending_at contents.old.items) result (pending_at contents.new.items) }
 {
     if frame.kind == 8 {
         return take_heartbeat(frame);
@@ -82,7 +83,9 @@ fn take_on_channel(
     requires reached { channel < vec_len contents.old }
     requires spelled { AreSpelledSoFar contents.old.items }
     ensures spelled { AreSpelledSoFar contents.new.items }
-    ensures does { DoesAt (λ t. MatchBool (frame.now.kind == awaited (pending_at contents.old.items channel)) (TakesPayload keeps (pending_at contents.old.items channel) (seen frame.now) t) (t ≡ Breaks 505)) channel (pending_at contents.old.items) result (pending_at contents.new.items) }
+    ensures does { DoesAt (λ t. MatchBool (frame.now.kind == awaited (pending_at contents.old.items channel))
+        (TakesPayload keeps (pending_at contents.old.items channel) (seen frame.now) t) (t ≡ Breaks 505)) channel
+        (pending_at contents.old.items) result (pending_at contents.new.items) }
 {
     take_awaited(alloc, keeps, names, &mut contents[channel], frame)
 }

@@ -30,7 +30,8 @@ pub(crate) fn next_command(
     requires max { 4096 ≤ max }
     requires spelled { AreSpelledSoFar contents.old.items }
     ensures spelled { AreSpelledSoFar contents.new.items }
-    ensures answers { YieldsNext (stream false max keeps contents.old.items unread.old.bytes) result (stream false max keeps contents.new.items unread.new.bytes) }
+    ensures answers { YieldsNext (stream false max keeps contents.old.items unread.old.bytes) result
+        (stream false max keeps contents.new.items unread.new.bytes) }
 {
     'frames: loop {
         match read_frame(unread.bytes(), max) {
@@ -59,7 +60,8 @@ fn is_whole(taken: &Result<Option<Command>, Fault>) -> bool
 
 /// Takes eight bytes, where so many are there.
 pub(crate) fn take_eight(unread: &mut Unread) -> Option<[u8; 8]>
-    ensures { MatchOption result ((length unread.old.bytes < 8) × (unread.new ≡ unread.old)) (λ bytes. (unread.old.bytes ≡ bytes ++ unread.new.bytes) × (length bytes ≡ 8)) }
+    ensures { MatchOption result ((length unread.old.bytes < 8) × (unread.new ≡ unread.old))
+        (λ bytes. (unread.old.bytes ≡ bytes ++ unread.new.bytes) × (length bytes ≡ 8)) }
 {
     let bytes = *unread.bytes().first_chunk::<8>()?;
     unread.take(8);

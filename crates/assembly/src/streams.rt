@@ -54,9 +54,18 @@ impl Model for Stream {
 
     ghost Value = { Held };
 
-    ghost view = { λ s. record { is_new = s.is_new; max = s.max; keeps = s.keeps; contents = s.contents.items; unread = s.unread.bytes; room = s.unread.room; fault = s.fault } };
+    ghost view = { λ s. record {
+      is_new = s.is_new;
+      max = s.max;
+      keeps = s.keeps;
+      contents = s.contents.items;
+      unread = s.unread.bytes;
+      room = s.unread.room;
+      fault = s.fault;
+    } };
 
-    ghost invariant = { λ s. (4096 ≤ s.max) × AreSpelledSoFar s.contents.items × IsBrokenBy s.fault (stream s.is_new s.max s.keeps s.contents.items s.unread.bytes) };
+    ghost invariant = { λ s. (4096 ≤ s.max) × AreSpelledSoFar s.contents.items
+        × IsBrokenBy s.fault (stream s.is_new s.max s.keeps s.contents.items s.unread.bytes) };
 }
 
 impl Stream {

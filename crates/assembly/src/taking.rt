@@ -38,7 +38,9 @@ pub(crate) fn take_awaited(
 ) -> Result<Option<Command>, Fault>
     requires { IsSpelledSoFar pending.old }
     ensures spelled { IsSpelledSoFar pending.new }
-    ensures does { TakesEffect (λ t. MatchBool (frame.now.kind == awaited (pending_of pending.old)) (TakesPayload keeps (pending_of pending.old) (seen frame.now) t) (t ≡ Breaks 505)) (pending_of pending.old) result (pending_of pending.new) }
+    ensures does { TakesEffect (λ t. MatchBool (frame.now.kind == awaited (pending_of pending.old))
+        (TakesPayload keeps (pending_of pending.old) (seen frame.now) t) (t ≡ Breaks 505))
+        (pending_of pending.old) result (pending_of pending.new) }
 {
     if frame.kind != awaited_kind(pending) {
         return Err(Fault::Broken(505));
@@ -178,7 +180,9 @@ fn begin_content(
     requires spelled { IsSpelledSoFar pending.old }
     requires small { exceeds frame.now.payload.now (size_at frame.now.payload.now) ≡ false }
     ensures spelled { IsSpelledSoFar pending.new }
-    ensures does { (p : Seen) → pending.old ≡ WantsHeader p → TakesEffect (λ t. (r : Result Header ℕ) × SaysHeader frame.now.payload.now r × (t ≡ taken_header keeps frame.now.channel p r)) (Commands.Wants_header p) result (pending_of pending.new) }
+    ensures does { (p : Seen) → pending.old ≡ WantsHeader p
+        → TakesEffect (λ t. (r : Result Header ℕ) × SaysHeader frame.now.payload.now r
+        × (t ≡ taken_header keeps frame.now.channel p r)) (Commands.Wants_header p) result (pending_of pending.new) }
 {
     if keeps {
         gather_content(alloc, pending, frame)
@@ -197,7 +201,9 @@ fn gather_content(
     requires spelled { IsSpelledSoFar pending.old }
     requires small { exceeds frame.now.payload.now (size_at frame.now.payload.now) ≡ false }
     ensures spelled { IsSpelledSoFar pending.new }
-    ensures does { (p : Seen) → pending.old ≡ WantsHeader p → TakesEffect (λ t. (r : Result Header ℕ) × SaysHeader frame.now.payload.now r × (t ≡ taken_header true frame.now.channel p r)) (Commands.Wants_header p) result (pending_of pending.new) }
+    ensures does { (p : Seen) → pending.old ≡ WantsHeader p
+        → TakesEffect (λ t. (r : Result Header ℕ) × SaysHeader frame.now.payload.now r
+        × (t ≡ taken_header true frame.now.channel p r)) (Commands.Wants_header p) result (pending_of pending.new) }
 {
     match read_header(alloc, frame.payload) {
         Ok(header) => {
@@ -226,7 +232,9 @@ fn count_content(
 ) -> Result<Option<Command>, Fault>
     requires { IsSpelledSoFar pending.old }
     ensures spelled { IsSpelledSoFar pending.new }
-    ensures does { (p : Seen) → pending.old ≡ WantsHeader p → TakesEffect (λ t. (r : Result Header ℕ) × SaysHeader frame.now.payload.now r × (t ≡ taken_header false frame.now.channel p r)) (Commands.Wants_header p) result (pending_of pending.new) }
+    ensures does { (p : Seen) → pending.old ≡ WantsHeader p
+        → TakesEffect (λ t. (r : Result Header ℕ) × SaysHeader frame.now.payload.now r
+        × (t ≡ taken_header false frame.now.channel p r)) (Commands.Wants_header p) result (pending_of pending.new) }
 {
     match size_of_header(alloc, frame.payload) {
         Ok(size) => drop_begun(pending, frame.channel, size, 0),
@@ -236,7 +244,8 @@ fn count_content(
 
 /// The size of the body that a header declares, all of which is read.
 fn size_of_header(alloc: Global, payload: &[u8]) -> Result<u64, Fault>
-    ensures { MatchResult result (λ size. (h : Header) × SaysHeader payload.now (Ok h) × (size ≡ h.size)) (λ fault. IsFault (λ code. SaysHeader payload.now (Err code)) fault) }
+    ensures { MatchResult result (λ size. (h : Header) × SaysHeader payload.now (Ok h) × (size ≡ h.size))
+        (λ fault. IsFault (λ code. SaysHeader payload.now (Err code)) fault) }
 {
     match read_header(alloc, payload) {
         Ok(header) => Ok(header.size),

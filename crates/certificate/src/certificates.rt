@@ -40,7 +40,14 @@ impl Model for Certificate {
 
     ghost Value = { Shown };
 
-    ghost view = { λ c. record { form = form_view c.form; exchange = c.exchange; mode = c.mode; pattern = c.pattern; queue = c.queue; states = states_of c.states.items } };
+    ghost view = { λ c. record {
+      form = form_view c.form;
+      exchange = c.exchange;
+      mode = c.mode;
+      pattern = c.pattern;
+      queue = c.queue;
+      states = states_of c.states.items;
+    } };
 }
 
 impl Certificate {
@@ -53,7 +60,14 @@ impl Certificate {
         queue: Text,
         states: Vec<Vec<u64>>,
     ) -> Certificate
-        ensures { result ≡ record { form = form_view form; exchange = exchange; mode = mode; pattern = pattern; queue = queue; states = states_of states.items } }
+        ensures { result ≡ record {
+          form = form_view form;
+          exchange = exchange;
+          mode = mode;
+          pattern = pattern;
+          queue = queue;
+          states = states_of states.items;
+        } }
     {
         Certificate {
             form,

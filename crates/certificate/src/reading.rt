@@ -5,7 +5,20 @@ ghost use Rattle.serde_json.specs.Find.{as_str};
 ghost use Rattle.serde_json.specs.View.{items_view, view};
 ghost use Rattle.json_file.specs.Members.{each};
 ghost use Rattle.json_file.specs.Outcomes.{GivesValue, GivesItems};
-ghost use Rattle.certificate.specs.Stated.{certificate_at, certificates_stated, excepting_at, excepting_of, excepts_at, form_at, sliced_at, state_in, states_at, tracked_at, whole_at, whole_number};
+ghost use Rattle.certificate.specs.Stated.{
+  certificate_at,
+  certificates_stated,
+  excepting_at,
+  excepting_of,
+  excepts_at,
+  form_at,
+  sliced_at,
+  state_in,
+  states_at,
+  tracked_at,
+  whole_at,
+  whole_number,
+};
 ghost use Rattle.certificate.specs.Reads.{GivesForm, GivesStates, ReadsCertificateFile};
 
 use crate::bad::BadCertificates;

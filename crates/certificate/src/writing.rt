@@ -132,7 +132,10 @@ fn sliced_value(
 ) -> Result<Value, AllocError>
     ensures { IfOk result (λ v. view v ≡ sliced_data texts.now (view states) (view tracked)) }
 {
-    json!(in alloc; {"exchange": texts.exchange(), "form": 2u64, "mode": texts.mode(), "pattern": texts.pattern(), "queue": texts.queue(), "states": states, "tracked": tracked})
+    json!(in alloc; {
+        "exchange": texts.exchange(), "form": 2u64, "mode": texts.mode(), "pattern": texts.pattern(),
+        "queue": texts.queue(), "states": states, "tracked": tracked
+    })
 }
 
 /// The value of a certificate of form 3.
@@ -145,7 +148,10 @@ fn excepting_value(
 ) -> Result<Value, AllocError>
     ensures { IfOk result (λ v. view v ≡ excepting_data texts.now (view states) (view tracked) (view excepts)) }
 {
-    json!(in alloc; {"except": excepts, "exchange": texts.exchange(), "form": 3u64, "mode": texts.mode(), "pattern": texts.pattern(), "queue": texts.queue(), "states": states, "tracked": tracked})
+    json!(in alloc; {
+        "except": excepts, "exchange": texts.exchange(), "form": 3u64, "mode": texts.mode(), "pattern": texts.pattern(),
+        "queue": texts.queue(), "states": states, "tracked": tracked
+    })
 }
 
 /// The value of a certificate of this form, with these texts and states.

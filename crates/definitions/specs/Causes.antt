@@ -10,7 +10,8 @@ use Rattle.definitions.specs.declared.document.ExchangeEntry.{ExchangeEntry}
 use Rattle.definitions.specs.declared.document.QueueEntry.{QueueEntry}
 use Rattle.definitions.specs.declared.document.BindingEntry.{BindingEntry}
 use Rattle.definitions.specs.declared.bad.BadDefinitions.{BadDefinitions}
-use Rattle.definitions.specs.declared.bad.BadDefinitions.TheVariants.{NotJson, Malformed, OtherVhost, Repeated, Absent, OtherType, Unsupported, NoOverflow, Worded, TooMany, NoExchange, OtherPermission, OtherHash, Memory}
+use Rattle.definitions.specs.declared.bad.BadDefinitions.TheVariants.{NotJson, Malformed, OtherVhost, Repeated, Absent, OtherType, Unsupported}
+use Rattle.definitions.specs.declared.bad.BadDefinitions.TheVariants.{NoOverflow, Worded, TooMany, NoExchange, OtherPermission, OtherHash, Memory}
 use Rattle.definitions.specs.Numbers.{definitions_cause}
 use Rattle.definitions.specs.File.{File}
 use Rattle.definitions.specs.States.{hash_of, kind_named, topology_of}

@@ -1,7 +1,8 @@
 -- What is known of a file whose entries were looked at.
 use Rattle.std.specs.Prelude.{◌≡◌, ℕ, List, Result, Ok, Err, ⊤}
 use Rattle.definitions.specs.declared.bad.BadDefinitions.{BadDefinitions}
-use Rattle.definitions.specs.declared.bad.BadDefinitions.TheVariants.{NotJson, Malformed, OtherVhost, Repeated, Absent, OtherType, Unsupported, NoOverflow, Worded, TooMany, NoExchange, OtherPermission, OtherHash, Memory}
+use Rattle.definitions.specs.declared.bad.BadDefinitions.TheVariants.{NotJson, Malformed, OtherVhost, Repeated, Absent, OtherType, Unsupported}
+use Rattle.definitions.specs.declared.bad.BadDefinitions.TheVariants.{NoOverflow, Worded, TooMany, NoExchange, OtherPermission, OtherHash, Memory}
 use Rattle.definitions.specs.declared.document.Document.{Document}
 use Rattle.definitions.specs.File.{File, file_of}
 use Rattle.definitions.specs.Causes.{IsClearBelow, IsTold}

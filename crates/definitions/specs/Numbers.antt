@@ -1,7 +1,8 @@
 -- The causes for which a definitions file is refused, by their numbers, in the order in which they are looked for (own).
 use Rattle.std.specs.Prelude.{ℕ}
 use Rattle.definitions.specs.declared.bad.BadDefinitions.{BadDefinitions}
-use Rattle.definitions.specs.declared.bad.BadDefinitions.TheVariants.{NotJson, Malformed, OtherVhost, Repeated, Absent, OtherType, Unsupported, NoOverflow, Worded, TooMany, NoExchange, OtherPermission, OtherHash, Memory}
+use Rattle.definitions.specs.declared.bad.BadDefinitions.TheVariants.{NotJson, Malformed, OtherVhost, Repeated, Absent, OtherType, Unsupported}
+use Rattle.definitions.specs.declared.bad.BadDefinitions.TheVariants.{NoOverflow, Worded, TooMany, NoExchange, OtherPermission, OtherHash, Memory}
 
 -- a cause's number (docs/FORMATS.md); of several causes in a file the one of the least number is told
 abbrev pub definitions_cause : BadDefinitions → ℕ

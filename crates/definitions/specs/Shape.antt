@@ -69,7 +69,8 @@ exchange_entry_at d = do
 
 -- the arguments of a queue that are known
 abbrev pub queue_argument_names : List (List ℕ)
-queue_argument_names = codes "x-max-length" ∷ codes "x-max-length-bytes" ∷ codes "x-overflow" ∷ codes "x-dead-letter-exchange" ∷ codes "x-dead-letter-routing-key" ∷ []
+queue_argument_names = codes "x-max-length" ∷ codes "x-max-length-bytes" ∷ codes "x-overflow"
+    ∷ codes "x-dead-letter-exchange" ∷ codes "x-dead-letter-routing-key" ∷ []
 
 -- the arguments of a queue
 unfoldable pub queue_arguments_at : Data → Option QueueArguments

@@ -22,7 +22,10 @@ use Rattle.definitions.specs.File.{File}
 
 -- the exchange type of this name
 abbrev pub kind_named : Text → Option ExchangeKind
-kind_named t = if bytes_eq t (codes "direct") then Some Direct else if bytes_eq t (codes "fanout") then Some Fanout else if bytes_eq t (codes "topic") then Some Topic else None
+kind_named t =
+    if bytes_eq t (codes "direct") then Some Direct
+    else if bytes_eq t (codes "fanout") then Some Fanout
+    else if bytes_eq t (codes "topic") then Some Topic else None
 
 -- an exchange of a known type
 abbrev pub exchange_of : ExchangeEntry → Exchange

@@ -1,5 +1,6 @@
 -- Arguments by their kinds, read from left to right. Source: AMQP 0-9-1, section 4.2.5, "Data Types", and its XML.
-use Rattle.std.specs.Prelude.{◌*◌, ◌/◌, ◌%◌, ◌==◌, ℕ, zero, suc, ◌<◌, ◌^◌, List, [], ◌∷◌, length, take, drop, Bool, slice_index, nat_lt, if◌then◌else◌, Option, Some, None}
+use Rattle.std.specs.Prelude.{◌*◌, ◌/◌, ◌%◌, ◌==◌, ℕ, zero, suc, ◌<◌, ◌^◌, List, [], ◌∷◌, length}
+use Rattle.std.specs.Prelude.{take, drop, Bool, slice_index, nat_lt, if◌then◌else◌, Option, Some, None}
 use Rattle.std.specs.Int.{Width, w16, w32, w64, byte_len, from_be_bytes}
 use Rattle.model.specs.Options.{◌>>=◌}
 use Rattle.model.specs.Tables.{IsTable}
@@ -59,7 +60,10 @@ bits_of (suc n) octet = (octet % 2 == 1) ∷ bits_of n (octet / 2)
 
 -- an octet of so many bits, and of no other bit that is set (AMQP 0-9-1, section 4.2.5.2)
 abbrev pub bits_at : ℕ → List ℕ → Front
-bits_at n bytes = if nat_lt (length bytes) 1 then None else if nat_lt (slice_index bytes 0) (octets n) then Some (Bits (bits_of n (slice_index bytes 0)), drop 1 bytes) else None
+bits_at n bytes =
+    if nat_lt (length bytes) 1 then None
+    else if nat_lt (slice_index bytes 0) (octets n) then Some (Bits (bits_of n (slice_index bytes 0)), drop 1 bytes)
+    else None
 
 -- the argument of this kind at the front, and the bytes after it; none where there is none
 abbrev pub argument_at : Kind → List ℕ → Front

@@ -1,7 +1,8 @@
 -- The table or value that a `FieldTable` or a `Field` stands for.
 use Rattle.std.specs.Prelude.{List, [], ◌∷◌, map}
 use Rattle.model.specs.Words.{Text}
-use Rattle.model.specs.Tables.{Value, Values, Pairs, Truth, Byte, Short, Long, Long_long, Float, Double, Decimal, Long_string, Field_array, Timestamp, Inner_table, Byte_array, Void, no_values, value, no_pairs, pair}
+use Rattle.model.specs.Tables.{Value, Values, Pairs, Truth, Byte, Short, Long, Long_long, Float, Double, Decimal, Long_string}
+use Rattle.model.specs.Tables.{Field_array, Timestamp, Inner_table, Byte_array, Void, no_values, value, no_pairs, pair}
 use Rattle.field_table.specs.declared.fields.Field.{Field, fold-Field}
 use Rattle.field_table.specs.declared.fields.Field.TheOpen as fields
 use Rattle.field_table.specs.declared.fields.TableEntry.{TableEntry, fold-TableEntry}

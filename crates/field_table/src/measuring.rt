@@ -13,7 +13,8 @@ const LIMIT: usize = 0x1_0000_0000;
 /// How many bytes the pairs of a table have, in which arrays and tables may stand `depth` levels deep.
 #[cycle(measure)]
 pub(crate) fn pairs_len(entries: &[TableEntry], depth: usize) -> Option<usize>
-    ensures cases { MatchOption result (ArePairsWithin depth (pairs_view entries.now) → ⊥) (λ n. ArePairsWithin depth (pairs_view entries.now) × (n ≡ length (pairs_bytes (pairs_view entries.now)))) }
+    ensures cases { MatchOption result (ArePairsWithin depth (pairs_view entries.now) → ⊥)
+        (λ n. ArePairsWithin depth (pairs_view entries.now) × (n ≡ length (pairs_bytes (pairs_view entries.now)))) }
     ensures bound { IfSome result (λ n. n < 2 ^ 32) }
 {
     let mut len = 0;
@@ -29,7 +30,8 @@ pub(crate) fn pairs_len(entries: &[TableEntry], depth: usize) -> Option<usize>
 /// How many bytes a name and its value have.
 #[cycle(measure)]
 fn entry_len(entry: &TableEntry, depth: usize) -> Option<usize>
-    ensures cases { MatchOption result (IsEntry depth (entry_view entry.now) → ⊥) (λ n. IsEntry depth (entry_view entry.now) × (n ≡ length (entry_bytes (entry_view entry.now)))) }
+    ensures cases { MatchOption result (IsEntry depth (entry_view entry.now) → ⊥)
+        (λ n. IsEntry depth (entry_view entry.now) × (n ≡ length (entry_bytes (entry_view entry.now)))) }
     ensures bound { IfSome result (λ n. n < 2 ^ 34) }
 {
     let name = entry.name.len();
@@ -43,7 +45,8 @@ fn entry_len(entry: &TableEntry, depth: usize) -> Option<usize>
 /// How many bytes the values of an array have, in which arrays and tables may stand `depth` levels deep.
 #[cycle(measure)]
 pub(crate) fn values_len(values: &[Field], depth: usize) -> Option<usize>
-    ensures cases { MatchOption result (AreValuesWithin depth (array_view values.now) → ⊥) (λ n. AreValuesWithin depth (array_view values.now) × (n ≡ length (values_bytes (array_view values.now)))) }
+    ensures cases { MatchOption result (AreValuesWithin depth (array_view values.now) → ⊥)
+        (λ n. AreValuesWithin depth (array_view values.now) × (n ≡ length (values_bytes (array_view values.now)))) }
     ensures bound { IfSome result (λ n. n < 2 ^ 32) }
 {
     let mut len = 0;
@@ -59,7 +62,9 @@ pub(crate) fn values_len(values: &[Field], depth: usize) -> Option<usize>
 /// How many bytes a value has, with its letter.
 #[cycle(measure)]
 fn field_len(field: &Field, depth: usize) -> Option<usize>
-    ensures cases { MatchOption result (IsValue depth (field_view field.now) → ⊥) (λ n. IsValue depth (field_view field.now) × (n ≡ length (letter (field_view field.now) ∷ content (field_view field.now)))) }
+    ensures cases { MatchOption result (IsValue depth (field_view field.now) → ⊥)
+        (λ n. IsValue depth (field_view field.now)
+        × (n ≡ length (letter (field_view field.now) ∷ content (field_view field.now)))) }
     ensures bound { IfSome result (λ n. n < 2 ^ 33) }
 {
     match field {

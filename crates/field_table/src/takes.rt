@@ -2,7 +2,18 @@
 
 ghost use Rattle.std.specs.Prelude.{◌≡◌, ℕ, List, [], ◌∷◌, option_map};
 ghost use Rattle.model.specs.Grammar.{Argument, Octet, Short, Long, Long_long, Short_text, Long_text, Field_table, Bits};
-ghost use Rattle.field_table.specs.Arguments.{long_text_at as read_long_text, argument_at, an_octet, a_short, a_long, a_long_long, a_short_text, a_long_text, a_field_table, some_bits};
+ghost use Rattle.field_table.specs.Arguments.{
+  long_text_at as read_long_text,
+  argument_at,
+  an_octet,
+  a_short,
+  a_long,
+  a_long_long,
+  a_short_text,
+  a_long_text,
+  a_field_table,
+  some_bits,
+};
 
 use byteorder::{BigEndian, ByteOrder};
 

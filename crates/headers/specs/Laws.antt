@@ -11,12 +11,16 @@ OneHeader = (payload : List ℕ) (r q : Result Header ℕ) → SaysHeader payloa
 -- What is a syntax error, 502, in a payload that has the fixed fields of a header.
 pub record SyntaxErrors : Type 0 where
   -- flag bit 1 or 0 is set
-  pub low_flags : (payload : List ℕ) → 14 ≤ length payload → class_at payload ≡ 60 → weight_at payload ≡ 0 → flags_at payload % 4 ≢ 0 → SaysHeader payload (Err 502)
+  pub low_flags : (payload : List ℕ) → 14 ≤ length payload → class_at payload ≡ 60
+      → weight_at payload ≡ 0 → flags_at payload % 4 ≢ 0 → SaysHeader payload (Err 502)
   -- properties end early: it lacks bytes to be a header
-  pub end_early : (payload more : List ℕ) (h : Header) → 14 ≤ length payload → class_at payload ≡ 60 → weight_at payload ≡ 0 → h.size < 2 ^ 64 → AreProperties h.properties
+  pub end_early : (payload more : List ℕ) (h : Header) → 14 ≤ length payload → class_at payload ≡ 60 → weight_at payload ≡ 0
+      → h.size < 2 ^ 64 → AreProperties h.properties
       → payload ++ more ≡ header_bytes h.size h.properties → more ≢ [] → SaysHeader payload (Err 502)
   -- bytes are left over behind the properties
-  pub left_over : (h : Header) (more : List ℕ) → h.size < 2 ^ 64 → AreProperties h.properties → more ≢ [] → SaysHeader (header_bytes h.size h.properties ++ more) (Err 502)
+  pub left_over : (h : Header) (more : List ℕ) → h.size < 2 ^ 64 → AreProperties h.properties
+      → more ≢ [] → SaysHeader (header_bytes h.size h.properties ++ more) (Err 502)
   -- the headers, and they alone, are no table
-  pub bad_table : (h : Header) (pairs : List ℕ) → h.size < 2 ^ 64 → AreProperties (record h.properties { headers = None }) → h.properties.headers ≡ Some pairs → length pairs < 2 ^ 32
-      → (IsTable pairs → ⊥) → SaysHeader (header_bytes h.size h.properties) (Err 502)
+  pub bad_table : (h : Header) (pairs : List ℕ) → h.size < 2 ^ 64
+      → AreProperties (record h.properties { headers = None }) → h.properties.headers ≡ Some pairs
+      → length pairs < 2 ^ 32 → (IsTable pairs → ⊥) → SaysHeader (header_bytes h.size h.properties) (Err 502)

@@ -17,7 +17,8 @@ row bit kind = record { bit = bit; kind = kind }
 
 -- content-type, content-encoding, headers, delivery-mode, priority, correlation-id, reply-to
 abbrev pub front_rows : List Row
-front_rows = row 15 a_short_text ∷ row 14 a_short_text ∷ row 13 a_field_table ∷ row 12 an_octet ∷ row 11 an_octet ∷ row 10 a_short_text ∷ row 9 a_short_text ∷ []
+front_rows = row 15 a_short_text ∷ row 14 a_short_text ∷ row 13 a_field_table
+    ∷ row 12 an_octet ∷ row 11 an_octet ∷ row 10 a_short_text ∷ row 9 a_short_text ∷ []
 
 -- expiration, message-id, timestamp, type, user-id, app-id, reserved
 abbrev pub back_rows : List Row

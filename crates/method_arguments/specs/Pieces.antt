@@ -44,7 +44,8 @@ onto_arguments (Some a) others = a ∷ others
 
 -- all of them
 abbrev pub given : Pieces → List Argument
-given p = onto_arguments (piece_seen p.first) (onto_arguments (piece_seen p.second) (onto_arguments (piece_seen p.third) (onto_arguments (piece_seen p.fourth) (onto_arguments (piece_seen p.fifth) []))))
+given p = onto_arguments (piece_seen p.first) (onto_arguments (piece_seen p.second)
+    (onto_arguments (piece_seen p.third) (onto_arguments (piece_seen p.fourth) (onto_arguments (piece_seen p.fifth) []))))
 
 -- the kind of a piece, if it is an argument
 abbrev pub kind_in : Piece → Option arguments.Kind

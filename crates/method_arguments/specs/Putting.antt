@@ -6,7 +6,8 @@ use Rattle.method_arguments.specs.Pieces.{piece_seen}
 
 -- how arguments are spelled, one after another
 abbrev pub pieces_bytes : Pieces → List ℕ
-pieces_bytes p = value_of (piece_seen p.first) ++ (value_of (piece_seen p.second) ++ (value_of (piece_seen p.third) ++ (value_of (piece_seen p.fourth) ++ value_of (piece_seen p.fifth))))
+pieces_bytes p = value_of (piece_seen p.first) ++ (value_of (piece_seen p.second)
+    ++ (value_of (piece_seen p.third) ++ (value_of (piece_seen p.fourth) ++ value_of (piece_seen p.fifth))))
 
 -- each of them has a spelling
 pub record AreSpelled (p : Pieces) : Type 0 where

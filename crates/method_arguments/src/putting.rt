@@ -35,7 +35,8 @@ pub fn pieces_len(pieces: &Pieces<'_>) -> Option<usize>
 
 // How many bytes a piece has, if its text is not too long.
 fn piece_len(piece: &Piece<'_>) -> Option<usize>
-    ensures cases { MatchOption result (IsValue (piece_seen piece.now) → ⊥) (λ n. IsValue (piece_seen piece.now) × (n ≡ length (value_of (piece_seen piece.now)))) }
+    ensures cases { MatchOption result (IsValue (piece_seen piece.now) → ⊥)
+        (λ n. IsValue (piece_seen piece.now) × (n ≡ length (value_of (piece_seen piece.now)))) }
     ensures bound { IfSome result (λ n. n < 2 ^ 33) }
 {
     match piece {

@@ -1,7 +1,18 @@
 //! Arguments are taken from the front of bytes, by their kinds.
 
 ghost use Rattle.std.specs.Prelude.{◌≡◌, ◌≤◌, length, option_map, None, Some, IfSome, MatchOption};
-ghost use Rattle.field_table.specs.Arguments.{argument_at, arguments_at, an_octet, a_short, a_long, a_long_long, a_short_text, a_long_text, a_field_table, some_bits};
+ghost use Rattle.field_table.specs.Arguments.{
+  argument_at,
+  arguments_at,
+  an_octet,
+  a_short,
+  a_long,
+  a_long_long,
+  a_short_text,
+  a_long_text,
+  a_field_table,
+  some_bits,
+};
 ghost use Rattle.method_arguments.specs.Pieces.{kind as as_kind, kind_in, kinds_in, piece_seen};
 ghost use Rattle.method_arguments.specs.Taking.{TakesArgument, AreRead, found};
 

@@ -2,9 +2,48 @@
 
 ghost use Rattle.std.specs.Prelude.{◌≡◌, [], ◌∷◌};
 ghost use Rattle.model.specs.Grammar.{arguments, Long, Short_text, Long_text, Bits};
-ghost use Rattle.model.specs.declared.methods.Method.TheVariants.{ConnectionStart, ConnectionStartOk, ConnectionTune, ConnectionOpen, ConnectionClose, ExchangeDeclare, QueueDeclare, QueueDeclareOk, QueuePurge, BasicQos, BasicConsume, BasicCancel, BasicPublish, BasicReturn, BasicDeliver, BasicGet, BasicGetOk, BasicAck, BasicReject, BasicNack};
+ghost use Rattle.model.specs.declared.methods.Method.TheVariants.{
+  ConnectionStart,
+  ConnectionStartOk,
+  ConnectionTune,
+  ConnectionOpen,
+  ConnectionClose,
+  ExchangeDeclare,
+  QueueDeclare,
+  QueueDeclareOk,
+  QueuePurge,
+  BasicQos,
+  BasicConsume,
+  BasicCancel,
+  BasicPublish,
+  BasicReturn,
+  BasicDeliver,
+  BasicGet,
+  BasicGetOk,
+  BasicAck,
+  BasicReject,
+  BasicNack,
+};
 ghost use Rattle.field_table.specs.Arguments.{arguments_at, a_long, a_short_text, a_long_text, some_bits};
-ghost use Rattle.methods.specs.Kinds.{start_kinds, start_ok_kinds, tuning_kinds, open_kinds, close_kinds, declare_exchange_kinds, declare_queue_kinds, declared_kinds, queue_kinds, qos_kinds, consume_kinds, cancel_kinds, publish_kinds, return_kinds, deliver_kinds, get_ok_kinds, tag_kinds};
+ghost use Rattle.methods.specs.Kinds.{
+  start_kinds,
+  start_ok_kinds,
+  tuning_kinds,
+  open_kinds,
+  close_kinds,
+  declare_exchange_kinds,
+  declare_queue_kinds,
+  declared_kinds,
+  queue_kinds,
+  qos_kinds,
+  consume_kinds,
+  cancel_kinds,
+  publish_kinds,
+  return_kinds,
+  deliver_kinds,
+  get_ok_kinds,
+  tag_kinds,
+};
 ghost use Rattle.methods.specs.Reading.{GivesArguments};
 
 use crate::refusals::BadMethod;

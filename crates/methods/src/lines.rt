@@ -2,7 +2,28 @@
 
 ghost use Rattle.std.specs.Prelude.{◌≡◌};
 ghost use Rattle.model.specs.Grammar.{arguments};
-ghost use Rattle.model.specs.declared.methods.Method.TheVariants.{ConnectionStart, ConnectionStartOk, ConnectionTune, ConnectionOpen, ConnectionClose, ExchangeDeclare, QueueDeclare, QueueDeclareOk, QueuePurge, BasicQos, BasicConsume, BasicCancel, BasicPublish, BasicReturn, BasicDeliver, BasicGet, BasicGetOk, BasicAck, BasicReject, BasicNack};
+ghost use Rattle.model.specs.declared.methods.Method.TheVariants.{
+  ConnectionStart,
+  ConnectionStartOk,
+  ConnectionTune,
+  ConnectionOpen,
+  ConnectionClose,
+  ExchangeDeclare,
+  QueueDeclare,
+  QueueDeclareOk,
+  QueuePurge,
+  BasicQos,
+  BasicConsume,
+  BasicCancel,
+  BasicPublish,
+  BasicReturn,
+  BasicDeliver,
+  BasicGet,
+  BasicGetOk,
+  BasicAck,
+  BasicReject,
+  BasicNack,
+};
 ghost use Rattle.method_arguments.specs.declared.pieces.Piece.TheVariants.{Nothing};
 ghost use Rattle.method_arguments.specs.Pieces.{given};
 

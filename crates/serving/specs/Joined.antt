@@ -1,5 +1,6 @@
 -- What came of each socket, connection by connection (own): the pieces that arrived for a connection are what was read from its socket.
-use Rattle.std.specs.Prelude.{◌≡◌, ◌+◌, ℕ, List, [], ◌∷◌, ◌++◌, length, filter_map, flat_map, sum_by, count_by, Bool, false, not, ◌==◌, ◌&&◌, Option, Some, None, if◌then◌else◌}
+use Rattle.std.specs.Prelude.{◌≡◌, ◌+◌, ℕ, List, [], ◌∷◌, ◌++◌, length, filter_map, flat_map, sum_by}
+use Rattle.std.specs.Prelude.{count_by, Bool, false, not, ◌==◌, ◌&&◌, Option, Some, None, if◌then◌else◌}
 use Rattle.model.specs.Topology.{IsIn}
 use Rattle.model.specs.State.{Config}
 use Rattle.model.specs.Run.{put_out}
@@ -104,8 +105,11 @@ bytes_out c arrived = sum_by (λ (n : ℕ). n) (filter_map (amount_for c) arrive
 
 -- where the totals of a socket that was met are told, as many bytes came in for its connection and were taken of its output
 abbrev pub AreCounted : List Deed → Told → Type 0
-AreCounted deeds told = (p : Peer) → IsIn p (all_met deeds) → (t : Totals) → told.totals p.socket ≡ Some t → (t.got ≡ bytes_in p.connection (flat_map attempts deeds)) × (t.taken ≡ bytes_out p.connection (flat_map attempts deeds))
+AreCounted deeds told = (p : Peer) → IsIn p (all_met deeds) → (t : Totals) → told.totals p.socket ≡ Some t
+    → (t.got ≡ bytes_in p.connection (flat_map attempts deeds))
+    × (t.taken ≡ bytes_out p.connection (flat_map attempts deeds))
 
 -- all that a socket took, in order, is a beginning of what was put out for its connection
 abbrev pub AreBeginnings : List Deed → List Occurrence → Type 0
-AreBeginnings deeds os = (p : Peer) → IsIn p (all_met deeds) → (rest : List ℕ) × (flat_map (written_to p.socket) (flat_map calls deeds) ++ rest ≡ put_out p.connection (events_of os))
+AreBeginnings deeds os = (p : Peer) → IsIn p (all_met deeds) → (rest : List ℕ)
+    × (flat_map (written_to p.socket) (flat_map calls deeds) ++ rest ≡ put_out p.connection (events_of os))

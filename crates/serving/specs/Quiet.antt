@@ -44,7 +44,8 @@ IsOther c ps i = (p : Peer) → At ps i p → p.connection ≢ c
 abbrev pub Wakes : ℕ → List (Option Peer) → List Bool → List Bool → Type 0
 Wakes c ps old new = (i : ℕ) → IsMarkedAt new i ↔ IsMarkedAt old i × IsOther c ps i
 
--- What a server keeps: each slot has a connection of its own, none that is over with no output left, each that is marked is quiet, there is a slot for all that may stand, and the buffer has its room.
+-- What a server keeps: each slot has a connection of its own, none that is over with no output left,
+-- each that is marked is quiet, there is a slot for all that may stand, and the buffer has its room.
 pub record IsServerKept (w : World) (peers : Slab Peer) (marks : List Bool) (buffer : List ℕ) : Type 0 where
   pub fit : IsFit w peers.slots
   pub ended : (i : ℕ) → HasEnded w peers.slots i

@@ -1,5 +1,7 @@
--- What a server does: what it asks of its wire, what is answered, and which arrivals it makes of that, the pumps that it makes by itself, and the reloads that it is called for (own).
-use Rattle.std.specs.Prelude.{◌≡◌, ◌≢◌, ◌≤◌, ◌+◌, ◌&&◌, not, ℕ, zero, suc, List, [], ◌∷◌, ◌++◌, length, take, flat_map, Bool, true, false, Option, Some, None, slice_index_or, slice_set, if◌then◌else◌, MatchBool}
+-- What a server does: what it asks of its wire, what is answered, and which arrivals it makes of that,
+-- the pumps that it makes by itself, and the reloads that it is called for (own).
+use Rattle.std.specs.Prelude.{◌≡◌, ◌≢◌, ◌≤◌, ◌+◌, ◌&&◌, not, ℕ, zero, suc, List, [], ◌∷◌, ◌++◌, length, take, flat_map}
+use Rattle.std.specs.Prelude.{Bool, true, false, Option, Some, None, slice_index_or, slice_set, if◌then◌else◌, MatchBool}
 use Rattle.std.specs.List.{list_any}
 use Rattle.model.specs.State.{Config}
 use Rattle.model.specs.History.{Occurrence}
@@ -7,7 +9,8 @@ use Rattle.model.specs.Headline.{IsSound}
 use Rattle.model.specs.Consuming.{CanDeliver}
 use Rattle.model.specs.Arrivals.{World, Answers, NoneCanDeliver, is_gone, can_open}
 use Rattle.model.specs.declared.events.Arrival.TheVariants as arrival
-use Rattle.serving.specs.Wire.{Call, Accepted, Not_accepted, Accept_failed, Got, Nothing_got, Read_ended, Read_failed, Took, Nothing_taken, Write_failed, Closed, Welcomed, Rested, Ask, asks, Told, Tells, IsFresh}
+use Rattle.serving.specs.Wire.{Call, Accepted, Not_accepted, Accept_failed, Got, Nothing_got, Read_ended, Read_failed}
+use Rattle.serving.specs.Wire.{Took, Nothing_taken, Write_failed, Closed, Welcomed, Rested, Ask, asks, Told, Tells, IsFresh}
 use Rattle.serving.specs.Coming.{Attempt, whole, short, Brings, Attempts}
 use Rattle.runs.specs.Wants.{Lacks, To_open}
 use Rattle.runs.specs.Opened.{runs}
@@ -174,7 +177,8 @@ abbrev pub MayTurnAway : Lacks → World → Bool → Type 0
 MayTurnAway L w true = can_open w ≡ false
 MayTurnAway L w false = L w To_open
 
--- what a deed is about stands so in the slots, a read is offered at least 16 and at most 65,536 bytes, what a write was offered is all of the connection's own output and what it took the first of that, a delivery could be made where one was, and what a reload offers is sound
+-- what a deed is about stands so in the slots, a read is offered at least 16 and at most 65,536 bytes, what a write was offered is all of
+-- the connection's own output and what it took the first of that, a delivery could be made where one was, and what a reload offers is sound
 abbrev pub Table : Lacks → Served → Deed → List (Option Peer) → Type 0
 Table L v (Met i p) new = (can_open v.world ≡ true) × (p.connection ≡ v.world.given + 1) × IsFresh p.socket v.told × Filled v.peers i p new
 Table L v (Turned_away s o) new = (o.arrival ≡ arrival.Open) × MayTurnAway L v.world o.is_whole × IsFresh s v.told × (new ≡ v.peers)
@@ -197,7 +201,8 @@ Table L v (Reload_undecided g) new = IsSound g × (new ≡ v.peers)
 
 -- A socket that came is taken in, or it is not and nothing changes.
 abbrev pub TakesIn : Lacks → World → List (Option Peer) → ℕ → Bool → World → List (Option Peer) → Type 0
-TakesIn L old ps s true new now = (can_open old ≡ true) × ((os : List Occurrence) × Answers old arrival.Open os new) × ((i : ℕ) × Filled ps i (record { connection = old.given + 1; socket = s }) now)
+TakesIn L old ps s true new now = (can_open old ≡ true) × ((os : List Occurrence) × Answers old arrival.Open os new)
+    × ((i : ℕ) × Filled ps i (record { connection = old.given + 1; socket = s }) now)
 TakesIn L old ps s false new now = ((o : Attempt) × (o.arrival ≡ arrival.Open) × MayTurnAway L old o.is_whole × Brings L old o [] new) × (now ≡ ps)
 
 -- the connection did not run, and runs now
@@ -220,7 +225,8 @@ pub record DoesDeed (L : Lacks) (old : Served) (d : Deed) (os : List Occurrence)
 -- These deeds, one after another.
 abbrev pub Story : Lacks → Served → List Deed → List Occurrence → Served → Type 0
 Story L old [] os new = (os ≡ []) × (new ≡ old)
-Story L old (d ∷ ds) os new = (mid : Served) × (first : List Occurrence) × (rest : List Occurrence) × (os ≡ first ++ rest) × DoesDeed L old d first mid × Story L mid ds rest new
+Story L old (d ∷ ds) os new = (mid : Served) × (first : List Occurrence) × (rest : List Occurrence)
+    × (os ≡ first ++ rest) × DoesDeed L old d first mid × Story L mid ds rest new
 
 -- A server goes on so: it asks this of its wire, makes no pump, no rest and no reload, and does something or not.
 pub record Serves (L : Lacks) (old : Served) (asked : List Ask) (acted : Bool) (new : Served) : Type 0 where

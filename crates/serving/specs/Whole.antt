@@ -62,7 +62,8 @@ IsOf ps deeds p = ((i : ℕ) × At ps i p) ⊎ IsIn p (all_met deeds)
 
 -- what its socket takes by these deeds goes on from the output that was not yet written, behind which stands what is put out meanwhile
 abbrev pub TakesOn : Served → List Deed → List Occurrence → Peer → Type 0
-TakesOn old deeds os p = (rest : List ℕ) × (flat_map (written_to p.socket) (flat_map calls deeds) ++ rest ≡ (old.world.wire p.connection).output ++ put_out p.connection (events_of os))
+TakesOn old deeds os p = (rest : List ℕ)
+    × (flat_map (written_to p.socket) (flat_map calls deeds) ++ rest ≡ (old.world.wire p.connection).output ++ put_out p.connection (events_of os))
 
 -- What a server does goes on from where it stands:
 pub record GoesOn (L : Lacks) (old new : Served) : Type 0 where

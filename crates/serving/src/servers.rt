@@ -81,7 +81,8 @@ impl<M: Machine> Server<M> {
     /// write of all that waits for each with output, the end of those that are over with no output left, and a rest where nothing
     /// was done. A socket is welcomed exactly as its connection comes to run.
     pub fn round<W: Wire>(&mut self, alloc: Global, wire: &mut W)
-        ensures { IsRound M.lacks (served (M.world self.old.machine) self.old.peers (W.told wire.old)) (served (M.world self.new.machine) self.new.peers (W.told wire.new)) }
+        ensures { IsRound M.lacks (served (M.world self.old.machine) self.old.peers (W.told wire.old))
+            (served (M.world self.new.machine) self.new.peers (W.told wire.new)) }
     {
         round(
             alloc,
@@ -101,7 +102,9 @@ impl<M: Machine> Server<M> {
         ensures wants { IsMemory result → M.lacks (M.world self.old.machine) (To_reload (M.config setup)) }
         ensures peers { self.new.peers ≡ self.old.peers }
         // Whatever was served before is served after, over whatever a wire told.
-        ensures served { (f : Config) (told now : Told) → IsServed M.lacks f told (served (M.world self.old.machine) self.old.peers now) → IsServed M.lacks f told (served (M.world self.new.machine) self.new.peers now) }
+        ensures served { (f : Config) (told now : Told)
+            → IsServed M.lacks f told (served (M.world self.old.machine) self.old.peers now)
+            → IsServed M.lacks f told (served (M.world self.new.machine) self.new.peers now) }
     {
         M::offers_sound(&setup);
         self.machine.reload(alloc, setup)
@@ -117,18 +120,25 @@ impl<M: Machine> Server<M> {
 
 /// A new server of a machine with no connection is served: nothing was done yet.
 pub fn new_is_served<M: Machine, W: Wire>(server: &Server<M>, wire: &W)
-    ensures { (f : Config) → M.world server.now.machine ≡ new_world f → server.now.peers ≡ [] → IsServed M.lacks f (W.told wire.now) (served (M.world server.now.machine) server.now.peers (W.told wire.now)) }
+    ensures { (f : Config) → M.world server.now.machine ≡ new_world f → server.now.peers ≡ []
+        → IsServed M.lacks f (W.told wire.now) (served (M.world server.now.machine) server.now.peers (W.told wire.now)) }
 {
     server.is_sound();
 }
 
 /// That many rounds.
 pub fn serve<M: Machine, W: Wire>(alloc: Global, server: &mut Server<M>, wire: &mut W, turns: u64)
-    ensures rounds { Rounds M.lacks turns (served (M.world server.old.machine) server.old.peers (W.told wire.old)) (served (M.world server.new.machine) server.new.peers (W.told wire.new)) }
+    ensures rounds { Rounds M.lacks turns (served (M.world server.old.machine) server.old.peers (W.told wire.old))
+        (served (M.world server.new.machine) server.new.peers (W.told wire.new)) }
     // Whatever was served before is served after: what arrived since the server was new, and that the promises are kept.
-    ensures served { (f : Config) (told : Told) → IsServed M.lacks f told (served (M.world server.old.machine) server.old.peers (W.told wire.old)) → IsServed M.lacks f told (served (M.world server.new.machine) server.new.peers (W.told wire.new)) }
+    ensures served { (f : Config) (told : Told)
+        → IsServed M.lacks f told (served (M.world server.old.machine) server.old.peers (W.told wire.old))
+        → IsServed M.lacks f told (served (M.world server.new.machine) server.new.peers (W.told wire.new)) }
     // It goes on from where the server stood: from bytes not yet performed, and from output not yet written.
-    ensures goes_on { (f : Config) (told : Told) → IsServed M.lacks f told (served (M.world server.old.machine) server.old.peers (W.told wire.old)) → GoesOn M.lacks (served (M.world server.old.machine) server.old.peers (W.told wire.old)) (served (M.world server.new.machine) server.new.peers (W.told wire.new)) }
+    ensures goes_on { (f : Config) (told : Told)
+        → IsServed M.lacks f told (served (M.world server.old.machine) server.old.peers (W.told wire.old))
+        → GoesOn M.lacks (served (M.world server.old.machine) server.old.peers (W.told wire.old))
+        (served (M.world server.new.machine) server.new.peers (W.told wire.new)) }
 {
     for _ in 0..turns {
         server.round(alloc, wire);

@@ -31,13 +31,17 @@ open_of host = ConnectionOpen (record { virtual_host = host; reserved_text = [];
 -- the frames of an opening as they are written
 pub record OpeningFrames : Type 0 where
   -- tune, where start-ok was a login
-  pub tune : spelling 4096 (opening_move 1 true new_session phase.Start 0 (ConnectionStartOk (record { client_properties = []; mechanism = []; response = []; locale = [] }))).sends
+  pub tune : spelling 4096 (opening_move 1 true new_session phase.Start 0
+      (ConnectionStartOk (record { client_properties = []; mechanism = []; response = []; locale = [] }))).sends
       ≡ 1 ∷ 0 ∷ 0 ∷ 0 ∷ 0 ∷ 0 ∷ 12 ∷ 0 ∷ 10 ∷ 0 ∷ 30 ∷ 0 ∷ 255 ∷ 0 ∷ 2 ∷ 0 ∷ 0 ∷ 0 ∷ 0 ∷ 206 ∷ []
   -- tune-ok is not answered: 0 means the server's limits
-  pub tuned : opening_move 1 false new_session phase.Tune 0 (tune_ok 0 0 0) ≡ record { sends = []; next = record { phase = phase.Open; channel_max = 255; frame_max = 131072 } }
-  pub lower : opening_move 1 false new_session phase.Tune 0 (tune_ok 10 4096 0) ≡ record { sends = []; next = record { phase = phase.Open; channel_max = 10; frame_max = 4096 } }
+  pub tuned : opening_move 1 false new_session phase.Tune 0 (tune_ok 0 0 0)
+      ≡ record { sends = []; next = record { phase = phase.Open; channel_max = 255; frame_max = 131072 } }
+  pub lower : opening_move 1 false new_session phase.Tune 0 (tune_ok 10 4096 0)
+      ≡ record { sends = []; next = record { phase = phase.Open; channel_max = 10; frame_max = 4096 } }
   -- open-ok
-  pub opened : spelling 131072 (opening_move 1 false new_session phase.Open 0 (open_of (codes "/"))).sends ≡ 1 ∷ 0 ∷ 0 ∷ 0 ∷ 0 ∷ 0 ∷ 5 ∷ 0 ∷ 10 ∷ 0 ∷ 41 ∷ 0 ∷ 206 ∷ []
+  pub opened : spelling 131072 (opening_move 1 false new_session phase.Open 0 (open_of (codes "/"))).sends
+      ≡ 1 ∷ 0 ∷ 0 ∷ 0 ∷ 0 ∷ 0 ∷ 5 ∷ 0 ∷ 10 ∷ 0 ∷ 41 ∷ 0 ∷ 206 ∷ []
 
 -- what is refused
 pub record OpeningRefusals : Type 0 where

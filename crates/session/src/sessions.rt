@@ -235,7 +235,8 @@ impl Session {
     ) -> Result<Vec<Send>, AllocError>
         ensures own { IfOk result (λ sends. AreOwn connection sends.items) }
         ensures quiet { (move : Move) → MovesInOpening users.now connection self.old channel method.now move → move.sends ≡ [] → IsOk result }
-        ensures opens { IfOk result (λ sends. MovesInOpening users.now connection self.old channel method.now (record { sends = sends.items; next = self.new })) }
+        ensures opens { IfOk result (λ sends. MovesInOpening users.now connection self.old channel method.now
+            (record { sends = sends.items; next = self.new })) }
         ensures err { OnErr result (self.new ≡ self.old) }
     {
         let is_user = logs_in(users, self.phase, method);
@@ -276,7 +277,8 @@ impl Session {
     ) -> Result<Vec<Send>, AllocError>
         ensures own { IfOk result (λ sends. AreOwn connection sends.items) }
         ensures quiet { (move : Move) → IsAnswered users.now connection self.old self.old.phase channel method.now move → move.sends ≡ [] → IsOk result }
-        ensures answered { IfOk result (λ sends. IsAnswered users.now connection self.old self.old.phase channel method.now (record { sends = sends.items; next = self.new })) }
+        ensures answered { IfOk result (λ sends. IsAnswered users.now connection self.old self.old.phase channel method.now
+            (record { sends = sends.items; next = self.new })) }
         ensures err { OnErr result (self.new ≡ self.old) }
     {
         match self.phase {
@@ -297,7 +299,8 @@ impl Session {
     ) -> Result<Vec<Send>, AllocError>
         ensures own { IfOk result (λ sends. AreOwn connection sends.items) }
         ensures quiet { (move : Move) → IsAnswered users.now connection self.old self.old.phase channel empty_publish move → move.sends ≡ [] → IsOk result }
-        ensures answered { IfOk result (λ sends. IsAnswered users.now connection self.old self.old.phase channel empty_publish (record { sends = sends.items; next = self.new })) }
+        ensures answered { IfOk result (λ sends. IsAnswered users.now connection self.old self.old.phase channel empty_publish
+            (record { sends = sends.items; next = self.new })) }
         ensures err { OnErr result (self.new ≡ self.old) }
     {
         let publish = Publish {

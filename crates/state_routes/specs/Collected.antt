@@ -47,12 +47,15 @@ names_if met ps queues = if met then names_onto ps queues else ps
 -- the keys of those of these exchanges that are marked
 abbrev pub met_onto : Topology → List Bool → List Tracked → List Exchange → List Tracked
 met_onto t marks ps [] = ps
-met_onto t marks ps (x ∷ xs) = met_onto t marks (if slice_index_or marks (node t.exchanges x.name) false then keys_by_onto ps x.kind x.name t.bindings else ps) xs
+met_onto t marks ps (x ∷ xs) = met_onto t marks
+    (if slice_index_or marks (node t.exchanges x.name) false then keys_by_onto ps x.kind x.name t.bindings else ps) xs
 
 -- the pattern, then those that take keys out, then the queue names where the default exchange is marked, then the keys of the marked exchanges
 abbrev pub collected : Topology → Text → List Text → List Bool → List Tracked
-collected t pattern excepts marks = met_onto t marks (names_if (slice_index_or marks 2 false) (topics_onto (onto_tracked [] Topic pattern) excepts) t.queues) t.exchanges
+collected t pattern excepts marks = met_onto t marks (names_if (slice_index_or marks 2 false)
+    (topics_onto (onto_tracked [] Topic pattern) excepts) t.queues) t.exchanges
 
 -- the marks are those of the exchanges that a message may meet under its own key, of a `never` also as a dead letter
 abbrev pub AreInReach : Topology → Mode → Text → Text → List Bool → Type 0
-AreInReach t m x q marks = (deaths : List Gate) × AreEntered t [] (IsUnfixedEnd t) (dying m t.queues) deaths × AreReached (any_links t q ++ links_in deaths) (count t) (node t.exchanges x) marks
+AreInReach t m x q marks = (deaths : List Gate) × AreEntered t [] (IsUnfixedEnd t) (dying m t.queues) deaths
+    × AreReached (any_links t q ++ links_in deaths) (count t) (node t.exchanges x) marks

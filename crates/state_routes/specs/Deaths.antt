@@ -37,7 +37,9 @@ default_entry ps name to = record { link = record { from = 2; to = to }; test = 
 -- each way into the queue of this name, ending at this place instead
 abbrev pub entries : List Exchange → List Tracked → Text → ℕ → List Binding → List Gate
 entries exchanges ps name to [] = default_entry ps name to ∷ []
-entries exchanges ps name to (b ∷ bs) = if is_into_queue b.to name then entry exchanges ps to b ∷ entries exchanges ps name to bs else entries exchanges ps name to bs
+entries exchanges ps name to (b ∷ bs) =
+    if is_into_queue b.to name then entry exchanges ps to b ∷ entries exchanges ps name to bs
+    else entries exchanges ps name to bs
 
 -- the same, or nothing where dead letters of the queue do not lead on
 abbrev pub entries_through : List Exchange → List Tracked → Text → List Binding → Option ℕ → List Gate
@@ -47,7 +49,9 @@ entries_through exchanges ps name bs (Some to) = entries exchanges ps name to bs
 -- The ways into each of these queues, ending where its dead letters lead on.
 pub data AreEntered (t : Topology) (ps : List Tracked) (Ends : DeclaredQueue → Option ℕ → Type 0) : List DeclaredQueue → List Gate → Type 0 where
   none : AreEntered t ps Ends [] []
-  next : {last : DeclaredQueue} {queues : List DeclaredQueue} {gates : List Gate} (end : Option ℕ) → Ends last end → AreEntered t ps Ends queues gates → AreEntered t ps Ends (last ∷ queues) (entries_through t.exchanges ps last.name t.bindings end ++ gates)
+  next : {last : DeclaredQueue} {queues : List DeclaredQueue} {gates : List Gate} (end : Option ℕ)
+      → Ends last end → AreEntered t ps Ends queues gates
+      → AreEntered t ps Ends (last ∷ queues) (entries_through t.exchanges ps last.name t.bindings end ++ gates)
 
 -- the links of these gates
 abbrev pub links_in : List Gate → List Hop

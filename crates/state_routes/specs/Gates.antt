@@ -1,5 +1,6 @@
 -- Bindings as gates between places: each asks whether a tracked pattern accepts the key.
-use Rattle.std.specs.Prelude.{ℕ, zero, suc, List, [], ◌∷◌, ◌++◌, Bool, true, false, not, ◌&&◌, ◌||◌, ◌==◌, Option, Some, None, slice_get, unwrap_or, option_map, if◌then◌else◌, find}
+use Rattle.std.specs.Prelude.{ℕ, zero, suc, List, [], ◌∷◌, ◌++◌, Bool, true, false, not, ◌&&◌, ◌||◌, ◌==◌}
+use Rattle.std.specs.Prelude.{Option, Some, None, slice_get, unwrap_or, option_map, if◌then◌else◌, find}
 use Rattle.std.specs.List.{list_any}
 use Rattle.std.specs.Str.{bytes_eq}
 use Rattle.model.specs.Words.{Text}
@@ -58,7 +59,9 @@ default_gate ps queue = record { link = record { from = 2; to = 0 }; test = Patt
 
 -- the gates of a topology: those of its bindings, and the default exchange's to the queue, if it is there
 abbrev pub gates_of : Topology → Text → List Tracked → List Gate
-gates_of t queue ps = if has_queue t.queues queue then binding_gates t.exchanges queue ps t.bindings ++ default_gate ps queue ∷ [] else binding_gates t.exchanges queue ps t.bindings
+gates_of t queue ps =
+    if has_queue t.queues queue then binding_gates t.exchanges queue ps t.bindings ++ default_gate ps queue ∷ []
+    else binding_gates t.exchanges queue ps t.bindings
 
 -- ---- by what the tracked patterns accept
 

@@ -26,4 +26,6 @@ with_text keys Topic text = record keys { topic = keys.topic ++ text ∷ [] }
 
 -- these are the texts of the patterns, each under its kind
 abbrev pub AreKeysOf : ByKind → List Tracked → Type 0
-AreKeysOf keys ps = (kind : ExchangeKind) (text : Text) → (IsIn text (texts_by keys kind) → IsIn (record { kind = kind; text = text }) ps) × (IsIn (record { kind = kind; text = text }) ps → IsIn text (texts_by keys kind))
+AreKeysOf keys ps = (kind : ExchangeKind) (text : Text)
+    → (IsIn text (texts_by keys kind) → IsIn (record { kind = kind; text = text }) ps)
+    × (IsIn (record { kind = kind; text = text }) ps → IsIn text (texts_by keys kind))

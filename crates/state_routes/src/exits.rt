@@ -101,7 +101,9 @@ fn no_exits(alloc: Global, count: usize) -> Result<Vec<Exits>, AllocError>
 /// Puts a gate where it starts.
 fn put_gate(exits: &mut Vec<Exits>, gate: Gate) -> Result<(), AllocError>
     requires { gate.link.from < length exits.old.items }
-    ensures { OnOk result (exits.new.items ≡ slice_set exits.old.items gate.link.from (record (exit_at exits.old.items gate.link.from) { gates = (exit_at exits.old.items gate.link.from).gates ++ gate ∷ [] })) }
+    ensures { OnOk result (exits.new.items ≡ slice_set exits.old.items gate.link.from
+        (record (exit_at exits.old.items gate.link.from)
+        { gates = (exit_at exits.old.items gate.link.from).gates ++ gate ∷ [] })) }
 {
     exits[gate.link.from].add_gate(gate)
 }
@@ -109,7 +111,9 @@ fn put_gate(exits: &mut Vec<Exits>, gate: Gate) -> Result<(), AllocError>
 /// Puts a link to an alternate exchange where it starts.
 fn put_alternate(exits: &mut Vec<Exits>, link: Hop) -> Result<(), AllocError>
     requires { link.from < length exits.old.items }
-    ensures { OnOk result (exits.new.items ≡ slice_set exits.old.items link.from (record (exit_at exits.old.items link.from) { alternates = (exit_at exits.old.items link.from).alternates ++ link ∷ [] })) }
+    ensures { OnOk result (exits.new.items ≡ slice_set exits.old.items link.from
+        (record (exit_at exits.old.items link.from)
+        { alternates = (exit_at exits.old.items link.from).alternates ++ link ∷ [] })) }
 {
     exits[link.from].add_alternate(link)
 }

@@ -49,7 +49,8 @@ fn leave(
     requires place { place < length exits.now }
     requires size { length marks.old ≡ length exits.now }
     requires bounded { LeadFrom (length exits.now) place (exit_at exits.now place) }
-    ensures { OnOk result (Enters (open_ways mode (exit_at exits.now place).gates (exit_at exits.now place).alternates accepted.now) marks.old rest.old.items marks.new rest.new.items) }
+    ensures { OnOk result (Enters (open_ways mode (exit_at exits.now place).gates
+        (exit_at exits.now place).alternates accepted.now) marks.old rest.old.items marks.new rest.new.items) }
 {
     links.clear();
     exits[place].add_open(mode, links, accepted)?;

@@ -2,7 +2,22 @@
 
 ghost use Rattle.std.specs.Prelude.{◌≡◌, ◌++◌, IfOk, OnOk};
 ghost use Rattle.model.specs.Tracking.{same_kind, same_tracked};
-ghost use Rattle.state_routes.specs.Gates.{all_block, binding_gates, blocks, gate_of, gates_of, has_queue, is_open, is_shut, kind_at, open_alternates, open_links, passes, tracked_place, test_by};
+ghost use Rattle.state_routes.specs.Gates.{
+  all_block,
+  binding_gates,
+  blocks,
+  gate_of,
+  gates_of,
+  has_queue,
+  is_open,
+  is_shut,
+  kind_at,
+  open_alternates,
+  open_links,
+  passes,
+  tracked_place,
+  test_by,
+};
 
 use crate::nodes::link_of;
 use dead_paths::Hop;

@@ -136,7 +136,9 @@ impl Routes {
     ) -> Result<bool, AllocError>
         requires { FitsEach letters.now state.now }
         ensures links { IfOk result (λ yes. Decides yes (IsKeptBy letters.now self.now state.now)) }
-        ensures promise { IfOk result (λ yes. (t : Shown) (m : Promise) (x q : Text) → IsKnown t m x q letters.now self.now → AreOnce letters.now → Decides yes (IsKept m t x q letters.now state.now)) }
+        ensures promise { IfOk result (λ yes. (t : Shown) (m : Promise) (x q : Text)
+            → IsKnown t m x q letters.now self.now → AreOnce letters.now
+            → Decides yes (IsKept m t x q letters.now state.now)) }
     {
         let yes = self.keeps(alloc, letters, state)?;
         Ok(yes)
