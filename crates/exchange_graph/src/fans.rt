@@ -109,67 +109,68 @@ pub fn all_fans(alloc: Global, lists: &NamedLists<'_>) -> Result<Vec<Fan>, Alloc
     Ok(made)
 }
 
-/// The ends of the ways with this key.
-fn ends_by_key(alloc: Global, keyed: &KeyedEnds, key: &[u8]) -> Result<Vec<End>, AllocError>
+/// Lists the ends of the ways with this key.
+fn list_by_key(keyed: &KeyedEnds, key: &[u8], ends: &mut Vec<End>) -> Result<(), AllocError>
     requires { IsEven keyed.now }
-    ensures { IfOk result (λ ends. ends.items ≡ ends_under key.now keyed.now) }
+    ensures { OnOk result (ends.new.items ≡ ends_under key.now keyed.now) }
 {
-    let mut ends = Vec::new(alloc);
-    ends.extend_from_slice(ends_under(keyed, key))?;
-    Ok(ends)
+    ends.clear();
+    ends.extend_from_slice(ends_under(keyed, key))
 }
 
-/// The ends of these ways.
-fn ends_of(alloc: Global, ways: &[Branch]) -> Result<Vec<End>, AllocError>
-    ensures { IfOk result (λ ends. ends.items ≡ ends_of ways.now) }
+/// Lists the ends of these ways.
+fn list_all(ways: &[Branch], ends: &mut Vec<End>) -> Result<(), AllocError>
+    ensures { OnOk result (ends.new.items ≡ ends_of ways.now) }
 {
-    let mut ends = Vec::new(alloc);
+    ends.clear();
     for way in ways {
         ends.push(way.end)?;
     }
-    Ok(ends)
+    Ok(())
 }
 
-/// The ends of the ways at these places.
-fn ends_at(alloc: Global, ways: &[Branch], places: &[usize]) -> Result<Vec<End>, AllocError>
+/// Lists the ends of the ways at these places.
+fn list_at(ways: &[Branch], places: &[usize], ends: &mut Vec<End>) -> Result<(), AllocError>
     requires { All (λ i. i < length ways.now) places.now }
-    ensures { IfOk result (λ ends. ends.items ≡ ends_at ways.now places.now) }
+    ensures { OnOk result (ends.new.items ≡ ends_at ways.now places.now) }
 {
-    let mut ends = Vec::new(alloc);
+    ends.clear();
     for place in places {
         ends.push(ways[*place].end)?;
     }
-    Ok(ends)
+    Ok(())
 }
 
-/// The ends of the ways whose pattern matches the key.
-fn ends_by_topic(
+/// Lists the ends of the ways whose pattern matches the key.
+fn list_by_topic(
     alloc: Global,
     topics: &Trie,
     ways: &[Branch],
     key: &[u8],
-) -> Result<Vec<End>, AllocError>
+    ends: &mut Vec<End>,
+) -> Result<(), AllocError>
     requires { topics.now ≡ patterns_of ways.now }
-    ensures { IfOk result (λ ends. ArePassing Topic key.now ways.now ends.items) }
+    ensures { OnOk result (ArePassing Topic key.now ways.now ends.new.items) }
 {
     let places = topics.matches(alloc, key)?;
-    ends_at(alloc, ways, places.as_slice())
+    list_at(ways, places.as_slice(), ends)
 }
 
-/// The ends of the ways that let the key pass.
-fn passing(
+/// Lists the ends of the ways that let the key pass.
+fn list_passing(
     alloc: Global,
     index: &Index,
     ways: &[Branch],
     key: &[u8],
-) -> Result<Vec<End>, AllocError>
+    ends: &mut Vec<End>,
+) -> Result<(), AllocError>
     requires { IsIndex ways.now index.now }
-    ensures { IfOk result (λ ends. ArePassing (kind_of index.now) key.now ways.now ends.items) }
+    ensures { OnOk result (ArePassing (kind_of index.now) key.now ways.now ends.new.items) }
 {
     match index {
-        Index::Keys(keyed) => ends_by_key(alloc, keyed, key),
-        Index::All => ends_of(alloc, ways),
-        Index::Patterns(topics) => ends_by_topic(alloc, topics, ways, key),
+        Index::Keys(keyed) => list_by_key(keyed, key, ends),
+        Index::All => list_all(ways, ends),
+        Index::Patterns(topics) => list_by_topic(alloc, topics, ways, key, ends),
     }
 }
 
@@ -186,12 +187,11 @@ fn or_alternate(alternate: Option<usize>, ends: &mut Vec<End>) -> Result<(), All
 }
 
 impl Fan {
-    /// The ends of the ways that let the key pass, or else of the alternate exchange.
-    pub fn lead_on(&self, alloc: Global, key: &[u8]) -> Result<Vec<End>, AllocError>
-        ensures { IfOk result (λ ends. LeadOn key.now self.now ends.items) }
+    /// Lists the ends of the ways that let the key pass, or else of the alternate exchange.
+    pub fn lead_on(&self, alloc: Global, key: &[u8], ends: &mut Vec<End>) -> Result<(), AllocError>
+        ensures { OnOk result (LeadOn key.now self.now ends.new.items) }
     {
-        let mut ends = passing(alloc, &self.index, self.list.as_slice(), key)?;
-        or_alternate(self.alternate, &mut ends)?;
-        Ok(ends)
+        list_passing(alloc, &self.index, self.list.as_slice(), key, ends)?;
+        or_alternate(self.alternate, ends)
     }
 }

@@ -9,9 +9,12 @@ mod keyed;
 mod marks;
 mod places;
 mod reach;
+mod scratches;
 mod topologies;
 
 pub use dying::{DeadLetter, DeadRoute};
 pub use ends::End;
+pub use marks::Targets;
+pub use scratches::Scratch;
 pub use topologies::Topology;
 pub use topology_drafts::BadTopology as Bad;

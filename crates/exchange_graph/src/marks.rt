@@ -1,29 +1,33 @@
 //! Marks of the exchanges and queues that were met on the way.
 
-ghost use Rattle.std.specs.Prelude.{◌≡◌, ◌<◌, ◌∷◌, [], length, IfOk, false, true, replicate, slice_set};
+ghost use Rattle.std.specs.Prelude.{◌≡◌, ◌<◌, ◌∷◌, [], length, IfOk, OnOk, false, true, replicate, slice_set};
 ghost use Rattle.model.specs.Topology.{IsIn};
 ghost use Rattle.exchange_graph.specs.Fans.{EndsWithin};
 ghost use Rattle.exchange_graph.specs.Marks.{IsPending, MarksEnds, set_places};
 
 use crate::ends::End;
+use smallvec::SmallVec;
 use std::alloc::{AllocError, Global};
 
-/// This many marks, none of them set.
-pub fn unmarked(alloc: Global, count: usize) -> Result<Vec<bool>, AllocError>
-    ensures { IfOk result (λ marks. marks.items ≡ replicate count false) }
+/// The places of queues that a message is routed to. Four of them take no memory.
+pub type Targets = SmallVec<usize, 4>;
+
+/// Makes this many marks of them, none of them set.
+pub fn unmark(marks: &mut Vec<bool>, count: usize) -> Result<(), AllocError>
+    ensures { OnOk result (marks.new.items ≡ replicate count false) }
 {
-    let marks = vec![in alloc; false; count]?;
-    Ok(marks)
+    marks.clear();
+    marks.resize(count, false)
 }
 
-/// This many marks, of which the one at this place is set.
-pub fn one_marked(alloc: Global, count: usize, place: usize) -> Result<Vec<bool>, AllocError>
+/// Makes this many marks of them, of which the one at this place is set.
+pub fn mark_one(marks: &mut Vec<bool>, count: usize, place: usize) -> Result<(), AllocError>
     requires { place < count }
-    ensures { IfOk result (λ marks. marks.items ≡ slice_set (replicate count false) place true) }
+    ensures { OnOk result (marks.new.items ≡ slice_set (replicate count false) place true) }
 {
-    let mut marks = unmarked(alloc, count)?;
+    unmark(marks, count)?;
     marks[place] = true;
-    Ok(marks)
+    Ok(())
 }
 
 /// Marks one end.
@@ -61,10 +65,10 @@ pub fn pending(seen: &[bool], done: &[bool]) -> Option<usize>
 }
 
 /// The places of the marks that are set.
-pub fn set_places(alloc: Global, marks: &[bool]) -> Result<Vec<usize>, AllocError>
+pub fn set_places(alloc: Global, marks: &[bool]) -> Result<Targets, AllocError>
     ensures { IfOk result (λ places. places.items ≡ set_places 0 marks.now) }
 {
-    let mut places = Vec::new(alloc);
+    let mut places = SmallVec::new(alloc);
     for place in 0..marks.len() {
         if marks[place] {
             places.push(place)?;

@@ -1,6 +1,6 @@
 //! The queues that a key leads to.
 
-ghost use Rattle.std.specs.Prelude.{◌≡◌, ◌<◌, [], length, IfOk, OnOk};
+ghost use Rattle.std.specs.Prelude.{◌≡◌, ◌<◌, [], length, OnOk};
 ghost use Rattle.model.specs.Topology.{IsWellFormed};
 ghost use Rattle.exchange_graph.specs.Marks.{
   AreFound,
@@ -12,16 +12,11 @@ ghost use Rattle.exchange_graph.specs.Marks.{
   exchange_name,
 };
 
-use crate::marks::{mark_all, one_marked, pending, unmarked};
+use crate::ends::End;
+use crate::marks::{mark_all, mark_one, pending, unmark};
+use crate::scratches::Scratch;
 use crate::topologies::Topology;
 use std::alloc::{AllocError, Global};
-
-/// A mark for each exchange and for each queue that a way leads to.
-#[derive(Drop)]
-struct MetEnds {
-    seen: Vec<bool>,
-    found: Vec<bool>,
-}
 
 /// Marks what one exchange leads to.
 fn expand(
@@ -29,6 +24,7 @@ fn expand(
     alloc: Global,
     place: usize,
     key: &[u8],
+    ends: &mut Vec<End>,
     seen: &mut [bool],
     found: &mut [bool],
     done: &mut [bool],
@@ -38,7 +34,7 @@ fn expand(
     requires done { length done.old ≡ length topology.now.exchanges }
     ensures { OnOk result (Expands topology.now key.now place seen.old found.old done.old seen.new found.new done.new) }
 {
-    let ends = topology.steps(alloc, place, key)?;
+    topology.find_steps(alloc, place, key, ends)?;
     mark_all(ends.as_slice(), seen, found);
     done[place] = true;
     Ok(())
@@ -50,6 +46,7 @@ fn spread(
     alloc: Global,
     start: &[u8],
     key: &[u8],
+    ends: &mut Vec<End>,
     seen: &mut [bool],
     found: &mut [bool],
     done: &mut [bool],
@@ -59,78 +56,81 @@ fn spread(
 {
     topology.is_well_formed();
     'passes: while let Some(place) = pending(seen, done) {
-        expand(topology, alloc, place, key, seen, found, done)?;
+        expand(topology, alloc, place, key, ends, seen, found, done)?;
     }
     Ok(())
 }
 
-/// What is met on the ways from the exchange at this place.
-fn met_from(
+/// Marks what is met on the ways from the exchange at this place.
+fn meet_from(
     topology: &Topology,
     alloc: Global,
+    scratch: &mut Scratch,
     place: usize,
     exchange: &[u8],
     key: &[u8],
-) -> Result<MetEnds, AllocError>
+) -> Result<(), AllocError>
     requires within { place < length topology.now.exchanges }
     requires named { exchange_name topology.now place ≡ exchange.now }
-    ensures { IfOk result (λ met. AreMet topology.now exchange.now key.now met.seen.items met.found.items) }
+    ensures { OnOk result (AreMet topology.now exchange.now key.now scratch.new.seen.items scratch.new.found.items) }
 {
-    let mut seen = one_marked(alloc, topology.exchanges().len(), place)?;
-    let mut found = unmarked(alloc, topology.queues().len())?;
-    let mut done = unmarked(alloc, topology.exchanges().len())?;
+    mark_one(&mut scratch.seen, topology.exchanges().len(), place)?;
+    unmark(&mut scratch.found, topology.queues().len())?;
+    unmark(&mut scratch.done, topology.exchanges().len())?;
     spread(
         topology,
         alloc,
         exchange,
         key,
-        seen.as_mut_slice(),
-        found.as_mut_slice(),
-        done.as_mut_slice(),
-    )?;
-    Ok(MetEnds { seen, found })
+        &mut scratch.ends,
+        scratch.seen.as_mut_slice(),
+        scratch.found.as_mut_slice(),
+        scratch.done.as_mut_slice(),
+    )
 }
 
-/// What the default exchange leads to: the queue of this name.
-fn found_by_name(topology: &Topology, alloc: Global, key: &[u8]) -> Result<Vec<bool>, AllocError>
-    ensures { IfOk result (λ found. AreFound topology.now [] key.now found.items) }
+/// Marks what the default exchange leads to: the queue of this name.
+fn find_by_name(topology: &Topology, found: &mut Vec<bool>, key: &[u8]) -> Result<(), AllocError>
+    ensures { OnOk result (AreFound topology.now [] key.now found.new.items) }
 {
     topology.is_well_formed();
     match topology.queue_at(key) {
-        Some(place) => one_marked(alloc, topology.queues().len(), place),
-        None => unmarked(alloc, topology.queues().len()),
+        Some(place) => mark_one(found, topology.queues().len(), place),
+        None => unmark(found, topology.queues().len()),
     }
 }
 
-/// The queues that an exchange leads to, by its name.
-pub fn found(
+/// Marks the queues that an exchange leads to, by its name.
+pub fn find(
     topology: &Topology,
     alloc: Global,
+    scratch: &mut Scratch,
     exchange: &[u8],
     key: &[u8],
-) -> Result<Vec<bool>, AllocError>
-    ensures { IfOk result (λ found. AreFound topology.now exchange.now key.now found.items) }
+) -> Result<(), AllocError>
+    ensures { OnOk result (AreFound topology.now exchange.now key.now scratch.new.found.items) }
 {
     if exchange.is_empty() {
-        return found_by_name(topology, alloc, key);
+        return find_by_name(topology, &mut scratch.found, key);
     }
     match topology.exchange_at(exchange) {
-        Some(place) => Ok(met_from(topology, alloc, place, exchange, key)?.found),
-        None => unmarked(alloc, topology.queues().len()),
+        Some(place) => meet_from(topology, alloc, scratch, place, exchange, key),
+        None => unmark(&mut scratch.found, topology.queues().len()),
     }
 }
 
-/// The exchanges that an exchange leads to, by its name, itself among them.
-pub fn seen(
+/// Marks the exchanges that an exchange leads to, by its name, itself among them.
+pub fn see(
     topology: &Topology,
     alloc: Global,
+    scratch: &mut Scratch,
     exchange: &[u8],
     key: &[u8],
-) -> Result<Vec<bool>, AllocError>
-    ensures { IfOk result (λ seen. AreSeen topology.now exchange.now key.now seen.items) }
+) -> Result<(), AllocError>
+    ensures { OnOk result (AreSeen topology.now exchange.now key.now scratch.new.seen.items) }
 {
     match topology.exchange_at(exchange) {
-        Some(place) => Ok(met_from(topology, alloc, place, exchange, key)?.seen),
-        None => unmarked(alloc, topology.exchanges().len()),
+        Some(place) => meet_from(topology, alloc, scratch, place, exchange, key),
+        None => unmark(&mut scratch.seen, topology.exchanges().len()),
     }
 }

@@ -7,6 +7,7 @@ ghost use Rattle.std.specs.Prelude.{
   length,
   slice_index_or,
   IfOk,
+  OnOk,
   IfSome,
   IfNone,
   option_copied,
@@ -23,9 +24,10 @@ ghost use Rattle.exchange_graph.specs.Marks.{exchange_name, queue_name};
 
 use crate::ends::End;
 use crate::fans::{Fan, all_fans};
-use crate::marks::set_places;
+use crate::marks::{Targets, set_places};
 use crate::places::NamedLists;
-use crate::reach::{found, seen};
+use crate::reach::{find, see};
+use crate::scratches::Scratch;
 use model::{Binding, DeclaredQueue, Exchange, Text};
 use std::alloc::{AllocError, Global};
 use std::marker::Model;
@@ -157,7 +159,23 @@ impl Topology {
         requires { place < length self.now.exchanges }
         ensures { IfOk result (λ ends. AreSteps self.now key.now (exchange_name self.now place) ends.items) }
     {
-        self.fans[place].lead_on(alloc, key)
+        let mut ends = Vec::new(alloc);
+        self.find_steps(alloc, place, key, &mut ends)?;
+        Ok(ends)
+    }
+
+    /// Lists the steps of a route from the exchange at this place.
+    pub fn find_steps(
+        &self,
+        alloc: Global,
+        place: usize,
+        key: &[u8],
+        ends: &mut Vec<End>,
+    ) -> Result<(), AllocError>
+        requires { place < length self.now.exchanges }
+        ensures { OnOk result (AreSteps self.now key.now (exchange_name self.now place) ends.new.items) }
+    {
+        self.fans[place].lead_on(alloc, key, ends)
     }
 
     /// The queues that a message sent to this exchange under this key is routed to, by their places, in the order of the
@@ -170,8 +188,23 @@ impl Topology {
     ) -> Result<Vec<usize>, AllocError>
         ensures { IfOk result (λ targets. AreTargets self.now exchange.now key.now targets.items) }
     {
-        let found = found(self, alloc, exchange, key)?;
-        set_places(alloc, found.as_slice())
+        let mut scratch = Scratch::new(alloc);
+        let targets = self.targets(alloc, &mut scratch, exchange, key)?;
+        Ok(targets.into_vec()?)
+    }
+
+    /// The same, where what is used on the way is kept.
+    pub fn targets(
+        &self,
+        alloc: Global,
+        scratch: &mut Scratch,
+        exchange: &[u8],
+        key: &[u8],
+    ) -> Result<Targets, AllocError>
+        ensures { IfOk result (λ targets. AreTargets self.now exchange.now key.now targets.items) }
+    {
+        find(self, alloc, scratch, exchange, key)?;
+        set_places(alloc, scratch.found.as_slice())
     }
 
     /// The names of the exchanges that a message sent to this exchange under this key passes, in the order of the file, each
@@ -189,8 +222,9 @@ impl Topology {
         if exchange.is_empty() {
             return Ok(vec![in alloc; Text::empty()]?);
         }
-        let seen = seen(self, alloc, exchange, key)?;
-        let places = set_places(alloc, seen.as_slice())?;
+        let mut scratch = Scratch::new(alloc);
+        see(self, alloc, &mut scratch, exchange, key)?;
+        let places = set_places(alloc, scratch.seen.as_slice())?;
         names_at(alloc, self.exchanges.as_slice(), places.as_slice())
     }
 

@@ -2,7 +2,7 @@
 
 use crate::routes::{Access, Route};
 use crate::slots::{access_to, empty_slots, kept, routed, slot_of};
-use exchange_graph::Topology;
+use exchange_graph::{Scratch, Topology};
 use model::Text;
 use std::alloc::{AllocError, Global};
 use std::marker::Model;
@@ -13,6 +13,7 @@ use std::sync::Arc;
 pub struct Router {
     topology: Topology,
     slots: Vec<Option<Arc<Route>>>,
+    scratch: Scratch,
 }
 
 /// Written out, so that a drop is one call.
@@ -21,6 +22,7 @@ impl Drop for Router {
         let Router {
             topology: _,
             slots: _,
+            scratch: _,
         } = self;
     }
 }
@@ -48,7 +50,12 @@ impl Router {
         ensures { IfOk result (λ r. r ≡ topology) }
     {
         let slots = empty_slots(alloc, 1024)?;
-        Ok(Router { topology, slots })
+        let scratch = Scratch::new(alloc);
+        Ok(Router {
+            topology,
+            slots,
+            scratch,
+        })
     }
 
     /// The route of a message that is sent to this exchange under this key. It is kept, with the names that are given here,
@@ -67,7 +74,14 @@ impl Router {
         ensures same { self.new ≡ self.old }
     {
         let place = slot_of(exchange.as_bytes(), key.as_bytes());
-        routed(alloc, &self.topology, &mut self.slots[place], exchange, key)
+        routed(
+            alloc,
+            &self.topology,
+            &mut self.scratch,
+            &mut self.slots[place],
+            exchange,
+            key,
+        )
     }
 
     /// Whether a client may publish to this exchange, under this key as under any other. It takes no memory.

@@ -1,5 +1,6 @@
 //! What is kept of a route.
 
+use exchange_graph::Targets;
 use model::Text;
 
 /// Whether clients may publish to an exchange.
@@ -20,7 +21,7 @@ pub struct Route {
     /// Whether clients may publish to the exchange.
     pub access: Access,
     /// The queues that it is routed to, by their places, in the order of the file, each once.
-    pub targets: Vec<usize>,
+    pub targets: Targets,
 }
 
 /// Written out, so that a drop is one call.

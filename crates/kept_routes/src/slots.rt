@@ -6,7 +6,7 @@ ghost use Rattle.model.specs.Topology.{Topology as Handed};
 ghost use Rattle.kept_routes.specs.Routers.{IsRight, IsRoute, access_at, access_to};
 
 use crate::routes::{Access, Route};
-use exchange_graph::Topology;
+use exchange_graph::{Scratch, Topology};
 use model::{Exchange, Text};
 use std::alloc::{AllocError, Global};
 use std::sync::Arc;
@@ -83,12 +83,13 @@ pub fn kept<'a>(slot: &'a Option<Arc<Route>>, exchange: &[u8], key: &[u8]) -> Op
 fn learned(
     alloc: Global,
     topology: &Topology,
+    scratch: &mut Scratch,
     exchange: &Text,
     key: &Text,
 ) -> Result<Arc<Route>, AllocError>
     ensures { IfOk result (λ a. IsRoute topology.now exchange.now key.now (arc_value a)) }
 {
-    let targets = topology.route(alloc, exchange.as_bytes(), key.as_bytes())?;
+    let targets = topology.targets(alloc, scratch, exchange.as_bytes(), key.as_bytes())?;
     let route = Route {
         exchange: exchange.clone()?,
         key: key.clone()?,
@@ -105,6 +106,7 @@ fn learned(
 pub fn routed(
     alloc: Global,
     topology: &Topology,
+    scratch: &mut Scratch,
     slot: &mut Option<Arc<Route>>,
     exchange: &Text,
     key: &Text,
@@ -116,7 +118,7 @@ pub fn routed(
     if let Some(route) = kept(slot, exchange.as_bytes(), key.as_bytes()) {
         return Arc::try_clone(route);
     }
-    let route = learned(alloc, topology, exchange, key)?;
+    let route = learned(alloc, topology, scratch, exchange, key)?;
     *slot = Some(Arc::try_clone(&route)?);
     Ok(route)
 }

@@ -8,6 +8,7 @@ pub mod Lists
 pub mod Walking
 pub mod Grown
 pub mod Ending
+pub mod Leaving
 pub mod Law
 pub mod Sorting
 pub mod Stepping

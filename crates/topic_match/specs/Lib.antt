@@ -3,6 +3,7 @@ pub mod Beginnings
 pub mod Building
 pub mod Counts
 pub mod Ends
+pub mod Exits
 pub mod Nodes
 pub mod Patterns
 pub mod Places

@@ -8,6 +8,7 @@ ghost use Rattle.topic_match.specs.Building.{AreGrown, EndAt};
 use crate::children::{child, mark_of, slot};
 use crate::nodes::Node;
 use crate::patterns::Pattern;
+use crate::steps::Step;
 use std::alloc::{AllocError, Global};
 
 /// Adds the node of a pattern's first tokens, one more than its parent has.
@@ -61,14 +62,7 @@ fn node_behind(
     ensures made { IfOk result (λ c. (c < length nodes.new.items) × (beginning_at patterns.now nodes.new.items c ≡ take (depth + 1) (slice_index_or patterns.now pattern []))) }
 {
     let token = &patterns[pattern].tokens()[depth];
-    if let Some(node) = child(
-        patterns,
-        nodes.as_slice(),
-        chains,
-        parent,
-        token,
-        mark_of(token),
-    ) {
+    if let Some(node) = child(patterns, nodes.as_slice(), chains, parent, &Step::by(token)) {
         return Ok(node);
     }
     add_node(patterns, nodes, chains, parent, pattern, depth)

@@ -5,10 +5,11 @@ ghost use Rattle.topic_match.specs.Nodes.{AreLinked, IsChild, IsDeep, IsLast, la
 
 use crate::nodes::Node;
 use crate::patterns::Pattern;
+use crate::steps::Step;
 use model::Token;
 
 /// These bytes mixed into a number.
-fn mixed(bytes: &[u8]) -> u64
+pub fn mixed(bytes: &[u8]) -> u64
     ensures { result ≡ mixed 0 bytes.now }
 {
     let mut number = 0;
@@ -46,28 +47,16 @@ pub fn slot(chains: usize, parent: usize, mark: u64) -> usize
     number as usize % chains
 }
 
-/// Whether two tokens are the same.
-fn is_same(token: &Token, other: &Token) -> bool
-    ensures { Decides result (token.now ≡ other.now) }
-{
-    match (token, other) {
-        (Token::Word(word), Token::Word(other)) => word.as_bytes() == other.as_bytes(),
-        (Token::One, Token::One) => true,
-        (Token::Any, Token::Any) => true,
-        _ => false,
-    }
-}
-
 /// Whether a beginning ends with this token.
-fn ends_with(patterns: &[Pattern], node: &Node, token: &Token) -> bool
+fn ends_with(patterns: &[Pattern], node: &Node, token: &Step<'_>) -> bool
     requires { IsDeep patterns.now node.now }
     ensures { Decides result (last_token patterns.now node.now ≡ token.now) }
 {
-    is_same(&patterns[node.pattern].tokens()[node.depth - 1], token)
+    token.is_by(&patterns[node.pattern].tokens()[node.depth - 1])
 }
 
 /// Whether a beginning is this one with this token behind it.
-fn is_behind(patterns: &[Pattern], node: &Node, parent: usize, token: &Token) -> bool
+fn is_behind(patterns: &[Pattern], node: &Node, parent: usize, token: &Step<'_>) -> bool
     requires { IsDeep patterns.now node.now }
     ensures { Decides result (IsLast patterns.now node.now parent token.now) }
 {
@@ -80,14 +69,12 @@ pub fn child(
     nodes: &[Node],
     chains: &[usize],
     at: usize,
-    token: &Token,
-    mark: u64,
+    token: &Step<'_>,
 ) -> Option<usize>
-    requires linked { AreLinked patterns.now nodes.now chains.now }
-    requires mark { mark ≡ mark_of token.now }
+    requires { AreLinked patterns.now nodes.now chains.now }
     ensures { MatchOption result ((c : ℕ) → IsChild patterns.now nodes.now at token.now c → ⊥) (λ c. IsChild patterns.now nodes.now at token.now c) }
 {
-    let mut here = chains[slot(chains.len(), at, mark)];
+    let mut here = chains[slot(chains.len(), at, token.mark())];
     'chain: while here != 0 {
         if is_behind(patterns, &nodes[here], at, token) {
             return Some(here);

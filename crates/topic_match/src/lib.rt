@@ -6,6 +6,7 @@ mod building;
 mod children;
 mod counts;
 mod ends;
+mod exits;
 mod matchers;
 mod matching;
 mod nodes;

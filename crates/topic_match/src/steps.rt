@@ -3,47 +3,106 @@
 ghost use Rattle.std.specs.Prelude.{◌≡◌, ◌<◌, Decides, IfOk};
 ghost use Rattle.model.specs.Topology.{IsIn};
 ghost use Rattle.model.specs.declared.texts.Token.TheVariants.{Word};
-ghost use Rattle.topic_match.specs.Nodes.{mark_of};
 ghost use Rattle.topic_match.specs.Walks.{AreSteps};
 
-use crate::children::mark_of;
-use model::{Text, Token};
+use crate::children::mixed;
+use crate::nodes::Exits;
+use crate::pieces::KeyWord;
+use model::Token;
+use smallvec::SmallVec;
 use std::alloc::{AllocError, Global};
 use std::marker::Model;
 
-/// A token, and its mark.
+/// What a token takes.
+#[derive(Clone, Copy, Drop)]
+enum Taken<'a> {
+    /// The word of these bytes.
+    Exactly(&'a [u8]),
+    /// One word.
+    Single,
+    /// Any number of words.
+    Several,
+}
+
+/// A token that stands elsewhere, and its mark.
 #[derive(Drop)]
-pub struct Step {
-    token: Token,
+pub struct Step<'a> {
+    taken: Taken<'a>,
     mark: u64,
 }
 
-impl Model for Step {
+impl<'a> Model for Step<'a> {
     ghost use Rattle.std.specs.Prelude.{◌≡◌};
     ghost use Rattle.model.specs.declared.texts.Token.{Token};
+    ghost use Rattle.model.specs.declared.texts.Token.TheVariants.{Word, One, Any};
+    ghost use Rattle.topic_match.specs.declared.steps.Taken.TheVariants.{Exactly, Single, Several};
     ghost use Rattle.topic_match.specs.Nodes.{mark_of};
 
     ghost Value = { Token };
 
-    ghost view = { λ s. s.token };
+    ghost view = { λ s. elim s.taken [ Exactly w ↦ Word w.now | Single ↦ One | Several ↦ Any ] };
 
-    ghost invariant = { λ s. s.mark ≡ mark_of s.token };
+    ghost invariant = { λ s. s.mark ≡ mark_of (elim s.taken [ Exactly w ↦ Word w.now | Single ↦ One | Several ↦ Any ]) };
 }
 
-impl Step {
-    /// A step by this token.
-    pub fn by(token: Token) -> Step
-        ensures { result ≡ token }
+/// A step by `#`.
+impl<'a> Default for Step<'a> {
+    ghost use Rattle.std.specs.Prelude.{◌≡◌};
+    ghost use Rattle.model.specs.declared.texts.Token.TheVariants.{Any};
+
+    ghost is_default = { λ s. s ≡ Any };
+
+    fn default() -> Step<'a> {
+        Step::any()
+    }
+}
+
+impl<'a> Step<'a> {
+    ghost use Rattle.std.specs.Prelude.{◌≡◌, Decides};
+    ghost use Rattle.model.specs.declared.texts.Token.TheVariants.{Word, One, Any};
+    ghost use Rattle.topic_match.specs.Nodes.{mark_of};
+    ghost use Rattle.topic_match.specs.Counts.{stands_after, stands_first};
+    ghost use Rattle.topic_match.specs.Exits.{has_exit};
+
+    /// A step by `#`.
+    pub fn any() -> Step<'a>
+        ensures { result ≡ Any }
     {
-        let mark = mark_of(&token);
-        Step { token, mark }
+        Step {
+            taken: Taken::Several,
+            mark: 35,
+        }
     }
 
-    /// Its token.
-    pub fn token(&self) -> &Token
-        ensures { result.now ≡ self.now }
+    /// A step by `*`.
+    pub fn one() -> Step<'a>
+        ensures { result ≡ One }
     {
-        &self.token
+        Step {
+            taken: Taken::Single,
+            mark: 42,
+        }
+    }
+
+    /// A step by this word.
+    pub fn word(bytes: &'a [u8]) -> Step<'a>
+        ensures { result ≡ Word bytes.now }
+    {
+        Step {
+            taken: Taken::Exactly(bytes),
+            mark: mixed(bytes),
+        }
+    }
+
+    /// A step by this token.
+    pub fn by(token: &'a Token) -> Step<'a>
+        ensures { result ≡ token.now }
+    {
+        match token {
+            Token::Word(word) => Step::word(word.as_bytes()),
+            Token::One => Step::one(),
+            Token::Any => Step::any(),
+        }
     }
 
     /// The mark of its token.
@@ -52,25 +111,79 @@ impl Step {
     {
         self.mark
     }
-}
 
-/// Whether a token is this word.
-fn is_word(token: &Token, word: &Text) -> bool
-    ensures { Decides result (Word word.now ≡ token.now) }
-{
-    match token {
-        Token::Word(other) => word.as_bytes() == other.as_bytes(),
-        Token::One => false,
-        Token::Any => false,
+    /// Whether it is a step by this token.
+    pub fn is_by(&self, token: &Token) -> bool
+        ensures { Decides result (token.now ≡ self.now) }
+    {
+        match (token, self.taken) {
+            (Token::Word(word), Taken::Exactly(bytes)) => word.as_bytes() == bytes,
+            (Token::One, Taken::Single) => true,
+            (Token::Any, Taken::Several) => true,
+            _ => false,
+        }
+    }
+
+    /// Whether it is a step by this word.
+    fn is_by_word(&self, word: &KeyWord<'_>) -> bool
+        ensures { Decides result (Word word.now ≡ self.now) }
+    {
+        match self.taken {
+            Taken::Exactly(bytes) => word.as_bytes() == bytes,
+            Taken::Single => false,
+            Taken::Several => false,
+        }
+    }
+
+    /// Whether it may go by one of these exits.
+    pub fn may_go(&self, exits: Exits) -> bool
+        ensures { result ≡ has_exit exits self.now }
+    {
+        match self.taken {
+            Taken::Exactly(_) => exits.word,
+            Taken::Single => exits.one,
+            Taken::Several => exits.any,
+        }
+    }
+
+    /// Whether tokens that end with this one match no word, by what those before it do.
+    pub fn stands_first(&self, before: bool) -> bool
+        ensures { result ≡ stands_first self.now before }
+    {
+        match self.taken {
+            Taken::Exactly(_) => false,
+            Taken::Single => false,
+            Taken::Several => before,
+        }
+    }
+
+    /// Whether tokens that end with this one match the words up to this one.
+    pub fn stands_after(
+        &self,
+        word: &KeyWord<'_>,
+        before_was: bool,
+        was: bool,
+        before_is: bool,
+    ) -> bool
+        ensures { result ≡ stands_after self.now word.now before_was was before_is }
+    {
+        match self.taken {
+            Taken::Exactly(bytes) => before_was && word.as_bytes() == bytes,
+            Taken::Single => before_was,
+            Taken::Several => was | before_is,
+        }
     }
 }
 
+/// Some tokens, each once. Ten of them take no memory.
+pub type Steps<'a> = SmallVec<Step<'a>, 10>;
+
 /// Whether these tokens have the word.
-fn has_word(steps: &[Step], word: &Text) -> bool
+fn has_word(steps: &[Step<'_>], word: &KeyWord<'_>) -> bool
     ensures { Decides result (IsIn (Word word.now) steps.now) }
 {
     for place in 0..steps.len() {
-        if is_word(steps[place].token(), word) {
+        if steps[place].is_by_word(word) {
             return true;
         }
     }
@@ -78,17 +191,17 @@ fn has_word(steps: &[Step], word: &Text) -> bool
 }
 
 /// The tokens that can take these words, each once.
-pub fn steps_of(alloc: Global, words: &[Text]) -> Result<Vec<Step>, AllocError>
+pub fn steps_of<'a>(alloc: Global, words: &[KeyWord<'a>]) -> Result<Steps<'a>, AllocError>
     ensures { IfOk result (λ steps. AreSteps steps.items words.now) }
 {
-    let mut steps = Vec::new(alloc);
-    steps.push(Step::by(Token::Any))?;
-    steps.push(Step::by(Token::One))?;
+    let mut steps = SmallVec::new(alloc);
+    steps.push(Step::any())?;
+    steps.push(Step::one())?;
     for word in words {
         if has_word(steps.as_slice(), word) {
             continue;
         }
-        steps.push(Step::by(Token::Word(word.clone()?)))?;
+        steps.push(Step::word(word.as_bytes()))?;
     }
     Ok(steps)
 }

@@ -1,31 +1,33 @@
 //! A list of patterns as the tree of their beginnings.
 
-ghost use Rattle.std.specs.Prelude.{◌≡◌, [], IfOk};
+ghost use Rattle.std.specs.Prelude.{◌≡◌, [], length, IfOk};
 ghost use Rattle.topic_match.specs.Beginnings.{Begins, IsCounted};
 ghost use Rattle.topic_match.specs.Counts.{AreCounts};
+ghost use Rattle.topic_match.specs.Exits.{AreExits};
 ghost use Rattle.topic_match.specs.Nodes.{AreLinked};
 ghost use Rattle.topic_match.specs.Places.{AreMatches};
 ghost use Rattle.topic_match.specs.Walks.{AreMet, told_in};
 
 use crate::building::nodes_of;
-use crate::counts::trues;
+use crate::counts::{Counts, trues};
 use crate::ends::{ending, rising_at};
+use crate::exits::exits_of;
 use crate::matchers::Matcher;
-use crate::nodes::{Met, Node};
+use crate::nodes::{Exits, Links, Met, Node};
 use crate::patterns::Pattern;
-use crate::pieces::split;
+use crate::pieces::{KeyWord, words_in};
 use crate::places::Places;
 use crate::steps::steps_of;
 use crate::walks::walk;
-use model::Text;
+use smallvec::SmallVec;
 use std::alloc::{AllocError, Global};
 use std::marker::Model;
 
 /// How many words no token matches: none.
-fn first_counts(alloc: Global, words: &[Text]) -> Result<Vec<bool>, AllocError>
+fn first_counts(alloc: Global, words: &[KeyWord<'_>]) -> Result<Counts, AllocError>
     ensures { IfOk result (λ counts. AreCounts [] words.now counts.items) }
 {
-    let mut counts = Vec::new(alloc);
+    let mut counts = SmallVec::new(alloc);
     counts.push(true)?;
     for place in 0..words.len() {
         counts.push(false)?;
@@ -48,12 +50,12 @@ fn told_in(met: &[Met]) -> u128
 fn met_by(
     alloc: Global,
     patterns: &[Pattern],
-    nodes: &[Node],
-    chains: &[usize],
-    words: &[Text],
+    links: &Links<'_>,
+    words: &[KeyWord<'_>],
 ) -> Result<Vec<Met>, AllocError>
-    requires { AreLinked patterns.now nodes.now chains.now }
-    ensures { IfOk result (λ met. AreMet patterns.now nodes.now words.now (Begins []) met.items) }
+    requires linked { AreLinked patterns.now links.now.nodes.now links.now.chains.now }
+    requires exits { AreExits patterns.now links.now.nodes.now (length links.now.nodes.now) links.now.exits.now }
+    ensures { IfOk result (λ met. AreMet patterns.now links.now.nodes.now words.now (Begins []) met.items) }
 {
     let steps = steps_of(alloc, words)?;
     let root = Met {
@@ -64,8 +66,7 @@ fn met_by(
     walk(
         alloc,
         patterns,
-        nodes,
-        chains,
+        links,
         steps.as_slice(),
         words,
         root,
@@ -82,18 +83,21 @@ pub struct Trie {
     chains: Vec<usize>,
     ends: Vec<usize>,
     places: Vec<Places>,
+    exits: Vec<Exits>,
 }
 
 impl Model for Trie {
     ghost use Rattle.std.specs.Prelude.{List};
     ghost use Rattle.model.specs.declared.texts.Token.{Token};
+    ghost use Rattle.std.specs.Prelude.{length};
+    ghost use Rattle.topic_match.specs.Exits.{AreExits};
     ghost use Rattle.topic_match.specs.Tries.{IsTrie};
 
     ghost Value = { List (List Token) };
 
     ghost view = { λ t. t.patterns.items };
 
-    ghost invariant = { λ t. IsTrie t.patterns.items t.nodes.items t.chains.items t.ends.items t.places.items };
+    ghost invariant = { λ t. IsTrie t.patterns.items t.nodes.items t.chains.items t.ends.items t.places.items × AreExits t.patterns.items t.nodes.items (length t.nodes.items) t.exits.items };
 }
 
 impl Trie {
@@ -110,12 +114,15 @@ impl Trie {
         if self.patterns.is_empty() {
             return Ok((Vec::new(alloc), 0));
         }
-        let words = split(alloc, key)?;
+        let words = words_in(alloc, key)?;
         let met = met_by(
             alloc,
             self.patterns.as_slice(),
-            self.nodes.as_slice(),
-            self.chains.as_slice(),
+            &Links {
+                nodes: self.nodes.as_slice(),
+                chains: self.chains.as_slice(),
+                exits: self.exits.as_slice(),
+            },
             words.as_slice(),
         )?;
         let places = rising_at(alloc, self.places.as_slice(), met.as_slice(), words.len())?;
@@ -129,12 +136,14 @@ impl Matcher for Trie {
     fn new(alloc: Global, patterns: Vec<Pattern>) -> Result<Trie, AllocError> {
         let (nodes, chains, ends) = nodes_of(alloc, patterns.as_slice())?;
         let places = ending(alloc, nodes.len(), ends.as_slice())?;
+        let exits = exits_of(alloc, patterns.as_slice(), nodes.as_slice())?;
         Ok(Trie {
             patterns,
             nodes,
             chains,
             ends,
             places,
+            exits,
         })
     }
 

@@ -2,38 +2,41 @@
 
 ghost use Rattle.std.specs.Prelude.{◌≡◌, ◌<◌, length, IfOk, OnOk, MatchOption};
 ghost use Rattle.topic_match.specs.Counts.{AreCounts};
+ghost use Rattle.topic_match.specs.Exits.{AreExits};
 ghost use Rattle.topic_match.specs.Nodes.{AreLinked, beginning_at};
 ghost use Rattle.topic_match.specs.Beginnings.{Begins};
 ghost use Rattle.topic_match.specs.Walks.{AreAdded, AreSteps, IsBarren, IsStep};
 
 use crate::children::child;
 use crate::counts::{counts_after, has_some};
-use crate::nodes::{Met, Node};
+use crate::nodes::{Links, Met};
 use crate::patterns::Pattern;
+use crate::pieces::KeyWord;
 use crate::steps::Step;
-use model::Text;
 use std::alloc::{AllocError, Global};
 
 /// The node that a token leads to, where its beginning matches some of the first words.
 fn step(
     alloc: Global,
     patterns: &[Pattern],
-    nodes: &[Node],
-    chains: &[usize],
-    words: &[Text],
+    links: &Links<'_>,
+    words: &[KeyWord<'_>],
     from: &Met,
-    by: &Step,
+    by: &Step<'_>,
 ) -> Result<Option<Met>, AllocError>
-    requires linked { AreLinked patterns.now nodes.now chains.now }
-    requires within { from.now.node < length nodes.now }
-    requires counted { AreCounts (beginning_at patterns.now nodes.now from.now.node) words.now from.now.counts.items }
-    ensures { IfOk result (λ o. MatchOption o (IsBarren patterns.now nodes.now words.now from.now.node by.now) (λ next. IsStep patterns.now nodes.now words.now from.now.node by.now next.node next.counts.items)) }
+    requires linked { AreLinked patterns.now links.now.nodes.now links.now.chains.now }
+    requires exits { AreExits patterns.now links.now.nodes.now (length links.now.nodes.now) links.now.exits.now }
+    requires within { from.now.node < length links.now.nodes.now }
+    requires counted { AreCounts (beginning_at patterns.now links.now.nodes.now from.now.node) words.now from.now.counts.items }
+    ensures { IfOk result (λ o. MatchOption o (IsBarren patterns.now links.now.nodes.now words.now from.now.node by.now) (λ next. IsStep patterns.now links.now.nodes.now words.now from.now.node by.now next.node next.counts.items)) }
 {
-    let token = by.token();
-    let Some(node) = child(patterns, nodes, chains, from.node, token, by.mark()) else {
+    if !by.may_go(links.exits[from.node]) {
+        return Ok(None);
+    }
+    let Some(node) = child(patterns, links.nodes, links.chains, from.node, by) else {
         return Ok(None);
     };
-    let counts = counts_after(alloc, token, words, from.counts.as_slice())?;
+    let counts = counts_after(alloc, by, words, from.counts.as_slice())?;
     if !has_some(counts.as_slice()) {
         return Ok(None);
     }
@@ -44,24 +47,24 @@ fn step(
 pub fn walk(
     alloc: Global,
     patterns: &[Pattern],
-    nodes: &[Node],
-    chains: &[usize],
-    steps: &[Step],
-    words: &[Text],
+    links: &Links<'_>,
+    steps: &[Step<'_>],
+    words: &[KeyWord<'_>],
     from: Met,
     met: &mut Vec<Met>,
 ) -> Result<(), AllocError>
-    requires linked { AreLinked patterns.now nodes.now chains.now }
-    requires within { from.node < length nodes.now }
-    requires counted { AreCounts (beginning_at patterns.now nodes.now from.node) words.now from.counts.items }
+    requires linked { AreLinked patterns.now links.now.nodes.now links.now.chains.now }
+    requires exits { AreExits patterns.now links.now.nodes.now (length links.now.nodes.now) links.now.exits.now }
+    requires within { from.node < length links.now.nodes.now }
+    requires counted { AreCounts (beginning_at patterns.now links.now.nodes.now from.node) words.now from.counts.items }
     requires taken { AreSteps steps.now words.now }
-    ensures { OnOk result (AreAdded patterns.now nodes.now words.now (Begins (beginning_at patterns.now nodes.now from.node)) met.old.items met.new.items) }
+    ensures { OnOk result (AreAdded patterns.now links.now.nodes.now words.now (Begins (beginning_at patterns.now links.now.nodes.now from.node)) met.old.items met.new.items) }
 {
     for place in 0..steps.len() {
-        let Some(next) = step(alloc, patterns, nodes, chains, words, &from, &steps[place])? else {
+        let Some(next) = step(alloc, patterns, links, words, &from, &steps[place])? else {
             continue;
         };
-        walk(alloc, patterns, nodes, chains, steps, words, next, met)?;
+        walk(alloc, patterns, links, steps, words, next, met)?;
     }
     met.push(from)?;
     Ok(())

@@ -8,4 +8,4 @@ loop-place-init c = λ b a. counts_first c.args.token.now b c.args.words.now c.a
 pub loop-place-preserved : goal.loop-place-preserved
 loop-place-preserved c =
     λ b a. counts_more c.args.token.now b c.args.words.now c.args.before.now c.loop-place.after.items c.push-in-loop-place.new.self.items c.loop-place.place c.index-words-place.result
-    c.loop-place.was c.stands_after-was.result a c.loop-place-test.true c.index-words-place.is c.stands_after-was.ensures (c.in_ok-push-2.ensures.items) (c.loop-place.invariant b a)
+    c.loop-place.was c.stands_after-was.result a c.loop-place-test.true c.index-words-place.is c.stands_after-was.ensures (c.in_ok-push-2.ensures.ok) (c.loop-place.invariant b a)

@@ -4,19 +4,19 @@ use Rattle.topic_match.proofs.walks.+walk.Goals as goal
 
 pub loop-place-preserved-in_default : goal.loop-place-preserved-in_default
 loop-place-preserved-in_default t c =
-    added_skip c.args.patterns.now c.args.nodes.now c.args.words.now c.args.from.node c.loop-place.place c.args.steps.now c.index-steps-place.result c.args.met.now.items c.loop-place.met.items
+    added_skip c.args.patterns.now c.args.links.now.nodes.now c.args.words.now c.args.from.node c.loop-place.place c.args.steps.now c.index-steps-place.result c.args.met.now.items c.loop-place.met.items
     c.loop-place-test.true c.index-steps-place.is
-    (let e = c.in_ok-next.ensures in found_none c.args.patterns.now c.args.nodes.now c.args.words.now c.args.from.node c.index-steps-place.result c.in_ok-next.field-0 (c.in_default.is) e)
+    (let e = c.in_ok-next.ensures in found_none c.args.patterns.now c.args.links.now.nodes.now c.args.words.now c.args.from.node c.index-steps-place.result c.in_ok-next.field-0 (c.in_default.is) e)
     c.loop-place.invariant
 
 pub loop-place-preserved : goal.loop-place-preserved
 loop-place-preserved t c =
-    added_more c.args.patterns.now c.args.nodes.now c.args.words.now c.args.from.node c.loop-place.place c.in-Some.next.node c.in-Some.next.counts.items c.args.steps.now c.index-steps-place.result
+    added_more c.args.patterns.now c.args.links.now.nodes.now c.args.words.now c.args.from.node c.loop-place.place c.in-Some.next.node c.in-Some.next.counts.items c.args.steps.now c.index-steps-place.result
     c.args.met.now.items c.loop-place.met.items c.walk.new.met.items c.loop-place-test.true c.index-steps-place.is c.requires.taken.apart
-    (found_step c.args.patterns.now c.args.nodes.now c.args.words.now c.args.from.node c.index-steps-place.result c.in_ok-next.field-0 c.in-Some.next c.in-Some.is c.in_ok-next.ensures)
+    (found_step c.args.patterns.now c.args.links.now.nodes.now c.args.words.now c.args.from.node c.index-steps-place.result c.in_ok-next.field-0 c.in-Some.next c.in-Some.is c.in_ok-next.ensures)
     c.in_ok-walk.ensures c.loop-place.invariant
 
 pub returns : goal.returns
 returns t c =
-    added_here c.args.patterns.now c.args.nodes.now c.args.chains.now c.args.words.now c.args.steps.now c.args.from c.loop-place.place c.args.met.now.items c.loop-place.met.items c.push.new.self.items
+    added_here c.args.patterns.now c.args.links.now.nodes.now c.args.links.now.chains.now c.args.words.now c.args.steps.now c.args.from c.loop-place.place c.args.met.now.items c.loop-place.met.items c.push.new.self.items
     (omega (arith, c.loop-place-test.false, c.loop-place.auto.place-end)) c.requires.linked c.requires.within c.requires.counted c.requires.taken c.in_ok-push.ensures.items c.loop-place.invariant

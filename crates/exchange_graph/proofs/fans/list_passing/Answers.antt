@@ -1,20 +1,20 @@
 use Rattle.std.proofs.Common.{List, sym, ◌∙◌, subst}
-use Rattle.std.proofs.lemmas.Result.{IfOk-weaker}
+use Rattle.std.proofs.lemmas.Result.{on_ok_weaker}
 use Rattle.model.specs.declared.topologies.ExchangeKind.TheVariants.{Direct}
 use Rattle.exchange_graph.specs.declared.ends.End.{End}
 use Rattle.exchange_graph.specs.declared.fans.Index.{Index}
 use Rattle.exchange_graph.specs.Fans.{ArePassing}
 use Rattle.exchange_graph.specs.Found.{IsIndex}
 use Rattle.exchange_graph.proofs.Passing.{passing_direct, passing_fanout}
-use Rattle.exchange_graph.proofs.fans.passing.Goals as goal
+use Rattle.exchange_graph.proofs.fans.list_passing.Goals as goal
 
 pub returns-in-Keys : goal.returns-in-Keys
 returns-in-Keys c =
     let keyed = subst (λ (index : Index). IsIndex c.args.ways.now index) c.in-Keys.is c.requires in
     rw c.in-Keys.is
-    (IfOk-weaker c.ends_by_key.result _ _
-    (λ v e. subst (λ (es : List End). ArePassing Direct c.args.key.now c.args.ways.now es) (sym (e ∙ keyed.told c.args.key.now)) (passing_direct c.args.key.now c.args.ways.now))
-    c.ends_by_key.ensures)
+    (on_ok_weaker c.list_by_key.result
+    (λ e. subst (λ (es : List End). ArePassing Direct c.args.key.now c.args.ways.now es) (sym (e ∙ keyed.told c.args.key.now)) (passing_direct c.args.key.now c.args.ways.now))
+    c.list_by_key.ensures)
 
 pub returns-in-All : goal.returns-in-All
-returns-in-All c = rw c.in-All.is (IfOk-weaker c.ends_of.result _ _ (λ v e. rw e (passing_fanout c.args.key.now c.args.ways.now)) c.ends_of.ensures)
+returns-in-All c = rw c.in-All.is (on_ok_weaker c.list_all.result (λ e. rw e (passing_fanout c.args.key.now c.args.ways.now)) c.list_all.ensures)

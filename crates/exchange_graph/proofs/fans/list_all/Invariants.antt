@@ -1,6 +1,6 @@
 use Rattle.std.proofs.Common.{◌≡◌, ◌++◌, drop}
 use Rattle.exchange_graph.specs.Fans.{ends_of}
-use Rattle.exchange_graph.proofs.fans.ends_of.Given as goal
+use Rattle.exchange_graph.proofs.fans.list_all.Given as goal
 
 abbrev pub invariant-loop-way : goal.invariant-loop-way
 invariant-loop-way l = l.ends.items ++ ends_of (drop l.way-index l.ways) ≡ ends_of l.ways

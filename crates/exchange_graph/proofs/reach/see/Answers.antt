@@ -1,14 +1,14 @@
 use Rattle.std.proofs.Common.{List, Bool, false, length, replicate, refl, sym, ap, subst, ◌∙◌}
-use Rattle.std.proofs.lemmas.Result.{IfOk-weaker}
+use Rattle.std.proofs.lemmas.Result.{on_ok_weaker}
 use Rattle.model.specs.declared.topologies.Exchange.{Exchange}
 use Rattle.exchange_graph.specs.Marks.{AreSeen}
 use Rattle.exchange_graph.proofs.Starting.{nothing_seen}
-use Rattle.exchange_graph.proofs.reach.seen.Goals as goal
+use Rattle.exchange_graph.proofs.reach.see.Goals as goal
 
 pub returns-in-None : goal.returns-in-None
 returns-in-None c =
     let t = c.args.topology.now in
-    IfOk-weaker c.unmarked.result _ _
-    (λ v e. subst (λ (bs : List Bool). AreSeen t c.args.exchange.now c.args.key.now bs) (sym (e ∙ ap (λ (xs : List Exchange). replicate (length xs) false) c.exchanges.ensures))
+    on_ok_weaker c.unmark.result
+    (λ e. subst (λ (bs : List Bool). AreSeen t c.args.exchange.now c.args.key.now bs) (sym (e ∙ ap (λ (xs : List Exchange). replicate (length xs) false) c.exchanges.ensures))
     (nothing_seen t c.args.exchange.now c.args.key.now (length t.exchanges) refl c.in-None.ensures.absent))
-    c.unmarked.ensures
+    c.unmark.ensures

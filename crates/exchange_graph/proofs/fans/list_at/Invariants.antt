@@ -1,6 +1,6 @@
 use Rattle.std.proofs.Common.{◌≡◌, ◌++◌, drop}
 use Rattle.exchange_graph.specs.Fans.{ends_at}
-use Rattle.exchange_graph.proofs.fans.ends_at.Given as goal
+use Rattle.exchange_graph.proofs.fans.list_at.Given as goal
 
 abbrev pub invariant-loop-place : goal.invariant-loop-place
 invariant-loop-place l = l.ends.items ++ ends_at l.ways (drop l.place-index l.places) ≡ ends_at l.ways l.places

@@ -3,11 +3,11 @@ use Rattle.std.proofs.lemmas.Result.{IfOk-weaker}
 use Rattle.exchange_graph.specs.Marks.{set_places}
 use Rattle.exchange_graph.specs.Targets.{AreTargets}
 use Rattle.exchange_graph.proofs.Picking.{targets_of}
-use Rattle.exchange_graph.proofs.topologies.Topology.route.Goals as goal
+use Rattle.exchange_graph.proofs.topologies.Topology.targets.Goals as goal
 
 pub returns : goal.returns
 returns c =
     IfOk-weaker c.set_places.result _ _
     (λ v e. subst (λ (ps : List ℕ). AreTargets c.args.self.now c.args.exchange.now c.args.key.now ps) (sym (e ∙ ap (λ (bs : List Bool). set_places 0 bs) c.as_slice.ensures.value))
-    (targets_of c.args.self.now c.args.exchange.now c.args.key.now c.in_ok-found.found.items c.in_ok-found.ensures))
+    (targets_of c.args.self.now c.args.exchange.now c.args.key.now c.find.new.scratch.found.items c.in_ok-find.ensures))
     c.set_places.ensures

@@ -1,0 +1,73 @@
+//! By which tokens the beginnings of patterns go on: where none does by a token, no node is looked for.
+
+ghost use Rattle.std.specs.Prelude.{◌≡◌, ◌<◌, length, IfOk, slice_index_or, slice_set};
+ghost use Rattle.topic_match.specs.Exits.{AreDeep, AreExits, no_exit, with_exit};
+ghost use Rattle.topic_match.specs.Nodes.{IsDeep, last_token};
+
+use crate::nodes::{Exits, Node};
+use crate::patterns::Pattern;
+use model::Token;
+use std::alloc::{AllocError, Global};
+
+/// These exits, and one by this token.
+fn with_exit(exits: Exits, token: &Token) -> Exits
+    ensures { result ≡ with_exit exits token.now }
+{
+    match token {
+        Token::Word(_) => Exits {
+            word: true,
+            one: exits.one,
+            any: exits.any,
+        },
+        Token::One => Exits {
+            word: exits.word,
+            one: true,
+            any: exits.any,
+        },
+        Token::Any => Exits {
+            word: exits.word,
+            one: exits.one,
+            any: true,
+        },
+    }
+}
+
+/// The beginning of this node goes on from the one before it by its last token.
+fn open(patterns: &[Pattern], node: &Node, exits: &mut [Exits])
+    requires deep { IsDeep patterns.now node.now }
+    requires within { node.now.parent < length exits.old }
+    ensures { exits.new ≡ slice_set exits.old node.now.parent (with_exit (slice_index_or exits.old node.now.parent no_exit) (last_token patterns.now node.now)) }
+{
+    let token = &patterns[node.pattern].tokens()[node.depth - 1];
+    exits[node.parent] = with_exit(exits[node.parent], token);
+}
+
+/// As many nodes from which no beginning goes on.
+fn no_exits(alloc: Global, count: usize) -> Result<Vec<Exits>, AllocError>
+    ensures { IfOk result (λ exits. length exits.items ≡ count) }
+{
+    let none = Exits {
+        word: false,
+        one: false,
+        any: false,
+    };
+    let mut exits = Vec::new(alloc);
+    exits.resize(count, none)?;
+    Ok(exits)
+}
+
+/// By which tokens the beginnings of these nodes go on.
+pub fn exits_of(
+    alloc: Global,
+    patterns: &[Pattern],
+    nodes: &[Node],
+) -> Result<Vec<Exits>, AllocError>
+    requires { AreDeep patterns.now nodes.now }
+    ensures { IfOk result (λ exits. AreExits patterns.now nodes.now (length nodes.now) exits.items) }
+{
+    let mut exits = no_exits(alloc, nodes.len())?;
+    for place in 1..nodes.len() {
+        open(patterns, &nodes[place], exits.as_mut_slice());
+    }
+    Ok(exits)
+}
