@@ -9,7 +9,7 @@ use Rattle.model.specs.declared.messages.Taker.{Taker}
 use Rattle.channel.specs.Outstanding.{tag_of, taker_of}
 use Rattle.channel.specs.Seats.{consumers_of, counts_of, is_numbered, counted_in, counted_out, may_held, AreParts}
 use Rattle.channel.specs.Deliveries.{may_of}
-use Rattle.channel.specs.declared.pending.Outstanding.{Outstanding}
+use Rattle.model.specs.declared.deliveries.Delivery.{Delivery}
 use Rattle.channel.specs.declared.consumers.Consumer.{Consumer}
 use Rattle.channel.specs.declared.consumers.CountedConsumer.{CountedConsumer}
 
@@ -38,32 +38,32 @@ counted_apart : {X : Type 0} (p q : X → Bool) (xs : List X) → count_by p xs 
 counted_apart p q xs = let a = length-filter p xs in let b = length-filter p (filter q xs) in let c = length-filter p (filter (λ x. not (q x)) xs) in let d = passed_apart p q xs in omega arith
 
 -- what a tag settles, and what stays
-pub settled_parts : (os gone : List Outstanding) (tag : ℕ) (multiple : Bool) → Some gone ≡ settled tag_of tag multiple os → AreParts os gone (kept tag_of tag multiple os)
+pub settled_parts : (os gone : List Delivery) (tag : ℕ) (multiple : Bool) → Some gone ≡ settled tag_of tag multiple os → AreParts os gone (kept tag_of tag multiple os)
 settled_parts os gone tag multiple e p = go (is_refused tag_of tag multiple os) e
   where
-    t : Outstanding → Bool
+    t : Delivery → Bool
     t = takes tag_of tag multiple
 
-    some_is : (xs ys : List Outstanding) → Some xs ≡ Some ys → xs ≡ ys
+    some_is : (xs ys : List Delivery) → Some xs ≡ Some ys → xs ≡ ys
     some_is xs ys h = cc
 
     go : (b : Bool) → Some gone ≡ cond b None (Some (filter t os)) → count_by p os ≡ count_by p gone + count_by p (cond b os (filter (λ o. not (t o)) os))
     go true h = absurd (cc)
     go false h = rw (some_is gone (filter t os) h) (counted_apart p t os)
 
-pub refused_parts : (os : List Outstanding) (tag : ℕ) (multiple : Bool) → ◌≡◌ {A = Option (List Outstanding)} None (settled tag_of tag multiple os) → AreParts os [] (kept tag_of tag multiple os)
+pub refused_parts : (os : List Delivery) (tag : ℕ) (multiple : Bool) → ◌≡◌ {A = Option (List Delivery)} None (settled tag_of tag multiple os) → AreParts os [] (kept tag_of tag multiple os)
 refused_parts os tag multiple e p = go (is_refused tag_of tag multiple os) e
   where
-    t : Outstanding → Bool
+    t : Delivery → Bool
     t = takes tag_of tag multiple
 
-    go : (b : Bool) → ◌≡◌ {A = Option (List Outstanding)} None (cond b None (Some (filter t os))) → count_by p os ≡ 0 + count_by p (cond b os (filter (λ o. not (t o)) os))
+    go : (b : Bool) → ◌≡◌ {A = Option (List Delivery)} None (cond b None (Some (filter t os))) → count_by p os ≡ 0 + count_by p (cond b os (filter (λ o. not (t o)) os))
     go true h = omega arith
     go false h = absurd (cc)
 
 -- ---- seats
 
-abbrev counts : List Consumer → List Outstanding → List ℕ
+abbrev counts : List Consumer → List Delivery → List ℕ
 counts consumers given = map (λ (c : Consumer). count_to taker_of c.number given) consumers
 
 -- the consumers stay where each count is changed
@@ -78,7 +78,7 @@ tail_is : (x y : ℕ) (xs ys : List ℕ) → x ∷ xs ≡ y ∷ ys → xs ≡ ys
 tail_is x y xs ys e = cc
 
 -- each count is changed as what is outstanding changes
-pub new_counts : (f : CountedConsumer → CountedConsumer) (old new : List Outstanding) → ((s : CountedConsumer) → s.held ≡ count_to taker_of s.consumer.number old → (f s).held ≡ count_to taker_of s.consumer.number new)
+pub new_counts : (f : CountedConsumer → CountedConsumer) (old new : List Delivery) → ((s : CountedConsumer) → s.held ≡ count_to taker_of s.consumer.number old → (f s).held ≡ count_to taker_of s.consumer.number new)
     → (seats : List CountedConsumer) → counts_of seats ≡ counts (consumers_of seats) old → counts_of (map f seats) ≡ counts (consumers_of seats) new
 new_counts f old new step [] h = refl
 new_counts f old new step (s ∷ ss) h =
@@ -99,7 +99,7 @@ in_held by s = go (is_to s.consumer.number by)
     go true = refl
     go false = omega arith
 
-one_passed : (p : Outstanding → Bool) (os : List Outstanding) (o : Outstanding) → length (filter p (os ++ o ∷ [])) ≡ length (filter p os) + cond (p o) 1 0
+one_passed : (p : Delivery → Bool) (os : List Delivery) (o : Delivery) → length (filter p (os ++ o ∷ [])) ≡ length (filter p os) + cond (p o) 1 0
 one_passed p [] o = go (p o)
   where
     go : (b : Bool) → length (cond b (o ∷ []) []) ≡ 0 + cond b 1 0
@@ -112,21 +112,21 @@ one_passed p (x ∷ xs) o = go (p x) (one_passed p xs o)
     go true e = omega arith
     go false e = e
 
-pub one_more : (p : Outstanding → Bool) (os : List Outstanding) (o : Outstanding) → count_by p (os ++ o ∷ []) ≡ count_by p os + cond (p o) 1 0
+pub one_more : (p : Delivery → Bool) (os : List Delivery) (o : Delivery) → count_by p (os ++ o ∷ []) ≡ count_by p os + cond (p o) 1 0
 one_more p os o = let a = length-filter p (os ++ o ∷ []) in let b = length-filter p os in let c = one_passed p os o in omega arith
 
-pub step_in : (by : Taker) (os : List Outstanding) (o : Outstanding) → o.by ≡ by → (s : CountedConsumer) → s.held ≡ count_to taker_of s.consumer.number os → (counted_in by s).held ≡ count_to taker_of s.consumer.number (os ++ o ∷ [])
+pub step_in : (by : Taker) (os : List Delivery) (o : Delivery) → o.by ≡ by → (s : CountedConsumer) → s.held ≡ count_to taker_of s.consumer.number os → (counted_in by s).held ≡ count_to taker_of s.consumer.number (os ++ o ∷ [])
 step_in by os o e s h =
     in_held by s
     ∙ ap (λ (n : ℕ). n + cond (is_to s.consumer.number by) 1 0) h
     ∙ ap (λ (t : Taker). count_to taker_of s.consumer.number os + cond (is_to s.consumer.number t) 1 0) (sym e)
     ∙ sym (one_more (λ x. is_to s.consumer.number (taker_of x)) os o)
 
-pub step_out : (given gone left : List Outstanding) → AreParts given gone left → (s : CountedConsumer) → s.held ≡ count_to taker_of s.consumer.number given → (counted_out gone s).held ≡ count_to taker_of s.consumer.number left
+pub step_out : (given gone left : List Delivery) → AreParts given gone left → (s : CountedConsumer) → s.held ≡ count_to taker_of s.consumer.number given → (counted_out gone s).held ≡ count_to taker_of s.consumer.number left
 step_out given gone left parts s h = let p = parts (λ x. is_to s.consumer.number (taker_of x)) in omega arith
 
 -- a consumer more
-pub one_seat : (seats : List CountedConsumer) (s : CountedConsumer) (given : List Outstanding) → counts_of seats ≡ counts (consumers_of seats) given → s.held ≡ count_to taker_of s.consumer.number given
+pub one_seat : (seats : List CountedConsumer) (s : CountedConsumer) (given : List Delivery) → counts_of seats ≡ counts (consumers_of seats) given → s.held ≡ count_to taker_of s.consumer.number given
     → counts_of (seats ++ s ∷ []) ≡ counts (consumers_of (seats ++ s ∷ [])) given
 one_seat [] s given h e = ap (λ (n : ℕ). n ∷ []) e
 one_seat (x ∷ xs) s given h e =
@@ -143,7 +143,7 @@ seats_filtered p (s ∷ ss) = go (p s.consumer) (seats_filtered p ss)
     go true e = ap (λ (cs : List Consumer). s.consumer ∷ cs) e
     go false e = e
 
-pub counts_filtered : (p : CountedConsumer → Bool) (seats : List CountedConsumer) (given : List Outstanding) → counts_of seats ≡ counts (consumers_of seats) given → counts_of (filter p seats) ≡ counts (consumers_of (filter p seats)) given
+pub counts_filtered : (p : CountedConsumer → Bool) (seats : List CountedConsumer) (given : List Delivery) → counts_of seats ≡ counts (consumers_of seats) given → counts_of (filter p seats) ≡ counts (consumers_of (filter p seats)) given
 counts_filtered p [] given h = refl
 counts_filtered p (s ∷ ss) given h = go (p s) (counts_filtered p ss given (tail_is _ _ _ _ h))
   where
@@ -164,7 +164,7 @@ any_named p [] = refl
 any_named p (s ∷ ss) = ap (λ (b : Bool). p s.consumer || b) (any_named p ss)
 
 -- by its kept counts a consumer may take what it may by what is outstanding
-pub may_kept : (limit given number : ℕ) (seats : List CountedConsumer) (os : List Outstanding) → counts_of seats ≡ counts (consumers_of seats) os → given ≡ count_given taker_of os
+pub may_kept : (limit given number : ℕ) (seats : List CountedConsumer) (os : List Delivery) → counts_of seats ≡ counts (consumers_of seats) os → given ≡ count_given taker_of os
     → may_held limit given (find (is_numbered number) seats) ≡ may_of limit os (find (λ (c : Consumer). c.number == number) (consumers_of seats))
 may_kept limit given number [] os h g = refl
 may_kept limit given number (s ∷ ss) os h g = go (s.consumer.number == number) (may_kept limit given number ss os (tail_is _ _ _ _ h) g)
@@ -175,7 +175,7 @@ may_kept limit given number (s ∷ ss) os h g = go (s.consumer.number == number)
     go false e = e
 
 -- no count is above what is outstanding
-pub counts_small : (n : ℕ) (consumers : List Consumer) (os : List Outstanding) → length os < n → All (λ k. k < n) (counts consumers os)
+pub counts_small : (n : ℕ) (consumers : List Consumer) (os : List Delivery) → length os < n → All (λ k. k < n) (counts consumers os)
 counts_small n [] os h k d lt = absurd (omega arith)
 counts_small n (c ∷ cs) os h zero d lt = let m = count_by-le-length (λ x. is_to c.number (taker_of x)) os in omega arith
 counts_small n (c ∷ cs) os h (suc k) d lt = counts_small n cs os h k d (omega arith)

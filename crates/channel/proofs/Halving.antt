@@ -5,11 +5,12 @@ use Rattle.std.proofs.lemmas.Bool.{eq-eqb, ne_eqb}
 use Rattle.model.specs.Prefetch.{is_to, count_to}
 use Rattle.model.specs.declared.messages.Taker.TheVariants as taker
 use Rattle.std.proofs.lemmas.List.Elements.{filter_more}
-use Rattle.channel.specs.Outstanding.{taker_of, is_waiting, waiting}
+use Rattle.channel.specs.Outstanding.{taker_of}
+use Rattle.model.specs.Placed.{is_waiting, waiting}
 use Rattle.channel.specs.Seats.{consumers_of, is_numbered, counted_in, counted_out, uncounted, AreNumbered}
 use Rattle.channel.specs.declared.consumers.Consumer.{Consumer}
 use Rattle.channel.specs.declared.consumers.CountedConsumer.{CountedConsumer}
-use Rattle.channel.specs.declared.pending.Outstanding.{Outstanding}
+use Rattle.model.specs.declared.deliveries.Delivery.{Delivery}
 use Rattle.channel.proofs.Counting.{one_more}
 
 -- ---- the only seat of a number
@@ -89,7 +90,7 @@ out_get (x ∷ xs) = ap (λ (ys : List CountedConsumer). x ∷ ys) (out_get xs)
 
 -- ---- one settled after others
 
-out_one : (done : List Outstanding) (o : Outstanding) (s : CountedConsumer) → uncounted o.by (counted_out done s) ≡ counted_out (done ++ o ∷ []) s
+out_one : (done : List Delivery) (o : Delivery) (s : CountedConsumer) → uncounted o.by (counted_out done s) ≡ counted_out (done ++ o ∷ []) s
 out_one done o s = go (is_to s.consumer.number o.by) (one_more (λ x. is_to s.consumer.number (taker_of x)) done o)
   where
     go : (b : Bool) → count_to taker_of s.consumer.number (done ++ o ∷ []) ≡ count_to taker_of s.consumer.number done + cond b 1 0
@@ -98,23 +99,23 @@ out_one done o s = go (is_to s.consumer.number o.by) (one_more (λ x. is_to s.co
     go true e = ap (λ (h : ℕ). record s { held = h }) (omega arith)
     go false e = ap (λ (h : ℕ). record s { held = h }) (omega arith)
 
-pub out_next : (done : List Outstanding) (o : Outstanding) (xs : List CountedConsumer) → map (uncounted o.by) (map (counted_out done) xs) ≡ map (counted_out (done ++ o ∷ [])) xs
+pub out_next : (done : List Delivery) (o : Delivery) (xs : List CountedConsumer) → map (uncounted o.by) (map (counted_out done) xs) ≡ map (counted_out (done ++ o ∷ [])) xs
 out_next done o [] = refl
 out_next done o (x ∷ xs) = ap (λ (y : CountedConsumer). y ∷ map (uncounted o.by) (map (counted_out done) xs)) (out_one done o x) ∙ ap (λ (ys : List CountedConsumer). counted_out (done ++ o ∷ []) x ∷ ys) (out_next done o xs)
 
 -- where it waited
-pub out_waiting : (gone : List Outstanding) (i : ℕ) (x d : Outstanding) (first seats new : List CountedConsumer) → i < length gone → x ≡ get_or gone i d → seats ≡ map (counted_out (waiting (take i gone))) first
+pub out_waiting : (gone : List Delivery) (i : ℕ) (x d : Delivery) (first seats new : List CountedConsumer) → i < length gone → x ≡ get_or gone i d → seats ≡ map (counted_out (waiting (take i gone))) first
     → (is_waiting x ≡ true → new ≡ map (uncounted x.by) seats) → (is_waiting x ≡ false → new ≡ seats) → new ≡ map (counted_out (waiting (take (i + 1) gone))) first
 out_waiting gone i x d first seats new lt is was counts stays = go (is_waiting x) refl
   where
     more : (b : Bool) → is_waiting x ≡ b → waiting (take (i + 1) gone) ≡ waiting (take i gone) ++ cond b (x ∷ []) []
     more b e =
-        filter_more is_waiting gone i d lt ∙ ap (λ (o : Outstanding). waiting (take i gone) ++ cond (is_waiting o) (o ∷ []) []) (sym is)
+        filter_more is_waiting gone i d lt ∙ ap (λ (o : Delivery). waiting (take i gone) ++ cond (is_waiting o) (o ∷ []) []) (sym is)
         ∙ ap (λ (t : Bool). waiting (take i gone) ++ cond t (x ∷ []) []) e
 
     go : (b : Bool) → is_waiting x ≡ b → new ≡ map (counted_out (waiting (take (i + 1) gone))) first
-    go true e = counts e ∙ ap (map (uncounted x.by)) was ∙ out_next (waiting (take i gone)) x first ∙ ap (λ (os : List Outstanding). map (counted_out os) first) (sym (more true e))
-    go false e = stays e ∙ was ∙ ap (λ (os : List Outstanding). map (counted_out os) first) (sym (more false e ∙ append-nil (waiting (take i gone))))
+    go true e = counts e ∙ ap (map (uncounted x.by)) was ∙ out_next (waiting (take i gone)) x first ∙ ap (λ (os : List Delivery). map (counted_out os) first) (sym (more true e))
+    go false e = stays e ∙ was ∙ ap (λ (os : List Delivery). map (counted_out os) first) (sym (more false e ∙ append-nil (waiting (take i gone))))
 
 -- none is settled at first
 nothing_out : (s : CountedConsumer) → counted_out [] s ≡ s

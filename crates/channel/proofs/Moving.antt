@@ -6,11 +6,12 @@ use Rattle.model.specs.Words.{Text}
 use Rattle.model.specs.Broker as seen
 use Rattle.model.specs.Prefetch.{is_to, is_delivery, count_to}
 use Rattle.laws.proofs.Counts.{count-map}
-use Rattle.channel.specs.Outstanding.{taker_of, given_tag, is_waiting, waiting, AreInOrder}
+use Rattle.channel.specs.Outstanding.{taker_of, given_tag, AreInOrder}
+use Rattle.model.specs.Placed.{is_waiting, waiting, outstanding_in}
 use Rattle.channel.specs.Seats.{Seated, SeatsAreCounted, AreNumbered, consumers_of, counts_of}
-use Rattle.channel.specs.Open.{Open, outstanding_in, consumer_in, open_in}
+use Rattle.channel.specs.Open.{Open, consumer_in, open_in}
 use Rattle.channel.specs.Moving.{outstanding_moved, consumer_moved, seat_moved, open_moved, IsNamedAlike, AreNamedAlike}
-use Rattle.channel.specs.declared.pending.Outstanding.{Outstanding}
+use Rattle.model.specs.declared.deliveries.Delivery.{Delivery}
 use Rattle.channel.specs.declared.consumers.Consumer.{Consumer}
 use Rattle.channel.specs.declared.consumers.CountedConsumer.{CountedConsumer}
 
@@ -30,12 +31,12 @@ one_changed f xs i d lt = let e : suc i ≡ i + 1 = omega arith in one_more_chan
 
 -- ---- what is outstanding
 
-given_stays : (places : List ℕ) (os : List Outstanding) (i : ℕ) (d : Outstanding) → given_tag (get_or (map (outstanding_moved places) os) i d) ≡ given_tag (get_or os i d)
+given_stays : (places : List ℕ) (os : List Delivery) (i : ℕ) (d : Delivery) → given_tag (get_or (map (outstanding_moved places) os) i d) ≡ given_tag (get_or os i d)
 given_stays places [] i d = refl
 given_stays places (o ∷ os) zero d = refl
 given_stays places (o ∷ os) (suc i) d = given_stays places os i d
 
-pub moved_order : (last : ℕ) (places : List ℕ) (os : List Outstanding) → AreInOrder last os → AreInOrder last (map (outstanding_moved places) os)
+pub moved_order : (last : ℕ) (places : List ℕ) (os : List Delivery) → AreInOrder last os → AreInOrder last (map (outstanding_moved places) os)
 moved_order last places os order = record {
   rises = λ i j d lt within.
       let l = length-map os (outstanding_moved places) in
@@ -46,17 +47,17 @@ moved_order last places os order = record {
   most = λ k d within. let l = length-map os (outstanding_moved places) in let a = given_stays places os k d in let m = order.most k d (omega arith) in omega arith;
 }
 
-pub moved_waiting : (places : List ℕ) (os : List Outstanding) → waiting (map (outstanding_moved places) os) ≡ map (outstanding_moved places) (waiting os)
+pub moved_waiting : (places : List ℕ) (os : List Delivery) → waiting (map (outstanding_moved places) os) ≡ map (outstanding_moved places) (waiting os)
 moved_waiting places [] = refl
 moved_waiting places (o ∷ os) = go (is_waiting o) (moved_waiting places os)
   where
     go : (b : Bool) → waiting (map (outstanding_moved places) os) ≡ map (outstanding_moved places) (waiting os)
         → cond b (outstanding_moved places o ∷ waiting (map (outstanding_moved places) os)) (waiting (map (outstanding_moved places) os)) ≡ map (outstanding_moved places) (cond b (o ∷ waiting os) (waiting os))
-    go true e = ap (λ (ys : List Outstanding). outstanding_moved places o ∷ ys) e
+    go true e = ap (λ (ys : List Delivery). outstanding_moved places o ∷ ys) e
     go false e = e
 
 -- behind the start, as everywhere
-pub drop_moved : (places : List ℕ) (start : ℕ) (os : List Outstanding) → drop start (map (outstanding_moved places) os) ≡ map (outstanding_moved places) (drop start os)
+pub drop_moved : (places : List ℕ) (start : ℕ) (os : List Delivery) → drop start (map (outstanding_moved places) os) ≡ map (outstanding_moved places) (drop start os)
 drop_moved places start os = drop-map (outstanding_moved places) start os
 
 -- ---- consumers and their counts
@@ -78,22 +79,22 @@ moved_counts places [] = refl
 moved_counts places (s ∷ ss) = ap (λ (ns : List ℕ). s.held ∷ ns) (moved_counts places ss)
 
 -- as many were given to each, and to all
-counts_moved : (places : List ℕ) (os : List Outstanding) (cs : List Consumer)
+counts_moved : (places : List ℕ) (os : List Delivery) (cs : List Consumer)
     → map (λ (c : Consumer). count_to taker_of c.number (map (outstanding_moved places) os)) (map (consumer_moved places) cs) ≡ map (λ (c : Consumer). count_to taker_of c.number os) cs
 counts_moved places os [] = refl
 counts_moved places os (c ∷ cs) =
-    ap (λ (n : ℕ). n ∷ map (λ (d : Consumer). count_to taker_of d.number (map (outstanding_moved places) os)) (map (consumer_moved places) cs)) (count-map (λ (o : Outstanding). is_to c.number o.by) (outstanding_moved places) (λ o. refl) os)
+    ap (λ (n : ℕ). n ∷ map (λ (d : Consumer). count_to taker_of d.number (map (outstanding_moved places) os)) (map (consumer_moved places) cs)) (count-map (λ (o : Delivery). is_to c.number o.by) (outstanding_moved places) (λ o. refl) os)
     ∙ ap (λ (ns : List ℕ). count_to taker_of c.number os ∷ ns) (counts_moved places os cs)
 
-pub moved_counted : (places : List ℕ) (s n : Seated) (os : List Outstanding) → n.consumers ≡ map (consumer_moved places) s.consumers → n.held ≡ s.held → n.given ≡ s.given → SeatsAreCounted s os → SeatsAreCounted n (map (outstanding_moved places) os)
+pub moved_counted : (places : List ℕ) (s n : Seated) (os : List Delivery) → n.consumers ≡ map (consumer_moved places) s.consumers → n.held ≡ s.held → n.given ≡ s.given → SeatsAreCounted s os → SeatsAreCounted n (map (outstanding_moved places) os)
 moved_counted places s n os consumers held given k = record {
   each = held ∙ k.each ∙ sym (counts_moved places os s.consumers) ∙ ap (map (λ (c : Consumer). count_to taker_of c.number (map (outstanding_moved places) os))) (sym consumers);
-  all = given ∙ k.all ∙ sym (count-map (λ (o : Outstanding). is_delivery o.by) (outstanding_moved places) (λ o. refl) os);
+  all = given ∙ k.all ∙ sym (count-map (λ (o : Delivery). is_delivery o.by) (outstanding_moved places) (λ o. refl) os);
 }
 
 -- ---- names
 
-outstanding_named : (old new : List Text) (places : List ℕ) (os : List Outstanding) → AllByRecursion (λ (o : Outstanding). IsNamedAlike old new places o.queue) os
+outstanding_named : (old new : List Text) (places : List ℕ) (os : List Delivery) → AllByRecursion (λ (o : Delivery). IsNamedAlike old new places o.queue) os
     → map (outstanding_in new) (map (outstanding_moved places) os) ≡ map (outstanding_in old) os
 outstanding_named old new places [] a = refl
 outstanding_named old new places (o ∷ os) (e, a) =

@@ -12,8 +12,9 @@ use Rattle.model.specs.Consuming as said
 use Rattle.channel.specs.Outstanding.{taker_of}
 use Rattle.channel.specs.Seats.{consumers_of, is_numbered, AreNumbered}
 use Rattle.channel.specs.Deliveries.{Given, may_of, may_be_given, consumer_at, taker_at}
-use Rattle.channel.specs.Open.{Open, outstanding_in, consumer_in, open_in, IsTaker, HasNoTaker, TellsTaker}
-use Rattle.channel.specs.declared.pending.Outstanding.{Outstanding}
+use Rattle.channel.specs.Open.{Open, consumer_in, open_in, IsTaker, HasNoTaker, TellsTaker}
+use Rattle.model.specs.Placed.{outstanding_in}
+use Rattle.model.specs.declared.deliveries.Delivery.{Delivery}
 use Rattle.channel.specs.declared.consumers.Consumer.{Consumer}
 use Rattle.channel.specs.declared.consumers.CountedConsumer.{CountedConsumer}
 
@@ -136,7 +137,7 @@ passed_in f p (x ∷ xs) = go (p (f x)) (passed_in f p xs)
     go true e = omega (arith, e)
     go false e = e
 
-counted_in_names : (names : List Text) (p : seen.Outstanding → Bool) (os : List Outstanding) → count_by p (map (outstanding_in names) os) ≡ count_by (λ o. p (outstanding_in names o)) os
+counted_in_names : (names : List Text) (p : seen.Outstanding → Bool) (os : List Delivery) → count_by p (map (outstanding_in names) os) ≡ count_by (λ o. p (outstanding_in names o)) os
 counted_in_names names p os = sym (length-filter p (map (outstanding_in names) os)) ∙ passed_in (outstanding_in names) p os ∙ length-filter (λ o. p (outstanding_in names o)) os
 
 -- a consumer may be given there what it may be given here

@@ -8,7 +8,7 @@ use Rattle.model.specs.declared.messages.Taker.{Taker}
 use Rattle.channel.specs.Outstanding.{taker_of}
 use Rattle.channel.specs.Seats.{is_named}
 use Rattle.channel.specs.Names.{server_name, IsNextName, AreNamesSpent}
-use Rattle.channel.specs.declared.pending.Outstanding.{Outstanding}
+use Rattle.model.specs.declared.deliveries.Delivery.{Delivery}
 use Rattle.channel.specs.declared.consumers.Consumer.{Consumer}
 use Rattle.channel.specs.declared.consumers.SeatRefusal.{SeatRefusal}
 use Rattle.channel.specs.declared.consumers.SeatRefusal.TheVariants.{InUse, TooMany, Spent, Memory}
@@ -25,7 +25,7 @@ pub record Given : Type 0 where
   pub limit : ℕ
   pub consumers : List Consumer
   -- in the order of their tags
-  pub outstanding : List Outstanding
+  pub outstanding : List Delivery
   pub room : ℕ
   pub seats : ℕ
 
@@ -38,7 +38,7 @@ abbrev pub with_limit : Given → ℕ → Bool → Given
 with_limit g count global = if global then record g { limit = count } else record g { each_limit = count }
 
 -- this consumer, if there is one, may be given one message more under this limit of the channel
-abbrev pub may_of : ℕ → List Outstanding → Option Consumer → Bool
+abbrev pub may_of : ℕ → List Delivery → Option Consumer → Bool
 may_of limit outstanding None = false
 may_of limit outstanding (Some c) = may_hold taker_of limit c.no_ack c.limit c.number outstanding
 

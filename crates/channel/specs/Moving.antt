@@ -4,7 +4,7 @@ use Rattle.std.specs.List.{AllByRecursion}
 use Rattle.model.specs.Words.{Text}
 use Rattle.channel.specs.Deliveries.{Given}
 use Rattle.channel.specs.Open.{Open}
-use Rattle.channel.specs.declared.pending.Outstanding.{Outstanding}
+use Rattle.model.specs.declared.deliveries.Delivery.{Delivery}
 use Rattle.channel.specs.declared.consumers.Consumer.{Consumer}
 use Rattle.channel.specs.declared.consumers.CountedConsumer.{CountedConsumer}
 
@@ -13,7 +13,7 @@ abbrev pub place_now : List ℕ → ℕ → ℕ
 place_now places p = slice_index_or places p p
 
 -- given out from that queue
-abbrev pub outstanding_moved : List ℕ → Outstanding → Outstanding
+abbrev pub outstanding_moved : List ℕ → Delivery → Delivery
 outstanding_moved places o = record o { queue = place_now places o.queue }
 
 -- taking from that queue
@@ -38,5 +38,5 @@ IsNamedAlike old new places p = slice_index_or new (place_now places p) [] ≡ s
 
 -- So it is with each queue that the channel names.
 pub record AreNamedAlike (old new : List Text) (places : List ℕ) (ch : Open) : Type 0 where
-  pub outstanding : AllByRecursion (λ (o : Outstanding). IsNamedAlike old new places o.queue) ch.given.outstanding
+  pub outstanding : AllByRecursion (λ (o : Delivery). IsNamedAlike old new places o.queue) ch.given.outstanding
   pub consumers : AllByRecursion (λ (c : Consumer). IsNamedAlike old new places c.queue) ch.given.consumers

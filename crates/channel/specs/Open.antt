@@ -12,7 +12,7 @@ use Rattle.model.specs.declared.messages.Taker.{Taker}
 use Rattle.channel.specs.Outstanding.{tag_of}
 use Rattle.channel.specs.Seats.{is_named, takes_from}
 use Rattle.channel.specs.Deliveries.{Given, with_limit, with_given}
-use Rattle.channel.specs.declared.pending.Outstanding.{Outstanding}
+use Rattle.model.specs.Placed.{outstanding_in}
 use Rattle.channel.specs.declared.consumers.Consumer.{Consumer}
 use Rattle.channel.specs.declared.consumers.SeatRefusal.{SeatRefusal}
 use Rattle.channel.specs.declared.consumers.SeatRefusal.TheVariants.{InUse, TooMany, Spent, Memory}
@@ -52,10 +52,6 @@ without_named ch tag seats = record ch { given = record ch.given { consumers = f
 -- how many of its consumers take from the queue at this place
 abbrev pub consumers_from : ℕ → Open → ℕ
 consumers_from queue ch = count_by (takes_from queue) ch.given.consumers
-
--- what is outstanding, where queues have these names in the order of their places
-abbrev pub outstanding_in : List Text → Outstanding → seen.Outstanding
-outstanding_in names o = record { tag = o.tag; queue = slice_index_or names o.queue []; by = o.by }
 
 -- a consumer, where queues have these names
 abbrev pub consumer_in : List Text → Consumer → seen.Consumer

@@ -1,53 +1,46 @@
 -- What is outstanding on a channel, in the order of delivery tags.
-use Rattle.std.specs.Prelude.{◌≡◌, ◌<◌, ◌≤◌, ◌+◌, ◌*◌, ◌==◌, ℕ, List, length, get_or, filter, drop, not, Bool, if◌then◌else◌}
+use Rattle.std.specs.Prelude.{◌≡◌, ◌<◌, ◌≤◌, ◌+◌, ◌*◌, ◌==◌, ℕ, List, length, get_or, drop, if◌then◌else◌}
 use Rattle.model.specs.Settling.{Rises}
 use Rattle.model.specs.declared.messages.Taker.{Taker}
-use Rattle.channel.specs.declared.pending.Outstanding.{Outstanding}
+use Rattle.model.specs.Placed.{waiting}
+use Rattle.model.specs.declared.deliveries.Delivery.{Delivery}
 
 -- its delivery tag
-abbrev pub tag_of : Outstanding → ℕ
+abbrev pub tag_of : Delivery → ℕ
 tag_of o = o.tag
 
 -- to whom it was given
-abbrev pub taker_of : Outstanding → Taker
+abbrev pub taker_of : Delivery → Taker
 taker_of o = o.by
 
--- it waits to be settled: the place of what was settled has tag 0, which is never given out (AMQP 0-9-1, basic.ack, "delivery-tag")
-abbrev pub is_waiting : Outstanding → Bool
-is_waiting o = not (o.tag == 0)
-
--- those of these places that wait to be settled
-abbrev pub waiting : List Outstanding → List Outstanding
-waiting places = filter is_waiting places
-
 -- the tag under which it was given out: the place of what was settled has it for its arrival (own)
-abbrev pub given_tag : Outstanding → ℕ
+abbrev pub given_tag : Delivery → ℕ
 given_tag o = if o.tag == 0 then o.arrival else o.tag
 
 -- the place of this one once it is settled
-abbrev pub marked : Outstanding → Outstanding
+abbrev pub marked : Delivery → Delivery
 marked o = record o { tag = 0; arrival = o.tag }
 
 -- This tag waits at this place.
-pub record IsTagAt (places : List Outstanding) (place tag : ℕ) : Type 0 where
+pub record IsTagAt (places : List Delivery) (place tag : ℕ) : Type 0 where
   pub within : place < length places
-  pub there : (d : Outstanding) → (get_or places place d).tag ≡ tag
+  pub there : (d : Delivery) → (get_or places place d).tag ≡ tag
   pub waits : tag ≡ 0 → ⊥
 
 -- what is outstanding, and how many messages more can be given out without memory
 pub record OutstandingList : Type 0 where
-  pub outstanding : List Outstanding
+  pub outstanding : List Delivery
   -- the last tag that was given out so, 0 before the first
   pub last : ℕ
   pub room : ℕ
 
 -- Places are in the order of the tags that were given out there, up to this one.
-pub record AreInOrder (last : ℕ) (places : List Outstanding) : Type 0 where
+pub record AreInOrder (last : ℕ) (places : List Delivery) : Type 0 where
   pub rises : Rises given_tag places
-  pub most : (k : ℕ) (d : Outstanding) → k < length places → given_tag (get_or places k d) ≤ last
+  pub most : (k : ℕ) (d : Delivery) → k < length places → given_tag (get_or places k d) ≤ last
 
 -- Places from the front on are in order, and those that wait are counted; what was settled has at most as many places as wait, and 32.
-pub record AreKept (places : List Outstanding) (front count last : ℕ) : Type 0 where
+pub record AreKept (places : List Delivery) (front count last : ℕ) : Type 0 where
   pub within : front ≤ length places
   pub order : AreInOrder last (drop front places)
   pub counted : count ≡ length (waiting (drop front places))

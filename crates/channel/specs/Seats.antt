@@ -6,7 +6,7 @@ use Rattle.model.specs.Words.{Text}
 use Rattle.model.specs.Prefetch.{is_to, is_below, count_to, count_given}
 use Rattle.model.specs.declared.messages.Taker.{Taker}
 use Rattle.channel.specs.Outstanding.{taker_of}
-use Rattle.channel.specs.declared.pending.Outstanding.{Outstanding}
+use Rattle.model.specs.declared.deliveries.Delivery.{Delivery}
 use Rattle.channel.specs.declared.consumers.Consumer.{Consumer}
 use Rattle.channel.specs.declared.consumers.CountedConsumer.{CountedConsumer}
 
@@ -46,7 +46,7 @@ abbrev pub counted_in : Taker → CountedConsumer → CountedConsumer
 counted_in by s = if is_to s.consumer.number by then record s { held = s.held + 1 } else s
 
 -- these were settled
-abbrev pub counted_out : List Outstanding → CountedConsumer → CountedConsumer
+abbrev pub counted_out : List Delivery → CountedConsumer → CountedConsumer
 counted_out gone s = record s { held = s.held - count_to taker_of s.consumer.number gone }
 
 -- one was settled that was given so
@@ -59,7 +59,7 @@ may_held limit given None = false
 may_held limit given (Some s) = s.consumer.no_ack || (is_below s.consumer.limit s.held && is_below limit given)
 
 -- The counts are those of what is outstanding.
-pub record SeatsAreCounted (s : Seated) (outstanding : List Outstanding) : Type 0 where
+pub record SeatsAreCounted (s : Seated) (outstanding : List Delivery) : Type 0 where
   pub each : s.held ≡ map (λ (c : Consumer). count_to taker_of c.number outstanding) s.consumers
   pub all : s.given ≡ count_given taker_of outstanding
 
@@ -78,5 +78,5 @@ pub record IsSeatAt (seats : List CountedConsumer) (number place : ℕ) : Type 0
   pub numbered : (d : CountedConsumer) → (slice_index_or seats place d).consumer.number ≡ number
 
 -- What was outstanding is what is gone and what is left: each kind of taker has as many in both as there were.
-abbrev pub AreParts : List Outstanding → List Outstanding → List Outstanding → Type 0
-AreParts outstanding gone left = (p : Outstanding → Bool) → count_by p outstanding ≡ count_by p gone + count_by p left
+abbrev pub AreParts : List Delivery → List Delivery → List Delivery → Type 0
+AreParts outstanding gone left = (p : Delivery → Bool) → count_by p outstanding ≡ count_by p gone + count_by p left

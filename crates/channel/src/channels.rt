@@ -6,16 +6,16 @@ ghost use Rattle.model.specs.Consuming.{without_consumer};
 ghost use Rattle.model.specs.Settling.{settled};
 ghost use Rattle.model.specs.Step.{started, next_of, is_spent};
 ghost use Rattle.model.specs.Prefetch.{has_tag_left};
-ghost use Rattle.channel.specs.Outstanding.{tag_of, waiting};
+ghost use Rattle.channel.specs.Outstanding.{tag_of};
+ghost use Rattle.model.specs.Placed.{waiting};
 ghost use Rattle.channel.specs.Deliveries.{consumer_at};
 ghost use Rattle.channel.specs.Open.{nothing_given, with_qos, given_on, settled_on, without_settled, without_named, consumers_from, open_in, SeatsConsumer, TellsTaker};
 ghost use Rattle.channel.specs.Moving.{open_moved};
 
 use crate::consumers::{Consumer, SeatRefusal};
 use crate::deliveries::Deliveries;
-use crate::pending::Outstanding;
 use laws::next_tags_are_found;
-use model::{Consume, Qos, Taker, Text};
+use model::{Consume, Delivery, Qos, Taker, Text};
 use std::alloc::{AllocError, Global};
 use std::marker::Model;
 
@@ -220,7 +220,7 @@ impl Channel {
     }
 
     /// All that is outstanding, in tag order, with the places between of what was settled before: at most as many again, and 32.
-    pub fn outstanding(&self) -> &[Outstanding]
+    pub fn outstanding(&self) -> &[Delivery]
         ensures all { waiting result.now ≡ self.now.given.outstanding }
         ensures few { length result.now ≤ 2 * length self.now.given.outstanding + 32 }
     {
@@ -229,7 +229,7 @@ impl Channel {
 
     /// What this tag settles, in tag order, with the places between of what was settled before; none where it is refused, with
     /// 406. Source: AMQP 0-9-1, basic.ack.
-    pub fn settle(&self, tag: u64, multiple: bool) -> Option<&[Outstanding]>
+    pub fn settle(&self, tag: u64, multiple: bool) -> Option<&[Delivery]>
         ensures { option_map (λ s. waiting s.now) result ≡ settled tag_of tag multiple self.now.given.outstanding }
     {
         self.deliveries.settle(tag, multiple)

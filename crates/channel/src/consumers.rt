@@ -4,12 +4,12 @@ ghost use Rattle.std.specs.Prelude.{cond, ◌&&◌, ◌≡◌, ◌<◌, ◌≤�
 ghost use Rattle.model.specs.declared.messages.Taker.TheVariants as taker;
 ghost use Rattle.std.specs.List.{list_any, position_from, All};
 ghost use Rattle.model.specs.Prefetch.{is_to, is_delivery, is_below};
-ghost use Rattle.channel.specs.Outstanding.{is_waiting, waiting};
+ghost use Rattle.model.specs.Placed.{is_waiting, waiting};
 ghost use Rattle.channel.specs.Seats.{consumers_of, is_numbered, has_name, takes_from, counted_in, counted_out, uncounted, may_held, IsSeatAt, NumbersRise};
 ghost use Rattle.channel.specs.Moving.{seat_moved};
 
-use crate::pending::{Outstanding, place_now};
-use model::{Taker, Text};
+use crate::pending::place_now;
+use model::{Delivery, Taker, Text};
 use std::alloc::AllocError;
 
 /// One who takes a queue's messages. Source: AMQP 0-9-1, basic.consume.
@@ -173,7 +173,7 @@ pub(crate) fn one_if_consumed(by: &Taker) -> usize
 }
 
 /// How many of those that wait were given to the consumer of this number.
-pub(crate) fn given_to(given: &[Outstanding], number: u64) -> usize
+pub(crate) fn given_to(given: &[Delivery], number: u64) -> usize
     ensures { result ≡ count_by (λ o. is_waiting o && is_to number o.by) given.now }
 {
     let mut count = 0;
@@ -186,7 +186,7 @@ pub(crate) fn given_to(given: &[Outstanding], number: u64) -> usize
 }
 
 /// How many of those that wait were given to consumers.
-pub(crate) fn given_to_all(given: &[Outstanding]) -> usize
+pub(crate) fn given_to_all(given: &[Delivery]) -> usize
     ensures { result ≡ count_by (λ o. is_waiting o && is_delivery o.by) given.now }
 {
     let mut count = 0;
@@ -245,7 +245,7 @@ fn count_one_out(seats: &mut [CountedConsumer], by: &Taker)
 }
 
 /// Counts this one no more, where it waits.
-fn count_waiting_out(seats: &mut [CountedConsumer], one: &Outstanding)
+fn count_waiting_out(seats: &mut [CountedConsumer], one: &Delivery)
     requires { NumbersRise (consumers_of seats.old) }
     ensures yes { is_waiting one.now ≡ true → seats.new ≡ map (uncounted one.now.by) seats.old }
     ensures no { is_waiting one.now ≡ false → seats.new ≡ seats.old }
@@ -256,7 +256,7 @@ fn count_waiting_out(seats: &mut [CountedConsumer], one: &Outstanding)
 }
 
 /// Counts those that wait no more, one after another.
-fn count_each_out(seats: &mut [CountedConsumer], gone: &[Outstanding])
+fn count_each_out(seats: &mut [CountedConsumer], gone: &[Delivery])
     requires { NumbersRise (consumers_of seats.old) }
     ensures { seats.new ≡ map (counted_out (waiting gone.now)) seats.old }
 {
@@ -266,7 +266,7 @@ fn count_each_out(seats: &mut [CountedConsumer], gone: &[Outstanding])
 }
 
 /// Counts those that wait no more.
-pub(crate) fn count_out(seats: &mut Vec<CountedConsumer>, gone: &[Outstanding])
+pub(crate) fn count_out(seats: &mut Vec<CountedConsumer>, gone: &[Delivery])
     requires { NumbersRise (consumers_of seats.old.items) }
     ensures seats { seats.new.items ≡ map (counted_out (waiting gone.now)) seats.old.items }
     ensures len { vec_len seats.new ≡ vec_len seats.old }

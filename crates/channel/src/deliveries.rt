@@ -2,9 +2,9 @@
 
 use crate::consumers::{Consumer, CountedConsumer, SeatRefusal, given_to};
 use crate::names::next_name;
-use crate::pending::{Outstanding, Unsettled};
+use crate::pending::Unsettled;
 use crate::seats::Seats;
-use model::{Taker, Text};
+use model::{Delivery, Taker, Text};
 use std::alloc::{AllocError, Global};
 use std::marker::Model;
 
@@ -36,7 +36,8 @@ impl Deliveries {
     ghost use Rattle.std.specs.Prelude.{◌≡◌, ◌<◌, ◌≤◌, ◌+◌, ◌-◌, ◌*◌, [], length, true, filter, count_by, not, is_some, option_map, OnOk, OnErr};
     ghost use Rattle.model.specs.Settling.{settled, kept};
     ghost use Rattle.model.specs.Prefetch.{has_tag_left};
-    ghost use Rattle.channel.specs.Outstanding.{tag_of, waiting};
+    ghost use Rattle.channel.specs.Outstanding.{tag_of};
+    ghost use Rattle.model.specs.Placed.{waiting};
     ghost use Rattle.channel.specs.Seats.{AreNumbered, consumers_of, is_named, takes_from};
     ghost use Rattle.channel.specs.Deliveries.{with_given, with_limit, may_be_given, consumer_at, taker_at, AddsConsumer, ConsumesUnnamed, JudgesSeat, MaySeat};
     ghost use Rattle.channel.specs.Moving.{given_moved};
@@ -69,7 +70,7 @@ impl Deliveries {
 
     /// What this tag settles, in tag order, with the places between of what was settled before; none where it is refused, with
     /// 406. Source: AMQP 0-9-1, basic.ack.
-    pub fn settle(&self, tag: u64, multiple: bool) -> Option<&[Outstanding]>
+    pub fn settle(&self, tag: u64, multiple: bool) -> Option<&[Delivery]>
         ensures { option_map (λ s. waiting s.now) result ≡ settled tag_of tag multiple self.now.outstanding }
     {
         self.pending.settle(tag, multiple)
@@ -85,7 +86,7 @@ impl Deliveries {
     }
 
     /// All that is outstanding, in tag order, with the places between of what was settled before: at most as many again, and 32.
-    pub fn outstanding(&self) -> &[Outstanding]
+    pub fn outstanding(&self) -> &[Delivery]
         ensures all { waiting result.now ≡ self.now.outstanding }
         ensures few { length result.now ≤ 2 * length self.now.outstanding + 32 }
     {
@@ -115,7 +116,7 @@ impl Deliveries {
         ensures room { self.new.room + 1 ≡ self.old.room }
     {
         let tag = self.next_tag;
-        self.pending.push(Outstanding {
+        self.pending.push(Delivery {
             tag,
             queue,
             arrival,

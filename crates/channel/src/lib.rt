@@ -15,4 +15,3 @@ mod tags;
 pub use channels::Channel;
 pub use consumers::{Consumer, CountedConsumer, SeatRefusal};
 pub use deliveries::Deliveries;
-pub use pending::Outstanding;

@@ -1,40 +1,15 @@
 //! What was given out on a channel and is not settled.
 
 use crate::tags::{behind, close_if, count_settled, forget_in, make_place, settled_of};
-use model::Taker;
+use model::Delivery;
 use std::alloc::{AllocError, Global};
 use std::marker::Model;
-
-/// A message that was given out and is not settled, or the place of one that was settled before others.
-#[derive(Clone, Copy)]
-pub struct Outstanding {
-    /// The delivery tag; 0 once it is settled.
-    pub tag: u64,
-    /// The queue's place in the file of definitions.
-    pub queue: usize,
-    /// The queue's own number of the message's arrival there; once it is settled, the delivery tag that it had.
-    pub arrival: u64,
-    /// To whom it was given.
-    pub by: Taker,
-}
-
-impl Outstanding {
-    ghost use Rattle.std.specs.Prelude.{◌≡◌};
-    ghost use Rattle.channel.specs.Outstanding.{is_waiting};
-
-    /// Whether it waits to be settled.
-    pub fn is_waiting(&self) -> bool
-        ensures { result ≡ is_waiting self.now }
-    {
-        self.tag != 0
-    }
-}
 
 /// Messages that were given out and are not settled, in the order of their tags: those behind `start` that wait. What was
 /// settled before others that wait keeps its place for a while, marked by tag 0.
 #[derive(Drop)]
 pub(crate) struct Unsettled {
-    items: Vec<Outstanding>,
+    items: Vec<Delivery>,
     start: usize,
     /// How many wait.
     count: usize,
@@ -44,7 +19,8 @@ pub(crate) struct Unsettled {
 
 impl Model for Unsettled {
     ghost use Rattle.std.specs.Prelude.{◌-◌, vec_capacity, drop};
-    ghost use Rattle.channel.specs.Outstanding.{OutstandingList, AreKept, waiting};
+    ghost use Rattle.model.specs.Placed.{waiting};
+    ghost use Rattle.channel.specs.Outstanding.{OutstandingList, AreKept};
 
     ghost Value = { OutstandingList };
 
@@ -55,8 +31,9 @@ impl Model for Unsettled {
 
 impl Unsettled {
     ghost use Rattle.std.specs.Prelude.{◌≡◌, ◌+◌, ◌*◌, ◌<◌, ◌≤◌, ◌^◌, ◌++◌, ◌∷◌, [], ℕ, option_map, OnOk, OnErr, length, map};
+    ghost use Rattle.model.specs.Placed.{waiting};
     ghost use Rattle.model.specs.Settling.{settled, kept, Rises};
-    ghost use Rattle.channel.specs.Outstanding.{tag_of, waiting};
+    ghost use Rattle.channel.specs.Outstanding.{tag_of};
     ghost use Rattle.channel.specs.Seats.{AreParts};
     ghost use Rattle.channel.specs.Moving.{outstanding_moved};
 
@@ -74,7 +51,7 @@ impl Unsettled {
     }
 
     /// All that is outstanding, in tag order, with the places of what was settled before.
-    pub(crate) fn all(&self) -> &[Outstanding]
+    pub(crate) fn all(&self) -> &[Delivery]
         ensures all { waiting result.now ≡ self.now.outstanding }
         ensures rises { Rises tag_of self.now.outstanding }
         ensures few { length result.now ≤ 2 * length self.now.outstanding + 32 }
@@ -83,14 +60,14 @@ impl Unsettled {
     }
 
     /// What a tag settles, in tag order, with the places between of what was settled before.
-    pub(crate) fn settle(&self, tag: u64, multiple: bool) -> Option<&[Outstanding]>
+    pub(crate) fn settle(&self, tag: u64, multiple: bool) -> Option<&[Delivery]>
         ensures { option_map (λ s. waiting s.now) result ≡ settled tag_of tag multiple self.now.outstanding }
     {
         settled_of(behind(&self.items, self.start), tag, multiple)
     }
 
     /// The same; nothing where the tag is refused.
-    pub(crate) fn gone(&self, tag: u64, multiple: bool) -> &[Outstanding]
+    pub(crate) fn gone(&self, tag: u64, multiple: bool) -> &[Delivery]
         ensures { AreParts self.now.outstanding (waiting result.now) (kept tag_of tag multiple self.now.outstanding) }
     {
         match self.settle(tag, multiple) {
@@ -141,7 +118,7 @@ impl Unsettled {
     }
 
     /// A message is given out.
-    pub(crate) fn push(&mut self, given: Outstanding)
+    pub(crate) fn push(&mut self, given: Delivery)
         requires room { 0 < self.old.room }
         requires rises { self.old.last < given.tag }
         ensures outstanding { self.new.outstanding ≡ self.old.outstanding ++ given ∷ [] }
@@ -169,7 +146,7 @@ fn is_sparse(places: usize, count: usize) -> bool
 }
 
 /// There is no room for so many more behind what is kept, and a quarter of it was settled.
-fn is_worth_closing(items: &Vec<Outstanding>, count: usize, more: usize) -> bool
+fn is_worth_closing(items: &Vec<Delivery>, count: usize, more: usize) -> bool
     requires { count ≤ vec_len items.now }
 {
     let places = items.len();
@@ -187,7 +164,7 @@ pub(crate) fn place_now(places: &[usize], place: usize) -> usize
 }
 
 /// Each is told where its queue stands now.
-fn renumber_each(items: &mut Vec<Outstanding>, places: &[usize])
+fn renumber_each(items: &mut Vec<Delivery>, places: &[usize])
     ensures items { items.new.items ≡ map (outstanding_moved places.now) items.old.items }
     ensures len { vec_len items.new ≡ vec_len items.old }
     ensures capacity { vec_capacity items.new ≡ vec_capacity items.old }
@@ -196,7 +173,7 @@ fn renumber_each(items: &mut Vec<Outstanding>, places: &[usize])
 }
 
 /// Each of these is told where its queue stands now.
-fn renumber_slice(items: &mut [Outstanding], places: &[usize])
+fn renumber_slice(items: &mut [Delivery], places: &[usize])
     ensures { items.new ≡ map (outstanding_moved places.now) items.old }
 {
     for one in items.iter_mut() {

@@ -6,8 +6,7 @@ use crate::consumers::{
     Consumer, CountedConsumer, consumer_of, count_from, count_in, count_out, given_to_all,
     is_in_use, may_one, one_if_consumed, renumber, take_out,
 };
-use crate::pending::Outstanding;
-use model::Taker;
+use model::{Delivery, Taker};
 use std::alloc::{AllocError, Global};
 use std::marker::Model;
 
@@ -32,12 +31,13 @@ impl Seats {
     ghost use Rattle.std.specs.Prelude.{◌≡◌, ◌+◌, ◌-◌, ◌<◌, ◌≤◌, ◌^◌, ◌++◌, ◌∷◌, [], ℕ, List, length, find, filter, count_by, map, not, ◌==◌, option_map, OnOk, OnErr};
     ghost use Rattle.std.specs.List.{list_any, All};
     ghost use Rattle.model.specs.Prefetch.{count_to};
-    ghost use Rattle.channel.specs.Outstanding.{taker_of, waiting};
+    ghost use Rattle.channel.specs.Outstanding.{taker_of};
+    ghost use Rattle.model.specs.Placed.{waiting};
     ghost use Rattle.channel.specs.Seats.{SeatsAreCounted, AreParts, NumbersRise, consumers_of, is_named, takes_from};
     ghost use Rattle.channel.specs.Deliveries.{may_of};
     ghost use Rattle.channel.specs.Moving.{consumer_moved, outstanding_moved};
     ghost use Rattle.channel.specs.declared.consumers.Consumer.{Consumer as One};
-    ghost use Rattle.channel.specs.declared.pending.Outstanding.{Outstanding as Given};
+    ghost use Rattle.model.specs.declared.deliveries.Delivery.{Delivery as Given};
 
     /// No consumer, and nothing counted. It takes no memory.
     pub(crate) fn new(alloc: Global) -> Seats
@@ -147,7 +147,7 @@ impl Seats {
     }
 
     /// Counts those no more that are settled now; what was settled before has a place that counts for none.
-    pub(crate) fn count_out(&mut self, gone: &[Outstanding])
+    pub(crate) fn count_out(&mut self, gone: &[Delivery])
         requires { NumbersRise self.old.consumers }
         ensures consumers { self.new.consumers ≡ self.old.consumers }
         ensures room { self.new.room ≡ self.old.room }

@@ -3,31 +3,32 @@
 ghost use Rattle.std.specs.Prelude.{◌≡◌, ◌+◌, ◌<◌, ◌≤◌, ◌++◌, ℕ, vec_len, vec_capacity, length, take, drop, set, get_or, IfSome, IfNone, option_map, true, false, count_by};
 ghost use Rattle.std.specs.List.{list_any};
 ghost use Rattle.model.specs.Settling.{has_tag, settled, kept, Rises};
-ghost use Rattle.channel.specs.Outstanding.{tag_of, given_tag, is_waiting, waiting, marked, IsTagAt, AreInOrder};
+ghost use Rattle.channel.specs.Outstanding.{tag_of, given_tag, marked, IsTagAt, AreInOrder};
+ghost use Rattle.model.specs.Placed.{is_waiting, waiting};
 
-use crate::pending::Outstanding;
+use model::Delivery;
 
 /// The tag under which it was given out, also where it was settled.
-fn given_tag(one: &Outstanding) -> u64
+fn given_tag(one: &Delivery) -> u64
     ensures { result ≡ given_tag one.now }
 {
     if one.tag == 0 { one.arrival } else { one.tag }
 }
 
 /// The tag under which the one at this place was given out.
-fn tag_at(given: &[Outstanding], place: usize) -> u64
+fn tag_at(given: &[Delivery], place: usize) -> u64
     requires { place < length given.now }
-    ensures { (d : Outstanding) → given_tag (get_or given.now place d) ≡ result }
+    ensures { (d : Delivery) → given_tag (get_or given.now place d) ≡ result }
 {
     given_tag(&given[place])
 }
 
 /// How many tags are lower, where tags rise.
-fn lower(given: &[Outstanding], tag: u64) -> usize
+fn lower(given: &[Delivery], tag: u64) -> usize
     requires { Rises given_tag given.now }
     ensures within { result ≤ length given.now }
-    ensures below { (k : ℕ) (d : Outstanding) → k < result → given_tag (get_or given.now k d) < tag }
-    ensures above { (k : ℕ) (d : Outstanding) → result ≤ k → k < length given.now → tag ≤ given_tag (get_or given.now k d) }
+    ensures below { (k : ℕ) (d : Delivery) → k < result → given_tag (get_or given.now k d) < tag }
+    ensures above { (k : ℕ) (d : Delivery) → result ≤ k → k < length given.now → tag ≤ given_tag (get_or given.now k d) }
 {
     let mut low = 0;
     let mut high = given.len();
@@ -43,7 +44,7 @@ fn lower(given: &[Outstanding], tag: u64) -> usize
 }
 
 /// Whether this tag waits at this place.
-fn is_at(given: &[Outstanding], place: usize, tag: u64) -> bool
+fn is_at(given: &[Delivery], place: usize, tag: u64) -> bool
     ensures yes { result ≡ true → IsTagAt given.now place tag }
     ensures no { result ≡ false → IsTagAt given.now place tag → ⊥ }
 {
@@ -51,7 +52,7 @@ fn is_at(given: &[Outstanding], place: usize, tag: u64) -> bool
 }
 
 /// The place of a tag that waits, where tags rise.
-fn place_of(given: &[Outstanding], tag: u64) -> Option<usize>
+fn place_of(given: &[Delivery], tag: u64) -> Option<usize>
     requires { Rises given_tag given.now }
     ensures there { IfSome result (λ i. IsTagAt given.now i tag) }
     ensures none { IfNone result (list_any (has_tag tag_of tag) (waiting given.now) ≡ false) }
@@ -64,7 +65,7 @@ fn place_of(given: &[Outstanding], tag: u64) -> Option<usize>
 }
 
 /// The run of places that a tag settles.
-fn run_of(given: &[Outstanding], tag: u64, multiple: bool) -> Option<(usize, usize)>
+fn run_of(given: &[Delivery], tag: u64, multiple: bool) -> Option<(usize, usize)>
     requires { Rises given_tag given.now }
     ensures within { IfSome result (λ r. (r.0 ≤ r.1) × (r.1 ≤ length given.now)) }
     ensures run { option_map (λ r. waiting (drop r.0 (take r.1 given.now))) result ≡ settled tag_of tag multiple (waiting given.now) }
@@ -89,7 +90,7 @@ fn run_of(given: &[Outstanding], tag: u64, multiple: bool) -> Option<(usize, usi
 }
 
 /// What a tag settles, with the places between of what was settled before.
-pub(crate) fn settled_of(given: &[Outstanding], tag: u64, multiple: bool) -> Option<&[Outstanding]>
+pub(crate) fn settled_of(given: &[Delivery], tag: u64, multiple: bool) -> Option<&[Delivery]>
     requires { Rises given_tag given.now }
     ensures { option_map (λ s. waiting s.now) result ≡ settled tag_of tag multiple (waiting given.now) }
 {
@@ -100,19 +101,14 @@ pub(crate) fn settled_of(given: &[Outstanding], tag: u64, multiple: bool) -> Opt
 }
 
 /// How many of these wait to be settled.
-fn count_waiting(given: &[Outstanding]) -> usize
+fn count_waiting(given: &[Delivery]) -> usize
     ensures { result ≡ count_by is_waiting given.now }
 {
     given.iter().filter(|one| one.tag != 0).count()
 }
 
 /// How many a tag settles of those behind `start`.
-pub(crate) fn count_settled(
-    items: &Vec<Outstanding>,
-    start: usize,
-    tag: u64,
-    multiple: bool,
-) -> usize
+pub(crate) fn count_settled(items: &Vec<Delivery>, start: usize, tag: u64, multiple: bool) -> usize
     requires start { start ≤ vec_len items.now }
     requires rises { Rises given_tag (drop start items.now.items) }
     ensures { result + length (kept tag_of tag multiple (waiting (drop start items.now.items))) ≡ length (waiting (drop start items.now.items)) }
@@ -124,10 +120,10 @@ pub(crate) fn count_settled(
 }
 
 /// The place of this one once it is settled.
-fn marked(one: &Outstanding) -> Outstanding
+fn marked(one: &Delivery) -> Delivery
     ensures { result ≡ marked one.now }
 {
-    Outstanding {
+    Delivery {
         tag: 0,
         queue: one.queue,
         arrival: one.tag,
@@ -136,18 +132,18 @@ fn marked(one: &Outstanding) -> Outstanding
 }
 
 /// The one at this place is settled.
-fn mark_in(items: &mut [Outstanding], place: usize)
+fn mark_in(items: &mut [Delivery], place: usize)
     requires { place < length items.old }
-    ensures { (d : Outstanding) → items.new ≡ set items.old place (marked (get_or items.old place d)) }
+    ensures { (d : Delivery) → items.new ≡ set items.old place (marked (get_or items.old place d)) }
 {
     let settled = marked(&items[place]);
     items[place] = settled;
 }
 
 /// The one at this place is settled.
-fn mark(items: &mut Vec<Outstanding>, place: usize)
+fn mark(items: &mut Vec<Delivery>, place: usize)
     requires { place < vec_len items.old }
-    ensures items { (d : Outstanding) → items.new.items ≡ set items.old.items place (marked (get_or items.old.items place d)) }
+    ensures items { (d : Delivery) → items.new.items ≡ set items.old.items place (marked (get_or items.old.items place d)) }
     ensures len { vec_len items.new ≡ vec_len items.old }
     ensures capacity { vec_capacity items.new ≡ vec_capacity items.old }
 {
@@ -155,7 +151,7 @@ fn mark(items: &mut Vec<Outstanding>, place: usize)
 }
 
 /// Those behind the start.
-pub(crate) fn behind(items: &Vec<Outstanding>, start: usize) -> &[Outstanding]
+pub(crate) fn behind(items: &Vec<Delivery>, start: usize) -> &[Delivery]
     requires { start ≤ vec_len items.now }
     ensures { result.now ≡ drop start items.now.items }
 {
@@ -164,12 +160,7 @@ pub(crate) fn behind(items: &Vec<Outstanding>, start: usize) -> &[Outstanding]
 
 /// Takes out what a tag settles of those behind `start`: the front moves over it, or its place is marked. Tells where the rest
 /// starts.
-pub(crate) fn forget_in(
-    items: &mut Vec<Outstanding>,
-    start: usize,
-    tag: u64,
-    multiple: bool,
-) -> usize
+pub(crate) fn forget_in(items: &mut Vec<Delivery>, start: usize, tag: u64, multiple: bool) -> usize
     requires start { start ≤ vec_len items.old }
     requires rises { Rises given_tag (drop start items.old.items) }
     ensures start { result ≤ vec_len items.new }
@@ -192,7 +183,7 @@ pub(crate) fn forget_in(
 }
 
 /// What is behind `start` and waits stands at the front, and nothing else.
-fn close_up(items: &mut Vec<Outstanding>, start: usize)
+fn close_up(items: &mut Vec<Delivery>, start: usize)
     requires { start ≤ vec_len items.old }
     ensures items { items.new.items ≡ waiting (drop start items.old.items) }
     ensures capacity { vec_capacity items.new ≡ vec_capacity items.old }
@@ -202,7 +193,7 @@ fn close_up(items: &mut Vec<Outstanding>, start: usize)
 }
 
 /// Takes the front away.
-fn drop_front(items: &mut Vec<Outstanding>, n: usize)
+fn drop_front(items: &mut Vec<Delivery>, n: usize)
     requires { n ≤ vec_len items.old }
     ensures items { items.new.items ≡ drop n items.old.items }
     ensures len { vec_len items.new + n ≡ vec_len items.old }
@@ -212,7 +203,7 @@ fn drop_front(items: &mut Vec<Outstanding>, n: usize)
 }
 
 /// Closes up what is kept, where that is wanted. Tells where it starts.
-pub(crate) fn close_if(items: &mut Vec<Outstanding>, start: usize, is_wanted: bool) -> usize
+pub(crate) fn close_if(items: &mut Vec<Delivery>, start: usize, is_wanted: bool) -> usize
     requires start { start ≤ vec_len items.old }
     ensures start { result ≤ vec_len items.new }
     ensures order { (last : ℕ) → AreInOrder last (drop start items.old.items) → AreInOrder last (drop result items.new.items) }
@@ -229,7 +220,7 @@ pub(crate) fn close_if(items: &mut Vec<Outstanding>, start: usize, is_wanted: bo
 }
 
 /// Makes a place for one more by closing up, where there is none and not all wait. Tells where they start.
-pub(crate) fn make_place(items: &mut Vec<Outstanding>, start: usize) -> usize
+pub(crate) fn make_place(items: &mut Vec<Delivery>, start: usize) -> usize
     requires start { start ≤ vec_len items.old }
     requires room { length (waiting (drop start items.old.items)) < vec_capacity items.old }
     ensures start { result ≤ vec_len items.new }

@@ -2,5 +2,6 @@ pub mod Counting
 mod Opening
 pub mod Outcomes
 pub mod Setting
+mod Putting
 pub mod Moving
 pub mod Taking

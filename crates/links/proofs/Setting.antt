@@ -1,11 +1,11 @@
 -- One value of a list is set.
-use Rattle.std.proofs.Common.{◌≡◌, ◌<◌, ◌==◌, ℕ, zero, suc, List, [], ◌∷◌, length, get_or, set, Bool, true, false, Option, Some, None, cond, refl, sym, ap, ◌∙◌, arith, if◌then◌else◌}
+use Rattle.std.proofs.Common.{◌≡◌, ◌<◌, ◌==◌, ℕ, zero, suc, List, [], ◌∷◌, length, get_or, set, Bool, true, false, Option, Some, None, cond, refl, sym, ap, ◌∙◌, arith, if◌then◌else◌, nat_eq}
 use Rattle.std.proofs.lemmas.Bool.{eqb-true, eq-eqb, false≢true}
 use Rattle.std.proofs.lemmas.List.{get_or-set_same, get_or-set_other}
 use Rattle.std.proofs.lemmas.Option.{same_Some}
 use Rattle.std.specs.Map.{lookup, set_value}
 use Rattle.channel.specs.Open.{Open}
-use Rattle.links.specs.Links.{IsChannelSet}
+use Rattle.links.specs.Links.{Linked, IsChannelSet, linked_in, channel_in, channel_at, channel_of, with_channel_in, with_channel_at, with_channel}
 
 -- within a list it is the same whatever stands past its end
 pub same_default : {A : Type 0} (xs : List A) (i : ℕ) (a b : A) → i < length xs → get_or xs i a ≡ get_or xs i b
@@ -29,3 +29,11 @@ set_same {K} {X} test (y ∷ ys) x e = go (test y.0) e (set_same test ys x)
     go : (b : Bool) → cond b (Some y.1) (lookup test ys) ≡ Some x → (lookup test ys ≡ Some x → set_value test ys x ≡ ys) → cond b ((y.0, x) ∷ ys) (y ∷ set_value test ys x) ≡ y ∷ ys
     go true f more = ap (λ (z : X). (y.0, z) ∷ ys) (sym (same_Some y.1 x f))
     go false f more = ap (λ (zs : List (K × X)). y ∷ zs) (more f)
+
+-- where the connection is found, its channel is the one asked for
+pub found_channel : (es : List (ℕ × Linked)) (c h : ℕ) (l : Linked) → linked_in es c ≡ Some l → channel_in l h ≡ channel_of es c h
+found_channel es c h l found = ap (λ (o : Option Linked). channel_at o h) (sym found)
+
+-- and writing it writes that connection
+pub found_written : (es : List (ℕ × Linked)) (c h : ℕ) (l : Linked) (w : Open) → linked_in es c ≡ Some l → set_value (nat_eq c) es (with_channel_in l h w) ≡ with_channel es c h w
+found_written es c h l w found = ap (λ (o : Option Linked). with_channel_at es c h o w) (sym found)

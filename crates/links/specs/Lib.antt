@@ -1,4 +1,5 @@
 pub mod Links
+pub mod Lends
 pub mod Placed
 pub mod Consumers
 pub mod Counting

@@ -1,12 +1,12 @@
 -- The connections that run, each with its open channels, as they are kept.
-use Rattle.std.specs.Prelude.{◌≡◌, ◌==◌, ◌<◌, ◌≤◌, true, false, ℕ, List, [], Bool, Option, Some, None, nat_eq, slice_index_or, option_map}
-use Rattle.std.specs.Map.{lookup}
+use Rattle.std.specs.Prelude.{◌≡◌, ◌==◌, ◌<◌, ◌≤◌, true, false, ℕ, List, [], Bool, Option, Some, None, nat_eq, slice_index_or, slice_set, option_map}
+use Rattle.std.specs.Map.{lookup, set_value}
 use Rattle.model.specs.Words.{Text}
 use Rattle.model.specs.Step.{is_spent, channels_up_to}
 use Rattle.model.specs.Broker.{Channel, Connection, with_one, with_row, with_pair}
 use Rattle.model.specs.Prefetch.{has_tag_left}
 use Rattle.channel.specs.Open.{Open, open_in}
-use Rattle.channel.specs.declared.pending.Outstanding.{Outstanding}
+use Rattle.model.specs.declared.deliveries.Delivery.{Delivery}
 
 -- a connection that runs; its channels stand at their numbers
 pub record Linked : Type 0 where
@@ -52,6 +52,23 @@ channel_of links c h = channel_at (linked_in links c) h
 abbrev pub seen_in : List Text → List (ℕ × Linked) → ℕ → ℕ → Option Channel
 seen_in names links c h = option_map (open_in names) (channel_of links c h)
 
+-- the connection with this channel at a number where one was open
+abbrev pub with_channel_in : Linked → ℕ → Open → Linked
+with_channel_in l h ch = record l { channels = slice_set l.channels h (Some ch) }
+
+-- the connections with this in place of the one of this number
+abbrev pub with_linked : List (ℕ × Linked) → ℕ → Linked → List (ℕ × Linked)
+with_linked links c l = set_value (nat_eq c) links l
+
+-- the connections with this channel in a connection, if that runs
+abbrev pub with_channel_at : List (ℕ × Linked) → ℕ → ℕ → Option Linked → Open → List (ℕ × Linked)
+with_channel_at links c h None ch = links
+with_channel_at links c h (Some l) ch = with_linked links c (with_channel_in l h ch)
+
+-- the connections with this channel at a number where one was open
+abbrev pub with_channel : List (ℕ × Linked) → ℕ → ℕ → Open → List (ℕ × Linked)
+with_channel links c h ch = with_channel_at links c h (linked_in links c) ch
+
 -- the channel's confirm number can rise, where there are a channel and a number
 abbrev pub CanCount : Option Open → Type 0
 CanCount ch = (k : Open) → ch ≡ Some k → is_spent k.confirm ≡ false
@@ -82,7 +99,7 @@ pub record PutsIn (old : Linked) (h : ℕ) (ch : Option Open) (new : Linked) : T
   pub channels : (k : ℕ) → channel_in new k ≡ with_one (channel_in old) h ch k
 
 -- what is outstanding on a channel, if it is open
-abbrev pub outstanding_on : Option Open → List Outstanding
+abbrev pub outstanding_on : Option Open → List Delivery
 outstanding_on None = []
 outstanding_on (Some ch) = ch.given.outstanding
 

@@ -2,12 +2,8 @@
 use Rattle.std.specs.Prelude.{◌<◌, List, length, All}
 use Rattle.model.specs.Topology.{Topology}
 use Rattle.channel.specs.Open.{Open}
-use Rattle.channel.specs.declared.pending.Outstanding.{Outstanding}
+use Rattle.model.specs.Placed.{AreWithin}
 use Rattle.channel.specs.declared.consumers.Consumer.{Consumer}
-
--- each of these was given out from a queue at a place of the file
-abbrev pub OutstandingAreWithin : Topology → List Outstanding → Type 0
-OutstandingAreWithin t given = All (λ (o : Outstanding). o.queue < length t.queues) given
 
 -- each of these takes from a queue at a place of the file
 abbrev pub TakeWithin : Topology → List Consumer → Type 0
@@ -15,5 +11,5 @@ TakeWithin t consumers = All (λ (k : Consumer). k.queue < length t.queues) cons
 
 -- So it is with what is outstanding on this channel, and with its consumers.
 pub record IsPlaced (t : Topology) (ch : Open) : Type 0 where
-  pub outstanding : OutstandingAreWithin t ch.given.outstanding
+  pub outstanding : AreWithin t ch.given.outstanding
   pub consumers : TakeWithin t ch.given.consumers

@@ -9,4 +9,4 @@ mod links;
 mod slots;
 
 pub use link::Link;
-pub use links::{Links, moves_are_unseen};
+pub use links::{Links, lent_channels_are_put, moves_are_unseen};

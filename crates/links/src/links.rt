@@ -6,10 +6,11 @@ ghost use Rattle.std.specs.Prelude.{◌≡◌, min};
 ghost use Rattle.model.specs.Step.{greatest};
 ghost use Rattle.links.specs.Counting.{CountsConsumers, all_consumers};
 ghost use Rattle.links.specs.Moving.{links_moved, MovesAreUnseen};
+ghost use Rattle.links.specs.Lends.{LentArePut};
 
 use crate::link::Link;
-use channel::{Channel, Outstanding, SeatRefusal};
-use model::{Consume, Qos, Taker, Text};
+use channel::{Channel, SeatRefusal};
+use model::{Consume, Delivery, Qos, Taker, Text};
 use std::alloc::{AllocError, Global};
 use std::collections::HashMap;
 use std::marker::Model;
@@ -33,6 +34,9 @@ impl Links {
     ghost use Rattle.std.specs.Prelude.{
       ◌≡◌,
       ◌+◌,
+      ◌*◌,
+      ◌≤◌,
+      length,
       ◌<◌,
       ◌^◌,
       [],
@@ -49,12 +53,15 @@ impl Links {
       option_map,
       Decides,
     };
-    ghost use Rattle.std.specs.Option.{option_copied};
+    ghost use Rattle.std.specs.Option.{option_copied, option_copied_mut};
+    ghost use Rattle.std.specs.Borrow.{sem};
+    ghost use Rattle.links.specs.Lends.{LendsLink, LendsChannel};
     ghost use Rattle.model.specs.Broker.{with_one, with_row};
     ghost use Rattle.model.specs.Step.{started, next_of, paused};
     ghost use Rattle.model.specs.declared.methods.Qos.{Qos as Limit};
     ghost use Rattle.model.specs.Settling.{settled};
-    ghost use Rattle.channel.specs.Outstanding.{tag_of, waiting};
+    ghost use Rattle.channel.specs.Outstanding.{tag_of};
+    ghost use Rattle.model.specs.Placed.{waiting};
     ghost use Rattle.channel.specs.Open.{Open, with_qos, given_on, settled_on, without_settled, without_named, SeatsConsumer};
     ghost use Rattle.links.specs.Counting.{CountsConsumers, HasTaker, is_consumed};
     ghost use Rattle.links.specs.Moving.{links_moved};
@@ -86,10 +93,30 @@ impl Links {
         }
     }
 
+    /// The connection of this number, if it runs, to be changed.
+    pub fn link_mut(&mut self, connection: u64) -> Option<&mut Link>
+        ensures* writes_back { sem 𝓛 (LendsLink self.entry connection result) }
+        ensures value { option_copied_mut result ≡ linked_in self.old connection }
+    {
+        self.links.get_mut(&connection)
+    }
+
+    /// The open channel of these numbers, to be changed.
+    pub fn channel_mut(&mut self, connection: u64, number: u16) -> Option<&mut Channel>
+        ensures* writes_back { sem 𝓛 (LendsChannel self.entry connection number result) }
+        ensures value { option_copied_mut result ≡ channel_of self.old connection number }
+    {
+        match self.links.get_mut(&connection) {
+            Some(link) => link.channel_mut(number),
+            None => None,
+        }
+    }
+
     /// All that is outstanding on this channel, in tag order, with the places between of what was settled before; nothing where
-    /// it is not open, or its connection doesn't run.
-    pub fn outstanding(&self, connection: u64, number: u16) -> &[Outstanding]
-        ensures { waiting result.now ≡ outstanding_on (channel_of self.now connection number) }
+    /// it is not open, or its connection doesn't run. There are at most as many places between as wait, and 32.
+    pub fn outstanding(&self, connection: u64, number: u16) -> &[Delivery]
+        ensures all { waiting result.now ≡ outstanding_on (channel_of self.now connection number) }
+        ensures few { length result.now ≤ 2 * length (outstanding_on (channel_of self.now connection number)) + 32 }
     {
         match self.get(connection) {
             Some(link) => link.outstanding(number),
@@ -161,8 +188,8 @@ impl Links {
         requires { CanCount (channel_of self.now connection channel) }
         ensures { (ch : Open) → channel_of self.now connection channel ≡ Some ch → result ≡ next_of ch.confirm }
     {
-        match self.get(connection) {
-            Some(link) => link.next_confirm(channel),
+        match self.channel(connection, channel) {
+            Some(channel) => channel.next_confirm(),
             None => None,
         }
     }
@@ -171,8 +198,8 @@ impl Links {
     pub fn next_tag(&self, connection: u64, channel: u16) -> u64
         ensures { (ch : Open) → channel_of self.now connection channel ≡ Some ch → result ≡ ch.given.next_tag }
     {
-        match self.get(connection) {
-            Some(link) => link.next_tag(channel),
+        match self.channel(connection, channel) {
+            Some(channel) => channel.next_tag(),
             None => 0,
         }
     }
@@ -182,8 +209,9 @@ impl Links {
         requires { IsSome (channel_of self.old connection channel) }
         ensures { (ch : Open) → channel_of self.old connection channel ≡ Some ch → PutsChannel self.old connection channel (Some (record ch { confirm = started ch.confirm })) self.new }
     {
-        if let Some(link) = self.links.get_mut(&connection) {
-            link.select(channel);
+        lent_channels_are_put();
+        if let Some(channel) = self.channel_mut(connection, channel) {
+            channel.select();
         }
     }
 
@@ -193,8 +221,9 @@ impl Links {
         requires room { CanCount (channel_of self.old connection channel) }
         ensures { (ch : Open) → channel_of self.old connection channel ≡ Some ch → PutsChannel self.old connection channel (Some (record ch { confirm = next_of ch.confirm })) self.new }
     {
-        if let Some(link) = self.links.get_mut(&connection) {
-            link.count_publish(channel);
+        lent_channels_are_put();
+        if let Some(channel) = self.channel_mut(connection, channel) {
+            channel.count_publish();
         }
     }
 
@@ -203,8 +232,9 @@ impl Links {
         requires { IsSome (channel_of self.old connection channel) }
         ensures { (ch : Open) → channel_of self.old connection channel ≡ Some ch → PutsChannel self.old connection channel (Some (with_qos ch qos.now)) self.new }
     {
-        if let Some(link) = self.links.get_mut(&connection) {
-            link.limit(channel, qos);
+        lent_channels_are_put();
+        if let Some(channel) = self.channel_mut(connection, channel) {
+            channel.limit(qos);
         }
     }
 
@@ -221,8 +251,9 @@ impl Links {
         ensures seats { (ch : Open) → channel_of self.old connection channel ≡ Some ch → (new : Open) × SeatsConsumer ch queue consume.now result new × PutsChannel self.old connection channel (Some new) self.new }
         ensures err { OnErr result (self.new ≡ self.old) }
     {
-        match self.links.get_mut(&connection) {
-            Some(link) => link.consume(channel, alloc, queue, consume),
+        lent_channels_are_put();
+        match self.channel_mut(connection, channel) {
+            Some(channel) => channel.consume(alloc, queue, consume),
             None => unreachable!(),
         }
     }
@@ -232,8 +263,9 @@ impl Links {
         requires { IsSome (channel_of self.old connection channel) }
         ensures { (ch : Open) → channel_of self.old connection channel ≡ Some ch → PutsChannel self.old connection channel (Some (without_named ch tag.now (seats_in (channel_of self.new connection channel)))) self.new }
     {
-        if let Some(link) = self.links.get_mut(&connection) {
-            link.cancel(channel, tag);
+        lent_channels_are_put();
+        if let Some(channel) = self.channel_mut(connection, channel) {
+            channel.cancel(tag);
         }
     }
 
@@ -245,8 +277,9 @@ impl Links {
         ensures full { OnErr result (room_in (channel_of self.old connection channel) ≡ 0) }
         ensures err { OnErr result (self.new ≡ self.old) }
     {
-        match self.links.get_mut(&connection) {
-            Some(link) => link.reserve(channel),
+        lent_channels_are_put();
+        match self.channel_mut(connection, channel) {
+            Some(channel) => channel.reserve(1),
             None => Ok(()),
         }
     }
@@ -258,8 +291,9 @@ impl Links {
         requires room { HasRoom (channel_of self.old connection channel) }
         ensures { (ch : Open) → channel_of self.old connection channel ≡ Some ch → PutsChannel self.old connection channel (Some (given_on ch queue arrival by)) self.new }
     {
-        if let Some(link) = self.links.get_mut(&connection) {
-            link.give(channel, queue, arrival, by);
+        lent_channels_are_put();
+        if let Some(channel) = self.channel_mut(connection, channel) {
+            channel.give(queue, arrival, by);
         }
     }
 
@@ -269,8 +303,9 @@ impl Links {
         requires tag { CanGive (channel_of self.old connection channel) }
         ensures { (ch : Open) → channel_of self.old connection channel ≡ Some ch → PutsChannel self.old connection channel (Some (settled_on ch)) self.new }
     {
-        if let Some(link) = self.links.get_mut(&connection) {
-            link.give_settled(channel);
+        lent_channels_are_put();
+        if let Some(channel) = self.channel_mut(connection, channel) {
+            channel.give_settled();
         }
     }
 
@@ -282,11 +317,11 @@ impl Links {
         channel: u16,
         tag: u64,
         multiple: bool,
-    ) -> Option<&[Outstanding]>
+    ) -> Option<&[Delivery]>
         ensures { (ch : Open) → channel_of self.now connection channel ≡ Some ch → option_map (λ s. waiting s.now) result ≡ settled tag_of tag multiple ch.given.outstanding }
     {
-        match self.get(connection) {
-            Some(link) => link.settle(channel, tag, multiple),
+        match self.channel(connection, channel) {
+            Some(channel) => channel.settle(tag, multiple),
             None => None,
         }
     }
@@ -296,8 +331,9 @@ impl Links {
         requires { IsSome (channel_of self.old connection channel) }
         ensures { (ch : Open) → channel_of self.old connection channel ≡ Some ch → PutsChannel self.old connection channel (Some (without_settled ch tag multiple (room_in (channel_of self.new connection channel)))) self.new }
     {
-        if let Some(link) = self.links.get_mut(&connection) {
-            link.forget(channel, tag, multiple);
+        lent_channels_are_put();
+        if let Some(channel) = self.channel_mut(connection, channel) {
+            channel.forget(tag, multiple);
         }
     }
 
@@ -336,6 +372,11 @@ impl Links {
         renumber_all(&mut self.links, places);
     }
 }
+
+/// A channel that was lent and written stands at its number now, and everything else stays.
+pub fn lent_channels_are_put()
+    ensures { LentArePut }
+{}
 
 /// Where each queue that a channel names has its name at its new place too, all is seen of the channels that was seen before.
 pub fn moves_are_unseen()

@@ -1,8 +1,8 @@
 use Rattle.std.proofs.Common.{◌∙◌, refl, sym, ap, subst, arith, List, take}
-use Rattle.channel.specs.Outstanding.{waiting}
+use Rattle.model.specs.Placed.{waiting}
 use Rattle.channel.specs.Seats.{consumers_of, counted_out, NumbersRise}
 use Rattle.channel.specs.declared.consumers.Consumer.{Consumer}
-use Rattle.channel.specs.declared.pending.Outstanding.{Outstanding}
+use Rattle.model.specs.declared.deliveries.Delivery.{Delivery}
 use Rattle.channel.proofs.Counting.{same_consumers}
 use Rattle.channel.proofs.Halving.{out_none, out_waiting}
 use Rattle.channel.proofs.consumers.count_each_out.Goals as goal
@@ -12,7 +12,7 @@ loop-one-init c = sym (out_none c.args.seats.now)
 
 pub count_waiting_out-requires : goal.count_waiting_out-requires
 count_waiting_out-requires c =
-    let done : List Outstanding = waiting (take c.loop-one.one-index c.args.gone.now) in
+    let done : List Delivery = waiting (take c.loop-one.one-index c.args.gone.now) in
     subst (λ (cs : List Consumer). NumbersRise cs) (sym (ap consumers_of c.loop-one.invariant ∙ same_consumers (counted_out done) (λ s. refl) c.args.seats.now)) c.requires
 
 pub loop-one-preserved : goal.loop-one-preserved

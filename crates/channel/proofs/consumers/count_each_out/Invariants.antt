@@ -1,5 +1,5 @@
 use Rattle.std.proofs.Common.{◌≡◌, map, take}
-use Rattle.channel.specs.Outstanding.{waiting}
+use Rattle.model.specs.Placed.{waiting}
 use Rattle.channel.specs.Seats.{counted_out}
 use Rattle.channel.proofs.consumers.count_each_out.Given as goal
 

@@ -1,7 +1,7 @@
 use Rattle.std.proofs.Common.{◌≡◌, ◌≤◌, take, count_by}
 use Rattle.model.specs.Prefetch.{is_delivery}
 use Rattle.std.specs.Prelude.{◌&&◌}
-use Rattle.channel.specs.Outstanding.{is_waiting}
+use Rattle.model.specs.Placed.{is_waiting}
 use Rattle.channel.proofs.consumers.given_to_all.Given as goal
 
 -- those before the index are counted

@@ -2,14 +2,14 @@ use Rattle.std.proofs.Common.{ℕ, List, set, get_or, ap, ◌∙◌, arith}
 use Rattle.std.specs.Prelude.{slice_set, slice_index_or}
 use Rattle.model.specs.declared.messages.Taker.TheVariants.{Get}
 use Rattle.channel.specs.Moving.{outstanding_moved}
-use Rattle.channel.specs.declared.pending.Outstanding.{Outstanding}
+use Rattle.model.specs.declared.deliveries.Delivery.{Delivery}
 use Rattle.channel.proofs.Moving.{one_changed}
 use Rattle.channel.proofs.pending.renumber_slice.Goals as goal
 
 pub loop-one-preserved : goal.loop-one-preserved
 loop-one-preserved c =
     let i = c.loop-one.one-index in
-    let d : Outstanding = record { tag = 0; queue = 0; arrival = 0; by = Get } in
+    let d : Delivery = record { tag = 0; queue = 0; arrival = 0; by = Get } in
     ap (λ (q : ℕ). slice_set c.loop-one.items i (record (slice_index_or c.loop-one.items i d) { queue = q })) c.place_now-one.ensures
-    ∙ ap (λ (ys : List Outstanding). set ys i (outstanding_moved c.args.places.now (get_or ys i d))) c.loop-one.invariant
+    ∙ ap (λ (ys : List Delivery). set ys i (outstanding_moved c.args.places.now (get_or ys i d))) c.loop-one.invariant
     ∙ one_changed (outstanding_moved c.args.places.now) c.args.items.now i d (let t = c.loop-one-test.true in omega arith)

@@ -1,6 +1,7 @@
 use Rattle.std.proofs.Common.{◌∙◌, sym, ap, subst, arith, drop, length, length-drop, List}
-use Rattle.channel.specs.Outstanding.{waiting, AreInOrder}
-use Rattle.channel.specs.declared.pending.Outstanding.{Outstanding}
+use Rattle.channel.specs.Outstanding.{AreInOrder}
+use Rattle.model.specs.Placed.{waiting}
+use Rattle.model.specs.declared.deliveries.Delivery.{Delivery}
 use Rattle.channel.proofs.Marking.{closed_order, closed_again, fewer_wait}
 use Rattle.channel.proofs.tags.close_if.Goals as goal
 
@@ -12,7 +13,7 @@ returns-clause-waiting c = ap waiting c.close_up.ensures.items ∙ closed_again 
 
 pub returns-clause-fewer : goal.returns-clause-fewer
 returns-clause-fewer c =
-    let e = ap (λ (ys : List Outstanding). length ys) c.close_up.ensures.items in
+    let e = ap (λ (ys : List Delivery). length ys) c.close_up.ensures.items in
     let f = fewer_wait (drop c.args.start c.args.items.now.items) in
     let l = length-drop c.args.start c.args.items.now.items in
     omega arith

@@ -1,6 +1,6 @@
 use Rattle.std.proofs.Common.{◌∙◌, ap, rules}
 use Rattle.std.proofs.lemmas.Fn.{filter_same}
-use Rattle.channel.specs.Outstanding.{is_waiting, waiting}
+use Rattle.model.specs.Placed.{is_waiting, waiting}
 use Rattle.channel.proofs.tags.close_up.Goals as goal
 
 pub returns-clause-items : goal.returns-clause-items

@@ -1,13 +1,13 @@
 use Rattle.std.proofs.Common.{ℕ, ◌<◌, ◌≤◌, ◌-◌, get_or, length, List}
 use Rattle.channel.specs.Outstanding.{given_tag}
-use Rattle.channel.specs.declared.pending.Outstanding.{Outstanding}
+use Rattle.model.specs.declared.deliveries.Delivery.{Delivery}
 use Rattle.channel.proofs.tags.lower.Given as goal
 
-pub record Between (os : List Outstanding) (tag low high : ℕ) : Type 0 where
+pub record Between (os : List Delivery) (tag low high : ℕ) : Type 0 where
   pub order : low ≤ high
   pub within : high ≤ length os
-  pub below : (k : ℕ) (d : Outstanding) → k < low → given_tag (get_or os k d) < tag
-  pub above : (k : ℕ) (d : Outstanding) → high ≤ k → k < length os → tag ≤ given_tag (get_or os k d)
+  pub below : (k : ℕ) (d : Delivery) → k < low → given_tag (get_or os k d) < tag
+  pub above : (k : ℕ) (d : Delivery) → high ≤ k → k < length os → tag ≤ given_tag (get_or os k d)
 
 abbrev pub invariant-loop-low : goal.invariant-loop-low
 invariant-loop-low l = Between l.given l.tag l.low l.high

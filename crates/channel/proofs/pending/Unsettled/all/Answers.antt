@@ -1,7 +1,7 @@
 use Rattle.std.proofs.Common.{◌+◌, ◌*◌, ◌≤◌, ap, subst, arith, drop, length, length-drop, List}
 use Rattle.model.specs.Settling.{Rises}
 use Rattle.channel.specs.Outstanding.{OutstandingList, tag_of}
-use Rattle.channel.specs.declared.pending.Outstanding.{Outstanding}
+use Rattle.model.specs.declared.deliveries.Delivery.{Delivery}
 use Rattle.channel.proofs.Settlement.{waiting_rises}
 use Rattle.channel.proofs.pending.Unsettled.all.Goals as goal
 
@@ -10,7 +10,7 @@ returns-clause-rises c = subst (λ (l : OutstandingList). Rises tag_of l.outstan
 
 pub returns-clause-few : goal.returns-clause-few
 returns-clause-few c =
-    let e = ap (λ (ys : List Outstanding). length ys) c.behind.ensures in
+    let e = ap (λ (ys : List Delivery). length ys) c.behind.ensures in
     let l = length-drop c.self.inside.start c.self.inside.items.items in
     let counted = c.self.invariant.counted in
     let few = c.self.invariant.few in

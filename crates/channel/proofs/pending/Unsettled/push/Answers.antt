@@ -1,6 +1,7 @@
 use Rattle.std.proofs.Common.{◌<◌, ◌++◌, ◌∷◌, [], ◌∙◌, sym, ap, subst, arith, drop, List, ℕ}
-use Rattle.channel.specs.Outstanding.{OutstandingList, waiting}
-use Rattle.channel.specs.declared.pending.Outstanding.{Outstanding}
+use Rattle.channel.specs.Outstanding.{OutstandingList}
+use Rattle.model.specs.Placed.{waiting}
+use Rattle.model.specs.declared.deliveries.Delivery.{Delivery}
 use Rattle.channel.proofs.Runs.{drop_push}
 use Rattle.channel.proofs.Marking.{kept_pushed, waiting_pushed}
 use Rattle.channel.proofs.pending.Unsettled.push.Goals as goal
@@ -14,8 +15,8 @@ invariant_of-self c =
 pub returns-clause-outstanding : goal.returns-clause-outstanding
 returns-clause-outstanding c =
     let front : ℕ = c.make_place-self-inside.result in
-    let new : List Outstanding = c.make_place-self-inside.new.items.items in
+    let new : List Delivery = c.make_place-self-inside.new.items.items in
     let later : c.self.inside.last < c.args.given.tag = subst (λ (l : OutstandingList). l.last < c.args.given.tag) (sym c.self.view_is) c.requires.rises in
-    ap (λ (ys : List Outstanding). waiting (drop front ys)) c.push_reserved.ensures.items ∙ ap waiting (drop_push front new (c.args.given ∷ []) (let s = c.make_place-self-inside.ensures.start in omega arith))
-    ∙ waiting_pushed (drop front new) c.self.inside.last c.args.given later ∙ ap (λ (ys : List Outstanding). ys ++ c.args.given ∷ []) c.make_place-self-inside.ensures.waiting
+    ap (λ (ys : List Delivery). waiting (drop front ys)) c.push_reserved.ensures.items ∙ ap waiting (drop_push front new (c.args.given ∷ []) (let s = c.make_place-self-inside.ensures.start in omega arith))
+    ∙ waiting_pushed (drop front new) c.self.inside.last c.args.given later ∙ ap (λ (ys : List Delivery). ys ++ c.args.given ∷ []) c.make_place-self-inside.ensures.waiting
     ∙ ap (λ (l : OutstandingList). l.outstanding ++ c.args.given ∷ []) c.self.view_is

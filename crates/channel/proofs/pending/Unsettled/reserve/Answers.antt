@@ -1,6 +1,6 @@
 use Rattle.std.proofs.Common.{◌∙◌, sym, ap, subst, arith, drop, length, length-drop, List, inl, inr}
 use Rattle.channel.specs.Outstanding.{AreKept}
-use Rattle.channel.specs.declared.pending.Outstanding.{Outstanding}
+use Rattle.model.specs.declared.deliveries.Delivery.{Delivery}
 use Rattle.channel.proofs.Marking.{fewer_wait, kept_closed, on_ok}
 use Rattle.channel.proofs.pending.Unsettled.reserve.Goals as goal
 
@@ -22,7 +22,7 @@ pub invariant_of-self : goal.invariant_of-self
 invariant_of-self c =
     let few = c.self.invariant.few in
     let fewer = c.close_if-self-inside.ensures.fewer in
-    subst (λ (ys : List Outstanding). AreKept ys c.close_if-self-inside.result c.self.inside.count c.self.inside.last) (sym c.reserve.ensures.items)
+    subst (λ (ys : List Delivery). AreKept ys c.close_if-self-inside.result c.self.inside.count c.self.inside.last) (sym c.reserve.ensures.items)
     (kept_closed c.self.inside.items.items c.close_if-self-inside.new.items.items c.self.inside.start c.close_if-self-inside.result c.self.inside.count c.self.inside.last c.self.invariant.order c.self.invariant.counted
     (let s = c.close_if-self-inside.ensures.start in omega arith) (c.close_if-self-inside.ensures.order c.self.inside.last) c.close_if-self-inside.ensures.waiting (omega arith))
 
@@ -30,7 +30,7 @@ pub invariant_of-self-else-is_err : goal.invariant_of-self-else-is_err
 invariant_of-self-else-is_err c =
     let few = c.self.invariant.few in
     let fewer = c.close_if-self-inside.ensures.fewer in
-    subst (λ (ys : List Outstanding). AreKept ys c.close_if-self-inside.result c.self.inside.count c.self.inside.last) (sym c.reserve.ensures.items)
+    subst (λ (ys : List Delivery). AreKept ys c.close_if-self-inside.result c.self.inside.count c.self.inside.last) (sym c.reserve.ensures.items)
     (kept_closed c.self.inside.items.items c.close_if-self-inside.new.items.items c.self.inside.start c.close_if-self-inside.result c.self.inside.count c.self.inside.last c.self.invariant.order c.self.invariant.counted
     (let s = c.close_if-self-inside.ensures.start in omega arith) (c.close_if-self-inside.ensures.order c.self.inside.last) c.close_if-self-inside.ensures.waiting (omega arith))
 
@@ -40,7 +40,7 @@ returns-clause-room c =
     let closed = c.close_if-self-inside.ensures.capacity in
     let was = c.capacity.ensures in
     let counted = c.self.invariant.counted in
-    let same = ap (λ (ys : List Outstanding). length ys) c.close_if-self-inside.ensures.waiting in
+    let same = ap (λ (ys : List Delivery). length ys) c.close_if-self-inside.ensures.waiting in
     let fewer = fewer_wait (drop c.close_if-self-inside.result c.close_if-self-inside.new.items.items) in
     let behind = length-drop c.close_if-self-inside.result c.close_if-self-inside.new.items.items in
     elim c.else-is_err.either [

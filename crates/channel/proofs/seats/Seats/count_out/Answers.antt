@@ -1,6 +1,7 @@
 use Rattle.std.proofs.Common.{◌≡◌, refl, ◌∙◌, sym, ap, subst, arith, List, ◌+◌, map}
 use Rattle.model.specs.Prefetch.{is_delivery, count_to, count_given}
-use Rattle.channel.specs.Outstanding.{taker_of, waiting}
+use Rattle.channel.specs.Outstanding.{taker_of}
+use Rattle.model.specs.Placed.{waiting}
 use Rattle.channel.specs.Seats.{Seated, SeatsAreCounted, consumers_of, counts_of, counted_out}
 use Rattle.channel.specs.declared.consumers.Consumer.{Consumer}
 use Rattle.channel.proofs.Counting.{same_consumers, new_counts, step_out}
