@@ -18,4 +18,5 @@ DecidesOn old c h m content refusal sends notes new = Decides (topology_kept old
 
 -- what is outstanding on this channel under the tag, or up to it, is settled so, and this is answered
 abbrev pub SettlesOn : Kept → Settlement → ℕ → ℕ → ℕ → Bool → List Send → List Send → List Note → Kept → Type 0
-SettlesOn old how c h tag multiple answer sends notes new = Settles (topology_kept old) how (broker_of old) c h (channel_on old c h) tag multiple answer sends notes (broker_of new)
+SettlesOn old how c h tag multiple answer sends notes new =
+    Settles (topology_kept old) how (broker_of old) c h (channel_on old c h) tag multiple answer sends notes (broker_of new)

@@ -64,7 +64,8 @@ impl Core {
     ghost use Rattle.model.specs.declared.methods.Method.{Method as Seen};
     ghost use Rattle.broker_core.specs.State.{broker_of, channel_on, topology_kept, nothing};
     ghost use Rattle.broker_core.specs.Steps.{DecidesOn};
-    ghost use Rattle.judging.specs.Judged.{requeues, refusal_left, IsAsked, IsRequeued, IsIgnored, IsLargeIgnored, WantsNoMemory, JudgesOn, JudgesLarge, AsksAct, CanAct};
+    ghost use Rattle.judging.specs.Judged.{requeues, refusal_left, IsAsked, IsRequeued, IsIgnored, IsLargeIgnored, WantsNoMemory};
+    ghost use Rattle.judging.specs.Judged.{JudgesOn, JudgesLarge, AsksAct, CanAct};
     ghost use Rattle.replies.specs.Sent.{AreAddressed, connection_of_event};
 
     /// The broker of this topology: its queues are empty, and no connection runs.
@@ -115,8 +116,13 @@ impl Core {
         requires agreed { IsAgreed (broker_of self.old) }
         requires runs { IsSome ((broker_of self.old).connection connection) }
         requires can { CanAct (topology_kept self.old) (broker_of self.old) ((broker_of self.old).channel connection channel) act }
-        ensures ok { IfOk result (λ s. (m : Seen) → AsksAct (topology_kept self.old) (broker_of self.old) ((broker_of self.old).channel connection channel) m act.entry → DecidesOn self.old connection channel m content.now (refusal_left (channel_on self.old connection channel) act.entry) s.sends.items s.notes.items self.new) }
-        ensures addressed { IfOk result (λ s. (m : Seen) → AsksAct (topology_kept self.old) (broker_of self.old) ((broker_of self.old).channel connection channel) m act.entry → IsMethod m → AreCarried (broker_of self.old) → AreAddressed connection s.sends.items) }
+        ensures ok { IfOk result (λ s. (m : Seen)
+            → AsksAct (topology_kept self.old) (broker_of self.old) ((broker_of self.old).channel connection channel) m act.entry
+            → DecidesOn self.old connection channel m content.now
+            (refusal_left (channel_on self.old connection channel) act.entry) s.sends.items s.notes.items self.new) }
+        ensures addressed { IfOk result (λ s. (m : Seen)
+            → AsksAct (topology_kept self.old) (broker_of self.old) ((broker_of self.old).channel connection channel) m act.entry
+            → IsMethod m → AreCarried (broker_of self.old) → AreAddressed connection s.sends.items) }
         ensures topology { topology_kept self.new ≡ topology_kept self.old }
         ensures err { OnErr result (self.new ≡ self.old) }
         ensures quiet { requeues act.entry ≡ true → IsOk result }
@@ -186,9 +192,12 @@ impl Core {
         content: &Option<Content>,
     ) -> Result<Step, AllocError>
         requires { IsAgreed (broker_of self.old) }
-        ensures ok { IfOk result (λ s. OnConnection (topology_kept self.old) (broker_of self.old) connection channel method.now content.now s.sends.items s.notes.items (broker_of self.new) ((broker_of self.old).connection connection)) }
-        ensures requeued { IsRequeued (topology_kept self.old) (broker_of self.old) connection channel method.now ((broker_of self.old).connection connection) → IsOk result }
-        ensures ignored { IsIgnored (topology_kept self.old) (broker_of self.old) connection channel method.now ((broker_of self.old).connection connection) → IsOk result }
+        ensures ok { IfOk result (λ s. OnConnection (topology_kept self.old) (broker_of self.old) connection channel
+            method.now content.now s.sends.items s.notes.items (broker_of self.new) ((broker_of self.old).connection connection)) }
+        ensures requeued { IsRequeued (topology_kept self.old) (broker_of self.old) connection channel method.now
+            ((broker_of self.old).connection connection) → IsOk result }
+        ensures ignored { IsIgnored (topology_kept self.old) (broker_of self.old) connection channel method.now
+            ((broker_of self.old).connection connection) → IsOk result }
         ensures addressed { IfOk result (λ s. IsMethod method.now → AreCarried (broker_of self.old) → AreAddressed connection s.sends.items) }
         ensures topology { topology_kept self.new ≡ topology_kept self.old }
         ensures err { OnErr result (self.new ≡ self.old) }
@@ -208,7 +217,8 @@ impl Core {
         channel: u16,
     ) -> Result<Step, AllocError>
         requires { IsAgreed (broker_of self.old) }
-        ensures ok { IfOk result (λ s. OnLarge (broker_of self.old) connection channel s.sends.items s.notes.items (broker_of self.new) ((broker_of self.old).connection connection)) }
+        ensures ok { IfOk result (λ s. OnLarge (broker_of self.old) connection channel s.sends.items s.notes.items
+            (broker_of self.new) ((broker_of self.old).connection connection)) }
         ensures ignored { IsLargeIgnored (broker_of self.old) connection channel ((broker_of self.old).connection connection) → IsOk result }
         ensures addressed { IfOk result (λ s. AreAddressed connection s.sends.items) }
         ensures topology { topology_kept self.new ≡ topology_kept self.old }

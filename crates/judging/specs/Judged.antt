@@ -4,7 +4,8 @@ use Rattle.model.specs.Words.{Text}
 use Rattle.model.specs.Topology.{Topology}
 use Rattle.model.specs.Broker.{Broker, Channel, Connection}
 use Rattle.model.specs.Step as step
-use Rattle.model.specs.Step.{Of_channel, Of_connection, refusal, refusal_of, refusal_of_large, refusal_of_publish, refusal_of_get, refusal_of_seat, refusal_of_settling, channel_or_new}
+use Rattle.model.specs.Step.{Of_channel, Of_connection, refusal, refusal_of, refusal_of_large, refusal_of_publish, refusal_of_get}
+use Rattle.model.specs.Step.{refusal_of_seat, refusal_of_settling, channel_or_new}
 use Rattle.model.specs.declared.methods.Close.{Close}
 use Rattle.model.specs.declared.methods.Method.{Method}
 use Rattle.model.specs.declared.methods.Method.TheVariants as method
@@ -98,11 +99,13 @@ AsksAct t b ch m (act.FindQueue place d) = (m ≡ method.QueueDeclare d.now) × 
 AsksAct t b ch m (act.Select no_wait) = (m ≡ method.ConfirmSelect no_wait) × IsSome ch
 AsksAct t b ch m (act.Publish p) = (m ≡ method.BasicPublish p.now) × IsSome ch × (refusal_of_publish t b (channel_or_new ch) p.now ≡ None)
 AsksAct t b ch m (act.Purge place p) = (m ≡ method.QueuePurge p.now) × IsSome ch × IsQueuePlace t p.now.queue place
-AsksAct t b ch m (act.Get place g) = (m ≡ method.BasicGet g.now) × IsSome ch × IsQueuePlace t g.now.queue place × (refusal_of_get t b (channel_or_new ch) g.now ≡ None)
+AsksAct t b ch m (act.Get place g) =
+    (m ≡ method.BasicGet g.now) × IsSome ch × IsQueuePlace t g.now.queue place × (refusal_of_get t b (channel_or_new ch) g.now ≡ None)
 AsksAct t b ch m (act.Consume place k) = (m ≡ method.BasicConsume k.now) × IsSome ch × IsQueuePlace t k.now.queue place
 AsksAct t b ch m (act.Cancel k) = (m ≡ method.BasicCancel k.now) × IsSome ch
 AsksAct t b ch m (act.Limit q) = (m ≡ method.BasicQos q.now) × IsSome ch
-AsksAct t b ch m (act.Acknowledge a) = (m ≡ method.BasicAck a.now) × IsSome ch × (refusal_of_settling (channel_or_new ch) a.now.delivery_tag a.now.multiple ≡ None)
+AsksAct t b ch m (act.Acknowledge a) =
+    (m ≡ method.BasicAck a.now) × IsSome ch × (refusal_of_settling (channel_or_new ch) a.now.delivery_tag a.now.multiple ≡ None)
 AsksAct t b ch m (act.Reject r) = (m ≡ method.BasicReject r.now) × IsSome ch × (refusal_of_settling (channel_or_new ch) r.now.delivery_tag false ≡ None)
 AsksAct t b ch m (act.Nack n) = (m ≡ method.BasicNack n.now) × IsSome ch × (refusal_of_settling (channel_or_new ch) n.now.delivery_tag n.now.multiple ≡ None)
 AsksAct t b ch m act.Recover = (m ≡ method.BasicRecover true) × IsSome ch
@@ -140,4 +143,5 @@ JudgesOn t b c h m (Some r) = (conn : Connection) × (b.connection c ≡ Some co
 -- The same of a publish whose content is too large: it is refused as the model says.
 abbrev pub JudgesLarge : Broker → ℕ → ℕ → Option Refusal → Type 0
 JudgesLarge b c h None = b.connection c ≡ None
-JudgesLarge b c h (Some r) = (conn : Connection) × (b.connection c ≡ Some conn) × (refusal_seen r ≡ refusal_of_large conn h (b.channel c h)) × HasChannel r (b.channel c h)
+JudgesLarge b c h (Some r) =
+    (conn : Connection) × (b.connection c ≡ Some conn) × (refusal_seen r ≡ refusal_of_large conn h (b.channel c h)) × HasChannel r (b.channel c h)

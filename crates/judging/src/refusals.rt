@@ -109,7 +109,8 @@ fn refusal_of_publish(
     channel: &Channel,
     publish: &Publish,
 ) -> Option<Refusal>
-    ensures { (b : Broker) (names : List Name) → b.published ≡ published → seen_if result ≡ said.refusal_of_publish router.now b (open_in names channel.now) publish.now }
+    ensures { (b : Broker) (names : List Name) → b.published ≡ published
+        → seen_if result ≡ said.refusal_of_publish router.now b (open_in names channel.now) publish.now }
 {
     if publish.immediate {
         return Some(Refusal::Connection(540));
@@ -162,7 +163,8 @@ fn judge_publish<'a>(
     channel: &Channel,
     publish: &'a Publish,
 ) -> Result<Act<'a>, Refusal>
-    ensures { (b : Broker) (names : List Name) → b.published ≡ published → JudgesOpen router.now b (open_in names channel.now) (BasicPublish publish.now) result }
+    ensures { (b : Broker) (names : List Name) → b.published ≡ published
+        → JudgesOpen router.now b (open_in names channel.now) (BasicPublish publish.now) result }
 {
     match refusal_of_publish(router, published, channel, publish) {
         None => Ok(Act::Publish(publish)),
@@ -222,7 +224,8 @@ fn judge_on_open<'a>(
     method: &'a Method,
 ) -> Result<Act<'a>, Refusal>
     requires { channel.now.is_closing ≡ false }
-    ensures { (b : Broker) → HasStore b depot.now → JudgesOpen depot.now.topology b (open_in (queue_names depot.now.topology.queues) channel.now) method.now result }
+    ensures { (b : Broker) → HasStore b depot.now
+        → JudgesOpen depot.now.topology b (open_in (queue_names depot.now.topology.queues) channel.now) method.now result }
 {
     match method {
         Method::ConfirmSelect { no_wait } => Ok(Act::Select(*no_wait)),
@@ -284,7 +287,8 @@ fn judge_on_number<'a>(
     method: &'a Method,
 ) -> Result<Act<'a>, Refusal>
     requires { (names : List Name) → said.is_awaiting (channel_seen names link.now number) ≡ false }
-    ensures { (b : Broker) → HasStore b depot.now → JudgesThere depot.now.topology b (limits_of link.now) number (channel_seen (queue_names depot.now.topology.queues) link.now number) method.now result }
+    ensures { (b : Broker) → HasStore b depot.now → JudgesThere depot.now.topology b (limits_of link.now) number
+        (channel_seen (queue_names depot.now.topology.queues) link.now number) method.now result }
 {
     if number == 0 {
         return judge_on_zero(method);
@@ -318,7 +322,8 @@ pub fn judge<'a>(
     number: u16,
     method: &'a Method,
 ) -> Result<Act<'a>, Refusal>
-    ensures { (b : Broker) → HasStore b depot.now → JudgesThere depot.now.topology b (limits_of link.now) number (channel_seen (queue_names depot.now.topology.queues) link.now number) method.now result }
+    ensures { (b : Broker) → HasStore b depot.now → JudgesThere depot.now.topology b (limits_of link.now) number
+        (channel_seen (queue_names depot.now.topology.queues) link.now number) method.now result }
 {
     if is_awaiting(link.channel(number)) {
         judge_while_closing(method)

@@ -18,7 +18,8 @@ fn note_leaving(
 ) -> Result<(), AllocError>
     requires within { is_waiting given.now ≡ true → given.now.queue < length depot.now.topology.queues }
     requires room { vec_len notes.old < vec_capacity notes.old }
-    ensures notes { OnOk result (is_waiting given.now ≡ true → notes.new.items ≡ notes.old.items ++ leaving_note cause channel.connection channel.number depot.now given.now) }
+    ensures notes { OnOk result (is_waiting given.now ≡ true
+        → notes.new.items ≡ notes.old.items ++ leaving_note cause channel.connection channel.number depot.now given.now) }
     ensures none { OnOk result (is_waiting given.now ≡ false → notes.new.items ≡ notes.old.items) }
     ensures len { vec_len notes.new ≤ vec_len notes.old + 1 }
     ensures capacity { vec_capacity notes.new ≡ vec_capacity notes.old }

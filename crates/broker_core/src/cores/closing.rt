@@ -49,7 +49,9 @@ impl Core {
         requires there { IsSome ((broker_of self.old).channel connection number) }
         requires nothing { (k : Open) → channel ≡ Some k → k.given.outstanding ≡ [] }
         requires free { (k : Open) → channel ≡ Some k → k.given.consumers ≡ [] }
-        ensures cleared { Is (said.with_freed (with_channel (broker_of self.old) connection number (option_map (open_in (names_of self.old)) channel)) (by_channel connection number)) (broker_of self.new) }
+        ensures cleared { Is (said.with_freed
+            (with_channel (broker_of self.old) connection number (option_map (open_in (names_of self.old)) channel))
+            (by_channel connection number)) (broker_of self.new) }
         ensures topology { topology_kept self.new ≡ topology_kept self.old }
     {
         self.depot.is_whole();
@@ -70,7 +72,8 @@ impl Core {
         requires agreed { IsAgreed (broker_of self.old) }
         requires there { IsSome ((broker_of self.old).channel connection channel) }
         requires addressed { IsAddressed connection send }
-        ensures ok { IfOk result (λ s. Does s.sends.items s.notes.items (broker_of self.new) (send ∷ []) (with_closing (broker_of self.old) connection channel)) }
+        ensures ok { IfOk result (λ s. Does s.sends.items s.notes.items (broker_of self.new) (send ∷ [])
+            (with_closing (broker_of self.old) connection channel)) }
         ensures addressed { IfOk result (λ s. AreAddressed connection s.sends.items) }
         ensures topology { topology_kept self.new ≡ topology_kept self.old }
         ensures err { OnErr result (self.new ≡ self.old) }
@@ -91,7 +94,8 @@ impl Core {
         requires agreed { IsAgreed (broker_of self.old) }
         requires there { IsSome ((broker_of self.old).channel connection channel) }
         requires closing { (channel_on self.old connection channel).is_closing ≡ is_closing }
-        ensures ok { IfOk result (λ s. Does s.sends.items s.notes.items (broker_of self.new) (reply connection channel ChannelCloseOk ∷ []) (after_close (broker_of self.old) connection channel (channel_on self.old connection channel))) }
+        ensures ok { IfOk result (λ s. Does s.sends.items s.notes.items (broker_of self.new) (reply connection channel ChannelCloseOk ∷ [])
+            (after_close (broker_of self.old) connection channel (channel_on self.old connection channel))) }
         ensures addressed { IfOk result (λ s. AreAddressed connection s.sends.items) }
         ensures topology { topology_kept self.new ≡ topology_kept self.old }
         ensures err { OnErr result (self.new ≡ self.old) }
@@ -125,7 +129,8 @@ impl Core {
     ) -> Result<Step, AllocError>
         requires agreed { IsAgreed (broker_of self.old) }
         requires there { HasChannel refusal ((broker_of self.old).channel connection channel) }
-        ensures ok { IfOk result (λ s. Refuses (broker_of self.old) connection channel (ids cause.class cause.method) (refusal_seen refusal) s.sends.items s.notes.items (broker_of self.new)) }
+        ensures ok { IfOk result (λ s. Refuses (broker_of self.old) connection channel
+            (ids cause.class cause.method) (refusal_seen refusal) s.sends.items s.notes.items (broker_of self.new)) }
         ensures ignored { refusal_seen refusal ≡ said.Ignored → IsOk result }
         ensures addressed { IfOk result (λ s. AreAddressed connection s.sends.items) }
         ensures topology { topology_kept self.new ≡ topology_kept self.old }

@@ -74,7 +74,9 @@ impl Core {
         requires agreed { IsAgreed (broker_of self.old) }
         requires at { IsQueuePlace (topology_kept self.old) consume.now.queue place }
         requires there { IsSome ((broker_of self.old).channel connection channel) }
-        ensures ok { IfOk result (λ s. (content : Option Content) → DecidesOn self.old connection channel (BasicConsume consume.now) content (refusal_of_seat (channel_on self.old connection channel) consume.now) s.sends.items s.notes.items self.new) }
+        ensures ok { IfOk result (λ s. (content : Option Content)
+            → DecidesOn self.old connection channel (BasicConsume consume.now) content
+            (refusal_of_seat (channel_on self.old connection channel) consume.now) s.sends.items s.notes.items self.new) }
         ensures addressed { IfOk result (λ s. IsMethod (BasicConsume consume.now) → AreAddressed connection s.sends.items) }
         ensures topology { topology_kept self.new ≡ topology_kept self.old }
         ensures err { OnErr result (self.new ≡ self.old) }
@@ -109,7 +111,8 @@ impl Core {
         cancel: &Cancel,
     ) -> Result<Step, AllocError>
         requires { IsSome ((broker_of self.old).channel connection channel) }
-        ensures ok { IfOk result (λ s. Cancels (broker_of self.old) connection channel (channel_on self.old connection channel) cancel.now s.sends.items s.notes.items (broker_of self.new)) }
+        ensures ok { IfOk result (λ s. Cancels (broker_of self.old) connection channel
+            (channel_on self.old connection channel) cancel.now s.sends.items s.notes.items (broker_of self.new)) }
         ensures addressed { IfOk result (λ s. IsMethod (BasicCancel cancel.now) → AreAddressed connection s.sends.items) }
         ensures topology { topology_kept self.new ≡ topology_kept self.old }
         ensures err { OnErr result (self.new ≡ self.old) }

@@ -22,7 +22,8 @@ impl Core {
         channel: u16,
         no_wait: bool,
     ) -> Result<Step, AllocError>
-        ensures ok { IfOk result (λ s. Does s.sends.items s.notes.items (broker_of self.now) (declare_sends connection channel no_wait ExchangeDeclareOk) (broker_of self.now)) }
+        ensures ok { IfOk result (λ s. Does s.sends.items s.notes.items
+            (broker_of self.now) (declare_sends connection channel no_wait ExchangeDeclareOk) (broker_of self.now)) }
         ensures addressed { IfOk result (λ s. AreAddressed connection s.sends.items) }
     {
         if no_wait {

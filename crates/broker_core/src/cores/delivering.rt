@@ -119,7 +119,8 @@ impl Core {
         requires agreed { IsAgreed (broker_of self.old) }
         requires picked { IsPick (broker_of self.old) pick }
         ensures ok { IfOk result (λ s. IsDelivery (broker_of self.old) pick.connection s.sends.items s.notes.items (broker_of self.new)) }
-        ensures addressed { IfOk result (λ s. AreCarried (broker_of self.old) → AreNamed (topology_kept self.old) (broker_of self.old) → AreAddressed pick.connection s.sends.items) }
+        ensures addressed { IfOk result (λ s. AreCarried (broker_of self.old) → AreNamed (topology_kept self.old) (broker_of self.old)
+            → AreAddressed pick.connection s.sends.items) }
         ensures topology { topology_kept self.new ≡ topology_kept self.old }
         ensures err { OnErr result (self.new ≡ self.old) }
     {

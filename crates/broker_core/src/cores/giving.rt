@@ -19,7 +19,8 @@ impl Core {
         requires within { place < length (topology_kept self.old).queues }
         requires there { IsSome ((broker_of self.old).channel connection channel) }
         requires tag { has_tag_left (channel_on self.old connection channel).next_tag ≡ true }
-        ensures left { Is (after_delivery (broker_of self.old) connection channel (channel_on self.old connection channel) true (queue_name (topology_kept self.old) place) by) (broker_of self.new) }
+        ensures left { Is (after_delivery (broker_of self.old) connection channel
+            (channel_on self.old connection channel) true (queue_name (topology_kept self.old) place) by) (broker_of self.new) }
         ensures topology { topology_kept self.new ≡ topology_kept self.old }
     {
         self.depot.is_named(place);
@@ -41,9 +42,11 @@ impl Core {
         requires there { IsSome ((broker_of self.old).channel connection channel) }
         requires left { has_tag_left (channel_on self.old connection channel).next_tag ≡ true }
         requires tag { (channel_on self.old connection channel).next_tag ≡ tag }
-        requires free { (q : Name) → find (is_held_as (record { connection = connection; channel = channel; tag = tag; by = by })) ((broker_of self.old).queue q) ≡ None }
+        requires free { (q : Name)
+            → find (is_held_as (record { connection = connection; channel = channel; tag = tag; by = by })) ((broker_of self.old).queue q) ≡ None }
         requires ready { IsSome (first_ready ((broker_of self.old).queue (queue_name (topology_kept self.old) place))) }
-        ensures left { OnOk result (Is (after_delivery (broker_of self.old) connection channel (channel_on self.old connection channel) false (queue_name (topology_kept self.old) place) by) (broker_of self.new)) }
+        ensures left { OnOk result (Is (after_delivery (broker_of self.old) connection channel
+            (channel_on self.old connection channel) false (queue_name (topology_kept self.old) place) by) (broker_of self.new)) }
         ensures topology { topology_kept self.new ≡ topology_kept self.old }
         ensures err { OnErr result (self.new ≡ self.old) }
     {
@@ -79,9 +82,11 @@ impl Core {
         requires there { IsSome ((broker_of self.old).channel connection channel) }
         requires left { has_tag_left (channel_on self.old connection channel).next_tag ≡ true }
         requires tag { (channel_on self.old connection channel).next_tag ≡ tag }
-        requires free { (q : Name) → find (is_held_as (record { connection = connection; channel = channel; tag = tag; by = by })) ((broker_of self.old).queue q) ≡ None }
+        requires free { (q : Name)
+            → find (is_held_as (record { connection = connection; channel = channel; tag = tag; by = by })) ((broker_of self.old).queue q) ≡ None }
         requires ready { IsSome (first_ready ((broker_of self.old).queue (queue_name (topology_kept self.old) place))) }
-        ensures left { OnOk result (Is (after_delivery (broker_of self.old) connection channel (channel_on self.old connection channel) no_ack (queue_name (topology_kept self.old) place) by) (broker_of self.new)) }
+        ensures left { OnOk result (Is (after_delivery (broker_of self.old) connection channel
+            (channel_on self.old connection channel) no_ack (queue_name (topology_kept self.old) place) by) (broker_of self.new)) }
         ensures topology { topology_kept self.new ≡ topology_kept self.old }
         ensures err { OnErr result (self.new ≡ self.old) }
     {

@@ -21,7 +21,8 @@ impl Core {
         channel: u16,
     ) -> Result<Step, AllocError>
         requires { IsSome ((broker_of self.old).connection connection) }
-        ensures ok { IfOk result (λ s. Does s.sends.items s.notes.items (broker_of self.new) (reply connection channel (ChannelOpenOk []) ∷ []) (with_channel (broker_of self.old) connection channel (Some new_channel))) }
+        ensures ok { IfOk result (λ s. Does s.sends.items s.notes.items (broker_of self.new) (reply connection channel (ChannelOpenOk []) ∷ [])
+            (with_channel (broker_of self.old) connection channel (Some new_channel))) }
         ensures addressed { IfOk result (λ s. AreAddressed connection s.sends.items) }
         ensures topology { topology_kept self.new ≡ topology_kept self.old }
         ensures err { OnErr result (self.new ≡ self.old) }
@@ -39,7 +40,8 @@ impl Core {
         connection: u64,
         channel: u16,
     ) -> Result<Step, AllocError>
-        ensures ok { IfOk result (λ s. Does s.sends.items s.notes.items (broker_of self.now) (reply connection channel (ChannelFlowOk true) ∷ []) (broker_of self.now)) }
+        ensures ok { IfOk result (λ s. Does s.sends.items s.notes.items (broker_of self.now) (reply connection channel (ChannelFlowOk true) ∷ [])
+            (broker_of self.now)) }
         ensures addressed { IfOk result (λ s. AreAddressed connection s.sends.items) }
     {
         Step::sending(alloc, flow_ok(connection, channel))

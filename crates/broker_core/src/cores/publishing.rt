@@ -27,7 +27,9 @@ impl Core {
         no_wait: bool,
     ) -> Result<Step, AllocError>
         requires { IsSome ((broker_of self.old).channel connection channel) }
-        ensures ok { IfOk result (λ s. (ch : seen.Channel) → (broker_of self.old).channel connection channel ≡ Some ch → Does s.sends.items s.notes.items (broker_of self.new) (select_sends connection channel no_wait) (with_channel (broker_of self.old) connection channel (Some (record ch { confirm = started ch.confirm })))) }
+        ensures ok { IfOk result (λ s. (ch : seen.Channel) → (broker_of self.old).channel connection channel ≡ Some ch
+            → Does s.sends.items s.notes.items (broker_of self.new) (select_sends connection channel no_wait)
+            (with_channel (broker_of self.old) connection channel (Some (record ch { confirm = started ch.confirm })))) }
         ensures addressed { IfOk result (λ s. AreAddressed connection s.sends.items) }
         ensures topology { topology_kept self.new ≡ topology_kept self.old }
         ensures err { OnErr result (self.new ≡ self.old) }
@@ -49,7 +51,8 @@ impl Core {
     ) -> Result<Step, AllocError>
         requires there { IsSome ((broker_of self.old).channel connection channel) }
         requires accepted { refusal_of_publish (topology_kept self.old) (broker_of self.old) (channel_on self.old connection channel) publish.now ≡ None }
-        ensures ok { IfOk result (λ s. PerformsOn self.old connection channel (BasicPublish publish.now) (Some content.now) s.sends.items s.notes.items self.new) }
+        ensures ok { IfOk result (λ s. PerformsOn self.old connection channel (BasicPublish publish.now)
+            (Some content.now) s.sends.items s.notes.items self.new) }
         ensures addressed { IfOk result (λ s. IsMethod (BasicPublish publish.now) → AreAddressed connection s.sends.items) }
         ensures topology { topology_kept self.new ≡ topology_kept self.old }
         ensures err { OnErr result (self.new ≡ self.old) }

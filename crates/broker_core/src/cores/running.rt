@@ -22,7 +22,8 @@ impl Core {
         channels: u16,
     ) -> Result<(), AllocError>
         requires { IsAgreed (broker_of self.old) }
-        ensures ok { OnOk result (Acts (topology_kept self.old) (broker_of self.old) (event_is.Running connection channel_max channels) [] [] (broker_of self.new)) }
+        ensures ok { OnOk result (Acts (topology_kept self.old) (broker_of self.old) (event_is.Running connection channel_max channels) [] []
+            (broker_of self.new)) }
         ensures topology { topology_kept self.new ≡ topology_kept self.old }
         ensures err { OnErr result (self.new ≡ self.old) }
     {

@@ -140,7 +140,8 @@ impl Core {
         channel: u16,
     ) -> Result<Step, AllocError>
         requires there { IsSome ((broker_of self.old).channel connection channel) }
-        ensures ok { IfOk result (λ s. SettlesOn self.old Returns connection channel 0 true (reply connection channel BasicRecoverOk ∷ []) s.sends.items s.notes.items self.new) }
+        ensures ok { IfOk result (λ s. SettlesOn self.old Returns connection channel 0 true
+            (reply connection channel BasicRecoverOk ∷ []) s.sends.items s.notes.items self.new) }
         ensures addressed { IfOk result (λ s. AreAddressed connection s.sends.items) }
         ensures topology { topology_kept self.new ≡ topology_kept self.old }
         ensures err { OnErr result (self.new ≡ self.old) }

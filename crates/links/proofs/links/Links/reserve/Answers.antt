@@ -20,10 +20,10 @@ returns-in-Some-clause-ok c =
         some = omega (arith, enough);
         kept = subst (λ (o : Open). o.given.room ≤ new.given.room) was c.reserve.ensures.kept;
       },
-      put_by _ _ _ _ ch _ at (c.channel_mut.follows.holds new).0,
+      put_by _ _ _ _ ch _ at (c.channel_mut.follows.holds new),
     ))
 
 pub returns-in-Some-clause-err : goal.returns-in-Some-clause-err
 returns-in-Some-clause-err c = on_err c.reserve.result c.reserve.ensures.err (λ same.
-    (c.channel_mut.follows.holds c.reserve.new.self).0
+    c.channel_mut.follows.holds c.reserve.new.self
     ∙ put_same _ c.args.connection c.args.channel c.reserve.new.self (sym c.channel_mut.ensures.value ∙ ap option_copied_mut c.in-Some.is ∙ ap Some (sym same)))
