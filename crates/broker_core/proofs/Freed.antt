@@ -15,11 +15,12 @@ use Rattle.model.specs.declared.messages.Mark.{Mark}
 use Rattle.model.specs.declared.messages.Mark.TheVariants.{Ready, Held}
 use Rattle.laws.proofs.Leaving.{at_queue}
 use Rattle.laws.proofs.Agreement.{IsClear, counted_in, in_freed, returned_clear, returned_shrinks}
-use Rattle.channel.specs.Open.{Open, open_in, outstanding_in}
-use Rattle.channel.specs.declared.pending.Outstanding.{Outstanding}
+use Rattle.channel.specs.Open.{Open, open_in}
+use Rattle.model.specs.Placed.{holder_of_delivery, outstanding_in, AreWithin}
+use Rattle.model.specs.declared.deliveries.Delivery.{Delivery}
 use Rattle.depot.specs.Store.{Store, entries_named, queue_at, IsStoreWhole}
 use Rattle.links.specs.Links.{Linked, channel_at, channel_of, linked_in, outstanding_on}
-use Rattle.links.specs.Placed.{OutstandingAreWithin, IsPlaced}
+use Rattle.links.specs.Placed.{IsPlaced}
 use Rattle.settling.specs.Settled as settled
 use Rattle.settling.specs.Settled.{returned_one, returned_all}
 use Rattle.settling.proofs.Settlements.{AreNamed, returned_by_names}
@@ -119,10 +120,10 @@ pub record IsOnChannel (n : ℕ) (names : List Text) (slots : List (Option Open)
 abbrev pub AreOnChannels : ℕ → ℕ → List Text → List (Option Open) → (Text → List Entry) → Type 0
 AreOnChannels c n names slots queues = (q : Text) (e : Entry) (holder : Holder) → IsIn e (queues q) → e.mark ≡ Held holder → by_connection c holder ≡ true → IsOnChannel n names slots q holder
 
-returned_whole : (c h : ℕ) (os : List Outstanding) (s : Store) → IsStoreWhole s → IsStoreWhole (returned_all c h s os)
+returned_whole : (c h : ℕ) (os : List Delivery) (s : Store) → IsStoreWhole s → IsStoreWhole (returned_all c h s os)
 returned_whole c h [] s whole = whole
 returned_whole c h (o ∷ os) s whole =
-    returned_whole c h os (returned_one c h s o) (record { formed = whole.formed; len = length-set s.queues o.queue (map (freed (is_under (settled.holder_of_outstanding c h o))) (queue_at s o.queue)) ∙ whole.len })
+    returned_whole c h os (returned_one c h s o) (record { formed = whole.formed; len = length-set s.queues o.queue (map (freed (is_under (holder_of_delivery c h o))) (queue_at s o.queue)) ∙ whole.len })
 
 -- those of the first channel are among its own
 first_found : (c n : ℕ) (names : List Text) (slot : Option Open) (slots : List (Option Open)) (queues : Text → List Entry) → AreOnChannels c n names (slot ∷ slots) queues
@@ -149,12 +150,12 @@ rest_found c n names slot slots queues mid found here q e holder i is own =
         absurd (false≢true (sym other ∙ and_from (holder.connection == c) (holder.channel == n) own (eq-eqb holder.channel n same)))
     later (suc k) number among other = record { place = k; number = omega (arith, number); among = among }
 
-pub connection_freed : AreNamed → (c n : ℕ) (names : List Text) (slots : List (Option Open)) (s : Store) → queue_names s.topology.queues ≡ names → IsStoreWhole s → ((k : ℕ) → OutstandingAreWithin s.topology (outstanding_on (get_or slots k None)))
+pub connection_freed : AreNamed → (c n : ℕ) (names : List Text) (slots : List (Option Open)) (s : Store) → queue_names s.topology.queues ≡ names → IsStoreWhole s → ((k : ℕ) → AreWithin s.topology (outstanding_on (get_or slots k None)))
     → AreOnChannels c n names slots (entries_named s) → (q : Text) → entries_named (returned_from c n s slots) q ≡ map (freed (by_connection c)) (entries_named s q)
 connection_freed are c n names [] s same whole within found q = sym (all_stay (by_connection c) (entries_named s q) (λ e holder i is. not_true (by_connection c holder) (λ own. (found q e holder i is own).among.there)))
 connection_freed are c n names (slot ∷ slots) s same whole within found q =
     connection_freed are c (n + 1) names slots mid (ap (λ (t : Topology). queue_names t.queues) stays ∙ same) (returned_whole c n (outstanding_on slot) s whole)
-    (λ k. subst (λ (t : Topology). OutstandingAreWithin t (outstanding_on (get_or slots k None))) (sym stays) (within (suc k))) (rest_found c n names slot slots (entries_named s) (entries_named mid) found here) q
+    (λ k. subst (λ (t : Topology). AreWithin t (outstanding_on (get_or slots k None))) (sym stays) (within (suc k))) (rest_found c n names slot slots (entries_named s) (entries_named mid) found here) q
     ∙ ap (map (freed (by_connection c))) (here q)
     ∙ all_through (by_channel c n) (by_connection c) (λ g own. (and_parts (g.connection == c) (g.channel == n) own).0) (entries_named s q)
   where
@@ -198,15 +199,15 @@ found_on_link kept c l at agreed q e holder i is own =
     subst (λ (x : Option Linked). IsAmong holder.tag q (map (outstanding_in (names_of kept)) (outstanding_on (channel_at x holder.channel)))) at
     (subst (λ (d : ℕ). IsAmong holder.tag q (map (outstanding_in (names_of kept)) (outstanding_on (channel_of kept.links d holder.channel)))) (eqb-true holder.connection c own) (found_at kept agreed q e holder i is))
 
-within_on : (t : Topology) (o : Option Open) → ((ch : Open) → o ≡ Some ch → IsPlaced t ch) → OutstandingAreWithin t (outstanding_on o)
+within_on : (t : Topology) (o : Option Open) → ((ch : Open) → o ≡ Some ch → IsPlaced t ch) → AreWithin t (outstanding_on o)
 within_on t None placed = none_within t [] refl
 within_on t (Some ch) placed = (placed ch refl).outstanding
 
-pub within_at : (kept : Kept) (c : ℕ) (l : Option Linked) → l ≡ linked_in kept.links c → ArePlaced kept → (h : ℕ) → OutstandingAreWithin (topology_kept kept) (outstanding_on (channel_at l h))
-within_at kept c l at placed h = subst (λ (x : Option Linked). OutstandingAreWithin (topology_kept kept) (outstanding_on (channel_at x h))) (sym at) (within_on (topology_kept kept) (channel_of kept.links c h) (placed c h))
+pub within_at : (kept : Kept) (c : ℕ) (l : Option Linked) → l ≡ linked_in kept.links c → ArePlaced kept → (h : ℕ) → AreWithin (topology_kept kept) (outstanding_on (channel_at l h))
+within_at kept c l at placed h = subst (λ (x : Option Linked). AreWithin (topology_kept kept) (outstanding_on (channel_at x h))) (sym at) (within_on (topology_kept kept) (channel_of kept.links c h) (placed c h))
 
-pub held_within : (kept : Kept) (c h : ℕ) (os : List Outstanding) → ArePlaced kept → os ≡ outstanding_on (channel_of kept.links c h) → OutstandingAreWithin (topology_kept kept) os
-held_within kept c h os placed held = subst (OutstandingAreWithin (topology_kept kept)) (sym held) (within_on (topology_kept kept) (channel_of kept.links c h) (placed c h))
+pub held_within : (kept : Kept) (c h : ℕ) (os : List Delivery) → ArePlaced kept → os ≡ outstanding_on (channel_of kept.links c h) → AreWithin (topology_kept kept) os
+held_within kept c h os placed held = subst (AreWithin (topology_kept kept)) (sym held) (within_on (topology_kept kept) (channel_of kept.links c h) (placed c h))
 
 from_topology : (c h : ℕ) (slots : List (Option Open)) (s : Store) → (returned_from c h s slots).topology ≡ s.topology
 from_topology c h [] s = refl
@@ -217,11 +218,11 @@ from_published c h [] s = refl
 from_published c h (o ∷ os) s = from_published c (h + 1) os (returned_all c h s (outstanding_on o)) ∙ returned_published c h (outstanding_on o) s
 
 -- what is outstanding on a channel is put back
-pub channel_is_freed : AreNamed → (old kept : Kept) (c h : ℕ) (os : List Outstanding) (new : Store) → old ≡ kept → IsStoreWhole old.store → ArePlaced old → IsAgreed (broker_of kept) → os ≡ outstanding_on (channel_of old.links c h)
+pub channel_is_freed : AreNamed → (old kept : Kept) (c h : ℕ) (os : List Delivery) (new : Store) → old ≡ kept → IsStoreWhole old.store → ArePlaced old → IsAgreed (broker_of kept) → os ≡ outstanding_on (channel_of old.links c h)
     → new ≡ returned_all c h old.store os → IsFreed (by_channel c h) old.store new
 channel_is_freed are old kept c h os new e whole placed agreed held made =
     let agrees : IsAgreed (broker_of old) = subst (λ (k : Kept). IsAgreed (broker_of k)) (sym e) agreed in
-    let found : AreFound c h (map (outstanding_in (names_of old)) os) (entries_named old.store) = subst (λ (ds : List Outstanding). AreFound c h (map (outstanding_in (names_of old)) ds) (entries_named old.store)) (sym held) (found_on_channel old c h agrees) in
+    let found : AreFound c h (map (outstanding_in (names_of old)) os) (entries_named old.store) = subst (λ (ds : List Delivery). AreFound c h (map (outstanding_in (names_of old)) ds) (entries_named old.store)) (sym held) (found_on_channel old c h agrees) in
     let within = held_within old c h os placed held in
     record {
       topology = ap (λ (s : Store). s.topology) made ∙ returned_topology c h os old.store;

@@ -22,7 +22,8 @@ use Rattle.model.specs.declared.messages.Mark.TheVariants.{Ready, Held}
 use Rattle.model.specs.declared.messages.Taker.{Taker}
 use Rattle.exchange_graph.specs.Marks.{queue_name}
 use Rattle.depot.specs.Store.{Store, IsQueueNamed, entries_named, queue_at, with_entries_at}
-use Rattle.channel.specs.Open.{Open, open_in, outstanding_in, given_on, settled_on}
+use Rattle.channel.specs.Open.{Open, open_in, given_on, settled_on}
+use Rattle.model.specs.Placed.{outstanding_in}
 use Rattle.links.specs.Links.{Linked, CanGive, SetsRoom, PutsChannel, channel_of}
 use Rattle.broker_core.specs.State.{Kept, broker_of, topology_kept, names_of}
 use Rattle.broker_core.proofs.Stepping.{seen_put}

@@ -14,13 +14,14 @@ use Rattle.model.specs.declared.messages.Taker.{Taker}
 use Rattle.model.specs.declared.methods.Qos.{Qos}
 use Rattle.model.specs.declared.methods.Consume.{Consume}
 use Rattle.channel.specs.Seats.{is_named}
-use Rattle.channel.specs.Open.{Open, open_in, outstanding_in, consumer_in, with_qos, given_on, without_named, places_of, IsConsumerSeated, SeatsConsumer}
+use Rattle.channel.specs.Open.{Open, open_in, consumer_in, with_qos, given_on, without_named, places_of, IsConsumerSeated, SeatsConsumer}
+use Rattle.model.specs.Placed.{outstanding_in, AreWithin}
 use Rattle.channel.specs.Deliveries.{with_limit}
-use Rattle.channel.specs.declared.pending.Outstanding.{Outstanding}
+use Rattle.model.specs.declared.deliveries.Delivery.{Delivery}
 use Rattle.channel.specs.declared.consumers.Consumer.{Consumer}
 use Rattle.channel.specs.declared.consumers.SeatRefusal.{SeatRefusal}
 use Rattle.links.specs.Links.{channel_of, seen_in, PutsChannel, OpensLink}
-use Rattle.links.specs.Placed.{OutstandingAreWithin, TakeWithin, IsPlaced}
+use Rattle.links.specs.Placed.{TakeWithin, IsPlaced}
 use Rattle.broker_core.specs.State.{ArePlaced}
 use Rattle.broker_core.specs.State.{Kept, topology_kept}
 
@@ -38,8 +39,8 @@ placed_put old new c h ch e put own placed d k x is = subst (λ (t : Topology). 
     go false f = placed d k x f
 
 -- a channel on which nothing is outstanding
-pub none_within : (t : Topology) (given : List Outstanding) → given ≡ [] → OutstandingAreWithin t given
-none_within t given e = subst (OutstandingAreWithin t) (sym e) (λ i o lt. absurd (omega (arith, lt)))
+pub none_within : (t : Topology) (given : List Delivery) → given ≡ [] → AreWithin t given
+none_within t given e = subst (AreWithin t) (sym e) (λ i o lt. absurd (omega (arith, lt)))
 
 -- nor is there a consumer that takes from elsewhere where there is none
 none_take : (t : Topology) (consumers : List Consumer) → consumers ≡ [] → TakeWithin t consumers
@@ -51,7 +52,7 @@ placed_new t ch e f = record { outstanding = none_within t ch.given.outstanding 
 
 -- a channel is as it was, for all that is outstanding on it and for all its consumers
 placed_as : (t : Topology) (ch new : Open) → IsPlaced t ch → new.given.outstanding ≡ ch.given.outstanding → new.given.consumers ≡ ch.given.consumers → IsPlaced t new
-placed_as t ch new placed e f = record { outstanding = subst (OutstandingAreWithin t) (sym e) placed.outstanding; consumers = subst (TakeWithin t) (sym f) placed.consumers }
+placed_as t ch new placed e f = record { outstanding = subst (AreWithin t) (sym e) placed.outstanding; consumers = subst (TakeWithin t) (sym f) placed.consumers }
 
 -- this is the channel that is there
 pub placed_some : (t : Topology) (new : Open) → IsPlaced t new → (k : Open) → Some new ≡ Some k → IsPlaced t k
@@ -90,7 +91,7 @@ placed_opened old new c max k e l placed d h x is = go (d == c) refl
     go false f = subst (λ (t : Topology). IsPlaced t x) (sym e) (placed d h x (sym (l.others_stay d h f) ∙ is))
 
 -- one delivery more, from a queue that is there
-pub within_more : (t : Topology) (given : List Outstanding) (o : Outstanding) → o.queue < length t.queues → OutstandingAreWithin t given → OutstandingAreWithin t (given ++ o ∷ [])
+pub within_more : (t : Topology) (given : List Delivery) (o : Delivery) → o.queue < length t.queues → AreWithin t given → AreWithin t (given ++ o ∷ [])
 within_more t [] o lt within zero d l = lt
 within_more t [] o lt within (suc k) d l = absurd (omega (arith, l))
 within_more t (x ∷ xs) o lt within zero d l = within zero d (omega arith)
@@ -100,7 +101,7 @@ within_more t (x ∷ xs) o lt within (suc k) d l = within_more t xs o lt (λ i e
 pub placed_given : (t : Topology) (ch mid : Open) (place arrival : ℕ) (by : Taker) → place < length t.queues → mid.given.outstanding ≡ ch.given.outstanding → mid.given.consumers ≡ ch.given.consumers → IsPlaced t ch
     → IsPlaced t (given_on mid place arrival by)
 placed_given t ch mid place arrival by lt same_given same_consumers placed = record {
-  outstanding = within_more t mid.given.outstanding _ lt (subst (OutstandingAreWithin t) (sym same_given) placed.outstanding);
+  outstanding = within_more t mid.given.outstanding _ lt (subst (AreWithin t) (sym same_given) placed.outstanding);
   consumers = subst (TakeWithin t) (sym same_consumers) placed.consumers;
 }
 
@@ -141,7 +142,7 @@ place_more n (x ∷ xs) p lt all (suc k) d l = place_more n xs p lt (λ i e m. a
 -- one consumer more, of a queue that is there
 placed_seated : (t : Topology) (old new : Open) (place : ℕ) (m : Consume) (tag : Text) → place < length t.queues → IsConsumerSeated old place m tag new → IsPlaced t old → IsPlaced t new
 placed_seated t old new place m tag lt seated placed = record {
-  outstanding = subst (OutstandingAreWithin t) (sym seated.outstanding) placed.outstanding;
+  outstanding = subst (AreWithin t) (sym seated.outstanding) placed.outstanding;
   consumers = take_at (length t.queues) new.given.consumers
       (subst (All (λ (i : ℕ). i < length t.queues)) (sym seated.places) (place_more (length t.queues) (places_of old.given.consumers) place lt (places_at (length t.queues) old.given.consumers placed.consumers)));
 }

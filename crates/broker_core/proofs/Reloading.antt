@@ -9,9 +9,10 @@ use Rattle.model.specs.Agreement.{IsAgreed}
 use Rattle.model.specs.Reloading.{IsInUse, by_entry, by_consumer, NoneIsStranded, stood_now, with_all_stood}
 use Rattle.model.specs.Step.{Is}
 use Rattle.model.specs.declared.messages.Entry.{Entry}
-use Rattle.channel.specs.Open.{Open, open_in, outstanding_in, consumer_in}
+use Rattle.channel.specs.Open.{Open, open_in, consumer_in}
+use Rattle.model.specs.Placed.{outstanding_in}
 use Rattle.channel.specs.Moving.{place_now, outstanding_moved, consumer_moved, open_moved, IsNamedAlike, AreNamedAlike}
-use Rattle.channel.specs.declared.pending.Outstanding.{Outstanding}
+use Rattle.model.specs.declared.deliveries.Delivery.{Delivery}
 use Rattle.channel.specs.declared.consumers.Consumer.{Consumer}
 use Rattle.depot.specs.Store.{entries_named}
 use Rattle.depot.specs.Moving.{stays, goes, AreMoved, GoneAreEmpty}
@@ -91,10 +92,10 @@ module _ (old : Kept) (t : Topology) (places : List ℕ) (placed : ArePlaced old
         | goes gone behind ↦ absurd (none (get_or (names_of old) p []) (record { was = is_in (names_of old) p (omega (arith, lt, long)); gone = gone; in_use = used }))
       ]
 
-  outstanding_stands : (c h : ℕ) (ch : Open) (o : Outstanding) → channel_of old.links c h ≡ Some ch → IsIn o ch.given.outstanding → StandsAt o.queue
+  outstanding_stands : (c h : ℕ) (ch : Open) (o : Delivery) → channel_of old.links c h ≡ Some ch → IsIn o ch.given.outstanding → StandsAt o.queue
   outstanding_stands c h ch o is i =
       let held = agreed.given c h (open_in (names_of old) ch) (outstanding_in (names_of old) o) (ap (option_map (open_in (names_of old))) is) (in_mapped (outstanding_in (names_of old)) o ch.given.outstanding i) in
-      stands o.queue (all_in (λ (x : Outstanding). x.queue < length (topology_kept old).queues) o ch.given.outstanding (placed c h ch is).outstanding i) (by_entry held.entry held.there)
+      stands o.queue (all_in (λ (x : Delivery). x.queue < length (topology_kept old).queues) o ch.given.outstanding (placed c h ch is).outstanding i) (by_entry held.entry held.there)
 
   consumer_stands : (c h : ℕ) (ch : Open) (k : Consumer) → channel_of old.links c h ≡ Some ch → IsIn k ch.given.consumers → StandsAt k.queue
   consumer_stands c h ch k is i =
@@ -103,7 +104,7 @@ module _ (old : Kept) (t : Topology) (places : List ℕ) (placed : ArePlaced old
 
   pub all_alike : (c h : ℕ) (ch : Open) → channel_of old.links c h ≡ Some ch → AreNamedAlike (names_of old) news places ch
   all_alike c h ch is = record {
-    outstanding = each_of (λ (o : Outstanding). IsNamedAlike (names_of old) news places o.queue) ch.given.outstanding (λ o i. (outstanding_stands c h ch o is i).named);
+    outstanding = each_of (λ (o : Delivery). IsNamedAlike (names_of old) news places o.queue) ch.given.outstanding (λ o i. (outstanding_stands c h ch o is i).named);
     consumers = each_of (λ (k : Consumer). IsNamedAlike (names_of old) news places k.queue) ch.given.consumers (λ k i. (consumer_stands c h ch k is i).named);
   }
 
@@ -114,7 +115,7 @@ module _ (old : Kept) (t : Topology) (places : List ℕ) (placed : ArePlaced old
 
   moved_placed : (c h : ℕ) (ch : Open) → channel_of old.links c h ≡ Some ch → IsPlaced t (open_moved places ch)
   moved_placed c h ch is = record {
-    outstanding = all_moved (λ (o : Outstanding). o.queue < length t.queues) (outstanding_moved places) ch.given.outstanding (λ o i. within o.queue (outstanding_stands c h ch o is i));
+    outstanding = all_moved (λ (o : Delivery). o.queue < length t.queues) (outstanding_moved places) ch.given.outstanding (λ o i. within o.queue (outstanding_stands c h ch o is i));
     consumers = all_moved (λ (k : Consumer). k.queue < length t.queues) (consumer_moved places) ch.given.consumers (λ k i. within k.queue (consumer_stands c h ch k is i));
   }
 

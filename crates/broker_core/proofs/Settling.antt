@@ -17,8 +17,9 @@ use Rattle.model.specs.declared.events.Send.{Send}
 use Rattle.model.specs.declared.notes.Cause.{Cause}
 use Rattle.model.specs.declared.notes.Note.{Note}
 use Rattle.channel.specs.Outstanding.{tag_of}
-use Rattle.channel.specs.Open.{Open, open_in, outstanding_in, without_settled}
-use Rattle.channel.specs.declared.pending.Outstanding.{Outstanding}
+use Rattle.channel.specs.Open.{Open, open_in, without_settled}
+use Rattle.model.specs.Placed.{outstanding_in}
+use Rattle.model.specs.declared.deliveries.Delivery.{Delivery}
 use Rattle.depot.specs.Store.{Store, entries_named, IsStoreWhole}
 use Rattle.links.specs.Links.{channel_of, PutsChannel, seen_in}
 use Rattle.broker_core.specs.State.{ArePlaced}
@@ -30,32 +31,32 @@ use Rattle.broker_core.proofs.Stepping.{seen_put}
 
 -- ---- what stays
 
-without_topology : (c h : ℕ) (os : List Outstanding) (s : Store) → (without_all c h s os).topology ≡ s.topology
+without_topology : (c h : ℕ) (os : List Delivery) (s : Store) → (without_all c h s os).topology ≡ s.topology
 without_topology c h [] s = refl
 without_topology c h (o ∷ os) s = without_topology c h os (without_one c h s o)
 
-without_published : (c h : ℕ) (os : List Outstanding) (s : Store) → (without_all c h s os).published ≡ s.published
+without_published : (c h : ℕ) (os : List Delivery) (s : Store) → (without_all c h s os).published ≡ s.published
 without_published c h [] s = refl
 without_published c h (o ∷ os) s = without_published c h os (without_one c h s o)
 
-pub returned_topology : (c h : ℕ) (os : List Outstanding) (s : Store) → (returned_all c h s os).topology ≡ s.topology
+pub returned_topology : (c h : ℕ) (os : List Delivery) (s : Store) → (returned_all c h s os).topology ≡ s.topology
 returned_topology c h [] s = refl
 returned_topology c h (o ∷ os) s = returned_topology c h os (returned_one c h s o)
 
-pub returned_published : (c h : ℕ) (os : List Outstanding) (s : Store) → (returned_all c h s os).published ≡ s.published
+pub returned_published : (c h : ℕ) (os : List Delivery) (s : Store) → (returned_all c h s os).published ≡ s.published
 returned_published c h [] s = refl
 returned_published c h (o ∷ os) s = returned_published c h os (returned_one c h s o)
 
-pub topology_without : (c h : ℕ) (os : List Outstanding) (old new : Kept) → new.store ≡ without_all c h old.store os → topology_kept new ≡ topology_kept old
+pub topology_without : (c h : ℕ) (os : List Delivery) (old new : Kept) → new.store ≡ without_all c h old.store os → topology_kept new ≡ topology_kept old
 topology_without c h os old new e = ap (λ (s : Store). s.topology) e ∙ without_topology c h os old.store
 
-pub topology_returned : (c h : ℕ) (os : List Outstanding) (old new : Kept) → new.store ≡ returned_all c h old.store os → topology_kept new ≡ topology_kept old
+pub topology_returned : (c h : ℕ) (os : List Delivery) (old new : Kept) → new.store ≡ returned_all c h old.store os → topology_kept new ≡ topology_kept old
 topology_returned c h os old new e = ap (λ (s : Store). s.topology) e ∙ returned_topology c h os old.store
 
 -- ---- the channel
 
 -- tags that rise where queues have names rise where they have places
-rises_kept : (names : List Text) (os : List Outstanding) → Rises step.tag_of (map (outstanding_in names) os) → Rises tag_of os
+rises_kept : (names : List Text) (os : List Delivery) → Rises step.tag_of (map (outstanding_in names) os) → Rises tag_of os
 rises_kept names os r i j d lt within =
     let e = ap step.tag_of (numbered.get_or-map (outstanding_in names) os i d) in
     let f = ap step.tag_of (numbered.get_or-map (outstanding_in names) os j d) in
@@ -82,7 +83,7 @@ stays_placed old new c h tag room multiple ch same there put placed =
 pub not_none : (names : List Text) (tag : ℕ) (multiple : Bool) (ch : Open) → refusal_of_settling (open_in names ch) tag multiple ≡ None → settled tag_of tag multiple ch.given.outstanding ≡ None → ⊥
 not_none names tag multiple ch accepted none = go (is_refused step.tag_of tag multiple (map (outstanding_in names) ch.given.outstanding)) (is_refused tag_of tag multiple ch.given.outstanding) (refused_seen names tag multiple ch.given.outstanding) accepted none
   where
-    gone : List Outstanding
+    gone : List Delivery
     gone = filter (takes tag_of tag multiple) ch.given.outstanding
 
     go : (v w : Bool) → v ≡ w → (if v then Some (Of_channel 406) else None) ≡ None → (if w then None else Some gone) ≡ None → ⊥
@@ -99,7 +100,7 @@ accepted_on old kept c h tag multiple ch e there accepted =
     ∙ accepted
 
 -- what is settled is in the order of its tags
-pub all_rise : (old : Kept) (c h tag : ℕ) (multiple : Bool) (ch : Open) (gone : List Outstanding) → IsAgreed (broker_of old) → channel_of old.links c h ≡ Some ch → settled tag_of tag multiple ch.given.outstanding ≡ Some gone
+pub all_rise : (old : Kept) (c h tag : ℕ) (multiple : Bool) (ch : Open) (gone : List Delivery) → IsAgreed (broker_of old) → channel_of old.links c h ≡ Some ch → settled tag_of tag multiple ch.given.outstanding ≡ Some gone
     → Rises tag_of gone
 all_rise old c h tag multiple ch gone agreed there all =
     let names = names_of old in
@@ -107,7 +108,7 @@ all_rise old c h tag multiple ch gone agreed there all =
 
 -- ---- settlements
 
-pub left_is : AreNamed → (cause : Cause) (old new : Kept) (c h tag room : ℕ) (multiple : Bool) (ch : Open) (gone : List Outstanding)
+pub left_is : AreNamed → (cause : Cause) (old new : Kept) (c h tag room : ℕ) (multiple : Bool) (ch : Open) (gone : List Delivery)
     → IsStoreWhole old.store → IsAgreed (broker_of old) → ArePlaced old → channel_of old.links c h ≡ Some ch → settled tag_of tag multiple ch.given.outstanding ≡ Some gone
     → new.store ≡ without_all c h old.store gone → PutsChannel old.links c h (Some (without_settled ch tag multiple room)) new.links
     → Settles (topology_kept old) (Leaves cause) (broker_of old) c h (open_in (names_of old) ch) tag multiple [] [] (leaving_notes cause c h old.store gone) (broker_of new)
@@ -124,7 +125,7 @@ left_is are cause old new c h tag room multiple ch gone whole agreed placed ther
       channels = channels_are old new c h tag room multiple ch (topology_without c h gone old new made) put;
     }
 
-pub returned_is : AreNamed → (old new : Kept) (c h tag room : ℕ) (multiple : Bool) (ch : Open) (gone : List Outstanding) (sends : List Send)
+pub returned_is : AreNamed → (old new : Kept) (c h tag room : ℕ) (multiple : Bool) (ch : Open) (gone : List Delivery) (sends : List Send)
     → IsStoreWhole old.store → ArePlaced old → channel_of old.links c h ≡ Some ch → settled tag_of tag multiple ch.given.outstanding ≡ Some gone
     → new.store ≡ returned_all c h old.store gone → PutsChannel old.links c h (Some (without_settled ch tag multiple room)) new.links
     → Settles (topology_kept old) Returns (broker_of old) c h (open_in (names_of old) ch) tag multiple sends sends [] (broker_of new)
@@ -144,7 +145,7 @@ returned_is are old new c h tag room multiple ch gone sends whole placed there a
       channels = channels_are old new c h tag room multiple ch (topology_returned c h gone old new made) put;
     }
 
-pub rejected_is : (old new : Kept) (c h tag room : ℕ) (multiple : Bool) (ch : Open) (gone : List Outstanding) (notes : List Note)
+pub rejected_is : (old new : Kept) (c h tag room : ℕ) (multiple : Bool) (ch : Open) (gone : List Delivery) (notes : List Note)
     → settled tag_of tag multiple ch.given.outstanding ≡ Some gone → IsRejection old.store c h gone notes new.store → PutsChannel old.links c h (Some (without_settled ch tag multiple room)) new.links
     → Settles (topology_kept old) Rejects (broker_of old) c h (open_in (names_of old) ch) tag multiple [] [] notes (broker_of new)
 rejected_is old new c h tag room multiple ch gone notes all is put =

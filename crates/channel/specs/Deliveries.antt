@@ -1,5 +1,6 @@
 -- What an open channel keeps of its deliveries.
-use Rattle.std.specs.Prelude.{◌⊎◌, ◌≡◌, ◌<◌, ◌≤◌, ℕ, List, [], ◌∷◌, ◌++◌, length, find, Bool, true, false, ◌==◌, ◌&&◌, if◌then◌else◌, ◌+◌, Option, Some, None, Result, Ok, Err}
+use Rattle.std.specs.Prelude.{◌⊎◌, ◌≡◌, ◌<◌, ◌≤◌, ◌+◌, ℕ, List, [], ◌∷◌, ◌++◌, length, find}
+use Rattle.std.specs.Prelude.{Bool, true, false, ◌==◌, ◌&&◌, if◌then◌else◌, Option, Some, None, Result, Ok, Err}
 use Rattle.std.specs.List.{list_any}
 use Rattle.model.specs.Words.{Text}
 use Rattle.model.specs.Step.{greatest}
@@ -29,9 +30,27 @@ pub record Given : Type 0 where
   pub room : ℕ
   pub seats : ℕ
 
+-- nothing was given out, there is no consumer and no limit
+abbrev pub nothing_given : ℕ → ℕ → Given
+nothing_given room seats = record {
+  next_tag = 1;
+  next_number = 1;
+  next_name = 1;
+  each_limit = 0;
+  limit = 0;
+  consumers = [];
+  outstanding = [];
+  room = room;
+  seats = seats;
+}
+
 -- a message is given out under the next tag, and is outstanding (AMQP 0-9-1, basic.deliver, basic.get-ok)
 abbrev pub with_given : Given → ℕ → ℕ → Taker → ℕ → Given
-with_given g queue arrival by room = record g { next_tag = g.next_tag + 1; outstanding = g.outstanding ++ record { tag = g.next_tag; queue = queue; arrival = arrival; by = by } ∷ []; room = room }
+with_given g queue arrival by room = record g {
+  next_tag = g.next_tag + 1;
+  outstanding = g.outstanding ++ record { tag = g.next_tag; queue = queue; arrival = arrival; by = by } ∷ [];
+  room = room;
+}
 
 -- a limit is set: of all consumers of the channel together, or of each that is made later (RabbitMQ, "Consumer Prefetch", global)
 abbrev pub with_limit : Given → ℕ → Bool → Given
@@ -56,7 +75,11 @@ taker_at g number = if may_be_given g number then consumer_at g number else None
 
 -- one consumer more, under the next number and the limit set for each (AMQP 0-9-1, basic.consume)
 abbrev pub with_consumer_added : Given → Text → ℕ → Bool → ℕ → Given
-with_consumer_added g name queue no_ack seats = record g { seats = seats; next_number = g.next_number + 1; consumers = g.consumers ++ record { number = g.next_number; tag = name; queue = queue; no_ack = no_ack; limit = g.each_limit } ∷ [] }
+with_consumer_added g name queue no_ack seats = record g {
+  seats = seats;
+  next_number = g.next_number + 1;
+  consumers = g.consumers ++ record { number = g.next_number; tag = name; queue = queue; no_ack = no_ack; limit = g.each_limit } ∷ [];
+}
 
 -- Nothing stands against a consumer of this tag: it is not in use on the channel, there are fewer than 256 (own), and a number is left.
 pub record MaySeat (g : Given) (name : Text) : Type 0 where
@@ -91,5 +114,6 @@ pub record IsMadeUnder (old : Given) (queue : ℕ) (no_ack : Bool) (tag : Text) 
 
 -- A consumer was made under the next name that is not in use, which is told, or refused: then nothing changed.
 abbrev pub ConsumesUnnamed : Given → ℕ → Bool → Result Text SeatRefusal → Given → Type 0
-ConsumesUnnamed old queue no_ack (Ok tag) new = (length old.consumers < 256) × ((old.next_number < greatest) × ((old.seats ≤ new.seats + 1) × ((n : ℕ) × IsMadeUnder old queue no_ack tag new n)))
+ConsumesUnnamed old queue no_ack (Ok tag) new =
+    (length old.consumers < 256) × ((old.next_number < greatest) × ((old.seats ≤ new.seats + 1) × ((n : ℕ) × IsMadeUnder old queue no_ack tag new n)))
 ConsumesUnnamed old queue no_ack (Err refusal) new = RefusesUnnamed old refusal × (new ≡ old)

@@ -1,5 +1,6 @@
 -- An open channel as it is kept, with queues by their places in the file, and as the model has it, with queues by their names.
-use Rattle.std.specs.Prelude.{◌≡◌, ℕ, ◌+◌, ◌-◌, List, [], ◌∷◌, ◌++◌, map, filter, count_by, not, Bool, true, false, Option, Some, None, Result, Ok, Err, slice_index_or}
+use Rattle.std.specs.Prelude.{◌≡◌, ℕ, ◌+◌, ◌-◌, List, [], ◌∷◌, ◌++◌, map, filter, count_by, slice_index_or}
+use Rattle.std.specs.Prelude.{not, Bool, true, false, Option, Some, None, Result, Ok, Err}
 use Rattle.model.specs.Words.{Text}
 use Rattle.model.specs.Topology.{IsIn}
 use Rattle.model.specs.Broker as seen
@@ -24,10 +25,6 @@ pub record Open : Type 0 where
   -- a close was sent, and close-ok is awaited
   pub is_closing : Bool
   pub given : Given
-
--- nothing was given out, there is no consumer and no limit
-abbrev pub nothing_given : ℕ → ℕ → Given
-nothing_given room seats = record { next_tag = 1; next_number = 1; next_name = 1; each_limit = 0; limit = 0; consumers = []; outstanding = []; room = room; seats = seats }
 
 -- the channel with the limit that a qos sets (AMQP 0-9-1, basic.qos)
 abbrev pub with_qos : Open → Qos → Open

@@ -9,7 +9,9 @@ ghost use Rattle.model.specs.Prefetch.{has_tag_left};
 ghost use Rattle.channel.specs.Outstanding.{tag_of};
 ghost use Rattle.model.specs.Placed.{waiting};
 ghost use Rattle.channel.specs.Deliveries.{consumer_at};
-ghost use Rattle.channel.specs.Open.{nothing_given, with_qos, given_on, settled_on, without_settled, without_named, consumers_from, open_in, SeatsConsumer, TellsTaker};
+ghost use Rattle.channel.specs.Deliveries.{nothing_given};
+ghost use Rattle.channel.specs.Open.{with_qos, given_on, settled_on, without_settled, without_named, consumers_from, open_in};
+ghost use Rattle.channel.specs.Open.{SeatsConsumer, TellsTaker};
 ghost use Rattle.channel.specs.Moving.{open_moved};
 
 use crate::consumers::{Consumer, SeatRefusal};

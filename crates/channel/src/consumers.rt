@@ -1,6 +1,7 @@
 //! The consumers of a channel, and what they may be given.
 
-ghost use Rattle.std.specs.Prelude.{cond, ◌&&◌, ◌≡◌, ◌<◌, ◌≤◌, ◌-◌, ◌^◌, None, IfSome, length, map, find, filter, count_by, not, option_map, true, false, vec_len, vec_capacity};
+ghost use Rattle.std.specs.Prelude.{cond, ◌&&◌, ◌≡◌, ◌<◌, ◌≤◌, ◌-◌, ◌^◌, None, IfSome, option_map, not, true, false};
+ghost use Rattle.std.specs.Prelude.{length, map, find, filter, count_by, vec_len, vec_capacity};
 ghost use Rattle.model.specs.declared.messages.Taker.TheVariants as taker;
 ghost use Rattle.std.specs.List.{list_any, position_from, All};
 ghost use Rattle.model.specs.Prefetch.{is_to, is_delivery, is_below};

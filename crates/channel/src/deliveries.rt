@@ -27,7 +27,17 @@ impl Model for Deliveries {
 
     ghost Value = { Given };
 
-    ghost view = { λ d. record { next_tag = d.next_tag; next_number = d.next_number; next_name = d.next_name; each_limit = d.each_limit; limit = d.limit; consumers = d.seats.consumers; outstanding = d.pending.outstanding; room = d.pending.room; seats = d.seats.room } };
+    ghost view = { λ d. record {
+      next_tag = d.next_tag;
+      next_number = d.next_number;
+      next_name = d.next_name;
+      each_limit = d.each_limit;
+      limit = d.limit;
+      consumers = d.seats.consumers;
+      outstanding = d.pending.outstanding;
+      room = d.pending.room;
+      seats = d.seats.room;
+    } };
 
     ghost invariant = { λ d. (d.pending.last < d.next_tag) × SeatsAreCounted d.seats d.pending.outstanding × AreNumbered d.next_number d.seats.consumers };
 }
@@ -39,12 +49,12 @@ impl Deliveries {
     ghost use Rattle.channel.specs.Outstanding.{tag_of};
     ghost use Rattle.model.specs.Placed.{waiting};
     ghost use Rattle.channel.specs.Seats.{AreNumbered, consumers_of, is_named, takes_from};
-    ghost use Rattle.channel.specs.Deliveries.{with_given, with_limit, may_be_given, consumer_at, taker_at, AddsConsumer, ConsumesUnnamed, JudgesSeat, MaySeat};
+    ghost use Rattle.channel.specs.Deliveries.{nothing_given, with_given, with_limit, may_be_given, consumer_at, taker_at, AddsConsumer, ConsumesUnnamed, JudgesSeat, MaySeat};
     ghost use Rattle.channel.specs.Moving.{given_moved};
 
     /// Nothing was given out, there is no consumer and no limit. It takes no memory.
     pub fn new(alloc: Global) -> Deliveries
-        ensures { result ≡ record { next_tag = 1; next_number = 1; next_name = 1; each_limit = 0; limit = 0; consumers = []; outstanding = []; room = result.room; seats = result.seats } }
+        ensures { result ≡ nothing_given result.room result.seats }
     {
         Deliveries {
             pending: Unsettled::new(alloc),
@@ -73,7 +83,7 @@ impl Deliveries {
     pub fn settle(&self, tag: u64, multiple: bool) -> Option<&[Delivery]>
         ensures { option_map (λ s. waiting s.now) result ≡ settled tag_of tag multiple self.now.outstanding }
     {
-        self.pending.settle(tag, multiple)
+        self.pending.settle(tag, multiple, 0)
     }
 
     /// Takes out what this tag settles; nothing where it is refused.
@@ -81,8 +91,9 @@ impl Deliveries {
         ensures outstanding { self.new ≡ record self.old { outstanding = kept tag_of tag multiple self.old.outstanding; room = self.new.room } }
         ensures room { self.old.room ≤ self.new.room }
     {
-        self.seats.count_out(self.pending.gone(tag, multiple));
-        self.pending.forget(tag, multiple);
+        let near = self.pending.near(tag);
+        self.seats.count_out(self.pending.gone(tag, multiple, near));
+        self.pending.forget(tag, multiple, near);
     }
 
     /// All that is outstanding, in tag order, with the places between of what was settled before: at most as many again, and 32.

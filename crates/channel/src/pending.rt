@@ -1,6 +1,6 @@
 //! What was given out on a channel and is not settled.
 
-use crate::tags::{behind, close_if, count_settled, forget_in, make_place, settled_of};
+use crate::tags::{behind, close_if, count_settled, forget_in, make_place, place_near, settled_of};
 use model::Delivery;
 use std::alloc::{AllocError, Global};
 use std::marker::Model;
@@ -59,31 +59,38 @@ impl Unsettled {
         behind(&self.items, self.start)
     }
 
-    /// What a tag settles, in tag order, with the places between of what was settled before.
-    pub(crate) fn settle(&self, tag: u64, multiple: bool) -> Option<&[Delivery]>
+    /// Where this tag waits behind the front, if it does, or else any place.
+    pub(crate) fn near(&self, tag: u64) -> usize {
+        place_near(behind(&self.items, self.start), tag)
+    }
+
+    /// What a tag settles, in tag order, with the places between of what was settled before. It is looked for near this place
+    /// first.
+    pub(crate) fn settle(&self, tag: u64, multiple: bool, near: usize) -> Option<&[Delivery]>
         ensures { option_map (λ s. waiting s.now) result ≡ settled tag_of tag multiple self.now.outstanding }
     {
-        settled_of(behind(&self.items, self.start), tag, multiple)
+        settled_of(behind(&self.items, self.start), tag, multiple, near)
     }
 
     /// The same; nothing where the tag is refused.
-    pub(crate) fn gone(&self, tag: u64, multiple: bool) -> &[Delivery]
+    pub(crate) fn gone(&self, tag: u64, multiple: bool, near: usize) -> &[Delivery]
         ensures { AreParts self.now.outstanding (waiting result.now) (kept tag_of tag multiple self.now.outstanding) }
     {
-        match self.settle(tag, multiple) {
+        match self.settle(tag, multiple, near) {
             Some(gone) => gone,
             None => &[],
         }
     }
 
-    /// Takes out what a tag settles. What is kept is closed up where that is more than twice what waits, and 32.
-    pub(crate) fn forget(&mut self, tag: u64, multiple: bool)
+    /// Takes out what a tag settles, which is looked for near this place first. What is kept is closed up where that is more than
+    /// twice what waits, and 32.
+    pub(crate) fn forget(&mut self, tag: u64, multiple: bool, near: usize)
         ensures outstanding { self.new.outstanding ≡ kept tag_of tag multiple self.old.outstanding }
         ensures last { self.new.last ≡ self.old.last }
         ensures room { self.old.room ≤ self.new.room }
     {
-        let gone = count_settled(&self.items, self.start, tag, multiple);
-        self.start = forget_in(&mut self.items, self.start, tag, multiple);
+        let gone = count_settled(&self.items, self.start, tag, multiple, near);
+        self.start = forget_in(&mut self.items, self.start, tag, multiple, near);
         self.count -= gone;
         let is_wanted = is_sparse(self.items.len(), self.count);
         self.start = close_if(&mut self.items, self.start, is_wanted);

@@ -24,11 +24,17 @@ impl Model for Seats {
 
     ghost Value = { Seated };
 
-    ghost view = { λ s. record { consumers = consumers_of s.seats.items; held = counts_of s.seats.items; given = s.given; room = vec_capacity s.seats - vec_len s.seats } };
+    ghost view = { λ s. record {
+      consumers = consumers_of s.seats.items;
+      held = counts_of s.seats.items;
+      given = s.given;
+      room = vec_capacity s.seats - vec_len s.seats;
+    } };
 }
 
 impl Seats {
-    ghost use Rattle.std.specs.Prelude.{◌≡◌, ◌+◌, ◌-◌, ◌<◌, ◌≤◌, ◌^◌, ◌++◌, ◌∷◌, [], ℕ, List, length, find, filter, count_by, map, not, ◌==◌, option_map, OnOk, OnErr};
+    ghost use Rattle.std.specs.Prelude.{◌≡◌, ◌+◌, ◌-◌, ◌<◌, ◌≤◌, ◌^◌, ◌++◌, ◌∷◌, [], ℕ, List, length, find, filter, count_by, map};
+    ghost use Rattle.std.specs.Prelude.{not, ◌==◌, option_map, OnOk, OnErr};
     ghost use Rattle.std.specs.List.{list_any, All};
     ghost use Rattle.model.specs.Prefetch.{count_to};
     ghost use Rattle.channel.specs.Outstanding.{taker_of};
@@ -89,7 +95,8 @@ impl Seats {
     /// Whether the consumer of this number is there and may be given one message more, under this limit of all.
     pub(crate) fn may_take(&self, number: u64, limit: u16) -> bool
         requires { NumbersRise self.now.consumers }
-        ensures { (given : List Given) → SeatsAreCounted self.now given → result ≡ may_of limit given (find (λ (c : One). c.number == number) self.now.consumers) }
+        ensures { (given : List Given) → SeatsAreCounted self.now given
+            → result ≡ may_of limit given (find (λ (c : One). c.number == number) self.now.consumers) }
     {
         may_one(&self.seats, number, limit, self.given)
     }
@@ -110,7 +117,8 @@ impl Seats {
         requires { 0 < self.old.room }
         ensures consumers { self.new.consumers ≡ self.old.consumers ++ consumer ∷ [] }
         ensures room { self.new.room + 1 ≡ self.old.room }
-        ensures counted { (given : List Given) → SeatsAreCounted self.old given → held ≡ count_to taker_of consumer.number given → SeatsAreCounted self.new given }
+        ensures counted { (given : List Given) → SeatsAreCounted self.old given
+            → held ≡ count_to taker_of consumer.number given → SeatsAreCounted self.new given }
     {
         self.seats.push_reserved(CountedConsumer { consumer, held });
     }

@@ -1,6 +1,7 @@
 //! Which of the outstanding deliveries a tag settles.
 
-ghost use Rattle.std.specs.Prelude.{◌≡◌, ◌+◌, ◌<◌, ◌≤◌, ◌++◌, ℕ, vec_len, vec_capacity, length, take, drop, set, get_or, IfSome, IfNone, option_map, true, false, count_by};
+ghost use Rattle.std.specs.Prelude.{◌≡◌, ◌+◌, ◌<◌, ◌≤◌, ◌++◌, ℕ, IfSome, IfNone, option_map, true, false};
+ghost use Rattle.std.specs.Prelude.{length, take, drop, set, get_or, count_by, vec_len, vec_capacity};
 ghost use Rattle.std.specs.List.{list_any};
 ghost use Rattle.model.specs.Settling.{has_tag, settled, kept, Rises};
 ghost use Rattle.channel.specs.Outstanding.{tag_of, given_tag, marked, IsTagAt, AreInOrder};
@@ -52,7 +53,7 @@ fn is_at(given: &[Delivery], place: usize, tag: u64) -> bool
 }
 
 /// The place of a tag that waits, where tags rise.
-fn place_of(given: &[Delivery], tag: u64) -> Option<usize>
+fn search(given: &[Delivery], tag: u64) -> Option<usize>
     requires { Rises given_tag given.now }
     ensures there { IfSome result (λ i. IsTagAt given.now i tag) }
     ensures none { IfNone result (list_any (has_tag tag_of tag) (waiting given.now) ≡ false) }
@@ -64,8 +65,30 @@ fn place_of(given: &[Delivery], tag: u64) -> Option<usize>
     None
 }
 
-/// The run of places that a tag settles.
-fn run_of(given: &[Delivery], tag: u64, multiple: bool) -> Option<(usize, usize)>
+/// The same: it is looked for near this place first.
+fn place_of(given: &[Delivery], tag: u64, near: usize) -> Option<usize>
+    requires { Rises given_tag given.now }
+    ensures there { IfSome result (λ i. IsTagAt given.now i tag) }
+    ensures none { IfNone result (list_any (has_tag tag_of tag) (waiting given.now) ≡ false) }
+{
+    if is_at(given, near, tag) {
+        return Some(near);
+    }
+    search(given, tag)
+}
+
+/// Where this tag waits, if it does, or else any place.
+pub(crate) fn place_near(given: &[Delivery], tag: u64) -> usize
+    requires { Rises given_tag given.now }
+{
+    if is_at(given, 0, tag) {
+        return 0;
+    }
+    lower(given, tag)
+}
+
+/// The run of places that a tag settles, which is looked for near this place first.
+fn run_of(given: &[Delivery], tag: u64, multiple: bool, near: usize) -> Option<(usize, usize)>
     requires { Rises given_tag given.now }
     ensures within { IfSome result (λ r. (r.0 ≤ r.1) × (r.1 ≤ length given.now)) }
     ensures run { option_map (λ r. waiting (drop r.0 (take r.1 given.now))) result ≡ settled tag_of tag multiple (waiting given.now) }
@@ -77,7 +100,7 @@ fn run_of(given: &[Delivery], tag: u64, multiple: bool) -> Option<(usize, usize)
     if multiple && tag == 0 {
         return Some((0, given.len()));
     }
-    match place_of(given, tag) {
+    match place_of(given, tag, near) {
         None => None,
         Some(i) => {
             if multiple {
@@ -89,12 +112,17 @@ fn run_of(given: &[Delivery], tag: u64, multiple: bool) -> Option<(usize, usize)
     }
 }
 
-/// What a tag settles, with the places between of what was settled before.
-pub(crate) fn settled_of(given: &[Delivery], tag: u64, multiple: bool) -> Option<&[Delivery]>
+/// What a tag settles, with the places between of what was settled before. It is looked for near this place first.
+pub(crate) fn settled_of(
+    given: &[Delivery],
+    tag: u64,
+    multiple: bool,
+    near: usize,
+) -> Option<&[Delivery]>
     requires { Rises given_tag given.now }
     ensures { option_map (λ s. waiting s.now) result ≡ settled tag_of tag multiple (waiting given.now) }
 {
-    match run_of(given, tag, multiple) {
+    match run_of(given, tag, multiple, near) {
         Some((from, to)) => Some(&given[..to][from..]),
         None => None,
     }
@@ -107,13 +135,19 @@ fn count_waiting(given: &[Delivery]) -> usize
     given.iter().filter(|one| one.tag != 0).count()
 }
 
-/// How many a tag settles of those behind `start`.
-pub(crate) fn count_settled(items: &Vec<Delivery>, start: usize, tag: u64, multiple: bool) -> usize
+/// How many a tag settles of those behind `start`. It is looked for near this place behind it first.
+pub(crate) fn count_settled(
+    items: &Vec<Delivery>,
+    start: usize,
+    tag: u64,
+    multiple: bool,
+    near: usize,
+) -> usize
     requires start { start ≤ vec_len items.now }
     requires rises { Rises given_tag (drop start items.now.items) }
     ensures { result + length (kept tag_of tag multiple (waiting (drop start items.now.items))) ≡ length (waiting (drop start items.now.items)) }
 {
-    match settled_of(behind(items, start), tag, multiple) {
+    match settled_of(behind(items, start), tag, multiple, near) {
         Some(gone) => count_waiting(gone),
         None => 0,
     }
@@ -158,9 +192,15 @@ pub(crate) fn behind(items: &Vec<Delivery>, start: usize) -> &[Delivery]
     &items[start..]
 }
 
-/// Takes out what a tag settles of those behind `start`: the front moves over it, or its place is marked. Tells where the rest
-/// starts.
-pub(crate) fn forget_in(items: &mut Vec<Delivery>, start: usize, tag: u64, multiple: bool) -> usize
+/// Takes out what a tag settles of those behind `start`: the front moves over it, or its place is marked. It is looked for near
+/// this place behind `start` first. Tells where the rest starts.
+pub(crate) fn forget_in(
+    items: &mut Vec<Delivery>,
+    start: usize,
+    tag: u64,
+    multiple: bool,
+    near: usize,
+) -> usize
     requires start { start ≤ vec_len items.old }
     requires rises { Rises given_tag (drop start items.old.items) }
     ensures start { result ≤ vec_len items.new }
@@ -169,7 +209,7 @@ pub(crate) fn forget_in(items: &mut Vec<Delivery>, start: usize, tag: u64, multi
     ensures len { vec_len items.new ≡ vec_len items.old }
     ensures capacity { vec_capacity items.new ≡ vec_capacity items.old }
 {
-    match run_of(behind(items, start), tag, multiple) {
+    match run_of(behind(items, start), tag, multiple, near) {
         None => start,
         Some((from, to)) => {
             if from == 0 {

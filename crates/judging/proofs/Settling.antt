@@ -8,12 +8,13 @@ use Rattle.model.specs.Settling.{takes, is_refused, settled}
 use Rattle.model.specs.Step as step
 use Rattle.model.specs.Step.{Of_channel, refusal_of_settling}
 use Rattle.channel.specs.Outstanding.{tag_of}
-use Rattle.channel.specs.Open.{Open, open_in, outstanding_in}
-use Rattle.channel.specs.declared.pending.Outstanding.{Outstanding}
+use Rattle.channel.specs.Open.{Open, open_in}
+use Rattle.model.specs.Placed.{outstanding_in}
+use Rattle.model.specs.declared.deliveries.Delivery.{Delivery}
 use Rattle.settling.proofs.Settlements.{settled_seen}
 
 -- a tag that settles something is accepted
-pub accepted : (names : List Text) (ch : Open) (tag : ℕ) (multiple : Bool) (gone : List Outstanding) → settled tag_of tag multiple ch.given.outstanding ≡ Some gone → refusal_of_settling (open_in names ch) tag multiple ≡ None
+pub accepted : (names : List Text) (ch : Open) (tag : ℕ) (multiple : Bool) (gone : List Delivery) → settled tag_of tag multiple ch.given.outstanding ≡ Some gone → refusal_of_settling (open_in names ch) tag multiple ≡ None
 accepted names ch tag multiple gone e = go (is_refused step.tag_of tag multiple (map (outstanding_in names) ch.given.outstanding)) (settled_seen names tag multiple ch.given.outstanding ∙ ap (option_map (map (outstanding_in names))) e)
   where
     all : List seen.Outstanding

@@ -118,6 +118,10 @@ pub record PutsChannel (old : List (ℕ × Linked)) (c h : ℕ) (ch : Option Ope
   pub connections : (d : ℕ) → connection_of new d ≡ connection_of old d
   pub channels : (d k : ℕ) → channel_of new d k ≡ with_pair (channel_of old) c h ch d k
 
+-- the open channel h of the connection c becomes what this makes of it, and everything else stays
+abbrev pub ChangesChannel : List (ℕ × Linked) → ℕ → ℕ → (Open → Open) → List (ℕ × Linked) → Type 0
+ChangesChannel old c h change new = (ch : Open) → channel_of old c h ≡ Some ch → PutsChannel old c h (Some (change ch)) new
+
 -- These connections and channels are there now.
 pub record HoldsConnections (new : List (ℕ × Linked)) (connections : ℕ → Option Connection) (channels : ℕ → ℕ → Option Open) : Type 0 where
   pub connections_are : (d : ℕ) → connection_of new d ≡ connections d

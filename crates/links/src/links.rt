@@ -65,7 +65,8 @@ impl Links {
     ghost use Rattle.channel.specs.Open.{Open, with_qos, given_on, settled_on, without_settled, without_named, SeatsConsumer};
     ghost use Rattle.links.specs.Counting.{CountsConsumers, HasTaker, is_consumed};
     ghost use Rattle.links.specs.Moving.{links_moved};
-    ghost use Rattle.links.specs.Links.{linked_in, connection_of, channel_of, outstanding_on, room_in, seats_in, CanCount, CanGive, HasRoom, SetsRoom, PutsChannel, OpensLink, HoldsConnections};
+    ghost use Rattle.links.specs.Links.{linked_in, connection_of, channel_of, outstanding_on, room_in, seats_in, CanCount, CanGive, HasRoom};
+    ghost use Rattle.links.specs.Links.{SetsRoom, PutsChannel, ChangesChannel, OpensLink, HoldsConnections};
 
     /// No connection runs. It takes no memory.
     pub fn new(alloc: Global) -> Links
@@ -176,7 +177,8 @@ impl Links {
 
     /// The connection is paused from now on, or is not, if it runs.
     pub fn set_paused(&mut self, connection: u64, is_paused: bool)
-        ensures { HoldsConnections self.new (with_one (connection_of self.old) connection (paused is_paused (connection_of self.old connection))) (channel_of self.old) }
+        ensures { HoldsConnections self.new
+            (with_one (connection_of self.old) connection (paused is_paused (connection_of self.old connection))) (channel_of self.old) }
     {
         if let Some(link) = self.links.get_mut(&connection) {
             link.set_paused(is_paused);
@@ -207,7 +209,7 @@ impl Links {
     /// Publishes on this channel are confirmed from now on.
     pub fn select(&mut self, connection: u64, channel: u16)
         requires { IsSome (channel_of self.old connection channel) }
-        ensures { (ch : Open) → channel_of self.old connection channel ≡ Some ch → PutsChannel self.old connection channel (Some (record ch { confirm = started ch.confirm })) self.new }
+        ensures { ChangesChannel self.old connection channel (λ (ch : Open). record ch { confirm = started ch.confirm }) self.new }
     {
         lent_channels_are_put();
         if let Some(channel) = self.channel_mut(connection, channel) {
@@ -219,7 +221,7 @@ impl Links {
     pub fn count_publish(&mut self, connection: u64, channel: u16)
         requires there { IsSome (channel_of self.old connection channel) }
         requires room { CanCount (channel_of self.old connection channel) }
-        ensures { (ch : Open) → channel_of self.old connection channel ≡ Some ch → PutsChannel self.old connection channel (Some (record ch { confirm = next_of ch.confirm })) self.new }
+        ensures { ChangesChannel self.old connection channel (λ (ch : Open). record ch { confirm = next_of ch.confirm }) self.new }
     {
         lent_channels_are_put();
         if let Some(channel) = self.channel_mut(connection, channel) {
@@ -230,7 +232,7 @@ impl Links {
     /// The limit that a qos sets is this channel's.
     pub fn limit(&mut self, connection: u64, channel: u16, qos: &Qos)
         requires { IsSome (channel_of self.old connection channel) }
-        ensures { (ch : Open) → channel_of self.old connection channel ≡ Some ch → PutsChannel self.old connection channel (Some (with_qos ch qos.now)) self.new }
+        ensures { ChangesChannel self.old connection channel (λ (ch : Open). with_qos ch qos.now) self.new }
     {
         lent_channels_are_put();
         if let Some(channel) = self.channel_mut(connection, channel) {
@@ -248,7 +250,8 @@ impl Links {
         consume: &Consume,
     ) -> Result<Text, SeatRefusal>
         requires { IsSome (channel_of self.old connection channel) }
-        ensures seats { (ch : Open) → channel_of self.old connection channel ≡ Some ch → (new : Open) × SeatsConsumer ch queue consume.now result new × PutsChannel self.old connection channel (Some new) self.new }
+        ensures seats { (ch : Open) → channel_of self.old connection channel ≡ Some ch
+            → (new : Open) × SeatsConsumer ch queue consume.now result new × PutsChannel self.old connection channel (Some new) self.new }
         ensures err { OnErr result (self.new ≡ self.old) }
     {
         lent_channels_are_put();
@@ -261,7 +264,8 @@ impl Links {
     /// The consumer of this tag is this channel's no more. It takes no memory.
     pub fn cancel(&mut self, connection: u64, channel: u16, tag: &[u8])
         requires { IsSome (channel_of self.old connection channel) }
-        ensures { (ch : Open) → channel_of self.old connection channel ≡ Some ch → PutsChannel self.old connection channel (Some (without_named ch tag.now (seats_in (channel_of self.new connection channel)))) self.new }
+        ensures { ChangesChannel self.old connection channel
+            (λ (ch : Open). without_named ch tag.now (seats_in (channel_of self.new connection channel))) self.new }
     {
         lent_channels_are_put();
         if let Some(channel) = self.channel_mut(connection, channel) {
@@ -273,7 +277,8 @@ impl Links {
     /// nothing changes.
     pub fn reserve(&mut self, connection: u64, channel: u16) -> Result<(), AllocError>
         requires { IsSome (channel_of self.old connection channel) }
-        ensures ok { OnOk result ((ch : Open) → channel_of self.old connection channel ≡ Some ch → (new : Option Open) × SetsRoom ch new × PutsChannel self.old connection channel new self.new) }
+        ensures ok { OnOk result ((ch : Open) → channel_of self.old connection channel ≡ Some ch
+            → (new : Option Open) × SetsRoom ch new × PutsChannel self.old connection channel new self.new) }
         ensures full { OnErr result (room_in (channel_of self.old connection channel) ≡ 0) }
         ensures err { OnErr result (self.new ≡ self.old) }
     {
@@ -289,7 +294,7 @@ impl Links {
         requires there { IsSome (channel_of self.old connection channel) }
         requires tag { CanGive (channel_of self.old connection channel) }
         requires room { HasRoom (channel_of self.old connection channel) }
-        ensures { (ch : Open) → channel_of self.old connection channel ≡ Some ch → PutsChannel self.old connection channel (Some (given_on ch queue arrival by)) self.new }
+        ensures { ChangesChannel self.old connection channel (λ (ch : Open). given_on ch queue arrival by) self.new }
     {
         lent_channels_are_put();
         if let Some(channel) = self.channel_mut(connection, channel) {
@@ -301,7 +306,7 @@ impl Links {
     pub fn give_settled(&mut self, connection: u64, channel: u16)
         requires there { IsSome (channel_of self.old connection channel) }
         requires tag { CanGive (channel_of self.old connection channel) }
-        ensures { (ch : Open) → channel_of self.old connection channel ≡ Some ch → PutsChannel self.old connection channel (Some (settled_on ch)) self.new }
+        ensures { ChangesChannel self.old connection channel settled_on self.new }
     {
         lent_channels_are_put();
         if let Some(channel) = self.channel_mut(connection, channel) {
@@ -318,7 +323,8 @@ impl Links {
         tag: u64,
         multiple: bool,
     ) -> Option<&[Delivery]>
-        ensures { (ch : Open) → channel_of self.now connection channel ≡ Some ch → option_map (λ s. waiting s.now) result ≡ settled tag_of tag multiple ch.given.outstanding }
+        ensures { (ch : Open) → channel_of self.now connection channel ≡ Some ch
+            → option_map (λ s. waiting s.now) result ≡ settled tag_of tag multiple ch.given.outstanding }
     {
         match self.channel(connection, channel) {
             Some(channel) => channel.settle(tag, multiple),
@@ -329,7 +335,8 @@ impl Links {
     /// What this tag settles is no longer outstanding on this channel. It takes no memory.
     pub fn forget(&mut self, connection: u64, channel: u16, tag: u64, multiple: bool)
         requires { IsSome (channel_of self.old connection channel) }
-        ensures { (ch : Open) → channel_of self.old connection channel ≡ Some ch → PutsChannel self.old connection channel (Some (without_settled ch tag multiple (room_in (channel_of self.new connection channel)))) self.new }
+        ensures { ChangesChannel self.old connection channel
+            (λ (ch : Open). without_settled ch tag multiple (room_in (channel_of self.new connection channel))) self.new }
     {
         lent_channels_are_put();
         if let Some(channel) = self.channel_mut(connection, channel) {

@@ -2,19 +2,18 @@
 
 ghost use Rattle.std.specs.Prelude.{◌≡◌, map, IfOk, OnErr};
 ghost use Rattle.model.specs.Settling.{Rises};
-ghost use Rattle.channel.specs.Outstanding.{tag_of, waiting};
+ghost use Rattle.channel.specs.Outstanding.{tag_of};
+ghost use Rattle.model.specs.Placed.{waiting, AreWithin};
 ghost use Rattle.depot.specs.Rejecting.{IsApart};
-ghost use Rattle.links.specs.Placed.{OutstandingAreWithin};
 ghost use Rattle.settling.specs.Settled as settled;
 ghost use Rattle.settling.specs.Settled.{IsRejection};
 
-use channel::Outstanding;
 use depot::{Depot, Given};
-use model::Note;
+use model::{ChannelId, Delivery, Note};
 use std::alloc::{AllocError, Global};
 
 /// What was given out so, as the depot finds it.
-fn given_of(outstanding: &Outstanding) -> Given
+fn given_of(outstanding: &Delivery) -> Given
     ensures { result ≡ settled.given_of outstanding.now }
 {
     Given {
@@ -26,7 +25,7 @@ fn given_of(outstanding: &Outstanding) -> Given
 }
 
 /// The same of each of these that waits.
-fn all_given(alloc: Global, gone: &[Outstanding]) -> Result<Vec<Given>, AllocError>
+fn all_given(alloc: Global, gone: &[Delivery]) -> Result<Vec<Given>, AllocError>
     ensures { IfOk result (λ given. given.items ≡ map settled.given_of (waiting gone.now)) }
 {
     let mut given = Vec::new(alloc);
@@ -44,18 +43,23 @@ fn all_given(alloc: Global, gone: &[Outstanding]) -> Result<Vec<Given>, AllocErr
 pub fn reject(
     alloc: Global,
     depot: &mut Depot,
-    connection: u64,
-    channel: u16,
-    gone: &[Outstanding],
+    channel: ChannelId,
+    gone: &[Delivery],
 ) -> Result<Vec<Note>, AllocError>
-    requires within { OutstandingAreWithin depot.old.topology (waiting gone.now) }
+    requires within { AreWithin depot.old.topology (waiting gone.now) }
     requires ordered { Rises tag_of (waiting gone.now) }
     requires apart { IsApart depot.old }
-    ensures ok { IfOk result (λ notes. IsRejection depot.old connection channel (waiting gone.now) notes.items depot.new) }
+    ensures ok { IfOk result (λ notes. IsRejection depot.old channel.connection channel.number (waiting gone.now) notes.items depot.new) }
     ensures err { OnErr result (depot.new ≡ depot.old) }
 {
     let given = all_given(alloc, gone)?;
     let mut notes = Vec::new(alloc);
-    depot.reject(alloc, connection, channel, &given, &mut notes)?;
+    depot.reject(
+        alloc,
+        channel.connection,
+        channel.number,
+        &given,
+        &mut notes,
+    )?;
     Ok(notes)
 }

@@ -4,7 +4,7 @@ use crate::cores::Core;
 use channel::Channel;
 use depot::places_are_named;
 use judging::Refusal;
-use model::{Ids, Send};
+use model::{ChannelId, Ids, Send};
 use replies::{Step, channel_close, channel_close_ok, connection_close};
 use settling::put_back;
 use std::alloc::{AllocError, Global};
@@ -55,7 +55,7 @@ impl Core {
         self.depot.is_whole();
         places_are_named();
         let held = self.links.outstanding(connection, number);
-        put_back(&mut self.depot, connection, number, held);
+        put_back(&mut self.depot, ChannelId { connection, number }, held);
         self.links.put(connection, number, channel);
     }
 

@@ -7,7 +7,7 @@ ghost use Rattle.replies.specs.Sent.{AreAddressed};
 
 use crate::cores::Core;
 use depot::places_are_named;
-use model::Cause;
+use model::{Cause, ChannelId};
 use replies::{Step, recover_ok};
 use settling::{notes_of, put_back, reject, take_out};
 use std::alloc::{AllocError, Global};
@@ -40,13 +40,17 @@ impl Core {
         ensures topology { topology_kept self.new ≡ topology_kept self.old }
         ensures err { OnErr result (self.new ≡ self.old) }
     {
+        let id = ChannelId {
+            connection,
+            number: channel,
+        };
         let Some(gone) = self.links.settle(connection, channel, tag, multiple) else {
             return Ok(Step::nothing(alloc));
         };
-        let notes = notes_of(alloc, &self.depot, connection, channel, gone, cause)?;
+        let notes = notes_of(alloc, &self.depot, id, gone, cause)?;
         self.depot.is_whole();
         places_are_named();
-        take_out(&mut self.depot, connection, channel, gone);
+        take_out(&mut self.depot, id, gone);
         self.links.forget(connection, channel, tag, multiple);
         Ok(Step::noting(alloc, notes))
     }
@@ -58,12 +62,16 @@ impl Core {
         ensures settles { (sends : List Sent) → SettlesOn self.old Returns connection channel tag multiple sends sends [] self.new }
         ensures topology { topology_kept self.new ≡ topology_kept self.old }
     {
+        let id = ChannelId {
+            connection,
+            number: channel,
+        };
         let Some(gone) = self.links.settle(connection, channel, tag, multiple) else {
             return;
         };
         self.depot.is_whole();
         places_are_named();
-        put_back(&mut self.depot, connection, channel, gone);
+        put_back(&mut self.depot, id, gone);
         self.links.forget(connection, channel, tag, multiple);
     }
 
@@ -85,10 +93,14 @@ impl Core {
         ensures topology { topology_kept self.new ≡ topology_kept self.old }
         ensures err { OnErr result (self.new ≡ self.old) }
     {
+        let id = ChannelId {
+            connection,
+            number: channel,
+        };
         let Some(gone) = self.links.settle(connection, channel, tag, multiple) else {
             return Ok(Step::nothing(alloc));
         };
-        let notes = reject(alloc, &mut self.depot, connection, channel, gone)?;
+        let notes = reject(alloc, &mut self.depot, id, gone)?;
         self.links.forget(connection, channel, tag, multiple);
         Ok(Step::noting(alloc, notes))
     }

@@ -1,10 +1,10 @@
 use Rattle.std.proofs.Common.{◌≡◌, ℕ, Option, Some, ap, subst}
 use Rattle.std.specs.Option.{option_copied}
 use Rattle.links.specs.Links.{Linked, channel_at, outstanding_on}
-use Rattle.links.specs.Placed.{OutstandingAreWithin}
+use Rattle.model.specs.Placed.{AreWithin}
 use Rattle.broker_core.proofs.freeing.put_back_all.Goals as goal
 
 pub put_back_channels-requires : goal.put_back_channels-requires
 put_back_channels-requires c =
     let there : option_copied c.args.link ≡ Some c.in-Some.link.now = ap option_copied c.in-Some.is in
-    subst (λ (l : Option Linked). (h : ℕ) → OutstandingAreWithin c.args.depot.now.topology (outstanding_on (channel_at l h))) there c.requires
+    subst (λ (l : Option Linked). (h : ℕ) → AreWithin c.args.depot.now.topology (outstanding_on (channel_at l h))) there c.requires

@@ -1,5 +1,5 @@
 use Rattle.std.proofs.Common.{◌≡◌, ◌∙◌, List, None, get_or, ap, arith}
-use Rattle.channel.specs.declared.pending.Outstanding.{Outstanding}
+use Rattle.model.specs.declared.deliveries.Delivery.{Delivery}
 use Rattle.depot.specs.Store.{Store}
 use Rattle.links.specs.Links.{outstanding_on}
 use Rattle.settling.specs.Settled.{returned_all}
@@ -18,7 +18,7 @@ loop-place-preserved c =
     let held = outstanding_on (get_or channels place None) in
     let places = c.places-place-end.ensures.places in
     let within = c.loop-place-test.true in
-    let made : new ≡ returned_all connection place old held = c.put_back.ensures ∙ ap (λ (os : List Outstanding). returned_all connection place old os) c.outstanding.ensures in
+    let made : new ≡ returned_all connection place old held = c.put_back.ensures ∙ ap (λ (os : List Delivery). returned_all connection place old os) c.outstanding.ensures.all in
     record {
       topology = ap (λ (s : Store). s.topology) made ∙ returned_topology connection place held old ∙ c.loop-place.invariant.topology;
       returned = put_back_next connection place channels old new (returned_from connection 0 c.args.depot.now channels) (omega (arith, places, within)) made c.loop-place.invariant.returned;

@@ -1,5 +1,5 @@
 use Rattle.std.proofs.Common.{◌≡◌, ◌≤◌, ◌++◌, length, drop, vec_len, vec_capacity}
-use Rattle.channel.specs.Outstanding.{waiting}
+use Rattle.model.specs.Placed.{waiting}
 use Rattle.settling.specs.Settled.{leaving_notes}
 use Rattle.settling.proofs.leaving.notes_of.Given as goal
 

@@ -7,5 +7,5 @@ put_one_back-requires c = within_next c.args.depot.now.topology c.loop-given.dep
 
 pub loop-given-preserved : goal.loop-given-preserved
 loop-given-preserved c =
-    let next = returned_next c.args.connection c.args.channel c.args.gone.now c.loop-given.given-index nothing c.loop-given.depot c.put_one_back.new.depot _ (let t = c.loop-given-test.true in omega arith) c.put_one_back.ensures.yes c.put_one_back.ensures.no c.loop-given.invariant.returned in
+    let next = returned_next c.args.channel.connection c.args.channel.number c.args.gone.now c.loop-given.given-index nothing c.loop-given.depot c.put_one_back.new.depot _ (let t = c.loop-given-test.true in omega arith) c.put_one_back.ensures.yes c.put_one_back.ensures.no c.loop-given.invariant.returned in
     record { topology = next.0 ∙ c.loop-given.invariant.topology; returned = next.1 }

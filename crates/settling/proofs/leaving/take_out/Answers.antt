@@ -7,5 +7,5 @@ take_one-requires c = within_next c.args.depot.now.topology c.loop-given.depot.t
 
 pub loop-given-preserved : goal.loop-given-preserved
 loop-given-preserved c =
-    let next = taken_next c.args.connection c.args.channel c.args.gone.now c.loop-given.given-index nothing c.loop-given.depot c.take_one.new.depot _ (let t = c.loop-given-test.true in omega arith) c.take_one.ensures.yes c.take_one.ensures.no c.loop-given.invariant.taken in
+    let next = taken_next c.args.channel.connection c.args.channel.number c.args.gone.now c.loop-given.given-index nothing c.loop-given.depot c.take_one.new.depot _ (let t = c.loop-given-test.true in omega arith) c.take_one.ensures.yes c.take_one.ensures.no c.loop-given.invariant.taken in
     record { topology = next.0 ∙ c.loop-given.invariant.topology; taken = next.1 }

@@ -1,5 +1,5 @@
 use Rattle.std.proofs.Common.{◌≡◌, drop}
-use Rattle.channel.specs.Outstanding.{waiting}
+use Rattle.model.specs.Placed.{waiting}
 use Rattle.settling.specs.Settled.{without_all}
 use Rattle.settling.proofs.leaving.take_out.Given as goal
 

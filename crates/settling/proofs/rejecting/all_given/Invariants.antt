@@ -1,5 +1,5 @@
 use Rattle.std.proofs.Common.{◌≡◌, ◌≤◌, ◌++◌, length, drop, map, vec_len, vec_capacity}
-use Rattle.channel.specs.Outstanding.{waiting}
+use Rattle.model.specs.Placed.{waiting}
 use Rattle.settling.specs.Settled.{given_of}
 use Rattle.settling.proofs.rejecting.all_given.Given as goal
 

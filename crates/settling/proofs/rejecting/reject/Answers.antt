@@ -1,5 +1,5 @@
 use Rattle.std.proofs.Common.{◌≡◌, ◌∙◌, List, map, sym, subst}
-use Rattle.channel.specs.Outstanding.{waiting}
+use Rattle.model.specs.Placed.{waiting}
 use Rattle.depot.specs.Rejecting.{GoneAreWithin, AreOrdered}
 use Rattle.depot.specs.declared.given.Given.{Given}
 use Rattle.settling.specs.Settled.{given_of}
@@ -19,4 +19,4 @@ reject-requires-clause-ordered c =
 pub returns-clause-ok : goal.returns-clause-ok
 returns-clause-ok c =
     let is : c.deref.result.now ≡ map given_of (waiting c.args.gone.now) = c.deref.ensures.value ∙ c.in_ok-given.ensures in
-    is_rejection c.args.depot.now c.reject.new.self c.args.connection c.args.channel (waiting c.args.gone.now) c.deref.result.now c.new-notes.result.items c.reject.new.notes.items is c.new-notes.ensures.items c.in_ok-reject.ensures.ok
+    is_rejection c.args.depot.now c.reject.new.self c.args.channel.connection c.args.channel.number (waiting c.args.gone.now) c.deref.result.now c.new-notes.result.items c.reject.new.notes.items is c.new-notes.ensures.items c.in_ok-reject.ensures.ok

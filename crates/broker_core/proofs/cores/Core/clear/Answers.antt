@@ -1,6 +1,6 @@
 use Rattle.std.proofs.Common.{◌∙◌, ap}
 use Rattle.model.specs.Entries.{by_channel}
-use Rattle.channel.specs.Outstanding.{waiting}
+use Rattle.model.specs.Placed.{waiting}
 use Rattle.broker_core.specs.State.{Kept, topology_kept}
 use Rattle.broker_core.proofs.Freed.{channel_is_freed, held_within}
 use Rattle.broker_core.proofs.Placing.{placed_put, placed_new}
@@ -9,7 +9,7 @@ use Rattle.broker_core.proofs.Stepping.{IsFreed, cleared_is}
 use Rattle.broker_core.proofs.cores.Core.clear.Goals as goal
 
 pub put_back-requires : goal.put_back-requires
-put_back-requires c = held_within (record { store = c.self.inside.depot; links = c.self.inside.links }) c.args.connection c.args.number (waiting c.outstanding-held.result.now) c.self.invariant c.outstanding-held.ensures
+put_back-requires c = held_within (record { store = c.self.inside.depot; links = c.self.inside.links }) c.args.connection c.args.number (waiting c.outstanding-held.result.now) c.self.invariant c.outstanding-held.ensures.all
 
 pub returns-clause-cleared : goal.returns-clause-cleared
 returns-clause-cleared c =
@@ -18,7 +18,7 @@ returns-clause-cleared c =
     let old : Kept = record { store = c.self.inside.depot; links = c.self.inside.links } in
     let new : Kept = record { store = c.put_back.new.depot; links = c.put.new.self } in
     let freed : IsFreed (by_channel connection number) old.store new.store =
-    channel_is_freed c.places_are_named.ensures old c.args.self.now connection number (waiting c.outstanding-held.result.now) new.store c.self.view_is c.is_whole.ensures c.self.invariant c.requires.agreed c.outstanding-held.ensures c.put_back.ensures in
+    channel_is_freed c.places_are_named.ensures old c.args.self.now connection number (waiting c.outstanding-held.result.now) new.store c.self.view_is c.is_whole.ensures c.self.invariant c.requires.agreed c.outstanding-held.ensures.all c.put_back.ensures in
     rw (← c.self.view_is) (cleared_is old new connection number c.args.channel freed c.put.ensures)
 
 pub invariant_of-self : goal.invariant_of-self

@@ -5,7 +5,8 @@ use Rattle.model.specs.Broker.{Channel}
 use Rattle.model.specs.Settling.{settled}
 use Rattle.model.specs.Deliveries.{Leaves}
 use Rattle.model.specs.Step.{Settles, channel_or_new}
-use Rattle.channel.specs.Outstanding.{tag_of, waiting}
+use Rattle.channel.specs.Outstanding.{tag_of}
+use Rattle.model.specs.Placed.{waiting}
 use Rattle.channel.specs.Open.{Open, open_in}
 use Rattle.links.specs.Links.{channel_of, room_in}
 use Rattle.broker_core.specs.State.{ArePlaced}

@@ -1,6 +1,6 @@
 use Rattle.std.proofs.Common.{◌∙◌, ap, sym}
 use Rattle.std.specs.Prelude.{option_map}
-use Rattle.channel.specs.Outstanding.{waiting}
+use Rattle.model.specs.Placed.{waiting}
 use Rattle.judging.proofs.Settling.{accepted, refused}
 use Rattle.judging.proofs.refusals.settlements.refusal_of_settling.Goals as goal
 
