@@ -25,7 +25,8 @@ ArePlacesApart places count = (i j : ℕ) → i < length places → j < length p
 
 -- each ring's seats stand, awake, in the ring at the place that the table has for it, where that is there
 abbrev pub RingsAreMoved : List ℕ → List Seats → List Seats → Type 0
-RingsAreMoved places old new = (from : ℕ) → from < length places → place_now places from < length new → AllRoused (ring_at old from) (ring_at new (place_now places from))
+RingsAreMoved places old new = (from : ℕ) → from < length places → place_now places from < length new
+    → AllRoused (ring_at old from) (ring_at new (place_now places from))
 
 -- ---- lists
 

@@ -133,8 +133,10 @@ impl Broker {
     /// with a spelling. Where memory is wanting, nothing has changed: it is the turn of the same consumer still.
     pub fn pump(&mut self, alloc: Global, pick: Pick) -> Result<Step, AllocError>
         requires { IsPick (broker_of self.old) pick }
-        ensures ok { IfOk result (λ s. Acts (topology_kept self.old) (broker_of self.old) (event_is.Deliver pick.connection) s.sends.items s.notes.items (broker_of self.new)) }
-        ensures addressed { IfOk result (λ s. AreCarried (broker_of self.old) → AreNamed (topology_kept self.old) (broker_of self.old) → AreAddressed pick.connection s.sends.items) }
+        ensures ok { IfOk result (λ s. Acts (topology_kept self.old) (broker_of self.old)
+            (event_is.Deliver pick.connection) s.sends.items s.notes.items (broker_of self.new)) }
+        ensures addressed { IfOk result (λ s. AreCarried (broker_of self.old)
+            → AreNamed (topology_kept self.old) (broker_of self.old) → AreAddressed pick.connection s.sends.items) }
         ensures over { OnOk result (self.new.turn ≡ None) }
         ensures topology { topology_kept self.new ≡ topology_kept self.old }
         ensures err { OnErr result (self.new ≡ self.old) }
@@ -155,7 +157,8 @@ impl Broker {
         channel_max: u16,
         channels: u16,
     ) -> Result<(), AllocError>
-        ensures ok { OnOk result (Acts (topology_kept self.old) (broker_of self.old) (event_is.Running connection channel_max channels) [] [] (broker_of self.new)) }
+        ensures ok { OnOk result (Acts (topology_kept self.old) (broker_of self.old)
+            (event_is.Running connection channel_max channels) [] [] (broker_of self.new)) }
         ensures topology { topology_kept self.new ≡ topology_kept self.old }
         ensures turn { self.new.turn ≡ self.old.turn }
         ensures err { OnErr result (self.new ≡ self.old) }

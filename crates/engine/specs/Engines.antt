@@ -93,7 +93,8 @@ pub record Changes (ls : List Connected) (i : ℕ) (old new : Connected) (new_ls
   pub over : is_link_gone new ≡ true → new.session ≡ no_session
 
 -- One turn of the connection at this place.
-pub record LinksTook {E : Type 0} (r : Rules) (b : Broker) (ls : List Connected) (i : ℕ) (what : Result Turn E) (new_b : Broker) (new_ls : List Connected) : Type 0 where
+pub record LinksTook {E : Type 0} (r : Rules) (b : Broker) (ls : List Connected) (i : ℕ)
+    (what : Result Turn E) (new_b : Broker) (new_ls : List Connected) : Type 0 where
   pub old : Connected
   pub new : Connected
   pub changes : Changes ls i old new new_ls

@@ -16,7 +16,8 @@ Numbers given ls (Err Full) = 1024 ≤ length ls
 Numbers given ls (Err Spent) = (length ls < 1024) × (18446744073709551615 ≤ given)
 Numbers given ls (Err Memory) = (length ls < 1024) × (given < 18446744073709551615)
 
--- The connection of this number was opened by this event, and this stream of it is awaited; or 1,024 are not gone; or the last number was given; or one could be opened, and memory was wanting.
+-- The connection of this number was opened by this event, and this stream of it is awaited;
+-- or 1,024 are not gone; or the last number was given; or one could be opened, and memory was wanting.
 abbrev pub OpenedBy : Event → Stream → World → Result ℕ Refused → World → Type 0
 OpenedBy e s old (Ok n) new = IsOpened e s old (Some n) new
 OpenedBy e s old (Err Full) new = (nat_lt (standing old old.given) 1024 ≡ false) × Same old new

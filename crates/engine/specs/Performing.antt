@@ -45,12 +45,14 @@ IsAnswerTo users p s (Fault c code) move = move ≡ faulted c s p code
 IsAnswerTo users p s e move = ⊥
 
 -- The broker performs the event, and the phase follows what was sent.
-pub record ByBroker (t : Topology) (b : Broker) (s : Session) (e : Event) (sends : List Send) (notes : List Note) (new_b : Broker) (new_s : Session) : Type 0 where
+pub record ByBroker (t : Topology) (b : Broker) (s : Session) (e : Event)
+    (sends : List Send) (notes : List Note) (new_b : Broker) (new_s : Session) : Type 0 where
   pub acts : Acts t b e sends notes new_b
   pub session : new_s ≡ session_after s e sends
 
 -- The phase answers the event of connection c by itself: nothing is noted, and the broker has one connection more where this one runs from now on.
-pub record ByPhase (users : List User) (c : ℕ) (p : Phase) (b : Broker) (s : Session) (e : Event) (sends : List Send) (notes : List Note) (new_b : Broker) (new_s : Session) : Type 0 where
+pub record ByPhase (users : List User) (c : ℕ) (p : Phase) (b : Broker) (s : Session) (e : Event)
+    (sends : List Send) (notes : List Note) (new_b : Broker) (new_s : Session) : Type 0 where
   pub asked : IsAskedBy c e
   pub answered : IsAnswerTo users p s e (record { sends = sends; next = new_s })
   pub noted : notes ≡ []

@@ -17,7 +17,8 @@ use Rattle.engine.specs.declared.turning.Turn.{Turn}
 use Rattle.engine.specs.declared.turning.Turn.TheVariants as turn
 
 -- An event of the connection c was performed, what it sent is put out, and the pause that this brings is known.
-pub record Performed (r : Rules) (b : Broker) (c : ℕ) (s : Session) (output : List ℕ) (event : Event) (notes : List Note) (new_b : Broker) (new_s : Session) (new_output : List ℕ) : Type 0 where
+pub record Performed (r : Rules) (b : Broker) (c : ℕ) (s : Session) (output : List ℕ) (event : Event)
+    (notes : List Note) (new_b : Broker) (new_s : Session) (new_output : List ℕ) : Type 0 where
   pub sends : List Send
   pub mid : Broker
   pub decides : DecidesByPhase c s.phase r b s event sends notes mid new_s
@@ -79,7 +80,8 @@ pub record LinkSame (b : Broker) (old : Connected) (new_b : Broker) (new : Conne
 
 -- The turn of one connection is right: what was performed, or why nothing was.
 abbrev pub LinkTook : Rules → Broker → Connected → Turn → Broker → Connected → Type 0
-LinkTook r b old (turn.Did notes) new_b new = (is_ended old.session.phase ≡ false) × (is_past_bound old.output.bytes ≡ false) × LinkDid r b old notes.items new_b new
+LinkTook r b old (turn.Did notes) new_b new = (is_ended old.session.phase ≡ false)
+    × (is_past_bound old.output.bytes ≡ false) × LinkDid r b old notes.items new_b new
 LinkTook r b old turn.Idle new_b new = (is_ended old.session.phase ≡ false) × LinkIdle b old new_b new
 LinkTook r b old turn.Paused new_b new = (is_ended old.session.phase ≡ false) × (is_past_bound old.output.bytes ≡ true) × LinkSame b old new_b new
 LinkTook r b old turn.Over new_b new = (is_ended old.session.phase ≡ true) × LinkSame b old new_b new

@@ -6,7 +6,8 @@ use Rattle.model.specs.Arrivals.{World, can_open, is_over, is_awake}
 use Rattle.engine.specs.Reading.{HasMore}
 use Rattle.runs.specs.Wants.{Want, To_open, To_open_ready, To_feed, To_turn, To_pump, To_reload}
 
--- A connection where one can be opened, bytes of one that stands, a turn where a command is kept or there is something to read, and a delivery where one can be made.
+-- A connection where one can be opened, bytes of one that stands,
+-- a turn where a command is kept or there is something to read, and a delivery where one can be made.
 -- A reload where no queue in use is gone, or where the first that is has a long name.
 abbrev pub engine_lacks : World → Want → Type 0
 engine_lacks w To_open = can_open w ≡ true

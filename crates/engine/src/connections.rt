@@ -146,7 +146,8 @@ pub(crate) fn turn_at(
     requires within { place < length links.old.items }
     requires kept { (l : seen_link.Connected) → get_or links.old.items place l ≡ l → IsKeptEvent l.number l.kept l.stream.fault }
     requires carried { AreCarried (broker_of broker.old) }
-    ensures took { LinksTook (rules_of (topology_kept broker.old) users.now) (broker_of broker.old) links.old.items place result (broker_of broker.new) links.new.items }
+    ensures took { LinksTook (rules_of (topology_kept broker.old) users.now) (broker_of broker.old)
+        links.old.items place result (broker_of broker.new) links.new.items }
     ensures topology { topology_kept broker.new ≡ topology_kept broker.old }
 {
     let turn = turn_link(alloc, users, broker, scratch, spares, &mut links[place]);
@@ -205,7 +206,8 @@ pub(crate) fn feed_at(
 ) -> Result<(), AllocError>
     requires { place < length links.old.items }
     ensures ok { OnOk result (LinksFed links.old.items place bytes.now links.new.items) }
-    ensures over { (l : seen_link.Connected) → get_or links.old.items place l ≡ l → is_ended l.session.phase ≡ true → IsOk result × (links.new.items ≡ links.old.items) }
+    ensures over { (l : seen_link.Connected) → get_or links.old.items place l ≡ l
+        → is_ended l.session.phase ≡ true → IsOk result × (links.new.items ≡ links.old.items) }
     ensures err { OnErr result (links.new.items ≡ links.old.items) }
     ensures full { (l : seen_link.Connected) → get_or links.old.items place l ≡ l → OnErr result (l.stream.room < length bytes.now) }
 {

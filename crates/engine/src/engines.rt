@@ -96,7 +96,13 @@ impl Model for Engine {
 
     ghost view = { λ e. record { broker = e.broker; guarantees = e.guarantees.items; users = e.users.items; given = e.given; links = e.links.items } };
 
-    ghost invariant = { λ e. IsEngine (record { broker = e.broker; guarantees = e.guarantees.items; users = e.users.items; given = e.given; links = e.links.items }) };
+    ghost invariant = { λ e. IsEngine (record {
+      broker = e.broker;
+      guarantees = e.guarantees.items;
+      users = e.users.items;
+      given = e.given;
+      links = e.links.items;
+    }) };
 }
 
 impl Engine {
@@ -191,7 +197,8 @@ impl Engine {
     ///
     /// Where memory is refused nothing is delivered; it is wanted only where a delivery can be made.
     pub fn pump(&mut self, alloc: Global) -> Result<Option<Delivered>, AllocError>
-        ensures ok { IfOk result (λ did. MatchOption did (Idles (world_of self.old) (world_of self.new)) (λ d. IsPump (world_of self.old) d.connection d.notes.items (world_of self.new))) }
+        ensures ok { IfOk result (λ did. MatchOption did (Idles (world_of self.old) (world_of self.new))
+            (λ d. IsPump (world_of self.old) d.connection d.notes.items (world_of self.new))) }
         ensures err { OnErr result (Same (world_of self.old) (world_of self.new)) }
         ensures wanted { OnErr result ((c : ℕ) × CanDeliver (world_of self.old).state.broker c) }
     {
@@ -287,7 +294,8 @@ impl Engine {
     /// deaths, nor, unless it stood when the last reload was done, the queue where it stands: so none at all before any reload.
     pub fn is_safe(&self)
         ensures kept { AreKept (world_of self.now).config (world_of self.now).state.broker }
-        ensures safe { NoneStood (world_of self.now).state.broker → AreSafe (world_of self.now).config.topology (world_of self.now).config.guarantees (world_of self.now).state.broker }
+        ensures safe { NoneStood (world_of self.now).state.broker
+            → AreSafe (world_of self.now).config.topology (world_of self.now).config.guarantees (world_of self.now).state.broker }
     {
         // A look at a field, as above.
         let _links = &self.links;

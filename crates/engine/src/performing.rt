@@ -36,7 +36,8 @@ fn by_broker(
     requires said { IsSaid event.now }
     requires carried { AreCarried (broker_of broker.old) }
     requires runs { is_running session.old.phase ≡ true }
-    ensures ok { IfOk result (λ d. ByBroker (topology_kept broker.old) (broker_of broker.old) session.old event.now d.sends.items d.notes.items (broker_of broker.new) session.new) }
+    ensures ok { IfOk result (λ d. ByBroker (topology_kept broker.old) (broker_of broker.old)
+        session.old event.now d.sends.items d.notes.items (broker_of broker.new) session.new) }
     ensures own { IfOk result (λ d. AreOwn c d.sends.items) }
     ensures broker_kept { OnErr result (broker.new ≡ broker.old) }
     ensures session_kept { OnErr result (session.new ≡ session.old) }
@@ -56,7 +57,8 @@ fn sends_of(
     event: &Event,
 ) -> Result<Vec<Send>, AllocError>
     requires { IsAskedBy c event.now }
-    ensures answered { IfOk result (λ sends. IsAnswerTo users.now session.old.phase session.old event.now (record { sends = sends.items; next = session.new })) }
+    ensures answered { IfOk result (λ sends. IsAnswerTo users.now session.old.phase session.old event.now
+        (record { sends = sends.items; next = session.new })) }
     ensures own { IfOk result (λ sends. AreOwn c sends.items) }
 {
     match event {
@@ -95,7 +97,8 @@ fn by_phase(
     event: &Event,
 ) -> Result<Step, AllocError>
     requires asked { IsAskedBy c event.now }
-    ensures ok { IfOk result (λ d. ByPhase users.now c session.old.phase (broker_of broker.old) session.old event.now d.sends.items d.notes.items (broker_of broker.new) session.new) }
+    ensures ok { IfOk result (λ d. ByPhase users.now c session.old.phase (broker_of broker.old)
+        session.old event.now d.sends.items d.notes.items (broker_of broker.new) session.new) }
     ensures own { IfOk result (λ d. AreOwn c d.sends.items) }
     ensures broker_kept { OnErr result (broker.new ≡ broker.old) }
     ensures session_kept { OnErr result (session.new ≡ session.old) }
@@ -123,7 +126,8 @@ pub(crate) fn perform(
     requires asked { IsAskedBy c event.now }
     requires said { IsSaid event.now }
     requires carried { AreCarried (broker_of broker.old) }
-    ensures ok { IfOk result (λ d. DecidesByPhase c session.old.phase (rules_of (topology_kept broker.old) users.now) (broker_of broker.old) session.old event.now d.sends.items d.notes.items (broker_of broker.new) session.new) }
+    ensures ok { IfOk result (λ d. DecidesByPhase c session.old.phase (rules_of (topology_kept broker.old) users.now)
+        (broker_of broker.old) session.old event.now d.sends.items d.notes.items (broker_of broker.new) session.new) }
     ensures own { IfOk result (λ d. AreOwn c d.sends.items) }
     ensures broker_kept { OnErr result (broker.new ≡ broker.old) }
     ensures session_kept { OnErr result (session.new ≡ session.old) }

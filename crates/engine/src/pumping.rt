@@ -29,7 +29,8 @@ fn pump_link(
     requires picked { IsPick (broker_of broker.old) pick }
     requires carried { AreCarried (broker_of broker.old) }
     requires named { AreNamed (topology_kept broker.old) (broker_of broker.old) }
-    ensures ok { IfOk result (λ notes. LinkPumped (topology_kept broker.old) (broker_of broker.old) pick.connection link.old notes.items (broker_of broker.new) link.new) }
+    ensures ok { IfOk result (λ notes. LinkPumped (topology_kept broker.old) (broker_of broker.old)
+        pick.connection link.old notes.items (broker_of broker.new) link.new) }
     ensures rest { link.new ≡ record link.old { output = link.new.output } }
     ensures broker_kept { OnErr result (broker.new ≡ broker.old) }
     ensures output_kept { OnErr result (link.new.output.bytes ≡ link.old.output.bytes) }
@@ -71,7 +72,8 @@ pub(crate) fn pump_among(
     requires picked { IsPick (broker_of broker.old) pick }
     requires carried { AreCarried (broker_of broker.old) }
     requires named { AreNamed (topology_kept broker.old) (broker_of broker.old) }
-    ensures ok { IfOk result (λ notes. LinksPumped (topology_kept broker.old) (broker_of broker.old) pick.connection links.old.items notes.items (broker_of broker.new) links.new.items) }
+    ensures ok { IfOk result (λ notes. LinksPumped (topology_kept broker.old) (broker_of broker.old)
+        pick.connection links.old.items notes.items (broker_of broker.new) links.new.items) }
     ensures err { OnErr result (LinksNotPumped (broker_of broker.old) pick.connection links.old.items (broker_of broker.new) links.new.items) }
     ensures topology { topology_kept broker.new ≡ topology_kept broker.old }
 {

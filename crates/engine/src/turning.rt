@@ -77,7 +77,8 @@ fn do_event(
     requires said { IsSaid event.now }
     requires carried { AreCarried (broker_of broker.old) }
     requires room { most_sent ≤ output.old.room }
-    ensures ok { IfOk result (λ notes. Performed (rules_of (topology_kept broker.old) users.now) (broker_of broker.old) c session.old output.old.bytes event.now notes.items (broker_of broker.new) session.new output.new.bytes) }
+    ensures ok { IfOk result (λ notes. Performed (rules_of (topology_kept broker.old) users.now) (broker_of broker.old)
+        c session.old output.old.bytes event.now notes.items (broker_of broker.new) session.new output.new.bytes) }
     ensures broker_kept { OnErr result (broker.new ≡ broker.old) }
     ensures session_kept { OnErr result (session.new ≡ session.old) }
     ensures output_kept { OnErr result (output.new ≡ output.old) }
@@ -100,7 +101,9 @@ fn do_kept(
     requires kept { (e : event.Event) × (link.old.kept ≡ Some e) × IsAskedBy link.old.number e × IsSaid e }
     requires carried { AreCarried (broker_of broker.old) }
     requires room { most_sent ≤ link.old.output.room }
-    ensures ok { IfOk result (λ t. (e : event.Event) → link.old.kept ≡ Some e → DidEvent (rules_of (topology_kept broker.old) users.now) (broker_of broker.old) link.old e t (broker_of broker.new) link.new) }
+    ensures ok { IfOk result (λ t. (e : event.Event) → link.old.kept ≡ Some e
+        → DidEvent (rules_of (topology_kept broker.old) users.now) (broker_of broker.old) link.old e t
+        (broker_of broker.new) link.new) }
     ensures broker_kept { OnErr result (broker.new ≡ broker.old) }
     ensures link_kept { OnErr result (link.new ≡ link.old) }
     ensures topology { topology_kept broker.new ≡ topology_kept broker.old }
@@ -140,7 +143,8 @@ fn do_fault(
     requires kept { link.old.kept ≡ None }
     requires carried { AreCarried (broker_of broker.old) }
     requires room { most_sent ≤ link.old.output.room }
-    ensures ok { IfOk result (λ t. DidEvent (rules_of (topology_kept broker.old) users.now) (broker_of broker.old) link.old (happens.Fault link.old.number code) t (broker_of broker.new) link.new) }
+    ensures ok { IfOk result (λ t. DidEvent (rules_of (topology_kept broker.old) users.now) (broker_of broker.old)
+        link.old (happens.Fault link.old.number code) t (broker_of broker.new) link.new) }
     ensures broker_kept { OnErr result (broker.new ≡ broker.old) }
     ensures link_kept { OnErr result (link.new ≡ link.old) }
     ensures topology { topology_kept broker.new ≡ topology_kept broker.old }

@@ -14,6 +14,7 @@ pub record AreTargets (t : Topology) (exchange key : Text) (targets : List ℕ) 
   pub rising : AllPairs (λ (i j : ℕ). i < j) targets
   pub picked : Picks (Routes t exchange key) (queue_names t.queues) (names_at (queue_names t.queues) targets)
 
--- These are exactly the exchanges at the ends of chains from this one under this key, itself among them, each once: the default exchange, then those of the file in its order.
+-- These are exactly the exchanges at the ends of chains from this one under this key, itself among them, each once: the default exchange,
+-- then those of the file in its order.
 abbrev pub AreVisited : Topology → Text → Text → List Text → Type 0
 AreVisited t exchange key visited = Picks (Leads t (of_key key) exchange) ([] ∷ exchange_names t.exchanges) visited

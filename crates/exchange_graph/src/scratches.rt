@@ -4,7 +4,8 @@ use crate::ends::End;
 use std::alloc::Global;
 
 /// The marks and the ends that are used while a message is routed. What stands in them from another route is of no account, so
-/// that routes one after another need no memory for them.
+/// that routes one after another need no memory for them. None of them grows past what the topology has: its queues, its
+/// exchanges, and room for at most twice the ends that lead on from one exchange (four at least).
 #[derive(Drop)]
 pub struct Scratch {
     /// A mark for each exchange that a way leads to.

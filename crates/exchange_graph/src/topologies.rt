@@ -65,7 +65,8 @@ impl Model for Topology {
 
     ghost view = { λ t. record { exchanges = t.exchanges.items; queues = t.queues.items; bindings = t.bindings.items } };
 
-    ghost invariant = { λ t. IsBuilt (record { exchanges = t.exchanges.items; queues = t.queues.items; bindings = t.bindings.items }) t.fans.items t.exchange_names t.queue_names };
+    ghost invariant = { λ t. IsBuilt (record { exchanges = t.exchanges.items; queues = t.queues.items; bindings = t.bindings.items })
+        t.fans.items t.exchange_names t.queue_names };
 }
 
 /// The names of the exchanges at these places.

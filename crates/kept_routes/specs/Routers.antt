@@ -1,4 +1,5 @@
--- Routes that are kept, and whether clients may publish to an exchange. Source: AMQP 0-9-1, exchange.declare, "internal"; that a publish to no exchange is refused: basic.publish, "exchange".
+-- Routes that are kept, and whether clients may publish to an exchange. Source: AMQP 0-9-1, exchange.declare, "internal"; that a publish to
+-- no exchange is refused: basic.publish, "exchange".
 use Rattle.std.specs.Prelude.{◌≡◌, [], ◌∷◌, Option, Some, None, find, if◌then◌else◌}
 use Rattle.std.specs.Str.{bytes_eq}
 use Rattle.std.specs.declared.sync.Arc.{Arc}

@@ -1,6 +1,7 @@
 -- What a log says (own).
 use Rattle.std.specs.Prelude.{ℕ, List, nat_lt, map, take, Option, Some, None, if◌then◌else◌}
-use Rattle.serving.specs.Wire.{Call, Told, Accepted, Not_accepted, Accept_failed, Got, Nothing_got, Read_ended, Read_failed, Took, Nothing_taken, Write_failed, Closed, Welcomed, Rested}
+use Rattle.serving.specs.Wire.{Call, Told, Accepted, Not_accepted, Accept_failed, Got, Nothing_got, Read_ended}
+use Rattle.serving.specs.Wire.{Read_failed, Took, Nothing_taken, Write_failed, Closed, Welcomed, Rested}
 use Rattle.memory_wire.specs.declared.logs.Log.{Log}
 use Rattle.memory_wire.specs.declared.logs.Logged.{Logged}
 use Rattle.memory_wire.specs.declared.logs.Logged.TheVariants as logged

@@ -135,7 +135,9 @@ pub fn serve_in_memory<M: Machine>(
     turns: u64,
 ) -> bool
     ensures whole { result ≡ is_some (told_by wire.new.log) }
-    ensures tells { (f : Config) → M.world server.old.machine ≡ new_world f → server.old.peers ≡ [] → told_by wire.old.log ≡ Some [] → result ≡ true → TellsBytes M.lacks f (told_by wire.new.log) (M.world server.new.machine) }
+    ensures tells { (f : Config) → M.world server.old.machine ≡ new_world f → server.old.peers ≡ []
+        → told_by wire.old.log ≡ Some [] → result ≡ true
+        → TellsBytes M.lacks f (told_by wire.new.log) (M.world server.new.machine) }
 {
     new_is_served(server, wire);
     serve(alloc, server, wire, turns);

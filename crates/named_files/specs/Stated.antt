@@ -126,4 +126,5 @@ pub data FailsToSetUp (holds : Text → Known) (definitions guarantees : Option 
   -- the definitions are refused
   unstated : FailsToState holds definitions file why → FailsToSetUp holds definitions guarantees file why
   -- the guarantees are refused, over definitions that are good
-  unpromised : (stated : Stated) → StatesAt holds definitions stated → FailsToPromise holds guarantees stated.topology file why → FailsToSetUp holds definitions guarantees file why
+  unpromised : (stated : Stated) → StatesAt holds definitions stated
+      → FailsToPromise holds guarantees stated.topology file why → FailsToSetUp holds definitions guarantees file why

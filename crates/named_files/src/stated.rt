@@ -60,7 +60,9 @@ pub fn definitions_of<'a, F: Files>(
     file: &'a str,
     files: &mut F,
 ) -> Result<Definitions, RefusedFile<'a>>
-    ensures states { MatchResult result (λ stated. States (F.holds files.old file.now) stated) (λ refused. (refused.file.now ≡ file.now) × IsWhyUnstated refused.why (F.holds files.old file.now)) }
+    ensures states { MatchResult result
+        (λ stated. States (F.holds files.old file.now) stated)
+        (λ refused. (refused.file.now ≡ file.now) × IsWhyUnstated refused.why (F.holds files.old file.now)) }
     ensures files { AreKept (F.holds files.old) (F.holds files.new) }
 {
     match read_definitions_of(alloc, file, files) {
@@ -76,7 +78,9 @@ fn read_guarantees_of<F: Files>(
     topology: &Topology,
     files: &mut F,
 ) -> Result<Vec<Guarantee>, FileRefusal>
-    ensures states { MatchResult result (λ gs. Promises (F.holds files.old file.now) topology.now gs.items) (λ why. IsWhyUnpromised topology.now why (F.holds files.old file.now)) }
+    ensures states { MatchResult result
+        (λ gs. Promises (F.holds files.old file.now) topology.now gs.items)
+        (λ why. IsWhyUnpromised topology.now why (F.holds files.old file.now)) }
     ensures files { AreKept (F.holds files.old) (F.holds files.new) }
 {
     let text = files.read(alloc, file)?;
@@ -90,7 +94,10 @@ fn guarantees_of<'a, F: Files>(
     topology: &Topology,
     files: &mut F,
 ) -> Result<Vec<Guarantee>, RefusedFile<'a>>
-    ensures states { MatchResult result (λ gs. PromisesAt (F.holds files.old) (file_named file.entry) topology.now gs.items) (λ refused. FailsToPromise (F.holds files.old) (file_named file.entry) topology.now refused.file.now refused.why) }
+    ensures states { MatchResult result
+        (λ gs. PromisesAt (F.holds files.old) (file_named file.entry) topology.now gs.items)
+        (λ refused. FailsToPromise (F.holds files.old) (file_named file.entry)
+        topology.now refused.file.now refused.why) }
     ensures files { AreKept (F.holds files.old) (F.holds files.new) }
 {
     let file = match file {
@@ -109,7 +116,10 @@ fn topology_of<'a, F: Files>(
     file: Option<&'a str>,
     files: &mut F,
 ) -> Result<(Topology, Vec<User>), RefusedFile<'a>>
-    ensures states { MatchResult result (λ stated. StatesAt (F.holds files.old) (file_named file.entry) (record { topology = stated.0; users = stated.1.items })) (λ refused. FailsToState (F.holds files.old) (file_named file.entry) refused.file.now refused.why) }
+    ensures states { MatchResult result
+        (λ stated. StatesAt (F.holds files.old) (file_named file.entry)
+        (record { topology = stated.0; users = stated.1.items }))
+        (λ refused. FailsToState (F.holds files.old) (file_named file.entry) refused.file.now refused.why) }
     ensures files { AreKept (F.holds files.old) (F.holds files.new) }
 {
     match file {
@@ -129,7 +139,11 @@ pub fn set_up<'a, F: Files>(
     guarantees: Option<&'a str>,
     files: &mut F,
 ) -> Result<Setup, RefusedFile<'a>>
-    ensures states { MatchResult result (λ s. SetsUp (F.holds files.old) (file_named definitions.entry) (file_named guarantees.entry) (record { topology = s.topology; users = s.users.items }) s.guarantees.items) (λ refused. FailsToSetUp (F.holds files.old) (file_named definitions.entry) (file_named guarantees.entry) refused.file.now refused.why) }
+    ensures states { MatchResult result
+        (λ s. SetsUp (F.holds files.old) (file_named definitions.entry) (file_named guarantees.entry)
+        (record { topology = s.topology; users = s.users.items }) s.guarantees.items)
+        (λ refused. FailsToSetUp (F.holds files.old) (file_named definitions.entry) (file_named guarantees.entry)
+        refused.file.now refused.why) }
     ensures files { AreKept (F.holds files.old) (F.holds files.new) }
 {
     let (topology, users) = match topology_of(alloc, definitions, files) {
@@ -152,7 +166,9 @@ fn read_certificates_of<F: Files>(
     file: &str,
     files: &mut F,
 ) -> Result<Vec<Certificate>, FileRefusal>
-    ensures states { MatchResult result (λ cs. HoldsCertificates (F.holds files.old file.now) cs.items) (λ why. IsWhyUncertified why (F.holds files.old file.now)) }
+    ensures states { MatchResult result
+        (λ cs. HoldsCertificates (F.holds files.old file.now) cs.items)
+        (λ why. IsWhyUncertified why (F.holds files.old file.now)) }
     ensures files { AreKept (F.holds files.old) (F.holds files.new) }
 {
     let text = files.read(alloc, file)?;
@@ -165,7 +181,9 @@ pub fn certificates_of<'a, F: Files>(
     file: Option<&'a str>,
     files: &mut F,
 ) -> Result<Vec<Certificate>, RefusedFile<'a>>
-    ensures states { MatchResult result (λ cs. CertifiesAt (F.holds files.old) (file_named file.entry) cs.items) (λ refused. FailsToCertify (F.holds files.old) (file_named file.entry) refused.file.now refused.why) }
+    ensures states { MatchResult result
+        (λ cs. CertifiesAt (F.holds files.old) (file_named file.entry) cs.items)
+        (λ refused. FailsToCertify (F.holds files.old) (file_named file.entry) refused.file.now refused.why) }
     ensures files { AreKept (F.holds files.old) (F.holds files.new) }
 {
     let file = match file {

@@ -1,6 +1,6 @@
 -- What is kept beside the slots of a queue, at each change.
 use Rattle.std.proofs.Common.{◌≡◌, ℕ, zero, suc, ◌+◌, ◌-◌, ◌<◌, ◌≤◌, List, [], ◌∷◌, ◌++◌, length, get_or, map, filter, refl, sym, ap, ◌∙◌, subst, arith, Bool, true, false, cond, not, Option, Some, None, find, is_some, inl, inr, eqb, append_assoc}
-use Rattle.std.specs.Prelude.{◌&&◌, ◌==◌}
+use Rattle.std.specs.Prelude.{◌&&◌, ◌==◌, IfSome, IfNone}
 use Rattle.std.proofs.lemmas.Bool.{false≢true}
 use Rattle.std.proofs.lemmas.Bool.Decides.{eqb_tells, leb_tells}
 use Rattle.std.proofs.Math.ListN.{set}
@@ -16,7 +16,7 @@ use Rattle.marks.specs.Places.{IsNextMark, Differs, bit_of}
 use Rattle.queue.specs.Line.{ready_count}
 use Rattle.queue.specs.declared.slots.Slot.{Slot}
 use Rattle.queue.specs.Slots.{somes, slot_has, changed, num, tally, SlotBits, BitTurned, SlotsAreMarked, AreSigned, BitsShow, HasPlaces, contents}
-use Rattle.queue.proofs.Places.{num-some, num-none, within, FirstAt, NonePasses, counted, tally-most, somes-most, count-set, length-set, OnlyAt}
+use Rattle.queue.proofs.Places.{num-some, num-none, within, FirstAt, NonePasses, counted, tally-most, somes-most, count-set, length-set, OnlyAt, only_first, some_at, none_found}
 
 -- ---- one entry
 
@@ -277,6 +277,12 @@ held_least slots bits live i holder s t =
 pub only_held : (slots : List (Option Entry)) (bits : SlotBits) (live i : ℕ) (holder : Holder) → BitsShow slots bits live
     → slot_has (is_held_as holder) (get_or slots i None) ≡ true → OnlyAt (is_held_as holder) slots i
 only_held slots bits live i holder s t = record { there = t; only = s.apart holder }
+
+-- a slot is told where an entry is held so
+pub held_told : (p : Entry → Bool) (slots : List (Option Entry)) (o : Option ℕ) → IfSome o (λ i. slot_has p (get_or slots i None) ≡ true)
+    → IfNone o ((k : ℕ) → slot_has p (get_or slots k None) ≡ false) → tally p (somes slots) ≤ 1 → is_some o ≡ is_some (find p (somes slots))
+held_told p slots (Some i) s n le = sym (some_at p slots i (only_first p slots i (record { there = s; only = le })))
+held_told p slots None s n le = sym (ap is_some (none_found p slots (record { no = n })))
 
 -- the count is at most what there is
 pub live_most : (slots : List (Option Entry)) (bits : SlotBits) (live : ℕ) → BitsShow slots bits live → live ≤ length slots

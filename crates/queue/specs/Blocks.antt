@@ -1,5 +1,7 @@
 -- Blocks of messages, one after another (own).
-use Rattle.std.specs.Prelude.{◌≡◌, ℕ, ◌≤◌, ◌+◌, ◌||◌, List, [], ◌∷◌, ◌++◌, length, map, Bool, cond, nat_lt, Option, Some, None, find, is_some, get_or}
+use Rattle.std.specs.Prelude.{◌≡◌, ℕ, ◌≤◌, ◌+◌, ◌||◌, List, [], ◌∷◌, ◌++◌, length, map, filter, not, slice_set, vec_len, vec_capacity}
+use Rattle.std.specs.Prelude.{Bool, cond, nat_lt, Option, Some, None, find, is_some, get_or}
+use Rattle.std.specs.Global.{Vec}
 use Rattle.model.specs.Broker.{is_ready, body_bytes}
 use Rattle.model.specs.Entries.{is_held_as}
 use Rattle.model.specs.Reloading.{stood_now}
@@ -7,11 +9,23 @@ use Rattle.model.specs.declared.messages.Entry.{Entry}
 use Rattle.model.specs.declared.messages.Holder.{Holder}
 use Rattle.marks.specs.Places.{bit_of}
 use Rattle.queue.specs.Line.{Line}
-use Rattle.queue.specs.Slots.{num, tally, SlotBits}
+use Rattle.queue.specs.Slots.{num, tally, SlotBits, HavePlaces}
 
 -- the entries of each block
 abbrev pub parts : List Line → List (List Entry)
 parts blocks = map (λ (b : Line). b.entries) blocks
+
+-- what stands in the block at this place
+abbrev pub part_at : List Line → ℕ → List Entry
+part_at blocks place = get_or (parts blocks) place []
+
+-- the entries of each block, where this was done to those of the block at this place
+abbrev pub part_changed : (List Entry → List Entry) → List Line → ℕ → List (List Entry)
+part_changed f blocks place = slice_set (parts blocks) place (f (part_at blocks place))
+
+-- the entries without those that are held under this tag
+abbrev pub without_held : Holder → List Entry → List Entry
+without_held holder entries = filter (λ e. not (is_held_as holder e)) entries
 
 -- all that stands in these, one after another
 abbrev pub joined : {X : Type 0} → List (List X) → List X
@@ -74,3 +88,9 @@ pub record IsCounted (entries : List Entry) (ready live bytes : ℕ) : Type 0 wh
   pub sum : bytes ≡ total ready_size entries
   pub apart : (holder : Holder) → tally (is_held_as holder) entries ≤ 1
   pub short : tally is_long entries ≡ 0
+
+-- What a queue in blocks keeps beside its blocks is true of them.
+abbrev pub IsIndexed : Vec Line → SlotBits → (ready live bytes room : ℕ) → Type 0
+IsIndexed blocks bits ready live bytes room =
+    AreBlocksSigned (parts blocks.items) bits × HavePlaces blocks bits
+    × IsCounted (joined (parts blocks.items)) ready live bytes × HasRoom room (last_room blocks.items) live

@@ -1,5 +1,6 @@
 -- Slots in the order of arrival, of which some are empty (own).
-use Rattle.std.specs.Prelude.{◌≡◌, ℕ, ◌≤◌, ◌+◌, List, [], ◌∷◌, length, map, Bool, false, cond, Option, Some, None, get_or}
+use Rattle.std.specs.Prelude.{◌≡◌, ℕ, ◌≤◌, ◌+◌, List, [], ◌∷◌, length, map, slice_set, vec_len, vec_capacity, Bool, false, cond, Option, Some, None, get_or}
+use Rattle.std.specs.Global.{Vec}
 use Rattle.model.specs.Broker.{is_ready}
 use Rattle.model.specs.declared.messages.Entry.{Entry}
 use Rattle.model.specs.declared.messages.Holder.{Holder}
@@ -26,6 +27,14 @@ slot_has p (Some x) = p x
 abbrev pub changed : {X : Type 0} → (X → X) → Option X → Option X
 changed f None = None
 changed f (Some x) = Some (f x)
+
+-- what stands in the slot at this place
+abbrev pub slot_at : List Slot → ℕ → Option Entry
+slot_at slots place = get_or (contents slots) place None
+
+-- what stands in each slot, where this was done to what stands in the slot at this place
+abbrev pub slot_changed : (Entry → Entry) → List Slot → ℕ → List (Option Entry)
+slot_changed f slots place = slice_set (contents slots) place (changed f (slot_at slots place))
 
 -- 1 for yes, 0 for no
 abbrev pub num : Bool → ℕ
@@ -68,3 +77,11 @@ pub record BitsShow (slots : List (Option Entry)) (bits : SlotBits) (live : ℕ)
 pub record HasPlaces (slots capacity places : ℕ) : Type 0 where
   pub used : slots ≤ places
   pub kept : places ≤ capacity
+
+-- so it is with what is kept in this vector
+abbrev pub HavePlaces : {X : Type 0} → Vec X → SlotBits → Type 0
+HavePlaces slots bits = HasPlaces (vec_len slots) (vec_capacity slots) bits.places
+
+-- What a block keeps beside its slots is true of them.
+abbrev pub IsBlock : Vec Slot → SlotBits → ℕ → Type 0
+IsBlock slots bits live = BitsShow (contents slots.items) bits live × HavePlaces slots bits

@@ -1,12 +1,26 @@
 -- A walk over the entries of a queue (own).
-use Rattle.std.specs.Prelude.{List, ◌++◌}
+use Rattle.std.specs.Prelude.{◌≡◌, List, [], ◌∷◌, ◌++◌}
 use Rattle.model.specs.declared.messages.Entry.{Entry}
 use Rattle.queue.specs.declared.walks.Ahead.{Ahead}
 use Rattle.queue.specs.declared.walks.Ahead.TheVariants.{Entries, Blocks}
+use Rattle.queue.specs.declared.slots.Slot.{Slot}
+use Rattle.queue.specs.Line.{Line}
 use Rattle.queue.specs.Slots.{contents, somes}
 use Rattle.queue.specs.Blocks.{parts, joined}
+
+-- the entries in these slots, and then those in these blocks
+abbrev pub all_in : List Slot → List Line → List Entry
+all_in slots blocks = somes (contents slots) ++ joined (parts blocks)
 
 -- the entries that are not gone over yet
 abbrev pub entries_ahead : Ahead → List Entry
 entries_ahead (Entries entries) = entries.now
-entries_ahead (Blocks slots blocks) = somes (contents slots.now) ++ joined (parts blocks.now)
+entries_ahead (Blocks slots blocks) = all_in slots.now blocks.now
+
+-- one comes first, and these go on behind it
+abbrev pub GoesOn : List Entry → List Entry → Entry → Type 0
+GoesOn old new first = old ≡ first ∷ new
+
+-- none is left
+abbrev pub IsOver : List Entry → List Entry → Type 0
+IsOver old new = (old ≡ []) × (new ≡ [])

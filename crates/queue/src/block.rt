@@ -2,7 +2,7 @@
 
 use crate::signs::Signs;
 use crate::slots::{
-    Slot, append, close_gaps, entry_at, free_at, hold_at, place_held, stand_in, take_at,
+    Slot, append, close_gaps, entry_at, free_at, hold_at, place_held, place_of, stand_in, take_at,
 };
 use model::{Entry, Holder, Mark, Message};
 use std::alloc::{AllocError, Global};
@@ -28,13 +28,13 @@ pub(crate) struct Block {
 impl Model for Block {
     ghost use Rattle.std.specs.Prelude.{◌-◌, vec_len, vec_capacity};
     ghost use Rattle.queue.specs.Line.{Line};
-    ghost use Rattle.queue.specs.Slots.{contents, somes, BitsShow, HasPlaces};
+    ghost use Rattle.queue.specs.Slots.{contents, somes, IsBlock};
 
     ghost Value = { Line };
 
     ghost view = { λ b. record { entries = somes (contents b.slots.items); room = b.signs.places - vec_len b.slots } };
 
-    ghost invariant = { λ b. BitsShow (contents b.slots.items) b.signs b.live × HasPlaces (vec_len b.slots) (vec_capacity b.slots) b.signs.places };
+    ghost invariant = { λ b. IsBlock b.slots b.signs b.live };
 }
 
 impl Block {
@@ -189,11 +189,19 @@ impl Block {
         }
     }
 
-    /// The message that is held under this tag, whatever number stands beside it.
-    pub(crate) fn held(&self, holder: &Holder, arrival: u64) -> Option<&Entry>
+    /// The slot of the message that is held under this tag, whatever number stands beside it. It is found at once if that is the
+    /// number of its arrival.
+    pub(crate) fn slot_held(&self, holder: &Holder, arrival: u64) -> Option<usize>
+        ensures { is_some result ≡ is_some (find (is_held_as holder.now) self.now.entries) }
+    {
+        place_held(&self.slots, holder, place_of(&self.slots, arrival))
+    }
+
+    /// The message that is held under this tag. It is found at once if it stands in the slot `near`, and so it is below.
+    pub(crate) fn held(&self, holder: &Holder, near: usize) -> Option<&Entry>
         ensures { option_map (λ e. e.now) result ≡ find (is_held_as holder.now) self.now.entries }
     {
-        match place_held(&self.slots, holder, arrival) {
+        match place_held(&self.slots, holder, near) {
             Some(place) => entry_at(&self.slots, place),
             None => None,
         }
@@ -201,12 +209,12 @@ impl Block {
 
     /// The message that is held under this tag is ready again, in its place and marked redelivered. Tells whether there is
     /// one.
-    pub(crate) fn release(&mut self, holder: &Holder, arrival: u64) -> bool
+    pub(crate) fn release(&mut self, holder: &Holder, near: usize) -> bool
         ensures told { result ≡ is_some (find (is_held_as holder.now) self.old.entries) }
         ensures entries { self.new.entries ≡ requeued (is_under holder.now) self.old.entries }
         ensures room { self.new.room ≡ self.old.room }
     {
-        match place_held(&self.slots, holder, arrival) {
+        match place_held(&self.slots, holder, near) {
             None => false,
             Some(place) => {
                 free_at(&mut self.slots, place);
@@ -217,12 +225,12 @@ impl Block {
     }
 
     /// Takes the message out that is held under this tag, if there is one.
-    pub(crate) fn remove(&mut self, holder: &Holder, arrival: u64) -> Option<Entry>
+    pub(crate) fn remove(&mut self, holder: &Holder, near: usize) -> Option<Entry>
         ensures taken { result ≡ find (is_held_as holder.now) self.old.entries }
         ensures entries { self.new.entries ≡ filter (λ e. not (is_held_as holder.now e)) self.old.entries }
         ensures room { self.new.room ≡ self.old.room }
     {
-        match place_held(&self.slots, holder, arrival) {
+        match place_held(&self.slots, holder, near) {
             None => None,
             Some(place) => {
                 self.signs.clear(place);

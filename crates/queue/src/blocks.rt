@@ -1,13 +1,14 @@
 //! Blocks of messages, one after another.
 
-ghost use Rattle.std.specs.Prelude.{◌≡◌, ◌+◌, ◌<◌, ◌≤◌, ◌++◌, ◌∷◌, [], ℕ, true, length, map, get_or, filter, find, not, is_some, vec_len, vec_capacity, slice_set, option_map, IfSome, IfNone, OnOk, OnErr, None};
+ghost use Rattle.std.specs.Prelude.{◌≡◌, ◌+◌, ◌<◌, ◌≤◌, ◌++◌, ◌∷◌, [], ℕ, true, length, map, find, is_some, vec_len, vec_capacity};
+ghost use Rattle.std.specs.Prelude.{option_map, IfSome, IfNone, OnOk, OnErr, None};
 ghost use Rattle.model.specs.Broker.{is_ready, body_bytes};
 ghost use Rattle.model.specs.Entries.{is_under, is_held_as, held_as, change_first, without_first};
 ghost use Rattle.model.specs.declared.messages.Mark.TheVariants.{Ready};
 ghost use Rattle.marks.specs.Places.{bit_of};
 ghost use Rattle.queue.specs.Line.{requeued};
-ghost use Rattle.queue.specs.Slots.{num, BitTurned, HasPlaces};
-ghost use Rattle.queue.specs.Blocks.{parts, joined, last_room, some_pass, size_of, stood_block, AreBlocksSigned};
+ghost use Rattle.queue.specs.Slots.{num, BitTurned, HavePlaces};
+ghost use Rattle.queue.specs.Blocks.{parts, part_at, part_changed, without_held, joined, last_room, some_pass, size_of, stood_block, AreBlocksSigned};
 
 use crate::block::{BLOCK_SLOTS, Block};
 use crate::signs::Signs;
@@ -16,7 +17,7 @@ use std::alloc::{AllocError, Global};
 
 /// The first message in this block that can be given out.
 pub(crate) fn first_ready_at(blocks: &[Block], place: usize) -> Option<&Entry>
-    ensures { option_map (λ e. e.now) result ≡ find is_ready (get_or (parts blocks.now) place []) }
+    ensures { option_map (λ e. e.now) result ≡ find is_ready (part_at blocks.now place) }
 {
     if place >= blocks.len() {
         return None;
@@ -26,7 +27,7 @@ pub(crate) fn first_ready_at(blocks: &[Block], place: usize) -> Option<&Entry>
 
 /// How many bytes the body has of the first message in this block that can be given out; none where none can.
 pub(crate) fn ready_bytes_at(blocks: &[Block], place: usize) -> usize
-    ensures { result ≡ size_of body_bytes (find is_ready (get_or (parts blocks.now) place [])) }
+    ensures { result ≡ size_of body_bytes (find is_ready (part_at blocks.now place)) }
 {
     match first_ready_at(blocks, place) {
         Some(entry) => entry.message.content().body.len(),
@@ -34,36 +35,39 @@ pub(crate) fn ready_bytes_at(blocks: &[Block], place: usize) -> usize
     }
 }
 
-/// The message in this block that is held under this tag.
+/// The message in this block that is held under this tag. It is found at once if it stands in the slot `near`, and so it is below.
 pub(crate) fn held_at<'a>(
     blocks: &'a [Block],
     place: usize,
     holder: &Holder,
-    arrival: u64,
+    near: usize,
 ) -> Option<&'a Entry>
-    ensures { option_map (λ e. e.now) result ≡ find (is_held_as holder.now) (get_or (parts blocks.now) place []) }
+    ensures { option_map (λ e. e.now) result ≡ find (is_held_as holder.now) (part_at blocks.now place) }
 {
     if place >= blocks.len() {
         return None;
     }
-    blocks[place].held(holder, arrival)
+    blocks[place].held(holder, near)
 }
 
-/// How many bytes the body has of the message in this block that is held under this tag; none where none is.
-pub(crate) fn held_bytes_at(blocks: &[Block], place: usize, holder: &Holder, arrival: u64) -> usize
-    ensures { result ≡ size_of body_bytes (find (is_held_as holder.now) (get_or (parts blocks.now) place [])) }
+/// How many bytes the body has of the message in this block that is held under this tag; none if none is.
+pub(crate) fn held_bytes_at(blocks: &[Block], place: usize, holder: &Holder, near: usize) -> usize
+    ensures { result ≡ size_of body_bytes (find (is_held_as holder.now) (part_at blocks.now place)) }
 {
-    match held_at(blocks, place, holder, arrival) {
+    match held_at(blocks, place, holder, near) {
         Some(entry) => entry.message.content().body.len(),
         None => 0,
     }
 }
 
-/// Whether a message in this block is held under this tag.
-fn is_held_at(blocks: &[Block], place: usize, holder: &Holder, arrival: u64) -> bool
-    ensures { result ≡ some_pass (is_held_as holder.now) (get_or (parts blocks.now) place []) }
+/// The slot in this block of the message that is held under this tag.
+fn slot_held_at(blocks: &[Block], place: usize, holder: &Holder, arrival: u64) -> Option<usize>
+    ensures { is_some result ≡ some_pass (is_held_as holder.now) (part_at blocks.now place) }
 {
-    held_at(blocks, place, holder, arrival).is_some()
+    if place >= blocks.len() {
+        return None;
+    }
+    blocks[place].slot_held(holder, arrival)
 }
 
 /// The number from which on the arrivals of this block are.
@@ -88,27 +92,36 @@ fn place_of(blocks: &[Block], arrival: u64) -> usize {
     low.saturating_sub(1)
 }
 
-/// The first block with a message that is held under this tag.
-fn search(blocks: &[Block], holder: &Holder, arrival: u64) -> Option<usize>
-    ensures some { IfSome result (λ i. some_pass (is_held_as holder.now) (get_or (parts blocks.now) i []) ≡ true) }
-    ensures none { IfNone result ((k : ℕ) → find (is_held_as holder.now) (get_or (parts blocks.now) k []) ≡ None) }
+/// Where a held message stands.
+#[derive(Drop)]
+pub(crate) struct Spot {
+    /// The place of its block.
+    pub(crate) block: usize,
+    /// Its slot there.
+    pub(crate) slot: usize,
+}
+
+/// The first message in these blocks that is held under this tag.
+fn search(blocks: &[Block], holder: &Holder, arrival: u64) -> Option<Spot>
+    ensures some { IfSome result (λ s. some_pass (is_held_as holder.now) (part_at blocks.now s.block) ≡ true) }
+    ensures none { IfNone result ((k : ℕ) → find (is_held_as holder.now) (part_at blocks.now k) ≡ None) }
 {
-    for place in 0..blocks.len() {
-        if is_held_at(blocks, place, holder, arrival) {
-            return Some(place);
+    for block in 0..blocks.len() {
+        if let Some(slot) = slot_held_at(blocks, block, holder, arrival) {
+            return Some(Spot { block, slot });
         }
     }
     None
 }
 
-/// The block with the message that is held under this tag. It is found at once where `arrival` is the number of its arrival.
-pub(crate) fn place_held(blocks: &[Block], holder: &Holder, arrival: u64) -> Option<usize>
-    ensures some { IfSome result (λ i. some_pass (is_held_as holder.now) (get_or (parts blocks.now) i []) ≡ true) }
-    ensures none { IfNone result ((k : ℕ) → find (is_held_as holder.now) (get_or (parts blocks.now) k []) ≡ None) }
+/// The message that is held under this tag. It is found at once if `arrival` is the number of its arrival.
+pub(crate) fn spot_held(blocks: &[Block], holder: &Holder, arrival: u64) -> Option<Spot>
+    ensures some { IfSome result (λ s. some_pass (is_held_as holder.now) (part_at blocks.now s.block) ≡ true) }
+    ensures none { IfNone result ((k : ℕ) → find (is_held_as holder.now) (part_at blocks.now k) ≡ None) }
 {
-    let place = place_of(blocks, arrival);
-    if is_held_at(blocks, place, holder, arrival) {
-        return Some(place);
+    let block = place_of(blocks, arrival);
+    if let Some(slot) = slot_held_at(blocks, block, holder, arrival) {
+        return Some(Spot { block, slot });
     }
     search(blocks, holder, arrival)
 }
@@ -116,9 +129,9 @@ pub(crate) fn place_held(blocks: &[Block], holder: &Holder, arrival: u64) -> Opt
 /// Gives the first ready message of this block out. Tells the number of its arrival. Nothing here is held under this tag yet.
 pub(crate) fn hold_at(blocks: &mut Vec<Block>, place: usize, holder: Holder) -> Option<u64>
     requires within { place < vec_len blocks.old }
-    requires apart { find (is_held_as holder) (get_or (parts blocks.old.items) place []) ≡ None }
-    ensures told { is_some result ≡ some_pass is_ready (get_or (parts blocks.old.items) place []) }
-    ensures parts { parts blocks.new.items ≡ slice_set (parts blocks.old.items) place (change_first is_ready (held_as holder) (get_or (parts blocks.old.items) place [])) }
+    requires apart { find (is_held_as holder) (part_at blocks.old.items place) ≡ None }
+    ensures told { is_some result ≡ some_pass is_ready (part_at blocks.old.items place) }
+    ensures parts { parts blocks.new.items ≡ part_changed (change_first is_ready (held_as holder)) blocks.old.items place }
     ensures room { last_room blocks.new.items ≡ last_room blocks.old.items }
     ensures len { vec_len blocks.new ≡ vec_len blocks.old }
     ensures capacity { vec_capacity blocks.new ≡ vec_capacity blocks.old }
@@ -127,14 +140,14 @@ pub(crate) fn hold_at(blocks: &mut Vec<Block>, place: usize, holder: Holder) -> 
 }
 
 /// The message in this block that is held under this tag is ready again, and marked redelivered.
-pub(crate) fn free_at(blocks: &mut Vec<Block>, place: usize, holder: &Holder, arrival: u64)
+pub(crate) fn free_at(blocks: &mut Vec<Block>, place: usize, holder: &Holder, near: usize)
     requires { place < vec_len blocks.old }
-    ensures parts { parts blocks.new.items ≡ slice_set (parts blocks.old.items) place (requeued (is_under holder.now) (get_or (parts blocks.old.items) place [])) }
+    ensures parts { parts blocks.new.items ≡ part_changed (requeued (is_under holder.now)) blocks.old.items place }
     ensures room { last_room blocks.new.items ≡ last_room blocks.old.items }
     ensures len { vec_len blocks.new ≡ vec_len blocks.old }
     ensures capacity { vec_capacity blocks.new ≡ vec_capacity blocks.old }
 {
-    blocks[place].release(holder, arrival);
+    blocks[place].release(holder, near);
 }
 
 /// Gives the memory of this block back, if no message stands in it and it isn't the last.
@@ -153,8 +166,8 @@ fn give_back(blocks: &mut Vec<Block>, place: usize, alloc: Global)
 /// Takes the first ready message of this block out. A block that is empty then is given back.
 pub(crate) fn take_at(blocks: &mut Vec<Block>, place: usize, alloc: Global) -> Option<Entry>
     requires { place < vec_len blocks.old }
-    ensures taken { result ≡ find is_ready (get_or (parts blocks.old.items) place []) }
-    ensures parts { parts blocks.new.items ≡ slice_set (parts blocks.old.items) place (without_first is_ready (get_or (parts blocks.old.items) place [])) }
+    ensures taken { result ≡ find is_ready (part_at blocks.old.items place) }
+    ensures parts { parts blocks.new.items ≡ part_changed (without_first is_ready) blocks.old.items place }
     ensures room { last_room blocks.new.items ≡ last_room blocks.old.items }
     ensures len { vec_len blocks.new ≡ vec_len blocks.old }
     ensures capacity { vec_capacity blocks.new ≡ vec_capacity blocks.old }
@@ -169,17 +182,17 @@ pub(crate) fn remove_at(
     blocks: &mut Vec<Block>,
     place: usize,
     holder: &Holder,
-    arrival: u64,
+    near: usize,
     alloc: Global,
 ) -> Option<Entry>
     requires { place < vec_len blocks.old }
-    ensures taken { result ≡ find (is_held_as holder.now) (get_or (parts blocks.old.items) place []) }
-    ensures parts { parts blocks.new.items ≡ slice_set (parts blocks.old.items) place (filter (λ e. not (is_held_as holder.now e)) (get_or (parts blocks.old.items) place [])) }
+    ensures taken { result ≡ find (is_held_as holder.now) (part_at blocks.old.items place) }
+    ensures parts { parts blocks.new.items ≡ part_changed (without_held holder.now) blocks.old.items place }
     ensures room { last_room blocks.new.items ≡ last_room blocks.old.items }
     ensures len { vec_len blocks.new ≡ vec_len blocks.old }
     ensures capacity { vec_capacity blocks.new ≡ vec_capacity blocks.old }
 {
-    let entry = blocks[place].remove(holder, arrival);
+    let entry = blocks[place].remove(holder, near);
     give_back(blocks, place, alloc);
     entry
 }
@@ -248,7 +261,7 @@ fn reserve_last(blocks: &mut Vec<Block>, more: usize) -> Result<(), AllocError>
 pub(crate) fn push_last(blocks: &mut Vec<Block>, arrival: u64, message: Message) -> usize
     requires { 0 < last_room blocks.old.items }
     ensures place { result + 1 ≡ vec_len blocks.old }
-    ensures parts { parts blocks.new.items ≡ slice_set (parts blocks.old.items) result (get_or (parts blocks.old.items) result [] ++ record { message = message; mark = Ready } ∷ []) }
+    ensures parts { parts blocks.new.items ≡ part_changed (λ es. es ++ record { message = message; mark = Ready } ∷ []) blocks.old.items result }
     ensures room { last_room blocks.new.items + 1 ≡ last_room blocks.old.items }
     ensures len { vec_len blocks.new ≡ vec_len blocks.old }
     ensures capacity { vec_capacity blocks.new ≡ vec_capacity blocks.old }
@@ -260,7 +273,7 @@ pub(crate) fn push_last(blocks: &mut Vec<Block>, arrival: u64, message: Message)
 
 /// Whether a message in this block can be given out.
 fn has_ready_at(blocks: &[Block], place: usize) -> bool
-    ensures { result ≡ some_pass is_ready (get_or (parts blocks.now) place []) }
+    ensures { result ≡ some_pass is_ready (part_at blocks.now place) }
 {
     if place >= blocks.len() {
         return false;
@@ -271,7 +284,7 @@ fn has_ready_at(blocks: &[Block], place: usize) -> bool
 /// Sets the bit of this block as it is.
 pub(crate) fn sign(blocks: &[Block], signs: &mut Signs, place: usize)
     requires { place < signs.old.places }
-    ensures { BitTurned signs.old signs.new place (num (some_pass is_ready (get_or (parts blocks.now) place []))) }
+    ensures { BitTurned signs.old signs.new place (num (some_pass is_ready (part_at blocks.now place))) }
 {
     if has_ready_at(blocks, place) {
         signs.set_ready(place);
@@ -307,9 +320,9 @@ fn drop_given_back(blocks: &mut Vec<Block>)
 /// than half of it is in use.
 fn make_place(blocks: &mut Vec<Block>, signs: &mut Signs) -> Result<(), AllocError>
     requires signed { AreBlocksSigned (parts blocks.old.items) signs.old }
-    requires places { HasPlaces (vec_len blocks.old) (vec_capacity blocks.old) signs.old.places }
+    requires places { HavePlaces blocks.old signs.old }
     ensures signed { AreBlocksSigned (parts blocks.new.items) signs.new }
-    ensures places { HasPlaces (vec_len blocks.new) (vec_capacity blocks.new) signs.new.places }
+    ensures places { HavePlaces blocks.new signs.new }
     ensures entries { joined (parts blocks.new.items) ≡ joined (parts blocks.old.items) }
     ensures kept { last_room blocks.old.items ≤ last_room blocks.new.items }
     ensures room { OnOk result (vec_len blocks.new < signs.new.places) }
@@ -344,9 +357,9 @@ fn start_block(
     more: usize,
 ) -> Result<(), AllocError>
     requires signed { AreBlocksSigned (parts blocks.old.items) signs.old }
-    requires places { HasPlaces (vec_len blocks.old) (vec_capacity blocks.old) signs.old.places }
+    requires places { HavePlaces blocks.old signs.old }
     ensures signed { AreBlocksSigned (parts blocks.new.items) signs.new }
-    ensures places { HasPlaces (vec_len blocks.new) (vec_capacity blocks.new) signs.new.places }
+    ensures places { HavePlaces blocks.new signs.new }
     ensures entries { joined (parts blocks.new.items) ≡ joined (parts blocks.old.items) }
     ensures room { OnOk result (more ≤ last_room blocks.new.items) }
     ensures kept { OnErr result (last_room blocks.old.items ≤ last_room blocks.new.items) }
@@ -368,9 +381,9 @@ pub(crate) fn make_room(
     more: usize,
 ) -> Result<(), AllocError>
     requires signed { AreBlocksSigned (parts blocks.old.items) signs.old }
-    requires places { HasPlaces (vec_len blocks.old) (vec_capacity blocks.old) signs.old.places }
+    requires places { HavePlaces blocks.old signs.old }
     ensures signed { AreBlocksSigned (parts blocks.new.items) signs.new }
-    ensures places { HasPlaces (vec_len blocks.new) (vec_capacity blocks.new) signs.new.places }
+    ensures places { HavePlaces blocks.new signs.new }
     ensures entries { joined (parts blocks.new.items) ≡ joined (parts blocks.old.items) }
     ensures room { OnOk result (more ≤ last_room blocks.new.items) }
     ensures kept { OnErr result (last_room blocks.old.items ≤ last_room blocks.new.items) }

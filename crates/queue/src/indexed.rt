@@ -7,8 +7,8 @@ ghost use Rattle.model.specs.Entries.{number_of};
 
 use crate::block::Block;
 use crate::blocks::{
-    first_ready_at, free_at, give_back_spare, held_at, held_bytes_at, hold_at, make_room,
-    place_held, push_last, ready_bytes_at, remove_at, sign, stand_in, take_at,
+    Spot, first_ready_at, free_at, give_back_spare, held_at, held_bytes_at, hold_at, make_room,
+    push_last, ready_bytes_at, remove_at, sign, spot_held, stand_in, take_at,
 };
 use crate::signs::Signs;
 use crate::stores::Store;
@@ -39,16 +39,14 @@ pub struct Indexed {
 }
 
 impl Model for Indexed {
-    ghost use Rattle.std.specs.Prelude.{vec_len, vec_capacity};
     ghost use Rattle.queue.specs.Line.{Line};
-    ghost use Rattle.queue.specs.Slots.{HasPlaces};
-    ghost use Rattle.queue.specs.Blocks.{parts, joined, last_room, AreBlocksSigned, IsCounted, HasRoom};
+    ghost use Rattle.queue.specs.Blocks.{parts, joined, IsIndexed};
 
     ghost Value = { Line };
 
     ghost view = { λ q. record { entries = joined (parts q.blocks.items); room = q.room } };
 
-    ghost invariant = { λ q. AreBlocksSigned (parts q.blocks.items) q.signs × HasPlaces (vec_len q.blocks) (vec_capacity q.blocks) q.signs.places × IsCounted (joined (parts q.blocks.items)) q.ready_count q.live q.ready_bytes × HasRoom q.room (last_room q.blocks.items) q.live };
+    ghost invariant = { λ q. IsIndexed q.blocks q.signs q.ready_count q.live q.ready_bytes q.room };
 }
 
 impl Store for Indexed {
@@ -141,33 +139,33 @@ impl Store for Indexed {
     }
 
     fn held(&self, holder: &Holder, arrival: u64) -> Option<&Entry> {
-        match place_held(&self.blocks, holder, arrival) {
-            Some(place) => held_at(&self.blocks, place, holder, arrival),
+        match spot_held(&self.blocks, holder, arrival) {
+            Some(spot) => held_at(&self.blocks, spot.block, holder, spot.slot),
             None => None,
         }
     }
 
     fn release(&mut self, holder: &Holder, arrival: u64) -> bool {
-        match place_held(&self.blocks, holder, arrival) {
+        match spot_held(&self.blocks, holder, arrival) {
             None => false,
-            Some(place) => {
+            Some(Spot { block, slot }) => {
                 self.ready_count += 1;
-                self.ready_bytes += held_bytes_at(&self.blocks, place, holder, arrival) as u128;
-                free_at(&mut self.blocks, place, holder, arrival);
-                sign(&self.blocks, &mut self.signs, place);
+                self.ready_bytes += held_bytes_at(&self.blocks, block, holder, slot) as u128;
+                free_at(&mut self.blocks, block, holder, slot);
+                sign(&self.blocks, &mut self.signs, block);
                 true
             }
         }
     }
 
     fn remove(&mut self, holder: &Holder, arrival: u64) -> Option<Entry> {
-        match place_held(&self.blocks, holder, arrival) {
+        match spot_held(&self.blocks, holder, arrival) {
             None => None,
-            Some(place) => {
+            Some(Spot { block, slot }) => {
                 self.live -= 1;
-                let entry = remove_at(&mut self.blocks, place, holder, arrival, self.alloc);
-                give_back_spare(&mut self.blocks, place, self.room, self.alloc);
-                sign(&self.blocks, &mut self.signs, place);
+                let entry = remove_at(&mut self.blocks, block, holder, slot, self.alloc);
+                give_back_spare(&mut self.blocks, block, self.room, self.alloc);
+                sign(&self.blocks, &mut self.signs, block);
                 entry
             }
         }

@@ -1,11 +1,12 @@
 //! Slots in the order of arrival, and which of them are ready.
 
-ghost use Rattle.std.specs.Prelude.{◌≡◌, ◌+◌, ◌<◌, ◌≤◌, ◌++◌, ◌∷◌, [], ℕ, false, true, length, map, get_or, vec_len, vec_capacity, slice_set, option_map, IfSome, IfNone, Some, None};
+ghost use Rattle.std.specs.Prelude.{◌≡◌, ◌+◌, ◌<◌, ◌≤◌, ◌++◌, ◌∷◌, [], ℕ, false, true, length, map, vec_len, vec_capacity, slice_set};
+ghost use Rattle.std.specs.Prelude.{option_map, IfSome, IfNone, Some, None};
 ghost use Rattle.model.specs.Broker.{is_ready};
 ghost use Rattle.model.specs.Entries.{is_held_as, held_as, freed_now};
 ghost use Rattle.model.specs.Reloading.{stood_now};
 ghost use Rattle.marks.specs.Places.{bit_of};
-ghost use Rattle.queue.specs.Slots.{contents, somes, slot_has, changed, num, AreSigned, BitTurned};
+ghost use Rattle.queue.specs.Slots.{contents, somes, slot_has, slot_at, slot_changed, changed, num, AreSigned, BitTurned};
 
 use crate::entries::{free, hold, is_free, is_held_under, stand};
 use crate::signs::Signs;
@@ -47,7 +48,7 @@ fn stand_here(entry: &mut Option<Entry>)
 
 /// What stands at this place, if anything does.
 pub(crate) fn entry_at(slots: &[Slot], place: usize) -> Option<&Entry>
-    ensures { option_map (λ e. e.now) result ≡ get_or (contents slots.now) place None }
+    ensures { option_map (λ e. e.now) result ≡ slot_at slots.now place }
 {
     if place >= slots.len() {
         return None;
@@ -57,7 +58,7 @@ pub(crate) fn entry_at(slots: &[Slot], place: usize) -> Option<&Entry>
 
 /// Whether an entry that is held so stands at this place.
 fn is_held_at(slots: &[Slot], place: usize, holder: &Holder) -> bool
-    ensures { result ≡ slot_has (is_held_as holder.now) (get_or (contents slots.now) place None) }
+    ensures { result ≡ slot_has (is_held_as holder.now) (slot_at slots.now place) }
 {
     match entry_at(slots, place) {
         Some(entry) => is_held_under(entry, holder),
@@ -73,7 +74,7 @@ fn arrival_at(slots: &[Slot], place: usize) -> u64
 }
 
 /// The place of the first arrival with this number or a later one.
-fn place_of(slots: &[Slot], arrival: u64) -> usize {
+pub(crate) fn place_of(slots: &[Slot], arrival: u64) -> usize {
     let mut low = 0;
     let mut high = slots.len();
     while low < high {
@@ -89,8 +90,8 @@ fn place_of(slots: &[Slot], arrival: u64) -> usize {
 
 /// The first place of an entry that is held so.
 fn search(slots: &[Slot], holder: &Holder) -> Option<usize>
-    ensures some { IfSome result (λ i. slot_has (is_held_as holder.now) (get_or (contents slots.now) i None) ≡ true) }
-    ensures none { IfNone result ((k : ℕ) → slot_has (is_held_as holder.now) (get_or (contents slots.now) k None) ≡ false) }
+    ensures some { IfSome result (λ i. slot_has (is_held_as holder.now) (slot_at slots.now i) ≡ true) }
+    ensures none { IfNone result ((k : ℕ) → slot_has (is_held_as holder.now) (slot_at slots.now k) ≡ false) }
 {
     for place in 0..slots.len() {
         if is_held_at(slots, place, holder) {
@@ -100,14 +101,13 @@ fn search(slots: &[Slot], holder: &Holder) -> Option<usize>
     None
 }
 
-/// The place of the entry that is held so. It is found at once where `arrival` is the number of its arrival.
-pub(crate) fn place_held(slots: &[Slot], holder: &Holder, arrival: u64) -> Option<usize>
-    ensures some { IfSome result (λ i. slot_has (is_held_as holder.now) (get_or (contents slots.now) i None) ≡ true) }
-    ensures none { IfNone result ((k : ℕ) → slot_has (is_held_as holder.now) (get_or (contents slots.now) k None) ≡ false) }
+/// The place of the entry that is held so. It is found at once if it stands at the place `near`.
+pub(crate) fn place_held(slots: &[Slot], holder: &Holder, near: usize) -> Option<usize>
+    ensures some { IfSome result (λ i. slot_has (is_held_as holder.now) (slot_at slots.now i) ≡ true) }
+    ensures none { IfNone result ((k : ℕ) → slot_has (is_held_as holder.now) (slot_at slots.now k) ≡ false) }
 {
-    let place = place_of(slots, arrival);
-    if is_held_at(slots, place, holder) {
-        return Some(place);
+    if is_held_at(slots, near, holder) {
+        return Some(near);
     }
     search(slots, holder)
 }
@@ -115,7 +115,7 @@ pub(crate) fn place_held(slots: &[Slot], holder: &Holder, arrival: u64) -> Optio
 /// The entry in this slot is held from now on. Tells the number of its arrival.
 pub(crate) fn hold_at(slots: &mut Vec<Slot>, place: usize, holder: Holder) -> u64
     requires { place < vec_len slots.old }
-    ensures contents { contents slots.new.items ≡ slice_set (contents slots.old.items) place (changed (held_as holder) (get_or (contents slots.old.items) place None)) }
+    ensures contents { contents slots.new.items ≡ slot_changed (held_as holder) slots.old.items place }
     ensures len { vec_len slots.new ≡ vec_len slots.old }
     ensures capacity { vec_capacity slots.new ≡ vec_capacity slots.old }
 {
@@ -126,7 +126,7 @@ pub(crate) fn hold_at(slots: &mut Vec<Slot>, place: usize, holder: Holder) -> u6
 /// What stands in this slot is ready again, and marked redelivered.
 pub(crate) fn free_at(slots: &mut Vec<Slot>, place: usize)
     requires { place < vec_len slots.old }
-    ensures contents { contents slots.new.items ≡ slice_set (contents slots.old.items) place (changed freed_now (get_or (contents slots.old.items) place None)) }
+    ensures contents { contents slots.new.items ≡ slot_changed freed_now slots.old.items place }
     ensures len { vec_len slots.new ≡ vec_len slots.old }
     ensures capacity { vec_capacity slots.new ≡ vec_capacity slots.old }
 {
@@ -145,7 +145,7 @@ pub(crate) fn stand_in(slots: &mut [Slot])
 /// Empties this slot.
 pub(crate) fn take_at(slots: &mut Vec<Slot>, place: usize) -> Option<Entry>
     requires { place < vec_len slots.old }
-    ensures taken { result ≡ get_or (contents slots.old.items) place None }
+    ensures taken { result ≡ slot_at slots.old.items place }
     ensures contents { contents slots.new.items ≡ slice_set (contents slots.old.items) place None }
     ensures len { vec_len slots.new ≡ vec_len slots.old }
     ensures capacity { vec_capacity slots.new ≡ vec_capacity slots.old }
@@ -178,7 +178,7 @@ fn drop_empty(slots: &mut Vec<Slot>)
 /// Sets the bit of this place as its slot is.
 fn sign(slots: &[Slot], signs: &mut Signs, place: usize)
     requires { place < signs.old.places }
-    ensures { BitTurned signs.old signs.new place (num (slot_has is_ready (get_or (contents slots.now) place None))) }
+    ensures { BitTurned signs.old signs.new place (num (slot_has is_ready (slot_at slots.now place))) }
 {
     match entry_at(slots, place) {
         None => signs.clear(place),

@@ -1,6 +1,7 @@
 //! What a queue does, whatever way its entries are kept.
 
-ghost use Rattle.std.specs.Prelude.{◌≡◌, ◌+◌, ◌<◌, ◌≤◌, ◌∷◌, ◌++◌, ◌||◌, [], OnOk, OnErr, None, find, filter, map, not, is_some, option_map, vec_len, vec_capacity};
+ghost use Rattle.std.specs.Prelude.{◌≡◌, ◌+◌, ◌<◌, ◌≤◌, ◌∷◌, ◌++◌, ◌||◌, []};
+ghost use Rattle.std.specs.Prelude.{OnOk, OnErr, None, find, filter, map, not, is_some, option_map, vec_len, vec_capacity};
 ghost use Rattle.model.specs.Broker.{is_at, is_past, is_ready, ready_bytes};
 ghost use Rattle.model.specs.Entries.{is_under, is_held_as, held_as, change_first, without_first, number_of};
 ghost use Rattle.model.specs.Reloading.{stood_now};

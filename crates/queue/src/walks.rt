@@ -1,9 +1,8 @@
 //! The entries of a queue, gone over in the order of arrival.
 
-ghost use Rattle.std.specs.Prelude.{◌≡◌, ◌∷◌, ◌++◌, [], MatchOption};
+ghost use Rattle.std.specs.Prelude.{IfSome, IfNone};
 ghost use Rattle.queue.specs.Slots.{contents, somes};
-ghost use Rattle.queue.specs.Blocks.{parts, joined};
-ghost use Rattle.queue.specs.Walks.{entries_ahead};
+ghost use Rattle.queue.specs.Walks.{all_in, entries_ahead, GoesOn, IsOver};
 
 use crate::block::Block;
 use crate::slots::Slot;
@@ -35,7 +34,8 @@ impl<'a> Model for Walk<'a> {
 
 /// The first entry of these slots, which go on behind it. It takes a step for each slot in front of it.
 fn first_of<'a>(slots: &mut &'a [Slot]) -> Option<&'a Entry>
-    ensures { MatchOption result ((somes (contents slots.old.now) ≡ []) × (somes (contents slots.new.now) ≡ [])) (λ e. somes (contents slots.old.now) ≡ e.now ∷ somes (contents slots.new.now)) }
+    ensures some { IfSome result (λ e. GoesOn (somes (contents slots.old.now)) (somes (contents slots.new.now)) e.now) }
+    ensures none { IfNone result (IsOver (somes (contents slots.old.now)) (somes (contents slots.new.now))) }
 {
     'slots: while let Some(slot) = slots.split_off_first() {
         if let Some(entry) = &slot.entry {
@@ -47,7 +47,8 @@ fn first_of<'a>(slots: &mut &'a [Slot]) -> Option<&'a Entry>
 
 /// The first entry of these slots and of the blocks behind them, which go on behind it.
 fn first_in<'a>(slots: &mut &'a [Slot], blocks: &mut &'a [Block]) -> Option<&'a Entry>
-    ensures { MatchOption result ((somes (contents slots.old.now) ++ joined (parts blocks.old.now) ≡ []) × (somes (contents slots.new.now) ++ joined (parts blocks.new.now) ≡ [])) (λ e. somes (contents slots.old.now) ++ joined (parts blocks.old.now) ≡ e.now ∷ (somes (contents slots.new.now) ++ joined (parts blocks.new.now))) }
+    ensures some { IfSome result (λ e. GoesOn (all_in slots.old.now blocks.old.now) (all_in slots.new.now blocks.new.now) e.now) }
+    ensures none { IfNone result (IsOver (all_in slots.old.now blocks.old.now) (all_in slots.new.now blocks.new.now)) }
 {
     if let Some(entry) = first_of(slots) {
         return Some(entry);
@@ -63,7 +64,8 @@ fn first_in<'a>(slots: &mut &'a [Slot], blocks: &mut &'a [Block]) -> Option<&'a 
 
 /// The first entry, and it goes on behind it.
 fn next_of<'a>(ahead: &mut Ahead<'a>) -> Option<&'a Entry>
-    ensures { MatchOption result ((entries_ahead ahead.old ≡ []) × (entries_ahead ahead.new ≡ [])) (λ e. entries_ahead ahead.old ≡ e.now ∷ entries_ahead ahead.new) }
+    ensures some { IfSome result (λ e. GoesOn (entries_ahead ahead.old) (entries_ahead ahead.new) e.now) }
+    ensures none { IfNone result (IsOver (entries_ahead ahead.old) (entries_ahead ahead.new)) }
 {
     match ahead {
         Ahead::Entries(entries) => entries.split_off_first(),

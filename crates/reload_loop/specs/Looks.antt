@@ -78,7 +78,8 @@ IsFound holds names kept (Admitted read force) = IsReadFrom holds names read × 
 
 -- ---- a look
 
--- What a look comes to: the texts by which what is in force was judged, and the world, before it and after it, and whether all was taken that is told. One line is told where anything is refused, and else nothing.
+-- What a look comes to: the texts by which what is in force was judged, and the world, before it and after it,
+-- and whether all was taken that is told. One line is told where anything is refused, and else nothing.
 pub data Looks (holds : Text → Known) (names : FileNames) (err : OutputStream) (kept : Snap) (old : World) : Snap → World → Bool → Type 0 where
   -- the files have those texts
   unchanged : AreHeld holds names kept → GetsNothing err → Looks holds names err kept old kept old true
@@ -86,10 +87,14 @@ pub data Looks (holds : Text → Known) (names : FileNames) (err : OutputStream)
   done : {read : Snap} {new : World} (force : Config) → IsReadFrom holds names read → IsOther read kept → IsStated names read force → IsPutInForce old force new
       → GetsNothing err → Looks holds names err kept old read new true
   -- they have others, and are refused
-  refused : {whole : Bool} (read : Snap) → IsReadFrom holds names read → IsOther read kept → IsRefused names read err whole → Looks holds names err kept old kept old whole
+  refused : {whole : Bool} (read : Snap) → IsReadFrom holds names read → IsOther read kept
+      → IsRefused names read err whole → Looks holds names err kept old kept old whole
   -- something stands against what they state
-  stopped : {new : World} {whole : Bool} (read : Snap) (force : Config) (o : Obstacle) → IsReadFrom holds names read → IsOther read kept → IsStated names read force
-      → IsObstacle old.config.topology force old.state.broker o → Same old new → TellsLine err (obstacle_told o) whole → Looks holds names err kept old kept new whole
+  stopped : {new : World} {whole : Bool} (read : Snap) (force : Config) (o : Obstacle)
+      → IsReadFrom holds names read → IsOther read kept → IsStated names read force
+      → IsObstacle old.config.topology force old.state.broker o → Same old new
+      → TellsLine err (obstacle_told o) whole → Looks holds names err kept old kept new whole
   -- memory was wanting for it
-  wanting : {new : World} {whole : Bool} (read : Snap) (force : Config) → IsReadFrom holds names read → IsOther read kept → IsStated names read force → Same old new
+  wanting : {new : World} {whole : Bool} (read : Snap) (force : Config)
+      → IsReadFrom holds names read → IsOther read kept → IsStated names read force → Same old new
       → PutsOut err out_of_memory whole → Looks holds names err kept old kept new whole

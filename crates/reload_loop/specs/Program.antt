@@ -47,7 +47,8 @@ pub record IsEvery (text : Text) (every : ℕ) : Type 0 where
 
 -- Clients were served, and the files looked at: from a broker that was just started by what the files had when they were read, in so
 -- many turns, once it was told where clients may come.
-pub record ServesReloading (holds : Text → Known) (names : FileNames) (turns : Option Text) (every : Text) (may : Openings) (out err : OutputStream) (end : Served) (whole : Bool) : Type 0 where
+pub record ServesReloading (holds : Text → Known) (names : FileNames) (turns : Option Text)
+    (every : Text) (may : Openings) (out err : OutputStream) (end : Served) (whole : Bool) : Type 0 where
   pub first : Snap
   pub read : IsReadFrom holds names first
   pub force : Config
@@ -65,22 +66,30 @@ pub record ServesReloading (holds : Text → Known) (names : FileNames) (turns :
   -- all that arrived at the broker, reloads too, and that certified delivery holds of it
   pub kept : IsServed engine_lacks force start end
 
--- How `serve --reload` ends: with what was served as it was left, where clients could come, and this status, which tells whether each line of a look was taken whole.
-pub data ReloadsEnd (holds : Text → Known) (names : FileNames) (turns : Option Text) (every : Text) (Unasked : Type 0) (may : Openings) (out err : OutputStream) : Option Served → ℕ → Type 0 where
+-- How `serve --reload` ends: with what was served as it was left, where clients could come,
+-- and this status, which tells whether each line of a look was taken whole.
+pub data ReloadsEnd (holds : Text → Known) (names : FileNames) (turns : Option Text) (every : Text)
+    (Unasked : Type 0) (may : Openings) (out err : OutputStream) : Option Served → ℕ → Type 0 where
   unserved : {status : ℕ} (first : Snap) → IsReadFrom holds names first
-      → EndsUnserved (known_in names first) names.definitions names.guarantees names.certificates Unasked may out err status → ReloadsEnd holds names turns every Unasked may out err None status
-  reloading : {end : Served} {whole : Bool} → ServesReloading holds names turns every may out err end whole → ReloadsEnd holds names turns every Unasked may out err (Some end) (tried whole 0)
+      → EndsUnserved (known_in names first) names.definitions names.guarantees names.certificates
+      Unasked may out err status
+      → ReloadsEnd holds names turns every Unasked may out err None status
+  reloading : {end : Served} {whole : Bool} → ServesReloading holds names turns every may out err end whole
+      → ReloadsEnd holds names turns every Unasked may out err (Some end) (tried whole 0)
 
 -- What a call comes to that can open sockets, by what may come of that at an address.
-pub data RunsWithSockets (words : List Text) (before after : Text → Known) (Unasked : Type 0) (may : Text → Openings) (out err : OutputStream) : Option Served → ℕ → Type 0 where
+pub data RunsWithSockets (words : List Text) (before after : Text → Known) (Unasked : Type 0)
+    (may : Text → Openings) (out err : OutputStream) : Option Served → ℕ → Type 0 where
   -- what `program` comes to, unless it is to serve; then memory was wanting before that was read
   without : {status : ℕ} → RunsAs words before after out err status → Unasked
       → ((names : FileNames) (listen : Text) (turns every : Option Text) → AsksToServe words names listen turns every → TriesPut err out_of_memory 4 status)
       → RunsWithSockets words before after Unasked may out err None status
   -- it is to serve, and not to read its files again
-  serves : {end : Option Served} {status : ℕ} (names : FileNames) (listen : Text) (turns : Option Text) → AsksToServe words names listen turns None → AreKept before after
+  serves : {end : Option Served} {status : ℕ} (names : FileNames) (listen : Text) (turns : Option Text)
+      → AsksToServe words names listen turns None → AreKept before after
       → ServeEnds before names.definitions names.guarantees names.certificates turns Unasked (may listen) out err end status
       → RunsWithSockets words before after Unasked may out err end status
   -- it is to serve, and to read them again
-  reloads : {end : Option Served} {status : ℕ} (names : FileNames) (listen every : Text) (turns : Option Text) → AsksToServe words names listen turns (Some every) → AreKept before after
+  reloads : {end : Option Served} {status : ℕ} (names : FileNames) (listen every : Text) (turns : Option Text)
+      → AsksToServe words names listen turns (Some every) → AreKept before after
       → ReloadsEnd before names turns every Unasked (may listen) out err end status → RunsWithSockets words before after Unasked may out err end status

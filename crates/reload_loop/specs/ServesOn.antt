@@ -10,7 +10,8 @@ use Rattle.server.specs.Streams.{change}
 use Rattle.reload_loop.specs.Snapshots.{Snap}
 use Rattle.reload_loop.specs.Looks.{Looks}
 
--- where serving stands: what was served, the texts by which what is in force was judged, what the stream holds on which refusals are told, and whether it took each of them whole
+-- where serving stands: what was served, the texts by which what is in force was judged,
+-- what the stream holds on which refusals are told, and whether it took each of them whole
 pub record Standing : Type 0 where
   pub served : Served
   pub kept : Snap
@@ -30,6 +31,9 @@ pub record LooksOn (holds : Text → Known) (names : FileNames) (old new : Stand
 
 -- So many turns, with a look each time that `every` of them are over and more are to come.
 pub data ServesOn (holds : Text → Known) (names : FileNames) (every : ℕ) : ℕ → Standing → Standing → Type 0 where
-  last : {turns : ℕ} {old new : Standing} → turns ≤ every → Rounds engine_lacks turns old.served new.served → new ≡ record old { served = new.served } → ServesOn holds names every turns old new
-  more : {turns : ℕ} {old looked new : Standing} (mid : Served) → every < turns → Rounds engine_lacks every old.served mid → LooksOn holds names (record old { served = mid }) looked → ServesOn holds names every (turns - every) looked new
+  last : {turns : ℕ} {old new : Standing} → turns ≤ every → Rounds engine_lacks turns old.served new.served
+      → new ≡ record old { served = new.served } → ServesOn holds names every turns old new
+  more : {turns : ℕ} {old looked new : Standing} (mid : Served) → every < turns
+      → Rounds engine_lacks every old.served mid → LooksOn holds names (record old { served = mid }) looked
+      → ServesOn holds names every (turns - every) looked new
       → ServesOn holds names every turns old new

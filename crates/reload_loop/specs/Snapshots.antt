@@ -29,7 +29,10 @@ pub record Snap : Type 0 where
 -- the same of the file of a name, where these are the names of the three; there is no other file
 abbrev pub known_in : FileNames → Snap → Text → Known
 known_in names s name =
-    if bytes_eq name names.definitions then s.definitions else if bytes_eq name names.guarantees then s.guarantees else if bytes_eq name names.certificates then s.certificates else Absent
+    if bytes_eq name names.definitions then s.definitions
+    else if bytes_eq name names.guarantees then s.guarantees
+    else if bytes_eq name names.certificates then s.certificates
+    else Absent
 
 -- so the file of which the first is known was read
 abbrev pub IsSlotOf : Known → Known → Type 0

@@ -102,7 +102,9 @@ fn find_again<'a, F: Files>(
 fn offer(alloc: Global, server: &mut Server<Engine>, setup: &Setup) -> Result<(), ReloadFault>
     ensures told { TellsReload (world_of server.old.machine) setup.now result (world_of server.new.machine) }
     ensures peers { server.new.peers ≡ server.old.peers }
-    ensures served { (f : Config) (told now : wire.Told) → IsServed engine_lacks f told (served (world_of server.old.machine) server.old.peers now) → IsServed engine_lacks f told (served (world_of server.new.machine) server.new.peers now) }
+    ensures served { (f : Config) (told now : wire.Told)
+        → IsServed engine_lacks f told (served (world_of server.old.machine) server.old.peers now)
+        → IsServed engine_lacks f told (served (world_of server.new.machine) server.new.peers now) }
 {
     server.reload(alloc, setup.clone(alloc)?)
 }
@@ -115,10 +117,14 @@ fn act<'a, E: Write>(
     found: &mut Found<'a>,
     err: &mut E,
 ) -> io::Result<()>
-    ensures looks { (holds : Text → Known) (names : FileNames) → IsFound holds names kept.old found.old → Looks holds names (change (E.contents err.old) (E.contents err.new)) kept.old (world_of server.old.machine) kept.new (world_of server.new.machine) (is_ok result) }
+    ensures looks { (holds : Text → Known) (names : FileNames) → IsFound holds names kept.old found.old
+        → Looks holds names (change (E.contents err.old) (E.contents err.new)) kept.old
+        (world_of server.old.machine) kept.new (world_of server.new.machine) (is_ok result) }
     ensures found { (names : FileNames) → WasFound names kept.old found.old → WasFound names kept.new found.new }
     ensures peers { server.new.peers ≡ server.old.peers }
-    ensures served { (f : Config) (told now : wire.Told) → IsServed engine_lacks f told (served (world_of server.old.machine) server.old.peers now) → IsServed engine_lacks f told (served (world_of server.new.machine) server.new.peers now) }
+    ensures served { (f : Config) (told now : wire.Told)
+        → IsServed engine_lacks f told (served (world_of server.old.machine) server.old.peers now)
+        → IsServed engine_lacks f told (served (world_of server.new.machine) server.new.peers now) }
 {
     match mem::replace(found, Found::Nothing) {
         Found::Nothing => Ok(()),
@@ -155,10 +161,14 @@ pub(crate) fn look<'a, F: Files, E: Write>(
     err: &mut E,
 ) -> io::Result<()>
     requires { WasFound (names_of names) kept.old found.old }
-    ensures looks { Looks (F.holds files.old) (names_of names.entry) (change (E.contents err.old) (E.contents err.new)) kept.old (world_of server.old.machine) kept.new (world_of server.new.machine) (is_ok result) }
+    ensures looks { Looks (F.holds files.old) (names_of names.entry)
+        (change (E.contents err.old) (E.contents err.new)) kept.old (world_of server.old.machine)
+        kept.new (world_of server.new.machine) (is_ok result) }
     ensures found { WasFound (names_of names.entry) kept.new found.new }
     ensures peers { server.new.peers ≡ server.old.peers }
-    ensures served { (f : Config) (told now : wire.Told) → IsServed engine_lacks f told (served (world_of server.old.machine) server.old.peers now) → IsServed engine_lacks f told (served (world_of server.new.machine) server.new.peers now) }
+    ensures served { (f : Config) (told now : wire.Told)
+        → IsServed engine_lacks f told (served (world_of server.old.machine) server.old.peers now)
+        → IsServed engine_lacks f told (served (world_of server.new.machine) server.new.peers now) }
     ensures files { AreKept (F.holds files.old) (F.holds files.new) }
 {
     if kept.is_held(alloc, names, files) {

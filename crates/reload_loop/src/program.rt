@@ -88,7 +88,11 @@ fn serve_reloading<L: Listener, F: Files, O: Write, E: Write>(
     out: &mut O,
     err: &mut E,
 ) -> Ended<L::Sockets>
-    ensures ends { ReloadsEnd (F.holds files.old) (names_in arguments.entry) (file_named arguments.entry.turns) every.now (listener.new ≡ listener.old) (L.listens listener.old arguments.entry.listen.now) (change (O.contents out.old) (O.contents out.new)) (change (E.contents err.old) (E.contents err.new)) (option_map (λ s. served (world_of s.server.machine) s.server.peers (L.Sockets.told s.sockets)) result.service) result.status }
+    ensures ends { ReloadsEnd (F.holds files.old) (names_in arguments.entry) (file_named arguments.entry.turns)
+        every.now (listener.new ≡ listener.old) (L.listens listener.old arguments.entry.listen.now)
+        (change (O.contents out.old) (O.contents out.new)) (change (E.contents err.old) (E.contents err.new))
+        (option_map (λ s. served (world_of s.server.machine) s.server.peers (L.Sockets.told s.sockets))
+        result.service) result.status }
     ensures files { AreKept (F.holds files.old) (F.holds files.new) }
 {
     let names = Names {
@@ -140,7 +144,11 @@ pub fn program_with_sockets<S: AsStr, L: Listener, F: Files, O: Write, E: Write>
     out: &mut O,
     err: &mut E,
 ) -> Ended<L::Sockets>
-    ensures { RunsWithSockets (map S.text words.now) (F.holds files.old) (F.holds files.new) (listener.new ≡ listener.old) (L.listens listener.old) (change (O.contents out.old) (O.contents out.new)) (change (E.contents err.old) (E.contents err.new)) (option_map (λ s. served (world_of s.server.machine) s.server.peers (L.Sockets.told s.sockets)) result.service) result.status }
+    ensures { RunsWithSockets (map S.text words.now) (F.holds files.old) (F.holds files.new)
+        (listener.new ≡ listener.old) (L.listens listener.old) (change (O.contents out.old) (O.contents out.new))
+        (change (E.contents err.old) (E.contents err.new))
+        (option_map (λ s. served (world_of s.server.machine) s.server.peers (L.Sockets.told s.sockets))
+        result.service) result.status }
 {
     let asked = match command(alloc, words) {
         Ok(asked) => asked,

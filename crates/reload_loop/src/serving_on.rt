@@ -38,9 +38,15 @@ pub fn serve_and_reload<W: Wire, F: Files, E: Write>(
     turns: u64,
 ) -> bool
     requires { 1 ≤ every }
-    ensures serves { ServesOn (F.holds files.old) (names_of names.entry) every turns (standing (served (world_of server.old.machine) server.old.peers (W.told sockets.old)) kept.old (E.contents err.old) true) (standing (served (world_of server.new.machine) server.new.peers (W.told sockets.new)) kept.new (E.contents err.new) result) }
+    ensures serves { ServesOn (F.holds files.old) (names_of names.entry) every turns
+        (standing (served (world_of server.old.machine) server.old.peers (W.told sockets.old))
+        kept.old (E.contents err.old) true)
+        (standing (served (world_of server.new.machine) server.new.peers (W.told sockets.new))
+        kept.new (E.contents err.new) result) }
     // Whatever was served before is served after: what arrived since the server was new, reloads too, and that the promises are kept.
-    ensures served { (f : Config) (told : Told) → IsServed engine_lacks f told (served (world_of server.old.machine) server.old.peers (W.told sockets.old)) → IsServed engine_lacks f told (served (world_of server.new.machine) server.new.peers (W.told sockets.new)) }
+    ensures served { (f : Config) (told : Told)
+        → IsServed engine_lacks f told (served (world_of server.old.machine) server.old.peers (W.told sockets.old))
+        → IsServed engine_lacks f told (served (world_of server.new.machine) server.new.peers (W.told sockets.new)) }
     ensures files { AreKept (F.holds files.old) (F.holds files.new) }
 {
     let mut found = Found::Nothing;

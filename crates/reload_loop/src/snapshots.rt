@@ -108,7 +108,9 @@ impl Snapshot {
 
     /// The bytes of the file of a name, where these are the names of the three.
     fn copy_of(&self, alloc: Global, names: Names<'_>, name: &str) -> Result<Vec<u8>, Unread>
-        ensures { MatchResult result (λ bytes. IsFileRead (known_in (names_of names.entry) self.now name.now) bytes.items) (λ why. IsUnread (known_in (names_of names.entry) self.now name.now) why) }
+        ensures { MatchResult result
+            (λ bytes. IsFileRead (known_in (names_of names.entry) self.now name.now) bytes.items)
+            (λ why. IsUnread (known_in (names_of names.entry) self.now name.now) why) }
     {
         if name == names.definitions {
             return copied(alloc, &self.definitions);

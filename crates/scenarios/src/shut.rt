@@ -83,7 +83,9 @@ impl<'a> Machine for Shut<'a> {
     ghost use Rattle.std.specs.Prelude.{◌≡◌, IfOk};
 
     fn copied(_alloc: Global, _setup: &()) -> Result<(), AllocError>
-        ensures { IfOk result (λ copy. (new_world (record { topology = record { exchanges = []; queues = []; bindings = [] }; guarantees = []; users = [] })).config ≡ (new_world (record { topology = record { exchanges = []; queues = []; bindings = [] }; guarantees = []; users = [] })).config) }
+        ensures { IfOk result (λ copy.
+            (new_world (record { topology = record { exchanges = []; queues = []; bindings = [] }; guarantees = []; users = [] })).config
+            ≡ (new_world (record { topology = record { exchanges = []; queues = []; bindings = [] }; guarantees = []; users = [] })).config) }
     {
         Ok(())
     }

@@ -1,5 +1,6 @@
 -- Replay scripts (own): lines of text, each of which is one arrival. A connection is named by its number, counted from 1 in the order of the openings.
-use Rattle.std.specs.Prelude.{◌≡◌, ◌+◌, ◌-◌, ◌*◌, ◌^◌, ◌++◌, ◌==◌, ◌&&◌, ◌||◌, nat_lt, nat_le, ℕ, List, [], ◌∷◌, length, take, drop, position, codes, Option, Some, None, option_map, option_and_then, is_some, Result, Ok, Err, if◌then◌else◌}
+use Rattle.std.specs.Prelude.{◌≡◌, ◌+◌, ◌-◌, ◌*◌, ◌^◌, ◌++◌, ◌==◌, ◌&&◌, ◌||◌, nat_lt, nat_le, ℕ, List, [], ◌∷◌, length, take, drop}
+use Rattle.std.specs.Prelude.{position, codes, Option, Some, None, option_map, option_and_then, is_some, Result, Ok, Err, if◌then◌else◌}
 use Rattle.std.specs.Str.{bytes_eq, is_utf8}
 use Rattle.hex.specs.Hex.{decode_of}
 use Rattle.model.specs.Words.{Text, parted}
@@ -83,7 +84,10 @@ lost opened c = option_map (λ n. Lose n) (connection opened c)
 
 -- the names of three files, where these fields write them
 abbrev pub names_of : Text → Text → Text → Option FileNames
-names_of d g c = option_and_then (λ definitions. option_and_then (λ guarantees. option_map (λ certificates. record { definitions = definitions; guarantees = guarantees; certificates = certificates }) (file_name c)) (file_name g)) (file_name d)
+names_of d g c =
+    option_and_then (λ definitions. option_and_then (λ guarantees. option_map (λ certificates.
+    record { definitions = definitions; guarantees = guarantees; certificates = certificates })
+    (file_name c)) (file_name g)) (file_name d)
 
 -- the three fields that a space parts, where the third goes on to the end
 abbrev pub three_names : Text → Option FileNames

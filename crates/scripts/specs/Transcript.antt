@@ -69,7 +69,8 @@ obstacle_line (Breaks queue key guarantee) = line (codes "reload refused breaks"
 
 -- the line of a note
 abbrev pub note_line : Note → Text
-note_line (Published n c h exchange key confirm) = line (codes "published" ∷ decimal n ∷ decimal c ∷ decimal h ∷ name_word exchange ∷ hex_word key ∷ confirm_word confirm ∷ [])
+note_line (Published n c h exchange key confirm) = line (codes "published" ∷ decimal n ∷ decimal c ∷ decimal h
+    ∷ name_word exchange ∷ hex_word key ∷ confirm_word confirm ∷ [])
 note_line (Entered n queue way) = line (codes "entered" ∷ decimal n ∷ name_word queue ∷ way_word way ∷ [])
 note_line (Refused n queue) = line (codes "refused" ∷ decimal n ∷ name_word queue ∷ [])
 note_line (Returned n) = line (codes "returned" ∷ decimal n ∷ [])

@@ -29,7 +29,11 @@ impl Model for ReloadFiles {
 
     ghost Value = { FileNames };
 
-    ghost view = { λ f. record { definitions = string_bytes f.definitions; guarantees = string_bytes f.guarantees; certificates = string_bytes f.certificates } };
+    ghost view = { λ f. record {
+      definitions = string_bytes f.definitions;
+      guarantees = string_bytes f.guarantees;
+      certificates = string_bytes f.certificates;
+    } };
 }
 
 impl ReloadFiles {

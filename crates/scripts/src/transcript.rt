@@ -103,7 +103,8 @@ fn publish_line(
     channel: u16,
     rest: &str,
 ) -> Result<String, AllocError>
-    ensures { IfOk result (λ text. string_bytes text ≡ codes "published" ++ 32 ∷ (decimal number ++ 32 ∷ (decimal connection ++ 32 ∷ (decimal channel ++ 32 ∷ rest.now)))) }
+    ensures { IfOk result (λ text. string_bytes text ≡ codes "published"
+        ++ 32 ∷ (decimal number ++ 32 ∷ (decimal connection ++ 32 ∷ (decimal channel ++ 32 ∷ rest.now)))) }
 {
     format!(in alloc; "published {number} {connection} {channel} {rest}")
 }

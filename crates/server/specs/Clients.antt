@@ -83,7 +83,8 @@ IsTurns (Some text) turns = IsNumeral 10 (without_leading_plus text) → digits_
     → turns ≡ digits_value 10 (without_leading_plus text)
 
 -- How `serve` ends where no client was served, with this status. The files are judged before sockets are opened.
-pub data EndsUnserved (holds : Text → Known) (definitions guarantees certificates : Text) (Unasked : Type 0) (may : Openings) (out err : OutputStream) : ℕ → Type 0 where
+pub data EndsUnserved (holds : Text → Known) (definitions guarantees certificates : Text)
+    (Unasked : Type 0) (may : Openings) (out err : OutputStream) : ℕ → Type 0 where
   refused : {file : Text} {status : ℕ} (why : CommandRefusal) → FailsToStart holds definitions guarantees certificates file why → Unasked
       → GetsNothing out → RefusesWith err file why status → EndsUnserved holds definitions guarantees certificates Unasked may out err status
   unheard : {status : ℕ} (force : Config) → IsInForce holds (Some definitions) (Some guarantees) (Some certificates) force
@@ -98,7 +99,8 @@ pub record Begins (holds : Text → Known) (definitions guarantees certificates 
   pub is : start ≡ served (new_world force) [] told
 
 -- Clients were served: from a broker that was just started over these files, in so many rounds, once it was told where they may come.
-pub record ServesClients (holds : Text → Known) (definitions guarantees certificates : Text) (turns : Option Text) (may : Openings) (out err : OutputStream) (end : Served) : Type 0 where
+pub record ServesClients (holds : Text → Known) (definitions guarantees certificates : Text)
+    (turns : Option Text) (may : Openings) (out err : OutputStream) (end : Served) : Type 0 where
   pub force : Config
   pub in_force : IsInForce holds (Some definitions) (Some guarantees) (Some certificates) force
   pub start : Told

@@ -149,9 +149,11 @@ pub data WritesOut (before after : Text → Known) : Option Text → List Verdic
   -- no file is named
   unnamed : {verdicts : List Verdict} → AreKept before after → WritesOut before after None verdicts
   -- some guarantee doesn't hold, or is undecided
-  doubtful : {file : Text} {verdicts : List Verdict} → (status_of_verdicts verdicts ≡ 0 → ⊥) → AreKept before after → WritesOut before after (Some file) verdicts
+  doubtful : {file : Text} {verdicts : List Verdict} → (status_of_verdicts verdicts ≡ 0 → ⊥)
+      → AreKept before after → WritesOut before after (Some file) verdicts
   -- all hold
-  filed : {file : Text} {verdicts : List Verdict} → status_of_verdicts verdicts ≡ 0 → IsFiled before after file (certificates_in verdicts) → WritesOut before after (Some file) verdicts
+  filed : {file : Text} {verdicts : List Verdict} → status_of_verdicts verdicts ≡ 0
+      → IsFiled before after file (certificates_in verdicts) → WritesOut before after (Some file) verdicts
 
 -- a file is named, and its draft is of these certificates
 abbrev pub Drafts : Option Text → Option Draft → List Shown → Type 0
@@ -275,14 +277,17 @@ pub record IsRouted (holds : Text → Known) (definitions exchange key text : Te
 -- What a command prints, the status that it leaves, and the files before and after it. One that serves prints nothing here.
 abbrev pub IsCommandAnswered : (Text → Known) → (Text → Known) → Wanted → Text → ℕ → Type 0
 IsCommandAnswered before after (Check definitions guarantees out) text status = IsJudged before after definitions guarantees out text status
-IsCommandAnswered before after (Verify definitions guarantees certificates) text status = IsVerified before definitions guarantees certificates text status × AreKept before after
-IsCommandAnswered before after (Replay script definitions guarantees certificates) text status = IsReplayed before script definitions guarantees certificates text status × AreKept before after
+IsCommandAnswered before after (Verify definitions guarantees certificates) text status =
+    IsVerified before definitions guarantees certificates text status × AreKept before after
+IsCommandAnswered before after (Replay script definitions guarantees certificates) text status =
+    IsReplayed before script definitions guarantees certificates text status × AreKept before after
 IsCommandAnswered before after (Serve definitions guarantees certificates listen turns reload) text status = ⊥
 IsCommandAnswered before after (Route definitions exchange key) text status = IsRouted before definitions exchange key text status × AreKept before after
 
 -- what a command prints that was to write a file, why it could not, and the files before and after it
 abbrev pub IsAnsweredUnfiled : (Text → Known) → (Text → Known) → Wanted → Text → Text → CommandRefusal → Type 0
-IsAnsweredUnfiled before after (Check definitions guarantees out) text file why = (out ≡ Some file) × IsJudgedUnfiled before after definitions guarantees file text why
+IsAnsweredUnfiled before after (Check definitions guarantees out) text file why =
+    (out ≡ Some file) × IsJudgedUnfiled before after definitions guarantees file text why
 IsAnsweredUnfiled before after (Verify definitions guarantees certificates) text file why = ⊥
 IsAnsweredUnfiled before after (Replay script definitions guarantees certificates) text file why = ⊥
 IsAnsweredUnfiled before after (Serve definitions guarantees certificates listen turns reload) text file why = ⊥
@@ -319,14 +324,16 @@ certificates_of (Route definitions exchange key) = None
 
 -- The commands that run a broker, and the files over which they do.
 pub data RunsOver : Wanted → (definitions guarantees certificates : Option Text) → Type 0 where
-  replays : {script : Text} {definitions guarantees certificates : Option Text} → RunsOver (Replay script definitions guarantees certificates) definitions guarantees certificates
+  replays : {script : Text} {definitions guarantees certificates : Option Text}
+      → RunsOver (Replay script definitions guarantees certificates) definitions guarantees certificates
   serves : {definitions guarantees certificates listen : Text} {turns reload : Option Text}
       → RunsOver (Serve definitions guarantees certificates listen turns reload) (Some definitions) (Some guarantees) (Some certificates)
 
 -- Why nothing is in force by these files, and the file of which this is told. They are judged in this order.
 pub data FailsOver (holds : Text → Known) (definitions guarantees certificates : Option Text) : Text → CommandRefusal → Type 0 where
   -- the definitions are refused, or the guarantees over them
-  not_set_up : {file : Text} {why : CommandRefusal} → IsOfFile (FailsToSetUp holds definitions guarantees) file why → FailsOver holds definitions guarantees certificates file why
+  not_set_up : {file : Text} {why : CommandRefusal} → IsOfFile (FailsToSetUp holds definitions guarantees) file why
+      → FailsOver holds definitions guarantees certificates file why
   -- the certificates file is refused
   not_certified : {file : Text} {why : CommandRefusal} (stated : Stated) (gs : List Guarantee) → SetsUp holds definitions guarantees stated gs
       → IsOfFile (FailsToCertify holds certificates) file why → FailsOver holds definitions guarantees certificates file why
@@ -343,7 +350,8 @@ IsWhyNotSetUp holds said file why = why ≡ Memory
 
 -- Why the reloads of a script are not set up: the files of this one are refused, and those of none before it; or memory was wanting.
 pub data FailsToReload (holds : Text → Known) (said : List ScriptArrival) : Text → CommandRefusal → Type 0 where
-  at : {file : Text} {why : CommandRefusal} (place : ℕ) (names : FileNames) (before : List (Arrival Config)) → slice_get said place ≡ Some (arrival.Reload names)
+  at : {file : Text} {why : CommandRefusal} (place : ℕ) (names : FileNames) (before : List (Arrival Config))
+      → slice_get said place ≡ Some (arrival.Reload names)
       → AreSetUp holds (take place said) before → FailsOver holds (Some names.definitions) (Some names.guarantees) (Some names.certificates) file why
       → FailsToReload holds said file why
   no_room : {file : Text} → FailsToReload holds said file Memory
@@ -353,27 +361,33 @@ pub data FailsToPlay (holds : Text → Known) (script : Text) : Text → Command
   -- it is refused
   unread_script : (why : CommandRefusal) → IsWhyOfFile why (holds script) → FailsToPlay holds script script why
   -- the files of a reload are refused, where it is good
-  unloaded : {file : Text} {why : CommandRefusal} (said : List ScriptArrival) → ReadsScript (holds script) said → FailsToReload holds said file why → FailsToPlay holds script file why
+  unloaded : {file : Text} {why : CommandRefusal} (said : List ScriptArrival)
+      → ReadsScript (holds script) said → FailsToReload holds said file why → FailsToPlay holds script file why
   -- memory was wanting
   no_run : {file : Text} → FailsToPlay holds script file Memory
 
 -- Why a command prints nothing, and the file of which this is told. The files are judged in this order.
 pub data Fails (holds : Text → Known) : Wanted → Text → CommandRefusal → Type 0 where
   -- the definitions are refused, or the guarantees over them
-  unset : {wanted : Wanted} {file : Text} {why : CommandRefusal} → IsOfFile (FailsToSetUp holds (definitions_of wanted) (guarantees_of wanted)) file why → Fails holds wanted file why
+  unset : {wanted : Wanted} {file : Text} {why : CommandRefusal}
+      → IsOfFile (FailsToSetUp holds (definitions_of wanted) (guarantees_of wanted)) file why → Fails holds wanted file why
   -- the certificates file is refused
-  uncertified : {wanted : Wanted} {file : Text} {why : CommandRefusal} (stated : Stated) (gs : List Guarantee) → SetsUp holds (definitions_of wanted) (guarantees_of wanted) stated gs
+  uncertified : {wanted : Wanted} {file : Text} {why : CommandRefusal} (stated : Stated) (gs : List Guarantee)
+      → SetsUp holds (definitions_of wanted) (guarantees_of wanted) stated gs
       → IsOfFile (FailsToCertify holds (certificates_of wanted)) file why → Fails holds wanted file why
   -- nothing is in force by the files over which a broker is to run
-  unforced : {wanted : Wanted} {file : Text} {why : CommandRefusal} {definitions guarantees certificates : Option Text} → RunsOver wanted definitions guarantees certificates
+  unforced : {wanted : Wanted} {file : Text} {why : CommandRefusal}
+      {definitions guarantees certificates : Option Text} → RunsOver wanted definitions guarantees certificates
       → FailsOver holds definitions guarantees certificates file why → Fails holds wanted file why
   -- the script is refused, or the files of a reload in it, over what is in force
   unplayed : {script file : Text} {why : CommandRefusal} {definitions guarantees certificates : Option Text} (force : Config)
-      → IsInForce holds definitions guarantees certificates force → FailsToPlay holds script file why → Fails holds (Replay script definitions guarantees certificates) file why
+      → IsInForce holds definitions guarantees certificates force → FailsToPlay holds script file why
+      → Fails holds (Replay script definitions guarantees certificates) file why
   -- the exchange is not there
   unrouted : {file exchange key : Text} → ListsFile (holds file) exchange key None → Fails holds (Route file exchange key) file NoExchange
   -- this call opens no socket
-  unheard : {definitions guarantees certificates listen file : Text} {turns reload : Option Text} → Fails holds (Serve definitions guarantees certificates listen turns reload) file NotListening
+  unheard : {definitions guarantees certificates listen file : Text} {turns reload : Option Text}
+      → Fails holds (Serve definitions guarantees certificates listen turns reload) file NotListening
   -- memory was wanting
   wanting : {wanted : Wanted} {file : Text} → Fails holds wanted file Memory
 
@@ -412,22 +426,27 @@ PutsBoth out err text wanted (Some told) status = (done : Bool) × PutsOut out t
 
 -- a command line that was refused for this was shown: want of memory by our own line, any other by clap's text
 abbrev pub ShowsError : ErrorKind → OutputStream → ℕ → Type 0
-ShowsError kind err status = ((kind ≡ OutOfMemory) × TriesPut err out_of_memory 4 status) ⊎ ((kind ≡ OutOfMemory → ⊥) × ((done : Bool) × (status ≡ tried done 3)))
+ShowsError kind err status = ((kind ≡ OutOfMemory) × TriesPut err out_of_memory 4 status)
+    ⊎ ((kind ≡ OutOfMemory → ⊥) × ((done : Bool) × (status ≡ tried done 3)))
 
 -- What a call comes to, by its words, the files as they are known before it and after it, what standard output and
 -- standard error got, and the status. Where a stream took no more, `done` is false and the status 4.
 pub data RunsAs (words : List Text) (before after : Text → Known) (out err : OutputStream) : ℕ → Type 0 where
   -- what the command answers was put out
-  printed : (wanted : Wanted) (text : Text) (status : ℕ) (done : Bool) → AsksFor words wanted → IsCommandAnswered before after wanted text status → PutsOut out text done → GetsNothing err
+  printed : (wanted : Wanted) (text : Text) (status : ℕ) (done : Bool) → AsksFor words wanted
+      → IsCommandAnswered before after wanted text status → PutsOut out text done → GetsNothing err
       → RunsAs words before after out err (tried done status)
   -- what it answers was put out, and then was told why a file is not written
-  put_unfiled : {status : ℕ} (wanted : Wanted) (text file : Text) (why : CommandRefusal) (done : Bool) → AsksFor words wanted → IsAnsweredUnfiled before after wanted text file why → PutsOut out text done
+  put_unfiled : {status : ℕ} (wanted : Wanted) (text file : Text) (why : CommandRefusal) (done : Bool)
+      → AsksFor words wanted → IsAnsweredUnfiled before after wanted text file why → PutsOut out text done
       → RefusesWith err file why status → RunsAs words before after out err status
   -- why it prints nothing was told
-  told_of : {wanted : Wanted} {file : Text} (why : CommandRefusal) (done : Bool) → AsksFor words wanted → IsNotAnswered before after wanted file why → GetsNothing out → PutsOut err (refusal_line file why) done
+  told_of : {wanted : Wanted} {file : Text} (why : CommandRefusal) (done : Bool) → AsksFor words wanted
+      → IsNotAnswered before after wanted file why → GetsNothing out → PutsOut err (refusal_line file why) done
       → RunsAs words before after out err (tried done (status_of why))
   -- .. or that there was no memory to tell it
-  untold : {wanted : Wanted} {file : Text} (why : CommandRefusal) (done : Bool) → AsksFor words wanted → IsNotAnswered before after wanted file why → GetsNothing out → PutsOut err out_of_memory done
+  untold : {wanted : Wanted} {file : Text} (why : CommandRefusal) (done : Bool) → AsksFor words wanted
+      → IsNotAnswered before after wanted file why → GetsNothing out → PutsOut err out_of_memory done
       → RunsAs words before after out err 4
   -- the words ask for nothing, and clap's own text was shown
   unasked : (done : Bool) → AsksNothing words → GetsNothing out → AreKept before after → RunsAs words before after out err (tried done 3)

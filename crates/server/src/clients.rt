@@ -126,7 +126,11 @@ fn tell_address<O: Write, E: Write>(
     out: &mut O,
     err: &mut E,
 ) -> Result<(), u8>
-    ensures { MatchResult result (λ _. IsTold address.now (change (O.contents out.old) (O.contents out.new)) (change (E.contents err.old) (E.contents err.new))) (λ status. IsUntold address.now (change (O.contents out.old) (O.contents out.new)) (change (E.contents err.old) (E.contents err.new)) status) }
+    ensures { MatchResult result
+        (λ _. IsTold address.now (change (O.contents out.old) (O.contents out.new))
+        (change (E.contents err.old) (E.contents err.new)))
+        (λ status. IsUntold address.now (change (O.contents out.old) (O.contents out.new))
+        (change (E.contents err.old) (E.contents err.new)) status) }
 {
     let Ok(line) = line_of(alloc, address) else {
         return Err(refuse_memory(err));
@@ -146,7 +150,11 @@ fn open_sockets<L: Listener, O: Write, E: Write>(
     out: &mut O,
     err: &mut E,
 ) -> Result<L::Sockets, u8>
-    ensures { MatchResult result (λ sockets. CanCome (L.listens listener.old address.now) (L.Sockets.told sockets) (change (O.contents out.old) (O.contents out.new)) (change (E.contents err.old) (E.contents err.new))) (λ status. NobodyComes (L.listens listener.old address.now) (change (O.contents out.old) (O.contents out.new)) (change (E.contents err.old) (E.contents err.new)) status) }
+    ensures { MatchResult result
+        (λ sockets. CanCome (L.listens listener.old address.now) (L.Sockets.told sockets)
+        (change (O.contents out.old) (O.contents out.new)) (change (E.contents err.old) (E.contents err.new)))
+        (λ status. NobodyComes (L.listens listener.old address.now) (change (O.contents out.old) (O.contents out.new))
+        (change (E.contents err.old) (E.contents err.new)) status) }
 {
     let Some(Listening { sockets, address }) = listener.listen(alloc, address) else {
         let why = CommandRefusal::NotListening;
@@ -164,7 +172,11 @@ fn new_server<'a, F: Files>(
     asked: ServeArguments<'a>,
     files: &mut F,
 ) -> Result<Server<Engine>, Told<'a>>
-    ensures starts { MatchResult result (λ s. IsStarted (F.holds files.old) asked.entry.definitions.now asked.entry.guarantees.now asked.entry.certificates.now (world_of s.machine) × (s.peers ≡ [])) (λ told. FailsToStart (F.holds files.old) asked.entry.definitions.now asked.entry.guarantees.now asked.entry.certificates.now told.file.now told.why) }
+    ensures starts { MatchResult result
+        (λ s. IsStarted (F.holds files.old) asked.entry.definitions.now asked.entry.guarantees.now
+        asked.entry.certificates.now (world_of s.machine) × (s.peers ≡ []))
+        (λ told. FailsToStart (F.holds files.old) asked.entry.definitions.now asked.entry.guarantees.now
+        asked.entry.certificates.now told.file.now told.why) }
     ensures files { AreKept (F.holds files.old) (F.holds files.new) }
 {
     let engine = match started(
@@ -193,7 +205,15 @@ pub fn begin<L: Listener, F: Files, O: Write, E: Write>(
     out: &mut O,
     err: &mut E,
 ) -> Result<Service<L::Sockets>, u8>
-    ensures ready { MatchResult result (λ s. Begins (F.holds files.old) asked.entry.definitions.now asked.entry.guarantees.now asked.entry.certificates.now (L.listens listener.old asked.entry.listen.now) (change (O.contents out.old) (O.contents out.new)) (change (E.contents err.old) (E.contents err.new)) (served (world_of s.server.machine) s.server.peers (L.Sockets.told s.sockets))) (λ status. EndsUnserved (F.holds files.old) asked.entry.definitions.now asked.entry.guarantees.now asked.entry.certificates.now (listener.new ≡ listener.old) (L.listens listener.old asked.entry.listen.now) (change (O.contents out.old) (O.contents out.new)) (change (E.contents err.old) (E.contents err.new)) status) }
+    ensures ready { MatchResult result
+        (λ s. Begins (F.holds files.old) asked.entry.definitions.now asked.entry.guarantees.now
+        asked.entry.certificates.now (L.listens listener.old asked.entry.listen.now)
+        (change (O.contents out.old) (O.contents out.new)) (change (E.contents err.old) (E.contents err.new))
+        (served (world_of s.server.machine) s.server.peers (L.Sockets.told s.sockets)))
+        (λ status. EndsUnserved (F.holds files.old) asked.entry.definitions.now asked.entry.guarantees.now
+        asked.entry.certificates.now (listener.new ≡ listener.old)
+        (L.listens listener.old asked.entry.listen.now) (change (O.contents out.old) (O.contents out.new))
+        (change (E.contents err.old) (E.contents err.new)) status) }
     ensures files { AreKept (F.holds files.old) (F.holds files.new) }
 {
     let server = match new_server(alloc, asked, files) {
@@ -217,7 +237,12 @@ pub fn serve_clients<L: Listener, F: Files, O: Write, E: Write>(
     out: &mut O,
     err: &mut E,
 ) -> Ended<L::Sockets>
-    ensures ends { ServeEnds (F.holds files.old) asked.entry.definitions.now asked.entry.guarantees.now asked.entry.certificates.now (file_named asked.entry.turns) (listener.new ≡ listener.old) (L.listens listener.old asked.entry.listen.now) (change (O.contents out.old) (O.contents out.new)) (change (E.contents err.old) (E.contents err.new)) (option_map (λ s. served (world_of s.server.machine) s.server.peers (L.Sockets.told s.sockets)) result.service) result.status }
+    ensures ends { ServeEnds (F.holds files.old) asked.entry.definitions.now asked.entry.guarantees.now
+        asked.entry.certificates.now (file_named asked.entry.turns) (listener.new ≡ listener.old)
+        (L.listens listener.old asked.entry.listen.now) (change (O.contents out.old) (O.contents out.new))
+        (change (E.contents err.old) (E.contents err.new))
+        (option_map (λ s. served (world_of s.server.machine) s.server.peers (L.Sockets.told s.sockets))
+        result.service) result.status }
     ensures files { AreKept (F.holds files.old) (F.holds files.new) }
 {
     let Service {

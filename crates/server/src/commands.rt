@@ -63,7 +63,11 @@ fn check<'a, F: Files>(
     out: Option<&'a str>,
     files: &mut F,
 ) -> Result<Answered<'a>, Told<'a>>
-    ensures { MatchResult result (λ a. AnswersBut (F.holds files.old) (F.holds files.new) (Check definitions.now guarantees.now (file_named out.entry)) a.output.text.items a.output.status a.unwritten) (λ told. IsNotAnswered (F.holds files.old) (F.holds files.new) (Check definitions.now guarantees.now (file_named out.entry)) told.file.now told.why) }
+    ensures { MatchResult result
+        (λ a. AnswersBut (F.holds files.old) (F.holds files.new)
+        (Check definitions.now guarantees.now (file_named out.entry)) a.output.text.items a.output.status a.unwritten)
+        (λ told. IsNotAnswered (F.holds files.old) (F.holds files.new)
+        (Check definitions.now guarantees.now (file_named out.entry)) told.file.now told.why) }
 {
     let setup = match set_up(alloc, Some(definitions), Some(guarantees), files) {
         Ok(setup) => setup,
@@ -91,7 +95,10 @@ fn verify_files<'a, F: Files>(
     certificates: &'a str,
     files: &mut F,
 ) -> Result<Output, Told<'a>>
-    ensures answers { MatchResult result (λ o. IsVerified (F.holds files.old) definitions.now guarantees.now certificates.now o.text.items o.status) (λ told. Fails (F.holds files.old) (Verify definitions.now guarantees.now certificates.now) told.file.now told.why) }
+    ensures answers { MatchResult result
+        (λ o. IsVerified (F.holds files.old) definitions.now guarantees.now certificates.now o.text.items o.status)
+        (λ told. Fails (F.holds files.old) (Verify definitions.now guarantees.now certificates.now)
+        told.file.now told.why) }
     ensures files { AreKept (F.holds files.old) (F.holds files.new) }
 {
     let setup = match set_up(alloc, Some(definitions), Some(guarantees), files) {
@@ -121,7 +128,9 @@ fn routed_file<'a, F: Files>(
     key: &str,
     files: &mut F,
 ) -> Result<Option<Vec<u8>>, RefusedFile<'a>>
-    ensures lists { MatchResult result (λ listed. ListsFile (F.holds files.old file.now) exchange.now key.now (option_map (λ t. t.items) listed)) (λ refused. FailsToState (F.holds files.old) (Some file.now) refused.file.now refused.why) }
+    ensures lists { MatchResult result
+        (λ listed. ListsFile (F.holds files.old file.now) exchange.now key.now (option_map (λ t. t.items) listed))
+        (λ refused. FailsToState (F.holds files.old) (Some file.now) refused.file.now refused.why) }
     ensures files { AreKept (F.holds files.old) (F.holds files.new) }
 {
     let definitions = match definitions_of(alloc, file, files) {
@@ -147,7 +156,9 @@ fn route<'a, F: Files>(
     key: &str,
     files: &mut F,
 ) -> Result<Output, Told<'a>>
-    ensures answers { MatchResult result (λ o. IsRouted (F.holds files.old) definitions.now exchange.now key.now o.text.items o.status) (λ told. Fails (F.holds files.old) (Route definitions.now exchange.now key.now) told.file.now told.why) }
+    ensures answers { MatchResult result
+        (λ o. IsRouted (F.holds files.old) definitions.now exchange.now key.now o.text.items o.status)
+        (λ told. Fails (F.holds files.old) (Route definitions.now exchange.now key.now) told.file.now told.why) }
     ensures files { AreKept (F.holds files.old) (F.holds files.new) }
 {
     match routed_file(alloc, definitions, exchange, key, files) {
@@ -168,7 +179,12 @@ fn answer<'a, F: Files, E: Write>(
     files: &mut F,
     err: &mut E,
 ) -> Result<Answered<'a>, u8>
-    ensures { MatchResult result (λ a. AnswersBut (F.holds files.old) (F.holds files.new) (wanted_of asked.entry) a.output.text.items a.output.status a.unwritten × GetsNothing (change (E.contents err.old) (E.contents err.new))) (λ status. IsWhyTold (F.holds files.old) (F.holds files.new) (wanted_of asked.entry) (change (E.contents err.old) (E.contents err.new)) status) }
+    ensures { MatchResult result
+        (λ a. AnswersBut (F.holds files.old) (F.holds files.new) (wanted_of asked.entry)
+        a.output.text.items a.output.status a.unwritten
+        × GetsNothing (change (E.contents err.old) (E.contents err.new)))
+        (λ status. IsWhyTold (F.holds files.old) (F.holds files.new) (wanted_of asked.entry)
+        (change (E.contents err.old) (E.contents err.new)) status) }
 {
     match asked {
         Asked::Check {
@@ -225,7 +241,9 @@ fn put_answer<O: Write, E: Write>(
     out: &mut O,
     err: &mut E,
 ) -> u8
-    ensures { PutsBoth (change (O.contents out.old) (O.contents out.new)) (change (E.contents err.old) (E.contents err.new)) answered.entry.output.text.items answered.entry.output.status answered.entry.unwritten result }
+    ensures { PutsBoth (change (O.contents out.old) (O.contents out.new))
+        (change (E.contents err.old) (E.contents err.new)) answered.entry.output.text.items answered.entry.output.status
+        answered.entry.unwritten result }
 {
     let Answered { output, unwritten } = answered;
     let status = tried(put(out, output.text.as_slice()), output.status);
@@ -253,7 +271,9 @@ pub fn answer_asked<F: Files, O: Write, E: Write>(
     out: &mut O,
     err: &mut E,
 ) -> u8
-    ensures { (words : List Text) → AsksFor words (wanted_of asked.entry) → RunsAs words (F.holds files.old) (F.holds files.new) (change (O.contents out.old) (O.contents out.new)) (change (E.contents err.old) (E.contents err.new)) result }
+    ensures { (words : List Text) → AsksFor words (wanted_of asked.entry)
+        → RunsAs words (F.holds files.old) (F.holds files.new) (change (O.contents out.old) (O.contents out.new))
+        (change (E.contents err.old) (E.contents err.new)) result }
 {
     match answer(alloc, asked, files, err) {
         Ok(answered) => put_answer(alloc, answered, out, err),
@@ -275,7 +295,8 @@ pub fn program<S: AsStr, F: Files, O: Write, E: Write>(
     out: &mut O,
     err: &mut E,
 ) -> u8
-    ensures { RunsAs (map S.text words.now) (F.holds files.old) (F.holds files.new) (change (O.contents out.old) (O.contents out.new)) (change (E.contents err.old) (E.contents err.new)) result }
+    ensures { RunsAs (map S.text words.now) (F.holds files.old) (F.holds files.new)
+        (change (O.contents out.old) (O.contents out.new)) (change (E.contents err.old) (E.contents err.new)) result }
 {
     let asked = match command(alloc, words) {
         Ok(asked) => asked,

@@ -37,7 +37,10 @@ fn text_of(draft: Draft) -> Result<Vec<u8>, CommandRefusal>
 
 /// Writes a drafted file.
 fn write_file<F: Files>(file: &str, draft: Draft, files: &mut F) -> Result<(), CommandRefusal>
-    ensures { (cs : List Shown) → IsDraft draft cs → MatchResult result (λ _. IsFiled (F.holds files.old) (F.holds files.new) file.now cs) (λ why. IsUnfiled (F.holds files.old) (F.holds files.new) file.now why) }
+    ensures { (cs : List Shown) → IsDraft draft cs
+        → MatchResult result
+        (λ _. IsFiled (F.holds files.old) (F.holds files.new) file.now cs)
+        (λ why. IsUnfiled (F.holds files.old) (F.holds files.new) file.now why) }
 {
     let text = match text_of(draft) {
         Ok(text) => text,
@@ -57,7 +60,12 @@ pub fn write_out<'a, F: Files>(
     draft: Option<Draft>,
     files: &mut F,
 ) -> Result<(), Told<'a>>
-    ensures { (verdicts : List Verdict) → status ≡ status_of_verdicts verdicts → Drafts (file_named out.entry) draft (certificates_in verdicts) → MatchResult result (λ _. WritesOut (F.holds files.old) (F.holds files.new) (file_named out.entry) verdicts) (λ told. (file_named out.entry ≡ Some told.file.now) × (status ≡ 0) × IsUnfiled (F.holds files.old) (F.holds files.new) told.file.now told.why) }
+    ensures { (verdicts : List Verdict) → status ≡ status_of_verdicts verdicts
+        → Drafts (file_named out.entry) draft (certificates_in verdicts)
+        → MatchResult result
+        (λ _. WritesOut (F.holds files.old) (F.holds files.new) (file_named out.entry) verdicts)
+        (λ told. (file_named out.entry ≡ Some told.file.now) × (status ≡ 0)
+        × IsUnfiled (F.holds files.old) (F.holds files.new) told.file.now told.why) }
 {
     let file = match out {
         Some(file) => file,

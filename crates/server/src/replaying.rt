@@ -62,7 +62,10 @@ fn admitted(
     certificates: &[Certificate],
 ) -> Result<Checked, CommandRefusal>
     requires { length promised.items ≤ 64 }
-    ensures { MatchResult result (λ checked. (checked ≡ record { topology = topology; guarantees = promised.items }) × AreCertified topology promised.items certificates.now) (λ why. IsWhyUnadmitted topology promised.items certificates.now why) }
+    ensures { MatchResult result
+        (λ checked. (checked ≡ record { topology = topology; guarantees = promised.items })
+        × AreCertified topology promised.items certificates.now)
+        (λ why. IsWhyUnadmitted topology promised.items certificates.now why) }
 {
     match admit(alloc, topology, promised, certificates) {
         Ok(checked) => Ok(checked),
@@ -88,7 +91,10 @@ pub fn in_force<'a, F: Files>(
     named: BrokerFiles<'a>,
     files: &mut F,
 ) -> Result<(Checked, Vec<User>), Told<'a>>
-    ensures force { MatchResult result (λ force. OverNamed (λ d g c. IsInForce (F.holds files.old) d g c (in_force force.0 force.1.items)) named.entry) (λ told. OverNamed (λ d g c. FailsOver (F.holds files.old) d g c told.file.now told.why) named.entry) }
+    ensures force { MatchResult result
+        (λ force. OverNamed (λ d g c. IsInForce (F.holds files.old) d g c (in_force force.0 force.1.items))
+        named.entry)
+        (λ told. OverNamed (λ d g c. FailsOver (F.holds files.old) d g c told.file.now told.why) named.entry) }
     ensures files { AreKept (F.holds files.old) (F.holds files.new) }
 {
     let named_files::Setup {
@@ -126,7 +132,9 @@ fn script_of<F: Files>(
     script: &str,
     files: &mut F,
 ) -> Result<Vec<scripts::Arrival>, CommandRefusal>
-    ensures said { MatchResult result (λ said. ReadsScript (F.holds files.old script.now) said.items) (λ refusal. IsWhyOfFile refusal (F.holds files.old script.now)) }
+    ensures said { MatchResult result
+        (λ said. ReadsScript (F.holds files.old script.now) said.items)
+        (λ refusal. IsWhyOfFile refusal (F.holds files.old script.now)) }
     ensures files { AreKept (F.holds files.old) (F.holds files.new) }
 {
     let text = files.read(alloc, script)?;
@@ -139,7 +147,10 @@ fn setup_of<'a, F: Files>(
     names: &'a ReloadFiles,
     files: &mut F,
 ) -> Result<Setup, Told<'a>>
-    ensures force { MatchResult result (λ force. IsInForceBy (F.holds files.old) names.now force) (λ told. FailsOver (F.holds files.old) (Some names.now.definitions) (Some names.now.guarantees) (Some names.now.certificates) told.file.now told.why) }
+    ensures force { MatchResult result
+        (λ force. IsInForceBy (F.holds files.old) names.now force)
+        (λ told. FailsOver (F.holds files.old) (Some names.now.definitions) (Some names.now.guarantees)
+        (Some names.now.certificates) told.file.now told.why) }
     ensures files { AreKept (F.holds files.old) (F.holds files.new) }
 {
     let named = BrokerFiles {
@@ -159,7 +170,9 @@ fn arrival_of<'a, F: Files>(
     said: &'a scripts::Arrival,
     files: &mut F,
 ) -> Result<Arrival<Setup>, Told<'a>>
-    ensures set_up { MatchResult result (λ arrival. IsSetUp (F.holds files.old) said.now arrival) (λ told. IsWhyNotSetUp (F.holds files.old) said.now told.file.now told.why) }
+    ensures set_up { MatchResult result
+        (λ arrival. IsSetUp (F.holds files.old) said.now arrival)
+        (λ told. IsWhyNotSetUp (F.holds files.old) said.now told.file.now told.why) }
     ensures files { AreKept (F.holds files.old) (F.holds files.new) }
 {
     match said {
@@ -185,7 +198,9 @@ fn arrivals_of<'a, F: Files>(
     said: &'a [scripts::Arrival],
     files: &mut F,
 ) -> Result<Vec<Arrival<Setup>>, Told<'a>>
-    ensures set_up { MatchResult result (λ arrivals. AreSetUp (F.holds files.old) said.now arrivals.items) (λ told. FailsToReload (F.holds files.old) said.now told.file.now told.why) }
+    ensures set_up { MatchResult result
+        (λ arrivals. AreSetUp (F.holds files.old) said.now arrivals.items)
+        (λ told. FailsToReload (F.holds files.old) said.now told.file.now told.why) }
     ensures files { AreKept (F.holds files.old) (F.holds files.new) }
 {
     let mut arrivals = Vec::new(alloc);
@@ -223,7 +238,11 @@ fn played_file<F: Files, E: Write>(
     files: &mut F,
     err: &mut E,
 ) -> Result<Vec<u8>, u8>
-    ensures plays { MatchResult result (λ text. PrintsFile (F.holds files.old) script.now (in_force checked users.items) text.items × GetsNothing (change (E.contents err.old) (E.contents err.new))) (λ status. IsUnplayed (F.holds files.old) script.now (change (E.contents err.old) (E.contents err.new)) status) }
+    ensures plays { MatchResult result
+        (λ text. PrintsFile (F.holds files.old) script.now (in_force checked users.items) text.items
+        × GetsNothing (change (E.contents err.old) (E.contents err.new)))
+        (λ status. IsUnplayed (F.holds files.old) script.now
+        (change (E.contents err.old) (E.contents err.new)) status) }
     ensures files { AreKept (F.holds files.old) (F.holds files.new) }
 {
     let said = match script_of(alloc, script, files) {
@@ -250,7 +269,11 @@ pub fn replay<F: Files, E: Write>(
     files: &mut F,
     err: &mut E,
 ) -> Result<Output, u8>
-    ensures answers { MatchResult result (λ o. OverNamed (λ d g c. IsReplayed (F.holds files.old) script.now d g c o.text.items o.status) named.entry × GetsNothing (change (E.contents err.old) (E.contents err.new))) (λ status. OverNamed (λ d g c. IsWhyTold (F.holds files.old) (F.holds files.new) (Replay script.now d g c) (change (E.contents err.old) (E.contents err.new)) status) named.entry) }
+    ensures answers { MatchResult result
+        (λ o. OverNamed (λ d g c. IsReplayed (F.holds files.old) script.now d g c o.text.items o.status) named.entry
+        × GetsNothing (change (E.contents err.old) (E.contents err.new)))
+        (λ status. OverNamed (λ d g c. IsWhyTold (F.holds files.old) (F.holds files.new) (Replay script.now d g c)
+        (change (E.contents err.old) (E.contents err.new)) status) named.entry) }
     ensures files { AreKept (F.holds files.old) (F.holds files.new) }
 {
     let (checked, users) = match in_force(alloc, named, files) {

@@ -20,7 +20,10 @@ pub fn started<'a, F: Files>(
     certificates: &'a str,
     files: &mut F,
 ) -> Result<Engine, Told<'a>>
-    ensures started { MatchResult result (λ e. IsStarted (F.holds files.old) definitions.now guarantees.now certificates.now (world_of e)) (λ told. FailsToStart (F.holds files.old) definitions.now guarantees.now certificates.now told.file.now told.why) }
+    ensures started { MatchResult result
+        (λ e. IsStarted (F.holds files.old) definitions.now guarantees.now certificates.now (world_of e))
+        (λ told. FailsToStart (F.holds files.old) definitions.now guarantees.now certificates.now
+        told.file.now told.why) }
     ensures files { AreKept (F.holds files.old) (F.holds files.new) }
 {
     let named = BrokerFiles {

@@ -116,7 +116,8 @@ pub(crate) fn count_accept(counts: &mut Vec<Option<Count>>, answer: Accept)
 
 /// Counts what a read gave.
 pub(crate) fn count_read(counts: &mut Vec<Option<Count>>, socket: u64, answer: Read)
-    ensures { (room : ℕ) (buffer : List ℕ) → ((n : ℕ) → answer ≡ read.Got n → n ≤ length buffer) → Counts counts.old.items (read_call socket room answer buffer) counts.new.items }
+    ensures { (room : ℕ) (buffer : List ℕ) → ((n : ℕ) → answer ≡ read.Got n → n ≤ length buffer)
+        → Counts counts.old.items (read_call socket room answer buffer) counts.new.items }
 {
     match answer {
         Read::Got(n) => count_got(counts, socket, n),
@@ -128,7 +129,8 @@ pub(crate) fn count_read(counts: &mut Vec<Option<Count>>, socket: u64, answer: R
 
 /// Counts what a write took.
 pub(crate) fn count_write(counts: &mut Vec<Option<Count>>, socket: u64, answer: Write)
-    ensures { (offered : List ℕ) → ((n : ℕ) → answer ≡ write.Took n → n ≤ length offered) → Counts counts.old.items (write_call socket answer offered) counts.new.items }
+    ensures { (offered : List ℕ) → ((n : ℕ) → answer ≡ write.Took n → n ≤ length offered)
+        → Counts counts.old.items (write_call socket answer offered) counts.new.items }
 {
     match answer {
         Write::Took(n) => count_taken(counts, socket, n),

@@ -1,6 +1,6 @@
 -- The walk: what a token leads to, and what is added.
 use Rattle.std.proofs.Common.{◌≡◌, ℕ, zero, suc, ◌+◌, ◌<◌, List, [], ◌∷◌, ◌++◌, Bool, false, refl, sym, ap, ◌∙◌, subst, length, take, get_or, inl, inr, arith, append_assoc, append-nil}
-use Rattle.std.specs.Prelude.{◌⊎◌, Option, Some, None, MatchOption}
+use Rattle.std.specs.Prelude.{◌⊎◌, Option, Some, None, IfSome, IfNone}
 use Rattle.std.proofs.lemmas.List.{same_from_push}
 use Rattle.std.proofs.lemmas.Bool.{false≢true}
 use Rattle.model.specs.Words.{Text, Matches, word}
@@ -231,11 +231,11 @@ added_here patterns nodes chains words steps here n old new last size l h counts
     }
 
 pub found_step : (patterns : List (List Token)) (nodes : List Node) (words : List Text) (at : ℕ) (t : Token) (o : Option Met) (next : Met) → o ≡ Some next
-    → MatchOption o (IsBarren patterns nodes words at t) (λ m. IsStep patterns nodes words at t m.node m.counts.items) → IsStep patterns nodes words at t next.node next.counts.items
+    → IfSome o (λ m. IsStep patterns nodes words at t m.node m.counts.items) → IsStep patterns nodes words at t next.node next.counts.items
 found_step patterns nodes words at t o next e h =
-    subst (λ (z : Option Met). MatchOption z (IsBarren patterns nodes words at t) (λ m. IsStep patterns nodes words at t m.node m.counts.items)) e h
+    subst (λ (z : Option Met). IfSome z (λ m. IsStep patterns nodes words at t m.node m.counts.items)) e h
 
 pub found_none : (patterns : List (List Token)) (nodes : List Node) (words : List Text) (at : ℕ) (t : Token) (o : Option Met) → o ≡ None
-    → MatchOption o (IsBarren patterns nodes words at t) (λ m. IsStep patterns nodes words at t m.node m.counts.items) → IsBarren patterns nodes words at t
+    → IfNone o (IsBarren patterns nodes words at t) → IsBarren patterns nodes words at t
 found_none patterns nodes words at t o e h =
-    subst (λ (z : Option Met). MatchOption z (IsBarren patterns nodes words at t) (λ m. IsStep patterns nodes words at t m.node m.counts.items)) e h
+    subst (λ (z : Option Met). IfNone z (IsBarren patterns nodes words at t)) e h

@@ -31,7 +31,8 @@ pub record AreMet (patterns : List (List Token)) (nodes : List Node) (words : Li
   pub within : (m : Met) → IsIn m met → m.node < length nodes
   pub such : (m : Met) → IsIn m met → Such (beginning_at patterns nodes m.node)
   pub counts : (m : Met) → IsIn m met → AreCounts (beginning_at patterns nodes m.node) words m.counts.items
-  pub all : (c i : ℕ) → c < length nodes → i ≤ length words → Matches (beginning_at patterns nodes c) (take i words) → Such (beginning_at patterns nodes c) → IsIn c (nodes_of met)
+  pub all : (c i : ℕ) → c < length nodes → i ≤ length words → Matches (beginning_at patterns nodes c) (take i words)
+      → Such (beginning_at patterns nodes c) → IsIn c (nodes_of met)
 
 -- such are added
 pub record AreAdded (patterns : List (List Token)) (nodes : List Node) (words : List Text) (Such : List Token → Type 0) (old new : List Met) : Type 0 where
@@ -48,8 +49,8 @@ pub record IsStep (patterns : List (List Token)) (nodes : List Node) (words : Li
 
 -- by this token no word of the key goes on
 abbrev pub IsBarren : List (List Token) → List Node → List Text → ℕ → Token → Type 0
-IsBarren patterns nodes words at token = (c i : ℕ) (rest : List Token) → c < length nodes → beginning_at patterns nodes c ≡ beginning_at patterns nodes at ++ token ∷ rest
-    → Matches (beginning_at patterns nodes c) (take i words) → i ≤ length words → ⊥
+IsBarren patterns nodes words at token = (c i : ℕ) (rest : List Token) → c < length nodes
+    → beginning_at patterns nodes c ≡ beginning_at patterns nodes at ++ token ∷ rest → Matches (beginning_at patterns nodes c) (take i words) → i ≤ length words → ⊥
 
 -- how many numbers of words are told of all these nodes together
 abbrev pub told_in : List Met → ℕ

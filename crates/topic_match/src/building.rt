@@ -28,7 +28,8 @@ fn add_node(
     requires is_new { (c : ℕ) → IsChild patterns.now nodes.old.items parent (slice_index_or (slice_index_or patterns.now pattern []) depth Any) c → ⊥ }
     ensures linked { OnOk result (AreLinked patterns.now nodes.new.items chains.new) }
     ensures grown { OnOk result (AreGrown patterns.now nodes.old.items nodes.new.items) }
-    ensures made { IfOk result (λ c. (c < length nodes.new.items) × (beginning_at patterns.now nodes.new.items c ≡ take (depth + 1) (slice_index_or patterns.now pattern []))) }
+    ensures made { IfOk result (λ c. (c < length nodes.new.items)
+        × (beginning_at patterns.now nodes.new.items c ≡ take (depth + 1) (slice_index_or patterns.now pattern []))) }
 {
     let node = nodes.len();
     let mark = mark_of(&patterns[pattern].tokens()[depth]);
@@ -59,7 +60,8 @@ fn node_behind(
     requires before { beginning_at patterns.now nodes.old.items parent ≡ take depth (slice_index_or patterns.now pattern []) }
     ensures linked { OnOk result (AreLinked patterns.now nodes.new.items chains.new) }
     ensures grown { OnOk result (AreGrown patterns.now nodes.old.items nodes.new.items) }
-    ensures made { IfOk result (λ c. (c < length nodes.new.items) × (beginning_at patterns.now nodes.new.items c ≡ take (depth + 1) (slice_index_or patterns.now pattern []))) }
+    ensures made { IfOk result (λ c. (c < length nodes.new.items)
+        × (beginning_at patterns.now nodes.new.items c ≡ take (depth + 1) (slice_index_or patterns.now pattern []))) }
 {
     let token = &patterns[pattern].tokens()[depth];
     if let Some(node) = child(patterns, nodes.as_slice(), chains, parent, &Step::by(token)) {

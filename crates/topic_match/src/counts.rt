@@ -20,7 +20,8 @@ pub fn counts_after(
     before: &[bool],
 ) -> Result<Counts, AllocError>
     requires { length before.now ≡ length words.now + 1 }
-    ensures { IfOk result (λ after. (tokens : List Token) → AreCounts tokens words.now before.now → AreCounts (tokens ++ token.now ∷ []) words.now after.items) }
+    ensures { IfOk result (λ after. (tokens : List Token) → AreCounts tokens words.now before.now
+        → AreCounts (tokens ++ token.now ∷ []) words.now after.items) }
 {
     let mut after = SmallVec::new(alloc);
     let mut was = token.stands_first(before[0]);

@@ -49,7 +49,8 @@ fn add_places(
 ) -> Result<(), AllocError>
     requires node { met.now.node < length lists.now }
     requires count { count < length met.now.counts.items }
-    ensures { OnOk result (found.new.items ≡ found.old.items ++ (if slice_index_or met.now.counts.items count false then slice_index_or lists.now met.now.node [] else [])) }
+    ensures { OnOk result (found.new.items ≡ found.old.items
+        ++ (if slice_index_or met.now.counts.items count false then slice_index_or lists.now met.now.node [] else [])) }
 {
     if met.counts[count] {
         found.extend_from_slice(lists[met.node].as_slice())?;

@@ -36,7 +36,8 @@ fn with_exit(exits: Exits, token: &Token) -> Exits
 fn open(patterns: &[Pattern], node: &Node, exits: &mut [Exits])
     requires deep { IsDeep patterns.now node.now }
     requires within { node.now.parent < length exits.old }
-    ensures { exits.new ≡ slice_set exits.old node.now.parent (with_exit (slice_index_or exits.old node.now.parent no_exit) (last_token patterns.now node.now)) }
+    ensures { exits.new ≡ slice_set exits.old node.now.parent
+        (with_exit (slice_index_or exits.old node.now.parent no_exit) (last_token patterns.now node.now)) }
 {
     let token = &patterns[node.pattern].tokens()[node.depth - 1];
     exits[node.parent] = with_exit(exits[node.parent], token);

@@ -97,7 +97,8 @@ impl Model for Trie {
 
     ghost view = { λ t. t.patterns.items };
 
-    ghost invariant = { λ t. IsTrie t.patterns.items t.nodes.items t.chains.items t.ends.items t.places.items × AreExits t.patterns.items t.nodes.items (length t.nodes.items) t.exits.items };
+    ghost invariant = { λ t. IsTrie t.patterns.items t.nodes.items t.chains.items t.ends.items t.places.items
+        × AreExits t.patterns.items t.nodes.items (length t.nodes.items) t.exits.items };
 }
 
 impl Trie {

@@ -1,6 +1,6 @@
 //! The walk over the beginnings that match some of the first words of a key.
 
-ghost use Rattle.std.specs.Prelude.{◌≡◌, ◌<◌, length, IfOk, OnOk, MatchOption};
+ghost use Rattle.std.specs.Prelude.{◌≡◌, ◌<◌, length, IfOk, IfSome, IfNone, OnOk};
 ghost use Rattle.topic_match.specs.Counts.{AreCounts};
 ghost use Rattle.topic_match.specs.Exits.{AreExits};
 ghost use Rattle.topic_match.specs.Nodes.{AreLinked, beginning_at};
@@ -28,7 +28,9 @@ fn step(
     requires exits { AreExits patterns.now links.now.nodes.now (length links.now.nodes.now) links.now.exits.now }
     requires within { from.now.node < length links.now.nodes.now }
     requires counted { AreCounts (beginning_at patterns.now links.now.nodes.now from.now.node) words.now from.now.counts.items }
-    ensures { IfOk result (λ o. MatchOption o (IsBarren patterns.now links.now.nodes.now words.now from.now.node by.now) (λ next. IsStep patterns.now links.now.nodes.now words.now from.now.node by.now next.node next.counts.items)) }
+    ensures none { IfOk result (λ o. IfNone o (IsBarren patterns.now links.now.nodes.now words.now from.now.node by.now)) }
+    ensures next { IfOk result (λ o. IfSome o (λ next.
+        IsStep patterns.now links.now.nodes.now words.now from.now.node by.now next.node next.counts.items)) }
 {
     if !by.may_go(links.exits[from.node]) {
         return Ok(None);
@@ -58,7 +60,8 @@ pub fn walk(
     requires within { from.node < length links.now.nodes.now }
     requires counted { AreCounts (beginning_at patterns.now links.now.nodes.now from.node) words.now from.counts.items }
     requires taken { AreSteps steps.now words.now }
-    ensures { OnOk result (AreAdded patterns.now links.now.nodes.now words.now (Begins (beginning_at patterns.now links.now.nodes.now from.node)) met.old.items met.new.items) }
+    ensures { OnOk result (AreAdded patterns.now links.now.nodes.now words.now
+        (Begins (beginning_at patterns.now links.now.nodes.now from.node)) met.old.items met.new.items) }
 {
     for place in 0..steps.len() {
         let Some(next) = step(alloc, patterns, links, words, &from, &steps[place])? else {

@@ -94,7 +94,8 @@ fn open_line(
     state: usize,
     word: &Option<Text>,
 ) -> Result<String, AllocError>
-    ensures { IfOk result (λ text. string_bytes text ≡ line (decimal number ∷ codes "fault 2 state" ∷ decimal state ∷ codes "letter" ∷ letter_word word.now ∷ [])) }
+    ensures { IfOk result (λ text. string_bytes text
+        ≡ line (decimal number ∷ codes "fault 2 state" ∷ decimal state ∷ codes "letter" ∷ letter_word word.now ∷ [])) }
 {
     let letter = letter_word(alloc, word)?;
     format!(in alloc; "{number} fault 2 state {state} letter {letter}\n")

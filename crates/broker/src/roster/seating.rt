@@ -8,7 +8,20 @@ ghost use Rattle.std.specs.Prelude.{◌≡◌, ◌<◌, ◌≤◌, ◌*◌, [], 
 ghost use Rattle.marks.specs.Places.{bit_of};
 ghost use Rattle.broker_core.specs.State.{topology_kept};
 ghost use Rattle.broker_core.specs.Picked.{IsPickFrom};
-ghost use Rattle.broker.specs.Roster.{ring_at, rings_of, IsAwake, IsAsleep, QueuesAreMarked, IsNextMarked, KeepRings, KeepsSeats, ListsMore, AllWaken, NoneSeated, NoneBetween};
+ghost use Rattle.broker.specs.Roster.{
+  ring_at,
+  rings_of,
+  IsAwake,
+  IsAsleep,
+  QueuesAreMarked,
+  IsNextMarked,
+  KeepRings,
+  KeepsSeats,
+  ListsMore,
+  AllWaken,
+  NoneSeated,
+  NoneBetween,
+};
 ghost use Rattle.broker.specs.Moving.{AllRoused, ArePlacesApart, RingsAreMoved};
 ghost use Rattle.broker_core.specs.declared.picks.Pick.{Pick as Consumer};
 

@@ -6,14 +6,14 @@ pub loop-place-preserved-in_default : goal.loop-place-preserved-in_default
 loop-place-preserved-in_default t c =
     added_skip c.args.patterns.now c.args.links.now.nodes.now c.args.words.now c.args.from.node c.loop-place.place c.args.steps.now c.index-steps-place.result c.args.met.now.items c.loop-place.met.items
     c.loop-place-test.true c.index-steps-place.is
-    (let e = c.in_ok-next.ensures in found_none c.args.patterns.now c.args.links.now.nodes.now c.args.words.now c.args.from.node c.index-steps-place.result c.in_ok-next.field-0 (c.in_default.is) e)
+    (let e = c.in_ok-next.ensures.none in found_none c.args.patterns.now c.args.links.now.nodes.now c.args.words.now c.args.from.node c.index-steps-place.result c.in_ok-next.field-0 (c.in_default.is) e)
     c.loop-place.invariant
 
 pub loop-place-preserved : goal.loop-place-preserved
 loop-place-preserved t c =
     added_more c.args.patterns.now c.args.links.now.nodes.now c.args.words.now c.args.from.node c.loop-place.place c.in-Some.next.node c.in-Some.next.counts.items c.args.steps.now c.index-steps-place.result
     c.args.met.now.items c.loop-place.met.items c.walk.new.met.items c.loop-place-test.true c.index-steps-place.is c.requires.taken.apart
-    (found_step c.args.patterns.now c.args.links.now.nodes.now c.args.words.now c.args.from.node c.index-steps-place.result c.in_ok-next.field-0 c.in-Some.next c.in-Some.is c.in_ok-next.ensures)
+    (found_step c.args.patterns.now c.args.links.now.nodes.now c.args.words.now c.args.from.node c.index-steps-place.result c.in_ok-next.field-0 c.in-Some.next c.in-Some.is c.in_ok-next.ensures.next)
     c.in_ok-walk.ensures c.loop-place.invariant
 
 pub returns : goal.returns

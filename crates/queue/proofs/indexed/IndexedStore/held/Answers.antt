@@ -16,7 +16,7 @@ returns-in-None c =
 
 pub returns-in-Some : goal.returns-in-Some
 returns-in-Some c =
-    let t = subst (λ (bs : List Line). some_pass (is_held_as c.args.holder.now) (get_or (parts bs) c.in-Some.place []) ≡ true) c.deref.ensures.value c.in-Some.ensures.some in
+    let t = subst (λ (bs : List Line). some_pass (is_held_as c.args.holder.now) (get_or (parts bs) c.in-Some.spot.block []) ≡ true) c.deref.ensures.value c.in-Some.ensures.some in
     subst (λ (l : Line). option_map (λ e. e.now) c.held_at.result ≡ find (is_held_as c.args.holder.now) l.entries) c.self.view_is
-    (c.held_at.ensures ∙ ap (λ (bs : List Line). find (is_held_as c.args.holder.now) (get_or (parts bs) c.in-Some.place [])) c.deref-in-Some.ensures.value
-    ∙ sym (joined_found (is_held_as c.args.holder.now) (parts c.self.inside.blocks.items) c.in-Some.place (held_first (parts c.self.inside.blocks.items) c.self.inside.ready_count c.self.inside.live c.self.inside.ready_bytes c.in-Some.place c.args.holder.now c.self.invariant.2 t)))
+    (c.held_at.ensures ∙ ap (λ (bs : List Line). find (is_held_as c.args.holder.now) (get_or (parts bs) c.in-Some.spot.block [])) c.deref-in-Some.ensures.value
+    ∙ sym (joined_found (is_held_as c.args.holder.now) (parts c.self.inside.blocks.items) c.in-Some.spot.block (held_first (parts c.self.inside.blocks.items) c.self.inside.ready_count c.self.inside.live c.self.inside.ready_bytes c.in-Some.spot.block c.args.holder.now c.self.invariant.2 t)))

@@ -14,31 +14,31 @@ use Rattle.queue.proofs.indexed.IndexedStore.release.Goals as goal
 
 pub overflow_add-self : goal.overflow_add-self
 overflow_add-self c =
-    let t = subst (λ (bs : List Line). some_pass (is_held_as c.args.holder.now) (get_or (parts bs) c.in-Some.place []) ≡ true) c.deref.ensures.value c.in-Some.ensures.some in
-    let least = (held_there (parts c.self.inside.blocks.items) c.self.inside.ready_count c.self.inside.live c.self.inside.ready_bytes c.in-Some.place c.args.holder.now c.self.invariant.2 t).1.0 in
+    let t = subst (λ (bs : List Line). some_pass (is_held_as c.args.holder.now) (get_or (parts bs) c.in-Some.field-0.block []) ≡ true) c.deref.ensures.value c.in-Some.ensures.some in
+    let least = (held_there (parts c.self.inside.blocks.items) c.self.inside.ready_count c.self.inside.live c.self.inside.ready_bytes c.in-Some.field-0.block c.args.holder.now c.self.invariant.2 t).1.0 in
     omega (arith, least)
 
 pub overflow_add-self-in-Some : goal.overflow_add-self-in-Some
 overflow_add-self-in-Some c =
-    let t = subst (λ (bs : List Line). some_pass (is_held_as c.args.holder.now) (get_or (parts bs) c.in-Some.place []) ≡ true) c.deref.ensures.value c.in-Some.ensures.some in
-    let size : c.held_bytes_at.result ≡ size_of body_bytes (find (is_held_as c.args.holder.now) (get_or (parts c.self.inside.blocks.items) c.in-Some.place []))
-    = c.held_bytes_at.ensures ∙ ap (λ (bs : List Line). size_of body_bytes (find (is_held_as c.args.holder.now) (get_or (parts bs) c.in-Some.place []))) c.deref-in-Some.ensures.value in
-    let least = (held_there (parts c.self.inside.blocks.items) c.self.inside.ready_count c.self.inside.live c.self.inside.ready_bytes c.in-Some.place c.args.holder.now c.self.invariant.2 t).1.1 in
+    let t = subst (λ (bs : List Line). some_pass (is_held_as c.args.holder.now) (get_or (parts bs) c.in-Some.field-0.block []) ≡ true) c.deref.ensures.value c.in-Some.ensures.some in
+    let size : c.held_bytes_at.result ≡ size_of body_bytes (find (is_held_as c.args.holder.now) (get_or (parts c.self.inside.blocks.items) c.in-Some.field-0.block []))
+    = c.held_bytes_at.ensures ∙ ap (λ (bs : List Line). size_of body_bytes (find (is_held_as c.args.holder.now) (get_or (parts bs) c.in-Some.field-0.block []))) c.deref-in-Some.ensures.value in
+    let least = (held_there (parts c.self.inside.blocks.items) c.self.inside.ready_count c.self.inside.live c.self.inside.ready_bytes c.in-Some.field-0.block c.args.holder.now c.self.invariant.2 t).1.1 in
     let most = (counts_most (joined (parts c.self.inside.blocks.items)) c.self.inside.ready_count c.self.inside.live c.self.inside.ready_bytes c.self.invariant.2).1 in
     omega (arith, size, least, most)
 
 pub free_at-requires : goal.free_at-requires
 free_at-requires c =
-    let t = subst (λ (bs : List Line). some_pass (is_held_as c.args.holder.now) (get_or (parts bs) c.in-Some.place []) ≡ true) c.deref.ensures.value c.in-Some.ensures.some in
-    let lt = first_within (is_held_as c.args.holder.now) (parts c.self.inside.blocks.items) c.in-Some.place t in
+    let t = subst (λ (bs : List Line). some_pass (is_held_as c.args.holder.now) (get_or (parts bs) c.in-Some.field-0.block []) ≡ true) c.deref.ensures.value c.in-Some.ensures.some in
+    let lt = first_within (is_held_as c.args.holder.now) (parts c.self.inside.blocks.items) c.in-Some.field-0.block t in
     let n = parts-length c.self.inside.blocks.items in
     let l : vec_len c.self.inside.blocks ≡ length c.self.inside.blocks.items = search rules in
     omega (arith, lt)
 
 pub sign-requires : goal.sign-requires
 sign-requires c =
-    let t = subst (λ (bs : List Line). some_pass (is_held_as c.args.holder.now) (get_or (parts bs) c.in-Some.place []) ≡ true) c.deref.ensures.value c.in-Some.ensures.some in
-    let lt = first_within (is_held_as c.args.holder.now) (parts c.self.inside.blocks.items) c.in-Some.place t in
+    let t = subst (λ (bs : List Line). some_pass (is_held_as c.args.holder.now) (get_or (parts bs) c.in-Some.field-0.block []) ≡ true) c.deref.ensures.value c.in-Some.ensures.some in
+    let lt = first_within (is_held_as c.args.holder.now) (parts c.self.inside.blocks.items) c.in-Some.field-0.block t in
     let n = parts-length c.self.inside.blocks.items in
     let l : vec_len c.self.inside.blocks ≡ length c.self.inside.blocks.items = search rules in
     let u = c.self.invariant.1.used in
@@ -46,14 +46,14 @@ sign-requires c =
 
 pub invariant_of-self : goal.invariant_of-self
 invariant_of-self c =
-    let t = subst (λ (bs : List Line). some_pass (is_held_as c.args.holder.now) (get_or (parts bs) c.in-Some.place []) ≡ true) c.deref.ensures.value c.in-Some.ensures.some in
-    let size : c.held_bytes_at.result ≡ size_of body_bytes (find (is_held_as c.args.holder.now) (get_or (parts c.self.inside.blocks.items) c.in-Some.place []))
-    = c.held_bytes_at.ensures ∙ ap (λ (bs : List Line). size_of body_bytes (find (is_held_as c.args.holder.now) (get_or (parts bs) c.in-Some.place []))) c.deref-in-Some.ensures.value in
-    let turned : BitTurned c.self.inside.signs c.sign.new.signs c.in-Some.place (num (some_pass is_ready (get_or (parts c.free_at.new.blocks.items) c.in-Some.place [])))
-    = subst (λ (bs : List Line). BitTurned c.self.inside.signs c.sign.new.signs c.in-Some.place (num (some_pass is_ready (get_or (parts bs) c.in-Some.place [])))) c.deref-in-Some-2.ensures.value c.sign.ensures in (
-      signed_now (parts c.self.inside.blocks.items) _ _ c.self.inside.signs c.sign.new.signs c.in-Some.place (first_within (is_held_as c.args.holder.now) (parts c.self.inside.blocks.items) c.in-Some.place t) c.self.invariant.0 c.free_at.ensures.parts turned,
+    let t = subst (λ (bs : List Line). some_pass (is_held_as c.args.holder.now) (get_or (parts bs) c.in-Some.field-0.block []) ≡ true) c.deref.ensures.value c.in-Some.ensures.some in
+    let size : c.held_bytes_at.result ≡ size_of body_bytes (find (is_held_as c.args.holder.now) (get_or (parts c.self.inside.blocks.items) c.in-Some.field-0.block []))
+    = c.held_bytes_at.ensures ∙ ap (λ (bs : List Line). size_of body_bytes (find (is_held_as c.args.holder.now) (get_or (parts bs) c.in-Some.field-0.block []))) c.deref-in-Some.ensures.value in
+    let turned : BitTurned c.self.inside.signs c.sign.new.signs c.in-Some.field-0.block (num (some_pass is_ready (get_or (parts c.free_at.new.blocks.items) c.in-Some.field-0.block [])))
+    = subst (λ (bs : List Line). BitTurned c.self.inside.signs c.sign.new.signs c.in-Some.field-0.block (num (some_pass is_ready (get_or (parts bs) c.in-Some.field-0.block [])))) c.deref-in-Some-2.ensures.value c.sign.ensures in (
+      signed_now (parts c.self.inside.blocks.items) _ _ c.self.inside.signs c.sign.new.signs c.in-Some.field-0.block (first_within (is_held_as c.args.holder.now) (parts c.self.inside.blocks.items) c.in-Some.field-0.block t) c.self.invariant.0 c.free_at.ensures.parts turned,
       same_places _ _ _ _ _ _ c.self.invariant.1 c.free_at.ensures.len c.free_at.ensures.capacity c.sign.ensures.places,
-      release_there (parts c.self.inside.blocks.items) (parts c.free_at.new.blocks.items) _ _ _ _ _ c.held_bytes_at.result c.in-Some.place c.args.holder.now c.self.invariant.2 t c.free_at.ensures.parts size refl refl,
+      release_there (parts c.self.inside.blocks.items) (parts c.free_at.new.blocks.items) _ _ _ _ _ c.held_bytes_at.result c.in-Some.field-0.block c.args.holder.now c.self.invariant.2 t c.free_at.ensures.parts size refl refl,
       record { there = (let t = c.self.invariant.3.there in let r = c.free_at.ensures.room in omega (arith, t, r)); few = (let f = c.self.invariant.3.few in omega (arith, f)) },
     )
 
@@ -71,12 +71,12 @@ returns-in-None-clause-entries c =
 
 pub returns-in-Some-clause-told : goal.returns-in-Some-clause-told
 returns-in-Some-clause-told c =
-    let t = subst (λ (bs : List Line). some_pass (is_held_as c.args.holder.now) (get_or (parts bs) c.in-Some.place []) ≡ true) c.deref.ensures.value c.in-Some.ensures.some in
+    let t = subst (λ (bs : List Line). some_pass (is_held_as c.args.holder.now) (get_or (parts bs) c.in-Some.field-0.block []) ≡ true) c.deref.ensures.value c.in-Some.ensures.some in
     subst (λ (l : Line). true ≡ is_some (find (is_held_as c.args.holder.now) l.entries)) c.self.view_is
-    (sym (ap is_some (joined_found (is_held_as c.args.holder.now) (parts c.self.inside.blocks.items) c.in-Some.place (held_first (parts c.self.inside.blocks.items) c.self.inside.ready_count c.self.inside.live c.self.inside.ready_bytes c.in-Some.place c.args.holder.now c.self.invariant.2 t)) ∙ t))
+    (sym (ap is_some (joined_found (is_held_as c.args.holder.now) (parts c.self.inside.blocks.items) c.in-Some.field-0.block (held_first (parts c.self.inside.blocks.items) c.self.inside.ready_count c.self.inside.live c.self.inside.ready_bytes c.in-Some.field-0.block c.args.holder.now c.self.invariant.2 t)) ∙ t))
 
 pub returns-in-Some-clause-entries : goal.returns-in-Some-clause-entries
 returns-in-Some-clause-entries c =
-    let t = subst (λ (bs : List Line). some_pass (is_held_as c.args.holder.now) (get_or (parts bs) c.in-Some.place []) ≡ true) c.deref.ensures.value c.in-Some.ensures.some in
+    let t = subst (λ (bs : List Line). some_pass (is_held_as c.args.holder.now) (get_or (parts bs) c.in-Some.field-0.block []) ≡ true) c.deref.ensures.value c.in-Some.ensures.some in
     subst (λ (l : Line). joined (parts c.free_at.new.blocks.items) ≡ requeued (is_under c.args.holder.now) l.entries) c.self.view_is
-    (ap (λ (ps : List (List Entry)). joined ps) c.free_at.ensures.parts ∙ sym (freed_there_is (parts c.self.inside.blocks.items) c.self.inside.ready_count c.self.inside.live c.self.inside.ready_bytes c.in-Some.place c.args.holder.now c.self.invariant.2 t))
+    (ap (λ (ps : List (List Entry)). joined ps) c.free_at.ensures.parts ∙ sym (freed_there_is (parts c.self.inside.blocks.items) c.self.inside.ready_count c.self.inside.live c.self.inside.ready_bytes c.in-Some.field-0.block c.args.holder.now c.self.invariant.2 t))
