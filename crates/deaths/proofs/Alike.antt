@@ -19,7 +19,8 @@ properties_in other (Err code) = other
 abbrev behind_front : List ℕ → List ℕ
 behind_front bytes = to_be_bytes w16 60 ++ to_be_bytes w16 0 ++ to_be_bytes w64 0 ++ bytes
 
-pub alike : OneHeader → (p q : Properties) (bytes : List ℕ) → AreProperties p → bytes ≡ properties_bytes p → AreProperties q → bytes ≡ properties_bytes q → p ≡ q
+pub alike : OneHeader → (p q : Properties) (bytes : List ℕ)
+    → AreProperties p → bytes ≡ properties_bytes p → AreProperties q → bytes ≡ properties_bytes q → p ≡ q
 alike one p q bytes fits e also same =
     let payload : List ℕ = header_bytes 0 p in
     let first : SaysHeader payload (Ok (alone p)) = said (omega arith) fits refl in

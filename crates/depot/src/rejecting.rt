@@ -67,7 +67,9 @@ fn plan_one(
 ) -> Result<(), AllocError>
     requires len { length queues.now ≡ length router.old.queues }
     requires within { given.now.place < length router.old.queues }
-    ensures planned { OnOk result ((planned : List Planned) × (deaths.new.items ≡ deaths.old.items ++ planned) × Plans router.old connection channel given.now (given_at connection channel (entries_of queues.now) given.now) planned) }
+    ensures planned { OnOk result ((planned : List Planned)
+        × (deaths.new.items ≡ deaths.old.items ++ planned)
+        × Plans router.old connection channel given.now (given_at connection channel (entries_of queues.now) given.now) planned) }
     ensures same { router.new ≡ router.old }
 {
     let place = given.place;
