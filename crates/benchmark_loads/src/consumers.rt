@@ -46,6 +46,15 @@ pub fn put_ack(out: &mut Written, tag: u64) {
     out.put(END.as_slice());
 }
 
+/// Appends basic.nack of all deliveries up to this tag, which are not to be requeued.
+pub fn put_nack_all(out: &mut Written, tag: u64) {
+    put_head(out, 13);
+    out.put(&[0, 60, 0, 120]);
+    out.put(tag.to_be_bytes().as_slice());
+    out.put(&[1]);
+    out.put(END.as_slice());
+}
+
 /// Appends queue.purge of this queue.
 pub fn put_purge(out: &mut Written, queue: &[u8]) {
     put_head(out, queue.len().saturating_add(8));

@@ -1,4 +1,4 @@
-//! Benchmarks: what publishes, deliveries, acks, losses, purges, openings and reloads cost the engine, what waiting messages and
+//! Benchmarks: what publishes, deliveries, acks, losses, purges, rejects, openings and reloads cost the engine, what waiting messages and
 //! open connections take, and how long matchers, routes, large definitions files and certificates take. What is printed is to be
 //! read; nothing tests it.
 #![tactic(auto)]
@@ -11,6 +11,7 @@ mod matchers;
 mod memory;
 mod openings;
 mod publishes;
+mod rejects;
 mod reloads;
 mod removals;
 mod routes;
@@ -20,7 +21,7 @@ use std::{env, io};
 
 /// How the program is called.
 const USAGE: &str =
-    "benchmarks openings|strangers|memory|deliveries|acks|removals|reloads|publishes [NAME]|matchers|routes|files|certificates|all: prints what connections, messages, reloads, matchers, routes, large definitions files and certificates cost";
+    "benchmarks openings|strangers|memory|deliveries|acks|removals|rejects|reloads|publishes [NAME]|matchers|routes|files|certificates|all: prints what connections, messages, reloads, matchers, routes, large definitions files and certificates cost";
 
 /// Measures all. Memory comes early, since what is measured later takes what was given back.
 fn measure_all(rt: &HostRuntime) -> io::Result<()> {
@@ -31,6 +32,7 @@ fn measure_all(rt: &HostRuntime) -> io::Result<()> {
     deliveries::measure_all(rt)?;
     acks::measure_all(rt)?;
     removals::measure_all(rt)?;
+    rejects::measure_all(rt)?;
     publishes::measure_all(rt)?;
     matchers::measure_all(rt)?;
     routes::measure_all(rt)?;
@@ -47,6 +49,7 @@ fn measure(rt: &HostRuntime, word: &str) -> io::Result<()> {
         "deliveries" => deliveries::measure_all(rt),
         "acks" => acks::measure_all(rt),
         "removals" => removals::measure_all(rt),
+        "rejects" => rejects::measure_all(rt),
         "reloads" => reloads::measure_all(rt),
         "publishes" => publishes::measure_all(rt),
         "matchers" => matchers::measure_all(rt),

@@ -3,17 +3,19 @@ use Rattle.std.proofs.Common.{◌≡◌, subst, Option, Some, None, Result, Ok, 
 use Rattle.std.proofs.lemmas.List.{append-nil}
 use Rattle.model.specs.Words.{Text}
 use Rattle.model.specs.Tables.{Pairs, no_pairs, pair, Long_string, pairs_bytes, sized}
-use Rattle.model.specs.Deaths.{TellsOfDeath, AreMarked, alone, added, marked_before, death_queue, first_death, with_headers}
-use Rattle.model.specs.declared.contents.Content.{Content}
+use Rattle.model.specs.Deaths.{TellsOfDeath, AreMarked, alone, added, marked_before, death_queue, first_death}
+use Rattle.model.specs.declared.contents.Fields.{Fields as Properties}
 use Rattle.field_table.specs.Lookups.{HasField}
-use Rattle.deaths.specs.Marked.{text_field, IsMarked}
+use Rattle.deaths.specs.Marked.{text_field, ArePropertiesMarked}
 
 -- one field before others
 before : (n t : Text) (ps : Pairs) → text_field n t ++ pairs_bytes ps ≡ pairs_bytes (pair n (Long_string t) ps)
 before n t ps = append_assoc (length n ∷ n) (83 ∷ sized t) (pairs_bytes ps)
 
 -- three fields behind other bytes
-pub three_behind : (bytes n t m u o v : List ℕ) → ((bytes ++ text_field n t) ++ text_field m u) ++ text_field o v ≡ bytes ++ pairs_bytes (pair n (Long_string t) (pair m (Long_string u) (pair o (Long_string v) no_pairs)))
+pub three_behind : (bytes n t m u o v : List ℕ)
+    → ((bytes ++ text_field n t) ++ text_field m u) ++ text_field o v
+    ≡ bytes ++ pairs_bytes (pair n (Long_string t) (pair m (Long_string u) (pair o (Long_string v) no_pairs)))
 three_behind bytes n t m u o v =
     let last : text_field o v ≡ pairs_bytes (pair o (Long_string v) no_pairs) = sym (append-nil (text_field o v)) ∙ before o v no_pairs in
     append_assoc (bytes ++ text_field n t) (text_field m u) (text_field o v)
@@ -35,15 +37,18 @@ pub none_before : (queue exchange : Text) (old : Option Text) → None ≡ old �
 none_before queue exchange old e = subst (λ (o : Option Text). AreMarked queue exchange o (Some (first_death queue exchange))) e alone
 
 -- they tell of no death
-pub no_death : (queue exchange headers : Text) (old : Option Text) → Some headers ≡ old → (HasField death_queue headers → ⊥) → AreMarked queue exchange old (Some (headers ++ first_death queue exchange))
-no_death queue exchange headers old e none = subst (λ (o : Option Text). AreMarked queue exchange o (Some (headers ++ first_death queue exchange))) e (added (λ t. none (has headers t)))
+pub no_death : (queue exchange headers : Text) (old : Option Text) → Some headers ≡ old
+    → (HasField death_queue headers → ⊥) → AreMarked queue exchange old (Some (headers ++ first_death queue exchange))
+no_death queue exchange headers old e none =
+    subst (λ (o : Option Text). AreMarked queue exchange o (Some (headers ++ first_death queue exchange))) e (added (λ t. none (has headers t)))
 
 -- they tell of one
 pub some_death : (queue exchange headers : Text) (old : Option Text) → Some headers ≡ old → HasField death_queue headers → AreMarked queue exchange old old
 some_death queue exchange headers old e h = subst (λ (o : Option Text). AreMarked queue exchange o o) e (marked_before (tells headers h))
 
--- the content that is made has them
-pub made_so : {E : Type 0} (r : Result Content E) (queue exchange : Text) (old : Content) (headers : Option Text) → AreMarked queue exchange old.properties.headers headers
-    → IfOk r (λ c. c ≡ with_headers old headers) → IfOk r (IsMarked queue exchange old)
-made_so (Ok c) queue exchange old headers m e = record { headers = headers; marked = m; made = e }
+-- the properties that are made have them
+pub made_so : {E : Type 0} (r : Result Properties E) (queue exchange : Text) (old : Properties) (headers : Option Text)
+    → AreMarked queue exchange old.headers headers
+    → IfOk r (λ p. p ≡ record old { headers = headers }) → IfOk r (ArePropertiesMarked queue exchange old)
+made_so (Ok p) queue exchange old headers m e = record { headers = headers; marked = m; made = e }
 made_so (Err e) queue exchange old headers m h = h

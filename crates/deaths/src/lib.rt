@@ -4,6 +4,7 @@
 //! RabbitMQ, "Dead Letter Exchanges"; which fields there are is our own choice.
 #![tactic(auto)]
 
+mod markers;
 mod marking;
 
-pub use marking::marked;
+pub use markers::Marker;

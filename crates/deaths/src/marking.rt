@@ -1,13 +1,12 @@
-//! The content of a dead letter.
+//! The properties of a dead letter.
 
 ghost use Rattle.std.specs.Prelude.{◌≡◌, ◌<◌, ◌++◌, length, IfOk, OnOk, Some};
-ghost use Rattle.model.specs.Deaths;
 ghost use Rattle.model.specs.Deaths.{first_death};
-ghost use Rattle.deaths.specs.Marked.{text_field, IsMarked};
+ghost use Rattle.deaths.specs.Marked.{text_field, ArePropertiesMarked};
 
 use field_table::has_field;
 use headers::{fields_of, headers_of};
-use model::{Content, Properties, Table, Text};
+use model::{Properties, Table, Text};
 use std::alloc::{AllocError, Global};
 
 /// The field that names the queue of the first death.
@@ -19,37 +18,38 @@ const REASON: &[u8] = b"x-first-death-reason";
 /// The field that names the exchange to which the message was sent before.
 const EXCHANGE: &[u8] = b"x-first-death-exchange";
 
-/// The content of a message that dies in this queue, when it was last sent to this exchange: its headers tell of its first
-/// death, in whatever queue that was. The body is shared, and the headers too where they told of a death before.
-pub fn marked(
+/// The properties of a message that dies in this queue, when it was last sent to this exchange: its headers tell of its first
+/// death, in whatever queue that was. They are shared where they told of a death before.
+pub(crate) fn marked(
     alloc: Global,
     queue: &Text,
     exchange: &Text,
-    content: &Content,
-) -> Result<Content, AllocError>
-    ensures { IfOk result (IsMarked queue.now exchange.now content.now) }
+    properties: &Properties,
+) -> Result<Properties, AllocError>
+    ensures { IfOk result (ArePropertiesMarked queue.now exchange.now properties.now) }
 {
-    let Some(headers) = headers_of(&content.properties) else {
+    let Some(headers) = headers_of(properties) else {
         let made = with_death(alloc, &[], queue.as_bytes(), exchange.as_bytes())?;
-        return with_headers(alloc, content, &made);
+        return with_headers(alloc, properties, &made);
     };
     if has_field(headers, QUEUE) {
-        return content.clone();
+        return properties.clone();
     }
     let longer = with_death(alloc, headers, queue.as_bytes(), exchange.as_bytes())?;
-    with_headers(alloc, content, &longer)
+    with_headers(alloc, properties, &longer)
 }
 
-/// The same body, shared, with the same properties but for the headers, of which these are the pairs.
-fn with_headers(alloc: Global, content: &Content, headers: &[u8]) -> Result<Content, AllocError>
-    ensures { IfOk result (λ c. c ≡ Deaths.with_headers content.now (Some headers.now)) }
+/// The same properties but for the headers, of which these are the pairs.
+fn with_headers(
+    alloc: Global,
+    properties: &Properties,
+    headers: &[u8],
+) -> Result<Properties, AllocError>
+    ensures { IfOk result (λ p. p ≡ record properties.now { headers = Some headers.now }) }
 {
-    let mut fields = fields_of(alloc, &content.properties)?;
+    let mut fields = fields_of(alloc, properties)?;
     fields.headers = Some(Table::from_pairs(Text::from_slice(alloc, headers)?));
-    Ok(Content {
-        properties: Properties::new(alloc, fields)?,
-        body: content.body.clone()?,
-    })
+    Properties::new(alloc, fields)
 }
 
 /// These headers, and behind them the fields of a first death.

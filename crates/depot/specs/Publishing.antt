@@ -13,7 +13,8 @@ use Rattle.depot.specs.declared.depots.Routed.{Routed}
 use Rattle.depot.specs.Store.{Store, entries_named}
 
 -- A publish on this channel, under this confirm number: the message comes to the end of each routed queue that is not full.
-pub record Publishes (old : Store) (connection channel : ℕ) (p : Publish) (content : Content) (confirm : Option ℕ) (noted : List Note) (routed : Routed) (new : Store) : Type 0 where
+pub record Publishes (old : Store) (connection channel : ℕ) (p : Publish) (content : Content) (confirm : Option ℕ)
+    (noted : List Note) (routed : Routed) (new : Store) : Type 0 where
   -- the routed queues, in the order of the file
   pub targets : List Text
   pub picked : Picks (Routes old.topology p.exchange p.routing_key) (queue_names old.topology.queues) targets
@@ -23,10 +24,12 @@ pub record Publishes (old : Store) (connection channel : ℕ) (p : Publish) (con
   pub full : routed.is_some_full ≡ is_some_full old.topology (entries_named old) content targets
   pub counted : new.published ≡ old.published + 1
   pub topology : new.topology ≡ old.topology
-  pub queues : (q : Text) → entries_named new q ≡ entries_named old q ++ comes_to old.topology (entries_named old) (message (old.published + 1) p content) q targets
+  pub queues : (q : Text)
+      → entries_named new q ≡ entries_named old q ++ comes_to old.topology (entries_named old) (message (old.published + 1) p content) q targets
 
 -- The notes are those of before with these behind them, and there is room for two more.
-pub record Publishing (old : Store) (connection channel : ℕ) (p : Publish) (content : Content) (confirm : Option ℕ) (before after : List Note) (routed : Routed) (new : Store) : Type 0 where
+pub record Publishing (old : Store) (connection channel : ℕ) (p : Publish) (content : Content) (confirm : Option ℕ)
+    (before after : List Note) (routed : Routed) (new : Store) : Type 0 where
   pub noted : List Note
   pub appended : after ≡ before ++ noted
   pub publishes : Publishes old connection channel p content confirm noted routed new

@@ -31,7 +31,8 @@ AreOrdered gone = AllPairs (λ (g k : Given). g.tag < k.tag) gone
 abbrev pub IsApart : Store → Type 0
 IsApart s = (q : Text) (holder : Holder) → count_by (is_held_as holder) (entries_named s q) ≤ 1
 
--- These messages that the channel holds leave their queues by a rejection, one after another, and die there where the queue has a dead-letter exchange; the notes are those of before with what is noted of that behind them.
+-- These messages that the channel holds leave their queues by a rejection, one after another, and die there if the queue has a
+-- dead-letter exchange; the notes are those of before with what is noted of that behind them.
 pub record Rejecting (old : Store) (connection channel : ℕ) (gone : List Given) (before after : List Note) (new : Store) : Type 0 where
   pub noted : List Note
   pub appended : after ≡ before ++ noted

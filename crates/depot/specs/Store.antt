@@ -38,7 +38,8 @@ entries_of lines = map (λ (l : Line). l.entries) lines
 -- The queue at this place of the file is that of its name: it has those entries, and what it has instead that name has.
 pub record IsQueueNamed (s : Store) (place : ℕ) : Type 0 where
   pub entries_are : entries_named s (queue_name s.topology place) ≡ queue_at s place
-  pub changed : (entries : List Entry) (q : Text) → entries_named (with_entries_at s place entries) q ≡ seen.with_queue (entries_named s) (queue_name s.topology place) entries q
+  pub changed : (entries : List Entry) (q : Text)
+      → entries_named (with_entries_at s place entries) q ≡ seen.with_queue (entries_named s) (queue_name s.topology place) entries q
 
 -- the queue at this place has a message that can be given out
 abbrev pub HasReady : Store → ℕ → Type 0

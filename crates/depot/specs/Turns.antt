@@ -1,5 +1,6 @@
 -- A message that comes to its queues one after another, by their places in the file.
-use Rattle.std.specs.Prelude.{◌≡◌, ◌<◌, ◌≤◌, ◌+◌, ◌==◌, ℕ, List, [], ◌∷◌, ◌++◌, length, map, cond, Bool, true, false, if◌then◌else◌, Option, Some, None, slice_get, slice_index_or, slice_set}
+use Rattle.std.specs.Prelude.{◌≡◌, ◌<◌, ◌≤◌, ◌+◌, ◌==◌, ℕ, Bool, true, false, cond, if◌then◌else◌, Option, Some, None}
+use Rattle.std.specs.Prelude.{List, [], ◌∷◌, ◌++◌, length, map, slice_get, slice_index_or, slice_set}
 use Rattle.std.specs.List.{list_any}
 use Rattle.model.specs.Words.{Text}
 use Rattle.model.specs.Topology.{Topology, queue_names}
@@ -38,7 +39,8 @@ outcome_of how name full m place =
 
 -- the queue at this place, with these entries, refuses a message with a body of this size
 abbrev pub is_full_at : List DeclaredQueue → List (List Entry) → ℕ → ℕ → Bool
-is_full_at queues entries place size = refuses (slice_get queues place) (ready_count (slice_index_or entries place [])) (ready_bytes (slice_index_or entries place [])) size
+is_full_at queues entries place size =
+    refuses (slice_get queues place) (ready_count (slice_index_or entries place [])) (ready_bytes (slice_index_or entries place [])) size
 
 -- what becomes of a turn at its queue, with these entries
 abbrev pub outcome : Way → List DeclaredQueue → List (List Entry) → PlannedTurn → TurnOutcome
@@ -114,7 +116,8 @@ IsRoomy lines targets = (place : ℕ) → times place targets ≤ room_at lines 
 -- ---- a publish
 
 -- All turns of a publish were taken.
-pub record Enters (t : Topology) (old new : List (List Entry)) (p : Publish) (m : Message) (first : Note) (before after : List Note) (routed : Routed) : Type 0 where
+pub record Enters (t : Topology) (old new : List (List Entry)) (p : Publish) (m : Message)
+    (first : Note) (before after : List Note) (routed : Routed) : Type 0 where
   pub turns : List PlannedTurn
   pub plan : IsPlan t p.exchange p.routing_key m turns
   pub entries : new ≡ all_entered (outcomes way.Publish t.queues turns old) old

@@ -122,7 +122,8 @@ impl Depot {
         notes: &mut Vec<Note>,
     ) -> Result<Routed, AllocError>
         requires { self.old.published < greatest }
-        ensures ok { IfOk result (λ routed. Publishing self.old connection channel publish.now content.now confirm notes.old.items notes.new.items routed self.new) }
+        ensures ok { IfOk result (λ routed.
+            Publishing self.old connection channel publish.now content.now confirm notes.old.items notes.new.items routed self.new) }
         ensures room { OnOk result (vec_len notes.new + 2 ≤ vec_capacity notes.new) }
         ensures store { OnErr result (self.new ≡ self.old) }
         ensures notes { OnErr result (notes.new.items ≡ notes.old.items) }

@@ -6,7 +6,7 @@ use std::alloc::{AllocError, Global};
 const MANY: usize = 256;
 
 /// So many messages that come later to a queue that lags are counted, so that it lags no longer once nobody takes from it.
-const COUNTED: u32 = 1 << 20;
+const COUNTED: u32 = 1 << 16;
 
 /// Of each queue how many messages that come to it are counted yet, and how many were counted in all. Nothing rests on it.
 #[derive(Drop)]

@@ -1,6 +1,30 @@
 //! What is done to one queue, by its place.
 
-ghost use Rattle.std.specs.Prelude.{◌≡◌, ◌==◌, ◌+◌, ◌<◌, ◌≤◌, cond, ℕ, ◌∷◌, ◌++◌, [], Some, None, OnOk, length, map, filter, find, not, is_some, vec_len, vec_capacity, slice_index_or, slice_set};
+ghost use Rattle.std.specs.Prelude.{
+  ◌≡◌,
+  ◌==◌,
+  ◌+◌,
+  ◌<◌,
+  ◌≤◌,
+  cond,
+  ℕ,
+  ◌∷◌,
+  ◌++◌,
+  [],
+  Some,
+  None,
+  OnOk,
+  length,
+  map,
+  filter,
+  find,
+  not,
+  is_some,
+  vec_len,
+  vec_capacity,
+  slice_index_or,
+  slice_set,
+};
 ghost use Rattle.model.specs.Broker.{is_ready};
 ghost use Rattle.queue.specs.Line.{ready_count, requeued};
 ghost use Rattle.model.specs.declared.messages.Mark.TheVariants.{Ready};
@@ -35,7 +59,8 @@ pub(crate) fn reserve_at(queues: &mut [Queue], place: usize, more: usize) -> Res
 pub(crate) fn push_at(queues: &mut [Queue], place: usize, message: Message)
     requires within { place < length queues.old }
     requires room { 0 < room_at queues.old place }
-    ensures entries { entries_of queues.new ≡ slice_set (entries_of queues.old) place (slice_index_or (entries_of queues.old) place [] ++ record { message = message; mark = Ready } ∷ []) }
+    ensures entries { entries_of queues.new
+        ≡ slice_set (entries_of queues.old) place (slice_index_or (entries_of queues.old) place [] ++ record { message = message; mark = Ready } ∷ []) }
     ensures spent { (k : ℕ) → room_at queues.old k ≤ room_at queues.new k + cond (k == place) 1 0 }
 {
     queues[place].push(message);
@@ -46,7 +71,8 @@ pub(crate) fn hold_at(queues: &mut [Queue], place: usize, holder: Holder) -> Opt
     requires within { place < length queues.old }
     requires unused { find (is_held_as holder) (slice_index_or (entries_of queues.old) place []) ≡ None }
     ensures told { is_some result ≡ is_some (find is_ready (slice_index_or (entries_of queues.old) place [])) }
-    ensures entries { entries_of queues.new ≡ slice_set (entries_of queues.old) place (change_first is_ready (held_as holder) (slice_index_or (entries_of queues.old) place [])) }
+    ensures entries { entries_of queues.new
+        ≡ slice_set (entries_of queues.old) place (change_first is_ready (held_as holder) (slice_index_or (entries_of queues.old) place [])) }
 {
     queues[place].hold(holder)
 }
@@ -55,7 +81,8 @@ pub(crate) fn hold_at(queues: &mut [Queue], place: usize, holder: Holder) -> Opt
 pub(crate) fn take_first_at(queues: &mut [Queue], place: usize) -> Option<Entry>
     requires { place < length queues.old }
     ensures taken { result ≡ find is_ready (slice_index_or (entries_of queues.old) place []) }
-    ensures entries { entries_of queues.new ≡ slice_set (entries_of queues.old) place (without_first is_ready (slice_index_or (entries_of queues.old) place [])) }
+    ensures entries { entries_of queues.new
+        ≡ slice_set (entries_of queues.old) place (without_first is_ready (slice_index_or (entries_of queues.old) place [])) }
 {
     queues[place].take_first()
 }
@@ -64,7 +91,8 @@ pub(crate) fn take_first_at(queues: &mut [Queue], place: usize) -> Option<Entry>
 pub(crate) fn release_at(queues: &mut [Queue], place: usize, holder: &Holder, arrival: u64) -> bool
     requires { place < length queues.old }
     ensures told { result ≡ is_some (find (is_held_as holder.now) (slice_index_or (entries_of queues.old) place [])) }
-    ensures entries { entries_of queues.new ≡ slice_set (entries_of queues.old) place (requeued (is_under holder.now) (slice_index_or (entries_of queues.old) place [])) }
+    ensures entries { entries_of queues.new
+        ≡ slice_set (entries_of queues.old) place (requeued (is_under holder.now) (slice_index_or (entries_of queues.old) place [])) }
 {
     queues[place].release(holder, arrival)
 }
@@ -78,7 +106,8 @@ pub(crate) fn remove_at(
 ) -> Option<Entry>
     requires { place < length queues.old }
     ensures taken { result ≡ find (is_held_as holder.now) (slice_index_or (entries_of queues.old) place []) }
-    ensures entries { entries_of queues.new ≡ slice_set (entries_of queues.old) place (filter (λ e. not (is_held_as holder.now e)) (slice_index_or (entries_of queues.old) place [])) }
+    ensures entries { entries_of queues.new
+        ≡ slice_set (entries_of queues.old) place (filter (λ e. not (is_held_as holder.now e)) (slice_index_or (entries_of queues.old) place [])) }
     ensures room { (k : ℕ) → room_at queues.old k ≤ room_at queues.new k }
 {
     queues[place].remove(holder, arrival)
@@ -90,7 +119,8 @@ pub(crate) fn purge_at(queues: &mut [Queue], place: usize, numbers: &mut Vec<u64
     requires room { vec_len numbers.old + ready_count (slice_index_or (entries_of queues.old) place []) ≤ vec_capacity numbers.old }
     ensures numbers { numbers.new.items ≡ numbers.old.items ++ map number_of (filter is_ready (slice_index_or (entries_of queues.old) place [])) }
     ensures capacity { vec_capacity numbers.new ≡ vec_capacity numbers.old }
-    ensures entries { entries_of queues.new ≡ slice_set (entries_of queues.old) place (filter (λ e. not (is_ready e)) (slice_index_or (entries_of queues.old) place [])) }
+    ensures entries { entries_of queues.new
+        ≡ slice_set (entries_of queues.old) place (filter (λ e. not (is_ready e)) (slice_index_or (entries_of queues.old) place [])) }
 {
     queues[place].purge(numbers);
 }

@@ -50,7 +50,9 @@ pub(crate) fn publish_in(
 ) -> Result<Routed, AllocError>
     requires len { length queues.old ≡ length topology.now.queues }
     requires routed { AreTargets topology.now publish.now.exchange publish.now.routing_key targets.now }
-    ensures ok { IfOk result (λ routed. Enters topology.now (entries_of queues.old) (entries_of queues.new) publish.now (message number publish.now content.now) first notes.old.items notes.new.items routed) }
+    ensures ok { IfOk result (λ routed.
+        Enters topology.now (entries_of queues.old) (entries_of queues.new) publish.now (message number publish.now content.now)
+        first notes.old.items notes.new.items routed) }
     ensures len { length queues.new ≡ length queues.old }
     ensures room { OnOk result (vec_len notes.new + 2 ≤ vec_capacity notes.new) }
     ensures queues { OnErr result (entries_of queues.new ≡ entries_of queues.old) }
@@ -83,7 +85,9 @@ fn publish_to_one(
 ) -> Result<Routed, AllocError>
     requires len { length queues.old ≡ length topology.now.queues }
     requires within { place < length topology.now.queues }
-    ensures ok { IfOk result (λ routed. (p : Seen) → AreTargets topology.now p.exchange p.routing_key (place ∷ []) → Enters topology.now (entries_of queues.old) (entries_of queues.new) p message.now first notes.old.items notes.new.items routed) }
+    ensures ok { IfOk result (λ routed. (p : Seen)
+        → AreTargets topology.now p.exchange p.routing_key (place ∷ [])
+        → Enters topology.now (entries_of queues.old) (entries_of queues.new) p message.now first notes.old.items notes.new.items routed) }
     ensures len { length queues.new ≡ length queues.old }
     ensures room { OnOk result (vec_len notes.new + 2 ≤ vec_capacity notes.new) }
     ensures queues { OnErr result (entries_of queues.new ≡ entries_of queues.old) }

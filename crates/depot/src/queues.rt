@@ -137,7 +137,8 @@ impl Queues {
     pub(crate) fn push(&mut self, place: usize, message: Message)
         requires within { place < length self.old }
         requires room { 0 < room_at self.old place }
-        ensures entries { entries_of self.new ≡ slice_set (entries_of self.old) place (slice_index_or (entries_of self.old) place [] ++ record { message = message; mark = Ready } ∷ []) }
+        ensures entries { entries_of self.new
+            ≡ slice_set (entries_of self.old) place (slice_index_or (entries_of self.old) place [] ++ record { message = message; mark = Ready } ∷ []) }
         ensures spent { (k : ℕ) → room_at self.old k ≤ room_at self.new k + cond (k == place) 1 0 }
         ensures len { length self.new ≡ length self.old }
     {
@@ -152,7 +153,8 @@ impl Queues {
         requires within { place < length self.old }
         requires unused { find (is_held_as holder) (slice_index_or (entries_of self.old) place []) ≡ None }
         ensures told { is_some result ≡ is_some (find is_ready (slice_index_or (entries_of self.old) place [])) }
-        ensures entries { entries_of self.new ≡ slice_set (entries_of self.old) place (change_first is_ready (held_as holder) (slice_index_or (entries_of self.old) place [])) }
+        ensures entries { entries_of self.new
+            ≡ slice_set (entries_of self.old) place (change_first is_ready (held_as holder) (slice_index_or (entries_of self.old) place [])) }
         ensures len { length self.new ≡ length self.old }
     {
         let arrival = hold_at(&mut self.queues, place, holder);
@@ -165,7 +167,8 @@ impl Queues {
     pub(crate) fn take_first(&mut self, place: usize) -> Option<Entry>
         requires { place < length self.old }
         ensures taken { result ≡ find is_ready (slice_index_or (entries_of self.old) place []) }
-        ensures entries { entries_of self.new ≡ slice_set (entries_of self.old) place (without_first is_ready (slice_index_or (entries_of self.old) place [])) }
+        ensures entries { entries_of self.new
+            ≡ slice_set (entries_of self.old) place (without_first is_ready (slice_index_or (entries_of self.old) place [])) }
         ensures len { length self.new ≡ length self.old }
     {
         let entry = take_first_at(&mut self.queues, place);
@@ -178,7 +181,8 @@ impl Queues {
     pub(crate) fn release(&mut self, place: usize, holder: &Holder, arrival: u64) -> bool
         requires { place < length self.old }
         ensures told { result ≡ is_some (find (is_held_as holder.now) (slice_index_or (entries_of self.old) place [])) }
-        ensures entries { entries_of self.new ≡ slice_set (entries_of self.old) place (requeued (is_under holder.now) (slice_index_or (entries_of self.old) place [])) }
+        ensures entries { entries_of self.new
+            ≡ slice_set (entries_of self.old) place (requeued (is_under holder.now) (slice_index_or (entries_of self.old) place [])) }
         ensures len { length self.new ≡ length self.old }
     {
         let is_released = release_at(&mut self.queues, place, holder, arrival);
@@ -190,7 +194,8 @@ impl Queues {
     pub(crate) fn remove(&mut self, place: usize, holder: &Holder, arrival: u64) -> Option<Entry>
         requires { place < length self.old }
         ensures taken { result ≡ find (is_held_as holder.now) (slice_index_or (entries_of self.old) place []) }
-        ensures entries { entries_of self.new ≡ slice_set (entries_of self.old) place (filter (λ e. not (is_held_as holder.now e)) (slice_index_or (entries_of self.old) place [])) }
+        ensures entries { entries_of self.new
+            ≡ slice_set (entries_of self.old) place (filter (λ e. not (is_held_as holder.now e)) (slice_index_or (entries_of self.old) place [])) }
         ensures room { (k : ℕ) → room_at self.old k ≤ room_at self.new k }
         ensures len { length self.new ≡ length self.old }
     {
@@ -205,7 +210,8 @@ impl Queues {
         requires room { vec_len numbers.old + ready_count (slice_index_or (entries_of self.old) place []) ≤ vec_capacity numbers.old }
         ensures numbers { numbers.new.items ≡ numbers.old.items ++ map number_of (filter is_ready (slice_index_or (entries_of self.old) place [])) }
         ensures capacity { vec_capacity numbers.new ≡ vec_capacity numbers.old }
-        ensures entries { entries_of self.new ≡ slice_set (entries_of self.old) place (filter (λ e. not (is_ready e)) (slice_index_or (entries_of self.old) place [])) }
+        ensures entries { entries_of self.new
+            ≡ slice_set (entries_of self.old) place (filter (λ e. not (is_ready e)) (slice_index_or (entries_of self.old) place [])) }
         ensures len { length self.new ≡ length self.old }
     {
         purge_at(&mut self.queues, place, numbers);

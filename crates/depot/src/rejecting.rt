@@ -13,7 +13,7 @@ use crate::given::Given;
 use crate::plans::Death;
 use crate::queues::{Queue, Queues};
 use crate::turns::PlannedTurn;
-use deaths::marked;
+use deaths::Marker;
 use kept_routes::Router;
 use model::{Cause, DeclaredQueue, Holder, Message, Note, Text, Way};
 use queue::Store;
@@ -34,6 +34,7 @@ fn key_of(fixed: &Option<Text>, key: &Text) -> Result<Text, AllocError>
 fn letters(
     alloc: Global,
     router: &mut Router,
+    marker: &mut Marker,
     place: usize,
     message: &Message,
 ) -> Result<Vec<PlannedTurn>, AllocError>
@@ -47,7 +48,7 @@ fn letters(
     };
     let exchange = exchange.clone()?;
     let key = key_of(&declared.dead_letter_key, message.key())?;
-    let content = marked(alloc, &declared.name, message.exchange(), message.content())?;
+    let content = marker.marked(alloc, &declared.name, message.exchange(), message.content())?;
     let letter = message.dead_letter(alloc, &exchange, &key, &content)?;
     let route = router.route(alloc, &exchange, &key)?;
     turns(alloc, router.topology().queues(), &route.targets, &letter)
@@ -57,6 +58,7 @@ fn letters(
 fn plan_one(
     alloc: Global,
     router: &mut Router,
+    marker: &mut Marker,
     queues: &[Queue],
     connection: u64,
     channel: u16,
@@ -65,7 +67,9 @@ fn plan_one(
 ) -> Result<(), AllocError>
     requires len { length queues.now ≡ length router.old.queues }
     requires within { given.now.place < length router.old.queues }
-    ensures planned { OnOk result ((planned : List Planned) × (deaths.new.items ≡ deaths.old.items ++ planned) × Plans router.old connection channel given.now (given_at connection channel (entries_of queues.now) given.now) planned) }
+    ensures planned { OnOk result ((planned : List Planned)
+        × (deaths.new.items ≡ deaths.old.items ++ planned)
+        × Plans router.old connection channel given.now (given_at connection channel (entries_of queues.now) given.now) planned) }
     ensures same { router.new ≡ router.old }
 {
     let place = given.place;
@@ -83,7 +87,7 @@ fn plan_one(
         queue: router.topology().queue(place).name.clone()?,
         cause: Cause::Rejected,
     };
-    let turns = letters(alloc, router, place, &entry.message)?;
+    let turns = letters(alloc, router, marker, place, &entry.message)?;
     deaths.push(Death {
         place,
         holder,
@@ -108,11 +112,14 @@ fn plan(
     ensures planned { IfOk result (λ deaths. ArePlanned router.old connection channel (entries_of queues.now) gone.now deaths.items) }
     ensures same { router.new ≡ router.old }
 {
+    let mut marker = Marker::new();
     let mut deaths = Vec::new(alloc);
+    deaths.reserve_exact(gone.len())?;
     for given in gone {
         plan_one(
             alloc,
             router,
+            &mut marker,
             queues,
             connection,
             channel,

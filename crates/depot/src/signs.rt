@@ -76,7 +76,10 @@ impl QueueSigns {
     pub(crate) fn sign(&mut self, queues: &[Queue], place: usize)
         requires within { place < length queues.now }
         requires room { length queues.now ≤ length self.old * 64 }
-        ensures { (lists : List (List Entry)) (entries : List Entry) → entries_of queues.now ≡ slice_set lists place entries → QueuesAreSigned lists self.old → QueuesAreSigned (entries_of queues.now) self.new }
+        ensures { (lists : List (List Entry)) (entries : List Entry)
+            → entries_of queues.now ≡ slice_set lists place entries
+            → QueuesAreSigned lists self.old
+            → QueuesAreSigned (entries_of queues.now) self.new }
     {
         let queue = &queues[place];
         put(&mut self.ready, place, has_ready(queue));
