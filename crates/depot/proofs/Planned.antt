@@ -9,18 +9,18 @@ use Rattle.model.specs.Words.{Text}
 use Rattle.model.specs.declared.messages.Entry.{Entry}
 use Rattle.model.specs.declared.topologies.DeclaredQueue.{DeclaredQueue}
 use Rattle.queue.specs.Line.{Line}
-use Rattle.depot.specs.declared.given.Given.{Given}
+use Rattle.model.specs.declared.deliveries.Delivery.{Delivery}
 use Rattle.depot.specs.declared.plans.Death.{Death}
 use Rattle.depot.specs.declared.turns.PlannedTurn.{PlannedTurn}
 use Rattle.depot.specs.Turns.{places, room_at, LinesHaveRoom}
-use Rattle.depot.specs.Rejecting.{GoneAreWithin}
+use Rattle.model.specs.Placed.{AreWithin}
 use Rattle.depot.specs.Dying.{MayHaveLetters, IsDeathOf, Plans, given_at, ArePlanned, IsSoundDeath, times_in}
 use Rattle.depot.proofs.Turning.{times_rising, times_or}
 use Rattle.depot.proofs.Naming.{turned_within, turned_rising}
 
 -- ---- one more is planned
 
-pub planned_more : (t : Topology) (c h : ℕ) (entries : List (List Entry)) (gs : List Given) (g : Given) (ds first all : List Death) → ArePlanned t c h entries gs ds → Plans t c h g (given_at c h entries g) first
+pub planned_more : (t : Topology) (c h : ℕ) (entries : List (List Entry)) (gs : List Delivery) (g : Delivery) (ds first all : List Death) → ArePlanned t c h entries gs ds → Plans t c h g (given_at c h entries g) first
     → all ≡ ds ++ first → ArePlanned t c h entries (gs ++ g ∷ []) all
 planned_more t c h entries [] g ds first all are one e = (first, [], one, e ∙ ap (λ (xs : List Death). xs ++ first) are ∙ sym (append-nil first), refl)
 planned_more t c h entries (x ∷ xs) g ds first all are one e =
@@ -52,22 +52,22 @@ queue_there [] i lt = absurd (omega arith)
 queue_there (q ∷ qs) zero lt = (q, refl)
 queue_there (q ∷ qs) (suc i) lt = queue_there qs i (omega arith)
 
-pub sound_death : (t : Topology) (c h : ℕ) (g : Given) (e : Entry) (d : Death) (n : ℕ) → n ≡ length t.queues → g.place < n → IsDeathOf t c h g e d → IsSoundDeath n d
+pub sound_death : (t : Topology) (c h : ℕ) (g : Delivery) (e : Entry) (d : Death) (n : ℕ) → n ≡ length t.queues → g.queue < n → IsDeathOf t c h g e d → IsSoundDeath n d
 sound_death t c h g e d n same lt is =
-    let q = queue_there t.queues g.place (omega (arith, same, lt)) in
+    let q = queue_there t.queues g.queue (omega (arith, same, lt)) in
     let at = is.place in
     sound_letters t q.0 e.message d n q.0.dead_letter_exchange (omega (arith, at, lt)) same (is.letters q.0 q.1)
 
-sound_first : (t : Topology) (c h : ℕ) (g : Given) (o : Option Entry) (first rest all : List Death) (n : ℕ) → n ≡ length t.queues → g.place < n → Plans t c h g o first → all ≡ first ++ rest → All (IsSoundDeath n) rest → All (IsSoundDeath n) all
+sound_first : (t : Topology) (c h : ℕ) (g : Delivery) (o : Option Entry) (first rest all : List Death) (n : ℕ) → n ≡ length t.queues → g.queue < n → Plans t c h g o first → all ≡ first ++ rest → All (IsSoundDeath n) rest → All (IsSoundDeath n) all
 sound_first t c h g None first rest all n same lt none e others = subst (All (IsSoundDeath n)) (sym (e ∙ ap (λ (xs : List Death). xs ++ rest) none)) others
 sound_first t c h g (Some x) first rest all n same lt one e others =
     let d = one.0 in
     subst (All (IsSoundDeath n)) (sym (e ∙ ap (λ (xs : List Death). xs ++ rest) one.1)) (all_behind (IsSoundDeath n) d rest (sound_death t c h g x d n same lt one.2) others)
 
-pub sound_all : (t : Topology) (c h : ℕ) (entries : List (List Entry)) (gs : List Given) (ds : List Death) (n : ℕ) → n ≡ length t.queues → GoneAreWithin t gs → ArePlanned t c h entries gs ds → All (IsSoundDeath n) ds
+pub sound_all : (t : Topology) (c h : ℕ) (entries : List (List Entry)) (gs : List Delivery) (ds : List Death) (n : ℕ) → n ≡ length t.queues → AreWithin t gs → ArePlanned t c h entries gs ds → All (IsSoundDeath n) ds
 sound_all t c h entries [] ds n same within are = subst (All (IsSoundDeath n)) (sym are) (λ i d lt. absurd (omega arith))
 sound_all t c h entries (g ∷ gs) ds n same within are =
-    let lt : g.place < length t.queues = within 0 g (omega arith) in
+    let lt : g.queue < length t.queues = within 0 g (omega arith) in
     sound_first t c h g (given_at c h entries g) are.0 are.1 ds n same (omega (arith, lt, same)) are.2 are.3
     (sound_all t c h entries gs are.1 n same (λ i d l. within (suc i) d (omega (arith, l))) are.4)
 

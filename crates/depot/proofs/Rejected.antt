@@ -26,12 +26,13 @@ use Rattle.model.specs.declared.notes.Way.TheVariants as way
 use Rattle.queue.specs.Line.{ready_count}
 use Rattle.exchange_graph.specs.Marks.{queue_name}
 use Rattle.exchange_graph.specs.Targets.{names_at}
-use Rattle.depot.specs.declared.given.Given.{Given}
+use Rattle.model.specs.declared.deliveries.Delivery.{Delivery}
 use Rattle.depot.specs.declared.plans.Death.{Death}
 use Rattle.depot.specs.declared.turns.PlannedTurn.{PlannedTurn}
 use Rattle.depot.specs.Store.{Store, entries_named, IsStoreWhole}
 use Rattle.depot.specs.Turns.{TurnOutcome, outcomes, arriving, entered_one, all_entered, notes_of_outcomes}
-use Rattle.depot.specs.Rejecting.{holder_of_given, outstanding_of, GoneAreWithin, AreOrdered, IsApart, Rejecting}
+use Rattle.depot.specs.Rejecting.{outstanding_of, IsApart, Rejecting}
+use Rattle.model.specs.Placed.{holder_of_delivery, AreWithin, AreByTag}
 use Rattle.depot.specs.Dying.{MayHaveLetters, IsDeathOf, Plans, given_at, ArePlanned, without, outcomes_of, died, death_notes, died_all, all_notes, Rejects}
 use Rattle.depot.proofs.Firsts.{number, count-cons, one_passes, none_found, count-filter, find-filter, held_apart}
 use Rattle.depot.proofs.Naming.{names-length, same_name, later_name, noted_by_names, entered_by_names}
@@ -100,7 +101,7 @@ length-died : (qs : List DeclaredQueue) (d : Death) (lists : List (List Entry)) 
 length-died qs d lists = length-entered (outcomes_of qs d lists) (without d lists) ∙ length-without d lists
 
 -- what was planned for the others is planned for them still
-planned_after : (t : Topology) (c h : ℕ) (lists now : List (List Entry)) (gs : List Given) (ds : List Death) → ((i : ℕ) (x : Given) → i < length gs → given_at c h now (get_or gs i x) ≡ given_at c h lists (get_or gs i x))
+planned_after : (t : Topology) (c h : ℕ) (lists now : List (List Entry)) (gs : List Delivery) (ds : List Death) → ((i : ℕ) (x : Delivery) → i < length gs → given_at c h now (get_or gs i x) ≡ given_at c h lists (get_or gs i x))
     → ArePlanned t c h lists gs ds → ArePlanned t c h now gs ds
 planned_after t c h lists now [] ds same are = are
 planned_after t c h lists now (g ∷ gs) ds same are =
@@ -135,17 +136,17 @@ named_there (x ∷ xs) zero q apart lt is = rw (same_name x.name) (ap Some (sym 
 named_there (x ∷ xs) (suc i) q apart lt is = let long = names-length xs in rw (later_name x.name (queue_names xs) i apart (omega arith)) (named_there xs i q apart.1 (omega arith) is)
 
 -- the queues without the message that dies, by their names
-without_named : (s : Store) (c h : ℕ) (g : Given) (d : Death) (q : Text) → IsStoreWhole s → AreApartBy s.queues → g.place < length s.topology.queues → d.place ≡ g.place → d.holder ≡ holder_of_given c h g
-    → entries_named (with_lists s (without d s.queues)) q ≡ given.without_given c h (entries_named s) (outstanding_of s.topology g) q
+without_named : (s : Store) (c h : ℕ) (g : Delivery) (d : Death) (q : Text) → IsStoreWhole s → AreApartBy s.queues → g.queue < length s.topology.queues → d.place ≡ g.queue → d.holder ≡ holder_of_delivery c h g
+    → entries_named (with_lists s (without d s.queues)) q ≡ given.without_given c h (entries_named s) (outstanding_in (queue_names s.topology.queues) g) q
 without_named s c h g d q whole apart lt place holder =
-    let p = is_held_as (holder_of_given c h g) in
-    let name = queue_name s.topology g.place in
-    let here = queue_of-place s g.place whole lt in
-    let gone = filter (λ (e : Entry). not (p e)) (get_or s.queues g.place []) in
+    let p = is_held_as (holder_of_delivery c h g) in
+    let name = queue_name s.topology g.queue in
+    let here = queue_of-place s g.queue whole lt in
+    let gone = filter (λ (e : Entry). not (p e)) (get_or s.queues g.queue []) in
     ap (λ (i : ℕ). entries_named (with_lists s (set s.queues i (filter (λ (e : Entry). not (is_held_as d.holder e)) (get_or s.queues i [])))) q) place
-    ∙ ap (λ (a : Holder). entries_named (with_lists s (set s.queues g.place (filter (λ (e : Entry). not (is_held_as a e)) (get_or s.queues g.place [])))) q) holder
-    ∙ queue_of-changed s g.place gone q whole lt
-    ∙ ap (λ (es : List Entry). if bytes_eq name q then es else entries_named s q) (one_passes p (get_or s.queues g.place []) (apart g.place (holder_of_given c h g)) ∙ ap (without_first p) (sym here))
+    ∙ ap (λ (a : Holder). entries_named (with_lists s (set s.queues g.queue (filter (λ (e : Entry). not (is_held_as a e)) (get_or s.queues g.queue [])))) q) holder
+    ∙ queue_of-changed s g.queue gone q whole lt
+    ∙ ap (λ (es : List Entry). if bytes_eq name q then es else entries_named s q) (one_passes p (get_or s.queues g.queue []) (apart g.queue (holder_of_delivery c h g)) ∙ ap (without_first p) (sym here))
 
 -- a message that dies, and its dead letter
 dies_by : (s : Store) (q : DeclaredQueue) (m : Message) (d : Death) (queues : Text → List Entry) (x : Option Text) → IsStoreWhole s → ((r : Text) → entries_named (with_lists s (without d s.queues)) r ≡ queues r)
@@ -184,28 +185,28 @@ dies_by s q m d queues (Some exchange) whole same letters =
 
 -- ---- all of them
 
-may_die : (s : Store) (c h : ℕ) (g : Given) (e : Entry) (d : Death) → IsStoreWhole s → AreApartBy s.queues → g.place < length s.topology.queues → IsDeathOf s.topology c h g e d
-    → MayDie s.topology (queue_name s.topology g.place) (given.without_given c h (entries_named s) (outstanding_of s.topology g)) (death_notes s.topology.queues d s.queues) (entries_named (with_lists s (died s.topology.queues d s.queues))) (Some e)
+may_die : (s : Store) (c h : ℕ) (g : Delivery) (e : Entry) (d : Death) → IsStoreWhole s → AreApartBy s.queues → g.queue < length s.topology.queues → IsDeathOf s.topology c h g e d
+    → MayDie s.topology (queue_name s.topology g.queue) (given.without_given c h (entries_named s) (outstanding_in (queue_names s.topology.queues) g)) (death_notes s.topology.queues d s.queues) (entries_named (with_lists s (died s.topology.queues d s.queues))) (Some e)
 may_die s c h g e d whole apart lt is =
     let t = s.topology in
-    let q = queue_there t.queues g.place lt in
-    let queues = given.without_given c h (entries_named s) (outstanding_of t g) in
+    let q = queue_there t.queues g.queue lt in
+    let queues = given.without_given c h (entries_named s) (outstanding_in (queue_names t.queues) g) in
     let notes = notes_of_outcomes (outcomes_of t.queues d s.queues) in
     let new = entries_named (with_lists s (died t.queues d s.queues)) in (
       notes,
       ap (λ (n : Note). n ∷ notes) is.note,
-      subst (DiesIn t queues e.message notes new) (sym (named_there t.queues g.place q.0 whole.formed.queues_apart lt q.1))
+      subst (DiesIn t queues e.message notes new) (sym (named_there t.queues g.queue q.0 whole.formed.queues_apart lt q.1))
           (dies_by s q.0 e.message d queues q.0.dead_letter_exchange whole (λ r. without_named s c h g d r whole apart lt is.place is.holder) (is.letters q.0 q.1)),
     )
 
-not_there : (s : Store) (c h : ℕ) (g : Given) (r : Text) → find (is_held_as (holder_of_given c h g)) (entries_named s (queue_name s.topology g.place)) ≡ None → entries_named s r ≡ given.without_given c h (entries_named s) (outstanding_of s.topology g) r
+not_there : (s : Store) (c h : ℕ) (g : Delivery) (r : Text) → find (is_held_as (holder_of_delivery c h g)) (entries_named s (queue_name s.topology g.queue)) ≡ None → entries_named s r ≡ given.without_given c h (entries_named s) (outstanding_in (queue_names s.topology.queues) g) r
 not_there s c h g r none = go (bytes_eq name r) refl
   where
     name : Text
-    name = queue_name s.topology g.place
+    name = queue_name s.topology g.queue
 
     p : Entry → Bool
-    p = is_held_as (holder_of_given c h g)
+    p = is_held_as (holder_of_delivery c h g)
 
     go : (b : Bool) → bytes_eq name r ≡ b → entries_named s r ≡ (if b then without_first p (entries_named s name) else entries_named s r)
     go true is = ap (λ (n : Text). entries_named s n) (sym ((bytes_eq-Decides name r).0 is)) ∙ sym (none_found p (entries_named s name) none)
@@ -215,54 +216,54 @@ whole_with : (s : Store) (lists : List (List Entry)) → IsStoreWhole s → leng
 whole_with s lists whole len = record { formed = whole.formed; len = len ∙ whole.len }
 
 -- what is still to do, where it was planned
-abbrev RejectedBy : Store → ℕ → ℕ → List Given → List Death → Type 0
+abbrev RejectedBy : Store → ℕ → ℕ → List Delivery → List Death → Type 0
 RejectedBy s c h gone ds =
-    AreRejected s.topology c h (map (outstanding_of s.topology) gone) (entries_named s) (all_notes s.topology.queues ds s.queues) (entries_named (with_lists s (died_all s.topology.queues ds s.queues)))
+    AreRejected s.topology c h (map (outstanding_in (queue_names s.topology.queues)) gone) (entries_named s) (all_notes s.topology.queues ds s.queues) (entries_named (with_lists s (died_all s.topology.queues ds s.queues)))
 
 -- what is still to do once the first of them is done
-abbrev IsLater : Store → ℕ → ℕ → List Given → List Death → Type 0
+abbrev IsLater : Store → ℕ → ℕ → List Delivery → List Death → Type 0
 IsLater s c h gs rest =
     (lists : List (List Entry)) → IsStoreWhole (with_lists s lists) → AreApartBy lists → ArePlanned s.topology c h lists gs rest → RejectedBy (with_lists s lists) c h gs rest
 
-rejected_next : (s : Store) (c h : ℕ) (g : Given) (gs : List Given) (first rest ds : List Death) (o : Option Entry) → given_at c h s.queues g ≡ o → IsStoreWhole s → AreApartBy s.queues → AreOrdered (g ∷ gs) → g.place < length s.topology.queues
+rejected_next : (s : Store) (c h : ℕ) (g : Delivery) (gs : List Delivery) (first rest ds : List Death) (o : Option Entry) → given_at c h s.queues g ≡ o → IsStoreWhole s → AreApartBy s.queues → AreByTag (g ∷ gs) → g.queue < length s.topology.queues
     → Plans s.topology c h g o first → ds ≡ first ++ rest → ArePlanned s.topology c h s.queues gs rest → IsLater s c h gs rest → RejectedBy s c h (g ∷ gs) ds
 rejected_next s c h g gs first rest ds None there whole apart ordered lt none e planned later =
     let t = s.topology in
-    let name = queue_name t g.place in
-    let p = is_held_as (holder_of_given c h g) in
+    let name = queue_name t g.queue in
+    let p = is_held_as (holder_of_delivery c h g) in
     let same : ds ≡ rest = e ∙ ap (λ (xs : List Death). xs ++ rest) none in
-    let absent : find p (entries_named s name) ≡ None = ap (find p) (queue_of-place s g.place whole lt) ∙ there in
+    let absent : find p (entries_named s name) ≡ None = ap (find p) (queue_of-place s g.queue whole lt) ∙ there in
     subst (λ (xs : List Death). RejectedBy s c h (g ∷ gs) xs) (sym same) (
       entries_named s,
       [],
       all_notes t.queues rest s.queues,
-      subst (MayDie t name (given.without_given c h (entries_named s) (outstanding_of t g)) [] (entries_named s)) (sym absent) (refl, λ r. not_there s c h g r absent),
+      subst (MayDie t name (given.without_given c h (entries_named s) (outstanding_in (queue_names t.queues) g)) [] (entries_named s)) (sym absent) (refl, λ r. not_there s c h g r absent),
       refl,
       later s.queues whole apart planned,
     )
 rejected_next s c h g gs first rest ds (Some x) there whole apart ordered lt one e planned later =
     let t = s.topology in
     let d = one.0 in
-    let name = queue_name t g.place in
-    let p = is_held_as (holder_of_given c h g) in
+    let name = queue_name t g.queue in
+    let p = is_held_as (holder_of_delivery c h g) in
     let same : ds ≡ d ∷ rest = e ∙ ap (λ (xs : List Death). xs ++ rest) one.1 in
-    let present : find p (entries_named s name) ≡ Some x = ap (find p) (queue_of-place s g.place whole lt) ∙ there in
+    let present : find p (entries_named s name) ≡ Some x = ap (find p) (queue_of-place s g.queue whole lt) ∙ there in
     let now = died t.queues d s.queues in
     let tag : d.holder.tag ≡ g.tag = ap (λ (a : Holder). a.tag) one.2.holder in
     let still = planned_after t c h s.queues now gs rest
     (λ i y l.
     let after : g.tag < (get_or gs i y).tag = ordered 0 (suc i) y (omega arith) (omega (arith, l)) in
-    found_after t.queues d s.queues (holder_of_given c h (get_or gs i y)) (get_or gs i y).place (λ z. let at : (get_or gs i y).tag ≡ d.holder.tag = z in absurd (omega (arith, after, at, tag)))) planned in
+    found_after t.queues d s.queues (holder_of_delivery c h (get_or gs i y)) (get_or gs i y).queue (λ z. let at : (get_or gs i y).tag ≡ d.holder.tag = z in absurd (omega (arith, after, at, tag)))) planned in
     subst (λ (xs : List Death). RejectedBy s c h (g ∷ gs) xs) (sym same) (
       entries_named (with_lists s now),
       death_notes t.queues d s.queues,
       all_notes t.queues rest now,
-      subst (MayDie t name (given.without_given c h (entries_named s) (outstanding_of t g)) (death_notes t.queues d s.queues) (entries_named (with_lists s now))) (sym present) (may_die s c h g x d whole apart lt one.2),
+      subst (MayDie t name (given.without_given c h (entries_named s) (outstanding_in (queue_names t.queues) g)) (death_notes t.queues d s.queues) (entries_named (with_lists s now))) (sym present) (may_die s c h g x d whole apart lt one.2),
       refl,
       later now (whole_with s now whole (length-died t.queues d s.queues)) (apart_after t.queues d s.queues apart) still,
     )
 
-rejected_from : (s : Store) (c h : ℕ) (gone : List Given) (ds : List Death) → IsStoreWhole s → AreApartBy s.queues → AreOrdered gone → GoneAreWithin s.topology gone → ArePlanned s.topology c h s.queues gone ds → RejectedBy s c h gone ds
+rejected_from : (s : Store) (c h : ℕ) (gone : List Delivery) (ds : List Death) → IsStoreWhole s → AreApartBy s.queues → AreByTag gone → AreWithin s.topology gone → ArePlanned s.topology c h s.queues gone ds → RejectedBy s c h gone ds
 rejected_from s c h [] ds whole apart ordered within are =
     (ap (λ (xs : List Death). all_notes s.topology.queues xs s.queues) are, (λ q. ap (λ (xs : List Death). entries_named (with_lists s (died_all s.topology.queues xs s.queues)) q) are))
 rejected_from s c h (g ∷ gs) ds whole apart ordered within are =
@@ -282,7 +283,7 @@ apart_by s whole apart k a = go (nat_lt k (length s.topology.queues)) refl
         omega (arith, none)
 
 -- what was done by places is the rejection
-pub rejecting : (old new : Store) (c h : ℕ) (gone : List Given) (before after : List Note) → IsStoreWhole old → IsApart old → AreOrdered gone → GoneAreWithin old.topology gone → new.published ≡ old.published → new.topology ≡ old.topology
+pub rejecting : (old new : Store) (c h : ℕ) (gone : List Delivery) (before after : List Note) → IsStoreWhole old → IsApart old → AreByTag gone → AreWithin old.topology gone → new.published ≡ old.published → new.topology ≡ old.topology
     → Rejects old.topology c h gone old.queues new.queues before after → Rejecting old c h gone before after new
 rejecting old new c h gone before after whole apart ordered within counted same r =
     let t = old.topology in
@@ -290,7 +291,7 @@ rejecting old new c h gone before after whole apart ordered within counted same 
     record {
       noted = all_notes t.queues r.deaths old.queues;
       appended = r.notes;
-      rejected = subst (λ (s : Store). AreRejected t c h (map (outstanding_of t) gone) (entries_named old) (all_notes t.queues r.deaths old.queues) (entries_named s)) done (rejected_from old c h gone r.deaths whole (apart_by old whole apart) ordered within r.planned);
+      rejected = subst (λ (s : Store). AreRejected t c h (map (outstanding_in (queue_names t.queues)) gone) (entries_named old) (all_notes t.queues r.deaths old.queues) (entries_named s)) done (rejected_from old c h gone r.deaths whole (apart_by old whole apart) ordered within r.planned);
       counted = counted;
       topology = same;
     }

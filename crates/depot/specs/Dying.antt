@@ -15,10 +15,10 @@ use Rattle.model.specs.declared.notes.Note.TheVariants.{Left}
 use Rattle.model.specs.declared.notes.Way.TheVariants as way
 use Rattle.exchange_graph.specs.Marks.{queue_name}
 use Rattle.deaths.specs.Marked.{IsMarked}
-use Rattle.depot.specs.declared.given.Given.{Given}
+use Rattle.model.specs.declared.deliveries.Delivery.{Delivery}
 use Rattle.depot.specs.declared.plans.Death.{Death}
 use Rattle.depot.specs.declared.turns.PlannedTurn.{PlannedTurn}
-use Rattle.depot.specs.Rejecting.{holder_of_given}
+use Rattle.model.specs.Placed.{holder_of_delivery}
 use Rattle.depot.specs.Turns.{TurnOutcome, outcomes, all_entered, notes_of_outcomes, places, times, IsPlan}
 
 -- ---- what is planned
@@ -39,23 +39,23 @@ abbrev pub LettersAt : Topology → ℕ → Message → List PlannedTurn → Typ
 LettersAt t place m turns = (q : DeclaredQueue) → q ≡ slice_index_or t.queues place q → MayHaveLetters t q m turns q.dead_letter_exchange
 
 -- The death of a message that was given out.
-pub record IsDeathOf (t : Topology) (c h : ℕ) (g : Given) (e : Entry) (d : Death) : Type 0 where
-  pub place : d.place ≡ g.place
-  pub holder : d.holder ≡ holder_of_given c h g
-  pub note : d.note ≡ Left e.message.number (queue_name t g.place) Rejected
-  pub letters : LettersAt t g.place e.message d.turns.items
+pub record IsDeathOf (t : Topology) (c h : ℕ) (g : Delivery) (e : Entry) (d : Death) : Type 0 where
+  pub place : d.place ≡ g.queue
+  pub holder : d.holder ≡ holder_of_delivery c h g
+  pub note : d.note ≡ Left e.message.number (queue_name t g.queue) Rejected
+  pub letters : LettersAt t g.queue e.message d.turns.items
 
 -- what is not there has none
-abbrev pub Plans : Topology → ℕ → ℕ → Given → Option Entry → List Death → Type 0
+abbrev pub Plans : Topology → ℕ → ℕ → Delivery → Option Entry → List Death → Type 0
 Plans t c h g None deaths = deaths ≡ []
 Plans t c h g (Some e) deaths = (d : Death) × (deaths ≡ d ∷ []) × IsDeathOf t c h g e d
 
 -- the message that was given out so, where it stands in these queues
-abbrev pub given_at : ℕ → ℕ → List (List Entry) → Given → Option Entry
-given_at c h entries g = find (is_held_as (holder_of_given c h g)) (slice_index_or entries g.place [])
+abbrev pub given_at : ℕ → ℕ → List (List Entry) → Delivery → Option Entry
+given_at c h entries g = find (is_held_as (holder_of_delivery c h g)) (slice_index_or entries g.queue [])
 
 -- the deaths of all that is there of these
-abbrev pub ArePlanned : Topology → ℕ → ℕ → List (List Entry) → List Given → List Death → Type 0
+abbrev pub ArePlanned : Topology → ℕ → ℕ → List (List Entry) → List Delivery → List Death → Type 0
 ArePlanned t c h entries [] deaths = deaths ≡ []
 ArePlanned t c h entries (g ∷ gs) deaths =
     (first : List Death) × (rest : List Death) × Plans t c h g (given_at c h entries g) first × (deaths ≡ first ++ rest) × ArePlanned t c h entries gs rest
@@ -89,7 +89,7 @@ all_notes queues [] entries = []
 all_notes queues (d ∷ ds) entries = death_notes queues d entries ++ all_notes queues ds (died queues d entries)
 
 -- All that is there of these has died.
-pub record Rejects (t : Topology) (c h : ℕ) (gone : List Given) (old new : List (List Entry)) (before after : List Note) : Type 0 where
+pub record Rejects (t : Topology) (c h : ℕ) (gone : List Delivery) (old new : List (List Entry)) (before after : List Note) : Type 0 where
   pub deaths : List Death
   pub planned : ArePlanned t c h old gone deaths
   pub entries : new ≡ died_all t.queues deaths old

@@ -91,7 +91,8 @@ impl Depot {
     ghost use Rattle.model.specs.Words.{Text};
     ghost use Rattle.depot.specs.Moving.{AreMoved, GoneAreEmpty};
     ghost use Rattle.depot.specs.Publishing.{Publishing};
-    ghost use Rattle.depot.specs.Rejecting.{GoneAreWithin, AreOrdered, IsApart, Rejecting};
+    ghost use Rattle.depot.specs.Rejecting.{IsApart, Rejecting};
+    ghost use Rattle.model.specs.Placed.{AreWithin, AreByTag};
 
     /// The depot of this topology: each queue is there and has no message.
     pub fn new(alloc: Global, topology: Topology) -> Result<Depot, AllocError>
@@ -163,8 +164,8 @@ impl Depot {
         gone: &[Given],
         notes: &mut Vec<Note>,
     ) -> Result<(), AllocError>
-        requires within { GoneAreWithin self.old.topology gone.now }
-        requires ordered { AreOrdered gone.now }
+        requires within { AreWithin self.old.topology gone.now }
+        requires ordered { AreByTag gone.now }
         requires apart { IsApart self.old }
         ensures ok { OnOk result (Rejecting self.old connection channel gone.now notes.old.items notes.new.items self.new) }
         ensures store { OnErr result (self.new ≡ self.old) }

@@ -5,7 +5,7 @@ ghost use Rattle.model.specs.Routing.{key_after};
 ghost use Rattle.depot.specs.declared.plans.Death.{Death as Planned};
 ghost use Rattle.depot.specs.Store.{entries_of};
 ghost use Rattle.depot.specs.Turns.{places, room_at, times, IsRoomy};
-ghost use Rattle.depot.specs.Rejecting.{holder_of_given, GoneAreWithin};
+ghost use Rattle.model.specs.Placed.{holder_of_delivery, AreWithin};
 ghost use Rattle.depot.specs.Dying.{LettersAt, Plans, given_at, ArePlanned, died, death_notes, died_all, all_notes, IsSoundDeath, notes_in, times_in, Rejects};
 
 use crate::entering::{enter_all, make_room, turns};
@@ -108,7 +108,7 @@ fn plan(
     gone: &[Given],
 ) -> Result<Vec<Death>, AllocError>
     requires len { length queues.now ≡ length router.old.queues }
-    requires within { GoneAreWithin router.old gone.now }
+    requires within { AreWithin router.old gone.now }
     ensures planned { IfOk result (λ deaths. ArePlanned router.old connection channel (entries_of queues.now) gone.now deaths.items) }
     ensures same { router.new ≡ router.old }
 {
@@ -210,7 +210,7 @@ pub(crate) fn reject_in(
     notes: &mut Vec<Note>,
 ) -> Result<(), AllocError>
     requires len { length queues.old ≡ length router.old.queues }
-    requires within { GoneAreWithin router.old gone.now }
+    requires within { AreWithin router.old gone.now }
     ensures ok { OnOk result (Rejects router.old connection channel gone.now (entries_of queues.old) (entries_of queues.new) notes.old.items notes.new.items) }
     ensures same { router.new ≡ router.old }
     ensures len { length queues.new ≡ length queues.old }
