@@ -5,6 +5,7 @@ pub mod Naming
 pub mod Named
 pub mod Moved
 pub mod Signing
+pub mod Waiting
 pub mod Planned
 pub mod Rejected
 pub mod Alone

@@ -1,5 +1,5 @@
 -- Deaths, planned and counted one after another.
-use Rattle.std.proofs.Common.{◌≡◌, ℕ, zero, suc, ◌<◌, ◌≤◌, List, [], ◌∷◌, ◌++◌, length, get_or, refl, sym, ap, subst, ◌∙◌, arith, All, AllPairs, Option, Some, None, append_assoc, inl, inr, ◌⊎◌}
+use Rattle.std.proofs.Common.{◌≡◌, ℕ, zero, suc, ◌<◌, ◌≤◌, List, [], ◌∷◌, ◌++◌, length, get_or, refl, sym, ap, subst, ◌∙◌, arith, All, AllPairs, Option, Some, None, append_assoc, inl, inr, ◌⊎◌, take, Bool, true, false, ◌+◌}
 use Rattle.std.proofs.lemmas.List.{append-nil}
 use Rattle.model.specs.Topology.{Topology, queue_names}
 use Rattle.model.specs.Routing.{key_after}
@@ -13,8 +13,9 @@ use Rattle.model.specs.declared.deliveries.Delivery.{Delivery}
 use Rattle.depot.specs.declared.plans.Death.{Death}
 use Rattle.depot.specs.declared.turns.PlannedTurn.{PlannedTurn}
 use Rattle.depot.specs.Turns.{places, room_at, LinesHaveRoom}
-use Rattle.model.specs.Placed.{AreWithin}
-use Rattle.depot.specs.Dying.{MayHaveLetters, IsDeathOf, Plans, given_at, ArePlanned, IsSoundDeath, times_in}
+use Rattle.model.specs.Placed.{is_waiting, waiting, AreWithin}
+use Rattle.depot.proofs.Waiting.{waiting_more}
+use Rattle.depot.specs.Dying.{MayHaveLetters, IsDeathOf, Plans, PlansAt, given_at, ArePlanned, IsSoundDeath, times_in}
 use Rattle.depot.proofs.Turning.{times_rising, times_or}
 use Rattle.depot.proofs.Naming.{turned_within, turned_rising}
 
@@ -25,6 +26,24 @@ pub planned_more : (t : Topology) (c h : ℕ) (entries : List (List Entry)) (gs 
 planned_more t c h entries [] g ds first all are one e = (first, [], one, e ∙ ap (λ (xs : List Death). xs ++ first) are ∙ sym (append-nil first), refl)
 planned_more t c h entries (x ∷ xs) g ds first all are one e =
     (are.0, are.1 ++ first, are.2, e ∙ ap (λ (ys : List Death). ys ++ first) are.3 ∙ append_assoc are.0 are.1 first, planned_more t c h entries xs g are.1 first (are.1 ++ first) are.4 one refl)
+
+-- the place of one that was settled is passed
+pub planned_next : (t u : Topology) (c h : ℕ) (entries : List (List Entry)) (gone : List Delivery) (i : ℕ) (d : Delivery) (ds all : List Death) → i < length gone → u ≡ t
+    → (is_waiting (get_or gone i d) ≡ true → (x : List Death) × (all ≡ ds ++ x) × PlansAt u c h entries (get_or gone i d) x) → (is_waiting (get_or gone i d) ≡ false → all ≡ ds)
+    → ArePlanned t c h entries (waiting (take i gone)) ds → ArePlanned t c h entries (waiting (take (i + 1) gone)) all
+planned_next t u c h entries gone i d ds all lt same yes no are = go (is_waiting (get_or gone i d)) refl
+  where
+    g : Delivery
+    g = get_or gone i d
+
+    go : (b : Bool) → is_waiting g ≡ b → ArePlanned t c h entries (waiting (take (i + 1) gone)) all
+    go true w =
+        let one = yes w in
+        subst (λ (gs : List Delivery). ArePlanned t c h entries gs all) (sym (waiting_more gone i d true lt w))
+        (planned_more t c h entries (waiting (take i gone)) g ds one.0 all are (subst (λ (v : Topology). PlansAt v c h entries g one.0) same one.2) one.1)
+    go false w =
+        subst (λ (gs : List Delivery). ArePlanned t c h entries gs all) (sym (waiting_more gone i d false lt w ∙ append-nil (waiting (take i gone))))
+        (subst (ArePlanned t c h entries (waiting (take i gone))) (sym (no w)) are)
 
 -- ---- what was planned can be done
 

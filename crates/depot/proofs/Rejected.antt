@@ -31,8 +31,8 @@ use Rattle.depot.specs.declared.plans.Death.{Death}
 use Rattle.depot.specs.declared.turns.PlannedTurn.{PlannedTurn}
 use Rattle.depot.specs.Store.{Store, entries_named, IsStoreWhole}
 use Rattle.depot.specs.Turns.{TurnOutcome, outcomes, arriving, entered_one, all_entered, notes_of_outcomes}
-use Rattle.depot.specs.Rejecting.{outstanding_of, IsApart, Rejecting}
-use Rattle.model.specs.Placed.{holder_of_delivery, AreWithin, AreByTag}
+use Rattle.depot.specs.Rejecting.{IsApart, Rejecting}
+use Rattle.model.specs.Placed.{holder_of_delivery, outstanding_in, AreWithin, AreByTag}
 use Rattle.depot.specs.Dying.{MayHaveLetters, IsDeathOf, Plans, given_at, ArePlanned, without, outcomes_of, died, death_notes, died_all, all_notes, Rejects}
 use Rattle.depot.proofs.Firsts.{number, count-cons, one_passes, none_found, count-filter, find-filter, held_apart}
 use Rattle.depot.proofs.Naming.{names-length, same_name, later_name, noted_by_names, entered_by_names}

@@ -54,6 +54,10 @@ Plans t c h g (Some e) deaths = (d : Death) × (deaths ≡ d ∷ []) × IsDeathO
 abbrev pub given_at : ℕ → ℕ → List (List Entry) → Delivery → Option Entry
 given_at c h entries g = find (is_held_as (holder_of_delivery c h g)) (slice_index_or entries g.queue [])
 
+-- the death of the message that was given out so, if it stands in these queues
+abbrev pub PlansAt : Topology → ℕ → ℕ → List (List Entry) → Delivery → List Death → Type 0
+PlansAt t c h entries g deaths = Plans t c h g (given_at c h entries g) deaths
+
 -- the deaths of all that is there of these
 abbrev pub ArePlanned : Topology → ℕ → ℕ → List (List Entry) → List Delivery → List Death → Type 0
 ArePlanned t c h entries [] deaths = deaths ≡ []

@@ -3,7 +3,6 @@
 ghost use Rattle.std.specs.Prelude.{◌<◌, ℕ, length};
 ghost use Rattle.depot.specs.Store.{Store, IsStoreWhole, IsQueueNamed};
 
-use crate::given::Given;
 use crate::moving::places_in;
 use crate::places::{queue_at, walk_at};
 use crate::publishing::{note_of, publish_in};
@@ -11,7 +10,7 @@ use crate::queues::Queues;
 use crate::rejecting::reject_in;
 use exchange_graph::Topology;
 use kept_routes::Router;
-use model::{Content, Entry, Holder, Note, Publish};
+use model::{ChannelId, Content, Delivery, Entry, Holder, Note, Publish};
 use queue::{Store as _, Walk};
 use std::alloc::{AllocError, Global};
 use std::marker::Model;
@@ -92,7 +91,7 @@ impl Depot {
     ghost use Rattle.depot.specs.Moving.{AreMoved, GoneAreEmpty};
     ghost use Rattle.depot.specs.Publishing.{Publishing};
     ghost use Rattle.depot.specs.Rejecting.{IsApart, Rejecting};
-    ghost use Rattle.model.specs.Placed.{AreWithin, AreByTag};
+    ghost use Rattle.model.specs.Placed.{waiting, AreWithin, AreByTag};
 
     /// The depot of this topology: each queue is there and has no message.
     pub fn new(alloc: Global, topology: Topology) -> Result<Depot, AllocError>
@@ -151,7 +150,7 @@ impl Depot {
         Ok(routed)
     }
 
-    /// These messages, which the channel of this connection holds, leave their queues by a rejection, in the order of their
+    /// Those of these messages that wait, which the channel holds, leave their queues by a rejection, in the order of their
     /// tags. Where its queue has a dead-letter exchange, a message comes as a dead letter to the end of each queue that it is
     /// routed to from there and that is not full then, in the order of the file; a later rejection finds the queues as the
     /// dead letters of the earlier ones left them. The notes tell of each message that it left, and then of each queue of
@@ -159,15 +158,15 @@ impl Depot {
     pub fn reject(
         &mut self,
         alloc: Global,
-        connection: u64,
-        channel: u16,
-        gone: &[Given],
+        channel: ChannelId,
+        gone: &[Delivery],
         notes: &mut Vec<Note>,
     ) -> Result<(), AllocError>
-        requires within { AreWithin self.old.topology gone.now }
-        requires ordered { AreByTag gone.now }
+        requires within { AreWithin self.old.topology (waiting gone.now) }
+        requires ordered { AreByTag (waiting gone.now) }
         requires apart { IsApart self.old }
-        ensures ok { OnOk result (Rejecting self.old connection channel gone.now notes.old.items notes.new.items self.new) }
+        ensures ok { OnOk result
+            (Rejecting self.old channel.connection channel.number (waiting gone.now) notes.old.items notes.new.items self.new) }
         ensures store { OnErr result (self.new ≡ self.old) }
         ensures notes { OnErr result (notes.new.items ≡ notes.old.items) }
     {
@@ -176,7 +175,6 @@ impl Depot {
             alloc,
             &mut self.router,
             &mut self.queues,
-            connection,
             channel,
             gone,
             notes,

@@ -6,7 +6,6 @@
 
 mod depots;
 mod entering;
-mod given;
 mod lags;
 mod moving;
 mod places;
@@ -18,4 +17,3 @@ mod signs;
 mod turns;
 
 pub use depots::{Depot, Routed, places_are_named};
-pub use given::Given;

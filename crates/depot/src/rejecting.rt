@@ -1,21 +1,21 @@
 //! A rejection: each death is planned with its dead letter, then room is made, and then all is done, which cannot fail.
 
-ghost use Rattle.std.specs.Prelude.{◌≡◌, ◌⊎◌, ◌+◌, ◌-◌, ◌^◌, ◌<◌, ◌≤◌, ℕ, ◌++◌, List, length, All, IfOk, OnOk, OnErr, vec_len, vec_capacity};
+ghost use Rattle.std.specs.Prelude.{◌≡◌, ◌⊎◌, ◌+◌, ◌-◌, ◌^◌, ◌<◌, ◌≤◌, ℕ, ◌++◌, List, length, All};
+ghost use Rattle.std.specs.Prelude.{true, false, IfOk, OnOk, OnErr, vec_len, vec_capacity};
 ghost use Rattle.model.specs.Routing.{key_after};
 ghost use Rattle.depot.specs.declared.plans.Death.{Death as Planned};
 ghost use Rattle.depot.specs.Store.{entries_of};
 ghost use Rattle.depot.specs.Turns.{places, room_at, times, IsRoomy};
-ghost use Rattle.model.specs.Placed.{holder_of_delivery, AreWithin};
-ghost use Rattle.depot.specs.Dying.{LettersAt, Plans, given_at, ArePlanned, died, death_notes, died_all, all_notes, IsSoundDeath, notes_in, times_in, Rejects};
+ghost use Rattle.model.specs.Placed.{is_waiting, waiting, AreWithin};
+ghost use Rattle.depot.specs.Dying.{LettersAt, PlansAt, ArePlanned, died, death_notes, died_all, all_notes, IsSoundDeath, notes_in, times_in, Rejects};
 
 use crate::entering::{enter_all, make_room, turns};
-use crate::given::Given;
 use crate::plans::Death;
 use crate::queues::{Queue, Queues};
 use crate::turns::PlannedTurn;
 use deaths::Marker;
 use kept_routes::Router;
-use model::{Cause, DeclaredQueue, Holder, Message, Note, Text, Way};
+use model::{Cause, ChannelId, DeclaredQueue, Delivery, Message, Note, Text, Way};
 use queue::Store;
 use std::alloc::{AllocError, Global};
 
@@ -60,25 +60,19 @@ fn plan_one(
     router: &mut Router,
     marker: &mut Marker,
     queues: &[Queue],
-    connection: u64,
-    channel: u16,
-    given: &Given,
+    channel: ChannelId,
+    given: &Delivery,
     deaths: &mut Vec<Death>,
 ) -> Result<(), AllocError>
     requires len { length queues.now ≡ length router.old.queues }
-    requires within { given.now.place < length router.old.queues }
+    requires within { given.now.queue < length router.old.queues }
     ensures planned { OnOk result ((planned : List Planned)
         × (deaths.new.items ≡ deaths.old.items ++ planned)
-        × Plans router.old connection channel given.now (given_at connection channel (entries_of queues.now) given.now) planned) }
+        × PlansAt router.old channel.connection channel.number (entries_of queues.now) given.now planned) }
     ensures same { router.new ≡ router.old }
 {
-    let place = given.place;
-    let holder = Holder {
-        connection,
-        channel,
-        tag: given.tag,
-        by: given.by,
-    };
+    let place = given.queue;
+    let holder = given.holder(channel);
     let Some(entry) = queues[place].held(&holder, given.arrival) else {
         return Ok(());
     };
@@ -116,12 +110,11 @@ fn plan(
     let mut deaths = Vec::new(alloc);
     deaths.reserve_exact(gone.len())?;
     for given in gone {
-        plan_one(
+        plan_waiting(
             alloc,
             router,
             &mut marker,
             queues,
-            connection,
             channel,
             given,
             &mut deaths,
@@ -199,25 +192,26 @@ fn perform(
     }
 }
 
-/// These messages, which the channel of this connection holds, leave their queues one after another by a rejection.
+/// Those of these messages that wait, which the channel holds, leave their queues one after another by a rejection.
 pub(crate) fn reject_in(
     alloc: Global,
     router: &mut Router,
     queues: &mut Queues,
-    connection: u64,
-    channel: u16,
-    gone: &[Given],
+    channel: ChannelId,
+    gone: &[Delivery],
     notes: &mut Vec<Note>,
 ) -> Result<(), AllocError>
     requires len { length queues.old ≡ length router.old.queues }
-    requires within { AreWithin router.old gone.now }
-    ensures ok { OnOk result (Rejects router.old connection channel gone.now (entries_of queues.old) (entries_of queues.new) notes.old.items notes.new.items) }
+    requires within { AreWithin router.old (waiting gone.now) }
+    ensures ok { OnOk result
+        (Rejects router.old channel.connection channel.number (waiting gone.now)
+        (entries_of queues.old) (entries_of queues.new) notes.old.items notes.new.items) }
     ensures same { router.new ≡ router.old }
     ensures len { length queues.new ≡ length queues.old }
     ensures queues { OnErr result (entries_of queues.new ≡ entries_of queues.old) }
     ensures notes { OnErr result (notes.new.items ≡ notes.old.items) }
 {
-    let deaths = plan(alloc, router, queues.as_slice(), connection, channel, gone)?;
+    let deaths = plan(alloc, router, queues.as_slice(), channel, gone)?;
     make_rooms(queues, &deaths)?;
     notes.reserve_exact(count_notes(&deaths))?;
     perform(router.topology().queues(), queues, deaths, notes);

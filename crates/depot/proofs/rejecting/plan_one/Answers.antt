@@ -19,14 +19,14 @@ pub returns-clause-planned : goal.returns-clause-planned
 returns-clause-planned c =
     let g = c.args.given.now in
     let t = c.args.router.now in
-    let p = is_held_as (holder_of_delivery c.args.connection c.args.channel g) in
+    let p = is_held_as (holder_of_delivery c.args.channel.connection c.args.channel.number g) in
     let line = c.index-queues-place.result in
     let len = c.requires.len in
     let lt = c.requires.within in
     let there : get_or (entries_of c.args.queues.now) g.queue [] ≡ line.entries
     = entries_of-at c.args.queues.now g.queue line (omega (arith, len, lt)) ∙ ap (λ (l : Line). l.entries) (sym c.index-queues-place.is) in
-    let found : given_at c.args.connection c.args.channel (entries_of c.args.queues.now) g ≡ Some c.in-Some.entry.now = ap (find p) there ∙ sym c.in-Some.ensures in
+    let found : given_at c.args.channel.connection c.args.channel.number (entries_of c.args.queues.now) g ≡ Some c.in-Some.entry.now = ap (find p) there ∙ sym c.in-Some.ensures in
     let there_too : c.queue.result.now ≡ get_or t.queues g.queue c.queue.result.now = c.queue.ensures ∙ ap (λ (u : Topology). get_or u.queues g.queue c.queue.result.now) c.topology.ensures in
     let name : c.in_ok-clone.field-0 ≡ queue_name t g.queue = c.in_ok-clone.ensures ∙ name_there t.queues g.queue c.queue.result.now lt there_too in
-    subst (λ (o : Option Entry). (x : List Death) × (c.push.new.self.items ≡ c.args.deaths.now.items ++ x) × Plans t c.args.connection c.args.channel g o x) (sym found)
+    subst (λ (o : Option Entry). (x : List Death) × (c.push.new.self.items ≡ c.args.deaths.now.items ++ x) × Plans t c.args.channel.connection c.args.channel.number g o x) (sym found)
     (_, c.in_ok-push.ensures.items, (_, refl, record { place = refl; holder = refl; note = ap (λ (n : ℕ). Left n c.in_ok-clone.field-0 Rejected) c.number.ensures ∙ ap (λ (q : Text). Left c.in-Some.entry.now.message.number q Rejected) name; letters = c.in_ok-turns.ensures.letters }))

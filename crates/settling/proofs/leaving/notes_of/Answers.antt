@@ -1,5 +1,5 @@
 use Rattle.std.proofs.Common.{arith}
-use Rattle.settling.proofs.Marked.{nothing, at_waiting}
+use Rattle.depot.proofs.Waiting.{nothing, at_waiting}
 use Rattle.settling.proofs.leaving.notes_of.Goals as goal
 
 pub note_leaving-requires-clause-within : goal.note_leaving-requires-clause-within

@@ -1,5 +1,6 @@
 use Rattle.std.proofs.Common.{◌∙◌, arith}
-use Rattle.settling.proofs.Marked.{nothing, within_next, returned_next}
+use Rattle.depot.proofs.Waiting.{nothing, within_next}
+use Rattle.settling.proofs.Marked.{returned_next}
 use Rattle.settling.proofs.leaving.put_back.Goals as goal
 
 pub put_one_back-requires : goal.put_one_back-requires

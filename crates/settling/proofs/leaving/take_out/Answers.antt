@@ -1,5 +1,6 @@
 use Rattle.std.proofs.Common.{◌∙◌, arith}
-use Rattle.settling.proofs.Marked.{nothing, within_next, taken_next}
+use Rattle.depot.proofs.Waiting.{nothing, within_next}
+use Rattle.settling.proofs.Marked.{taken_next}
 use Rattle.settling.proofs.leaving.take_out.Goals as goal
 
 pub take_one-requires : goal.take_one-requires

@@ -2,7 +2,7 @@ use Rattle.std.proofs.Common.{◌≡◌, sym, subst, refl, length, arith, OnOk}
 use Rattle.model.specs.Topology.{IsWellFormed}
 use Rattle.depot.specs.Store.{Store, IsStoreWhole, entries_of}
 use Rattle.depot.specs.Rejecting.{IsApart, Rejecting}
-use Rattle.model.specs.Placed.{AreWithin}
+use Rattle.model.specs.Placed.{waiting, AreWithin}
 use Rattle.depot.specs.Dying.{Rejects}
 use Rattle.depot.proofs.Changes.{entries_of-length}
 use Rattle.depot.proofs.Rejected.{rejecting, on_ok}
@@ -15,8 +15,8 @@ returns-clause-ok c =
     let long : length c.self.inside.queues ≡ length c.self.inside.router.queues = c.self.invariant in
     let all = entries_of-length c.self.inside.queues in
     let whole : IsStoreWhole was = record { formed = subst IsWellFormed c.topology.ensures c.is_well_formed.ensures; len = omega (arith, long, all) } in
-    let within : AreWithin was.topology c.args.gone.now = subst (λ (s : Store). AreWithin s.topology c.args.gone.now) (sym c.self.view_is) c.requires.within in
+    let within : AreWithin was.topology (waiting c.args.gone.now) = subst (λ (s : Store). AreWithin s.topology (waiting c.args.gone.now)) (sym c.self.view_is) c.requires.within in
     let apart : IsApart was = subst IsApart (sym c.self.view_is) c.requires.apart in
-    subst (λ (s : Store). OnOk c.reject_in.result (Rejecting s c.args.connection c.args.channel c.args.gone.now c.args.notes.now.items c.reject_in.new.notes.items now)) c.self.view_is
-    (on_ok c.reject_in.result (Rejects was.topology c.args.connection c.args.channel c.args.gone.now was.queues now.queues c.args.notes.now.items c.reject_in.new.notes.items) _
-    (rejecting was now c.args.connection c.args.channel c.args.gone.now c.args.notes.now.items c.reject_in.new.notes.items whole apart c.requires.ordered within refl c.reject_in.ensures.same) c.reject_in.ensures.ok)
+    subst (λ (s : Store). OnOk c.reject_in.result (Rejecting s c.args.channel.connection c.args.channel.number (waiting c.args.gone.now) c.args.notes.now.items c.reject_in.new.notes.items now)) c.self.view_is
+    (on_ok c.reject_in.result (Rejects was.topology c.args.channel.connection c.args.channel.number (waiting c.args.gone.now) was.queues now.queues c.args.notes.now.items c.reject_in.new.notes.items) _
+    (rejecting was now c.args.channel.connection c.args.channel.number (waiting c.args.gone.now) c.args.notes.now.items c.reject_in.new.notes.items whole apart c.requires.ordered within refl c.reject_in.ensures.same) c.reject_in.ensures.ok)
