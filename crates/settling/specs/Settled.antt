@@ -10,7 +10,6 @@ use Rattle.exchange_graph.specs.Marks.{queue_name}
 use Rattle.model.specs.Placed.{holder_of_delivery, outstanding_in}
 use Rattle.model.specs.declared.deliveries.Delivery.{Delivery}
 use Rattle.depot.specs.Store.{Store, entries_named, queue_at, with_entries_at}
-use Rattle.depot.specs.declared.given.Given.{Given}
 
 -- it is noted of this message, if it is there, that it leaves its queue for this cause
 abbrev pub leaving_note : Cause → ℕ → ℕ → Store → Delivery → List Note
@@ -37,10 +36,6 @@ returned_one c h s o = with_entries_at s o.queue (map (freed (is_under (holder_o
 abbrev pub returned_all : ℕ → ℕ → Store → List Delivery → Store
 returned_all c h s [] = s
 returned_all c h s (o ∷ os) = returned_all c h (returned_one c h s o) os
-
--- what was given out so, as the depot finds it
-abbrev pub given_of : Delivery → Given
-given_of o = record { place = o.queue; arrival = o.arrival; tag = o.tag; by = o.by }
 
 -- These messages leave their queues by a rejection, one after another, and die there where the queue has a dead-letter exchange, with these notes.
 pub record IsRejection (old : Store) (c h : ℕ) (gone : List Delivery) (notes : List Note) (new : Store) : Type 0 where

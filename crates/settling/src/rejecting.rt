@@ -1,45 +1,18 @@
 //! What was given out is rejected: it leaves its queue, and dies there where the queue has a dead-letter exchange.
 
-ghost use Rattle.std.specs.Prelude.{◌≡◌, map, IfOk, OnErr};
+ghost use Rattle.std.specs.Prelude.{◌≡◌, IfOk, OnErr};
 ghost use Rattle.model.specs.Settling.{Rises};
 ghost use Rattle.channel.specs.Outstanding.{tag_of};
 ghost use Rattle.model.specs.Placed.{waiting, AreWithin};
 ghost use Rattle.depot.specs.Rejecting.{IsApart};
-ghost use Rattle.settling.specs.Settled as settled;
 ghost use Rattle.settling.specs.Settled.{IsRejection};
 
-use depot::{Depot, Given};
+use depot::Depot;
 use model::{ChannelId, Delivery, Note};
 use std::alloc::{AllocError, Global};
 
-/// What was given out so, as the depot finds it.
-fn given_of(outstanding: &Delivery) -> Given
-    ensures { result ≡ settled.given_of outstanding.now }
-{
-    Given {
-        place: outstanding.queue,
-        arrival: outstanding.arrival,
-        tag: outstanding.tag,
-        by: outstanding.by,
-    }
-}
-
-/// The same of each of these that waits.
-fn all_given(alloc: Global, gone: &[Delivery]) -> Result<Vec<Given>, AllocError>
-    ensures { IfOk result (λ given. given.items ≡ map settled.given_of (waiting gone.now)) }
-{
-    let mut given = Vec::new(alloc);
-    given.reserve_exact(gone.len())?;
-    for outstanding in gone {
-        if outstanding.is_waiting() {
-            given.push_reserved(given_of(outstanding));
-        }
-    }
-    Ok(given)
-}
-
-/// Those of these messages that wait leave their queues by a rejection, in the order of their tags, and die there where the queue has a
-/// dead-letter exchange. Tells what is noted of that. Where memory is wanting, nothing has changed.
+/// Those of these messages that wait leave their queues by a rejection, in the order of their tags, and die there if the queue
+/// has a dead-letter exchange. Tells what is noted of that. Where memory is wanting, nothing has changed.
 pub fn reject(
     alloc: Global,
     depot: &mut Depot,
@@ -52,14 +25,7 @@ pub fn reject(
     ensures ok { IfOk result (λ notes. IsRejection depot.old channel.connection channel.number (waiting gone.now) notes.items depot.new) }
     ensures err { OnErr result (depot.new ≡ depot.old) }
 {
-    let given = all_given(alloc, gone)?;
     let mut notes = Vec::new(alloc);
-    depot.reject(
-        alloc,
-        channel.connection,
-        channel.number,
-        &given,
-        &mut notes,
-    )?;
+    depot.reject(alloc, channel, gone, &mut notes)?;
     Ok(notes)
 }

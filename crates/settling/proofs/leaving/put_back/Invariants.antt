@@ -7,5 +7,5 @@ use Rattle.settling.proofs.leaving.put_back.Given as goal
 abbrev pub invariant-loop-given : goal.invariant-loop-given
 invariant-loop-given l = record {
   topology : l.depot.topology ≡ l.fn.depot.topology;
-  returned : returned_all l.connection l.channel l.depot (waiting (drop l.given-index l.gone)) ≡ returned_all l.connection l.channel l.fn.depot (waiting l.gone);
+  returned : returned_all l.channel.connection l.channel.number l.depot (waiting (drop l.given-index l.gone)) ≡ returned_all l.channel.connection l.channel.number l.fn.depot (waiting l.gone);
 }
