@@ -92,18 +92,43 @@ fn plan_one(
     Ok(())
 }
 
-/// The deaths of all of these messages that are there.
+/// The same, if it waits.
+fn plan_waiting(
+    alloc: Global,
+    router: &mut Router,
+    marker: &mut Marker,
+    queues: &[Queue],
+    channel: ChannelId,
+    given: &Delivery,
+    deaths: &mut Vec<Death>,
+) -> Result<(), AllocError>
+    requires len { length queues.now ≡ length router.old.queues }
+    requires within { is_waiting given.now ≡ true → given.now.queue < length router.old.queues }
+    ensures yes { OnOk result (is_waiting given.now ≡ true → (planned : List Planned)
+        × (deaths.new.items ≡ deaths.old.items ++ planned)
+        × PlansAt router.old channel.connection channel.number (entries_of queues.now) given.now planned) }
+    ensures no { OnOk result (is_waiting given.now ≡ false → deaths.new.items ≡ deaths.old.items) }
+    ensures same { router.new ≡ router.old }
+{
+    if given.is_waiting() {
+        plan_one(alloc, router, marker, queues, channel, given, deaths)
+    } else {
+        Ok(())
+    }
+}
+
+/// The deaths of all of these messages that wait and are there.
 fn plan(
     alloc: Global,
     router: &mut Router,
     queues: &[Queue],
-    connection: u64,
-    channel: u16,
-    gone: &[Given],
+    channel: ChannelId,
+    gone: &[Delivery],
 ) -> Result<Vec<Death>, AllocError>
     requires len { length queues.now ≡ length router.old.queues }
-    requires within { AreWithin router.old gone.now }
-    ensures planned { IfOk result (λ deaths. ArePlanned router.old connection channel (entries_of queues.now) gone.now deaths.items) }
+    requires within { AreWithin router.old (waiting gone.now) }
+    ensures planned { IfOk result (λ deaths.
+        ArePlanned router.old channel.connection channel.number (entries_of queues.now) (waiting gone.now) deaths.items) }
     ensures same { router.new ≡ router.old }
 {
     let mut marker = Marker::new();
