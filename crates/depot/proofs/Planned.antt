@@ -31,19 +31,19 @@ planned_more t c h entries (x ∷ xs) g ds first all are one e =
 pub planned_next : (t u : Topology) (c h : ℕ) (entries : List (List Entry)) (gone : List Delivery) (i : ℕ) (d : Delivery) (ds all : List Death) → i < length gone → u ≡ t
     → (is_waiting (get_or gone i d) ≡ true → (x : List Death) × (all ≡ ds ++ x) × PlansAt u c h entries (get_or gone i d) x) → (is_waiting (get_or gone i d) ≡ false → all ≡ ds)
     → ArePlanned t c h entries (waiting (take i gone)) ds → ArePlanned t c h entries (waiting (take (i + 1) gone)) all
-planned_next t u c h entries gone i d ds all lt same yes no are = go (is_waiting (get_or gone i d)) refl
+planned_next t u c h entries gone i d ds all lt same plans passes are = go (is_waiting (get_or gone i d)) refl
   where
     g : Delivery
     g = get_or gone i d
 
     go : (b : Bool) → is_waiting g ≡ b → ArePlanned t c h entries (waiting (take (i + 1) gone)) all
     go true w =
-        let one = yes w in
+        let one = plans w in
         subst (λ (gs : List Delivery). ArePlanned t c h entries gs all) (sym (waiting_more gone i d true lt w))
         (planned_more t c h entries (waiting (take i gone)) g ds one.0 all are (subst (λ (v : Topology). PlansAt v c h entries g one.0) same one.2) one.1)
     go false w =
         subst (λ (gs : List Delivery). ArePlanned t c h entries gs all) (sym (waiting_more gone i d false lt w ∙ append-nil (waiting (take i gone))))
-        (subst (ArePlanned t c h entries (waiting (take i gone))) (sym (no w)) are)
+        (subst (ArePlanned t c h entries (waiting (take i gone))) (sym (passes w)) are)
 
 -- ---- what was planned can be done
 

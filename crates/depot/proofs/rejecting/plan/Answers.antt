@@ -5,8 +5,8 @@ use Rattle.depot.proofs.Waiting.{nothing, within_next}
 use Rattle.depot.proofs.Planned.{planned_next}
 use Rattle.depot.proofs.rejecting.plan.Goals as goal
 
-pub plan_waiting-requires-within : goal.plan_waiting-requires-within
-plan_waiting-requires-within c =
+pub plan_waiting-requires-clause-within : goal.plan_waiting-requires-clause-within
+plan_waiting-requires-clause-within c =
     within_next c.args.router.now c.loop-given.router c.args.gone.now c.loop-given.given-index nothing c.requires.within c.loop-given.invariant.same (let t = c.loop-given-test.true in omega arith)
 
 pub loop-given-preserved : goal.loop-given-preserved
