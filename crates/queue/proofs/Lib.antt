@@ -9,3 +9,4 @@ pub mod Joined
 pub mod Counts
 pub mod Signed
 pub mod Calls
+pub mod Filled

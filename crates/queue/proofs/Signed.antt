@@ -11,37 +11,36 @@ use Rattle.model.specs.declared.messages.Entry.{Entry}
 use Rattle.model.specs.Message.{Message}
 use Rattle.model.specs.declared.messages.Mark.TheVariants.{Ready}
 use Rattle.marks.specs.Places.{IsNextMark, bit_of}
-use Rattle.queue.specs.Line.{Line}
 use Rattle.queue.specs.Slots.{num, SlotBits, BitTurned}
-use Rattle.queue.specs.Blocks.{parts, joined, room_after, last_room, some_pass, is_in_use, stood_block, AreBlocksSigned}
+use Rattle.queue.specs.Blocks.{Stretch, parts, joined, room_after, last_room, some_pass, is_in_use, stood_block, AreBlocksSigned}
 use Rattle.queue.proofs.Places.{num-some, num-none}
 use Rattle.queue.proofs.Joined.{FirstIn, joined_mapped}
 
 -- ---- blocks and what stands in them
 
-pub parts-length : (bs : List Line) → length (parts bs) ≡ length bs
+pub parts-length : (bs : List Stretch) → length (parts bs) ≡ length bs
 parts-length [] = refl
 parts-length (b ∷ bs) = ap suc (parts-length bs)
 
-pub parts-past : (bs : List Line) (k : ℕ) → length bs ≤ k → get_or (parts bs) k [] ≡ []
+pub parts-past : (bs : List Stretch) (k : ℕ) → length bs ≤ k → get_or (parts bs) k [] ≡ []
 parts-past [] k h = refl
 parts-past (b ∷ bs) zero h = absurd (omega arith)
 parts-past (b ∷ bs) (suc k) h = parts-past bs k (omega arith)
 
-pub parts-at : (bs : List Line) (i : ℕ) (d : Line) → i < length bs → (get_or bs i d).entries ≡ get_or (parts bs) i []
+pub parts-at : (bs : List Stretch) (i : ℕ) (d : Stretch) → i < length bs → (get_or bs i d).entries ≡ get_or (parts bs) i []
 parts-at [] i d lt = absurd (omega arith)
 parts-at (b ∷ bs) zero d lt = refl
 parts-at (b ∷ bs) (suc i) d lt = parts-at bs i d (omega arith)
 
 -- what stands in this one
-pub part_of : (bs : List Line) (i : ℕ) (d : Line) → i < length bs → d ≡ get_or bs i d → d.entries ≡ get_or (parts bs) i []
-part_of bs i d lt e = ap (λ (b : Line). b.entries) e ∙ parts-at bs i d lt
+pub part_of : (bs : List Stretch) (i : ℕ) (d : Stretch) → i < length bs → d ≡ get_or bs i d → d.entries ≡ get_or (parts bs) i []
+part_of bs i d lt e = ap (λ (b : Stretch). b.entries) e ∙ parts-at bs i d lt
 
 -- a block is changed, where this one stood
-pub parts-written : (bs : List Line) (i : ℕ) (d b : Line) (f : List Entry → List Entry) → i < length bs → d ≡ get_or bs i d → b.entries ≡ f d.entries
+pub parts-written : (bs : List Stretch) (i : ℕ) (d b : Stretch) (f : List Entry → List Entry) → i < length bs → d ≡ get_or bs i d → b.entries ≡ f d.entries
     → parts (set bs i b) ≡ set (parts bs) i (f (get_or (parts bs) i []))
 parts-written bs i d b f lt e w =
-    map-set (λ (x : Line). x.entries) bs i b
+    map-set (λ (x : Stretch). x.entries) bs i b
     ∙ ap (λ (v : List Entry). set (parts bs) i v) (w ∙ ap f (part_of bs i d lt e))
 
 set_same : {X : Type 0} (xs : List X) (i : ℕ) (d : X) → set xs i (get_or xs i d) ≡ xs
@@ -50,73 +49,78 @@ set_same (x ∷ xs) zero d = refl
 set_same {X = X} (x ∷ xs) (suc i) d = ap (λ (ys : List X). x ∷ ys) (set_same xs i d)
 
 -- it has the same entries as before
-pub parts-kept : (bs : List Line) (i : ℕ) (d b : Line) → i < length bs → d ≡ get_or bs i d → b.entries ≡ d.entries → parts (set bs i b) ≡ parts bs
+pub parts-kept : (bs : List Stretch) (i : ℕ) (d b : Stretch) → i < length bs → d ≡ get_or bs i d → b.entries ≡ d.entries → parts (set bs i b) ≡ parts bs
 parts-kept bs i d b lt e w = parts-written bs i d b (λ es. es) lt e w ∙ set_same (parts bs) i []
 
-pub parts-end : (bs : List Line) (b : Line) → b.entries ≡ [] → parts (bs ++ b ∷ []) ≡ parts bs ++ [] ∷ []
+pub parts-end : (bs : List Stretch) (b : Stretch) → b.entries ≡ [] → parts (bs ++ b ∷ []) ≡ parts bs ++ [] ∷ []
 parts-end [] b e = ap (λ (es : List Entry). es ∷ []) e
 parts-end (x ∷ xs) b e = ap (λ (ps : List (List Entry)). x.entries ∷ ps) (parts-end xs b e)
 
 -- ---- the room of the last
 
-room-written : (r : ℕ) (bs : List Line) (i : ℕ) (b : Line) → i < length bs → b.room ≡ (get_or bs i b).room → room_after r (set bs i b) ≡ room_after r bs
+room-written : (r : ℕ) (bs : List Stretch) (i : ℕ) (b : Stretch) → i < length bs → b.room ≡ (get_or bs i b).room → room_after r (set bs i b) ≡ room_after r bs
 room-written r [] i b lt e = refl
 room-written r (x ∷ xs) zero b lt e = ap (λ (n : ℕ). room_after n xs) e
 room-written r (x ∷ xs) (suc i) b lt e = room-written x.room xs i b (omega arith) e
 
-at_default : (bs : List Line) (i : ℕ) (d b : Line) → i < length bs → get_or bs i d ≡ get_or bs i b
+pub at_default : (bs : List Stretch) (i : ℕ) (d b : Stretch) → i < length bs → get_or bs i d ≡ get_or bs i b
 at_default [] i d b lt = absurd (omega arith)
 at_default (x ∷ xs) zero d b lt = refl
 at_default (x ∷ xs) (suc i) d b lt = at_default xs i d b (omega arith)
 
 -- a block is changed, with the same room
-pub room_kept : (bs : List Line) (i : ℕ) (d b : Line) → i < length bs → d ≡ get_or bs i d → b.room ≡ d.room → last_room (set bs i b) ≡ last_room bs
-room_kept bs i d b lt e w = room-written 0 bs i b lt (w ∙ ap (λ (x : Line). x.room) (e ∙ at_default bs i d b lt))
+pub room_kept : (bs : List Stretch) (i : ℕ) (d b : Stretch) → i < length bs → d ≡ get_or bs i d → b.room ≡ d.room → last_room (set bs i b) ≡ last_room bs
+room_kept bs i d b lt e w = room-written 0 bs i b lt (w ∙ ap (λ (x : Stretch). x.room) (e ∙ at_default bs i d b lt))
 
 -- a block that isn't the last is changed
-room-inner : (r : ℕ) (bs : List Line) (i : ℕ) (b : Line) → i + 1 < length bs → room_after r (set bs i b) ≡ room_after r bs
+room-inner : (r : ℕ) (bs : List Stretch) (i : ℕ) (b : Stretch) → i + 1 < length bs → room_after r (set bs i b) ≡ room_after r bs
 room-inner r [] i b lt = refl
 room-inner r (x ∷ []) zero b lt = absurd (omega arith)
 room-inner r (x ∷ y ∷ ys) zero b lt = refl
 room-inner r (x ∷ xs) (suc i) b lt = room-inner x.room xs i b (omega arith)
 
-pub room_inside : (bs : List Line) (i : ℕ) (b : Line) → i + 1 < length bs → last_room (set bs i b) ≡ last_room bs
+pub room_inside : (bs : List Stretch) (i : ℕ) (b : Stretch) → i + 1 < length bs → last_room (set bs i b) ≡ last_room bs
 room_inside bs i b lt = room-inner 0 bs i b lt
 
 -- the last one is changed
-room-last : (r : ℕ) (bs : List Line) (i : ℕ) (b : Line) → i + 1 ≡ length bs → room_after r (set bs i b) ≡ b.room
+room-last : (r : ℕ) (bs : List Stretch) (i : ℕ) (b : Stretch) → i + 1 ≡ length bs → room_after r (set bs i b) ≡ b.room
 room-last r [] i b e = absurd (omega arith)
 room-last r (x ∷ []) zero b e = refl
 room-last r (x ∷ y ∷ ys) zero b e = absurd (omega arith)
 room-last r (x ∷ xs) (suc i) b e = room-last x.room xs i b (omega arith)
 
-pub room_at_last : (bs : List Line) (i : ℕ) (b : Line) → i + 1 ≡ length bs → last_room (set bs i b) ≡ b.room
+pub room_at_last : (bs : List Stretch) (i : ℕ) (b : Stretch) → i + 1 ≡ length bs → last_room (set bs i b) ≡ b.room
 room_at_last bs i b e = room-last 0 bs i b e
 
-room-is : (r : ℕ) (bs : List Line) (i : ℕ) (d : Line) → i + 1 ≡ length bs → room_after r bs ≡ (get_or bs i d).room
+room-is : (r : ℕ) (bs : List Stretch) (i : ℕ) (d : Stretch) → i + 1 ≡ length bs → room_after r bs ≡ (get_or bs i d).room
 room-is r [] i d e = absurd (omega arith)
 room-is r (x ∷ []) zero d e = refl
 room-is r (x ∷ y ∷ ys) zero d e = absurd (omega arith)
 room-is r (x ∷ xs) (suc i) d e = room-is x.room xs i d (omega arith)
 
 -- the room is that of the one at the last place
-pub room_is : (bs : List Line) (i : ℕ) (d : Line) → i + 1 ≡ length bs → d ≡ get_or bs i d → last_room bs ≡ d.room
-room_is bs i d e at = room-is 0 bs i d e ∙ ap (λ (x : Line). x.room) (sym at)
+pub room_is : (bs : List Stretch) (i : ℕ) (d : Stretch) → i + 1 ≡ length bs → d ≡ get_or bs i d → last_room bs ≡ d.room
+room_is bs i d e at = room-is 0 bs i d e ∙ ap (λ (x : Stretch). x.room) (sym at)
 
-room-end : (r : ℕ) (bs : List Line) (b : Line) → room_after r (bs ++ b ∷ []) ≡ b.room
+room-end : (r : ℕ) (bs : List Stretch) (b : Stretch) → room_after r (bs ++ b ∷ []) ≡ b.room
 room-end r [] b = refl
 room-end r (x ∷ xs) b = room-end x.room xs b
 
-pub room_at_end : (bs : List Line) (b : Line) → last_room (bs ++ b ∷ []) ≡ b.room
+pub room_at_end : (bs : List Stretch) (b : Stretch) → last_room (bs ++ b ∷ []) ≡ b.room
 room_at_end bs b = room-end 0 bs b
 
 -- where there is room there is a block
-pub room_somewhere : (bs : List Line) → 0 < last_room bs → 0 < length bs
+pub room_somewhere : (bs : List Stretch) → 0 < last_room bs → 0 < length bs
 room_somewhere [] h = absurd (omega arith)
 room_somewhere (b ∷ bs) h = omega arith
 
+-- there are some
+pub some_there : (n : ℕ) → (n == 0) ≡ false → 0 < n
+some_there zero h = absurd (false≢true (sym h))
+some_there (suc n) h = omega arith
+
 -- it has a last one
-pub some_block : (bs : List Line) → (length bs == 0) ≡ false → 0 < length bs
+pub some_block : (bs : List Stretch) → (length bs == 0) ≡ false → 0 < length bs
 some_block [] h = absurd (false≢true (sym h))
 some_block (b ∷ bs) h = omega arith
 
@@ -136,7 +140,7 @@ no_entries es room e =
     empty [] h = refl
     empty (x ∷ xs) h = absurd (omega arith)
 
-pub joined_in_use : (bs : List Line) → joined (parts (filter is_in_use bs)) ≡ joined (parts bs)
+pub joined_in_use : (bs : List Stretch) → joined (parts (filter is_in_use bs)) ≡ joined (parts bs)
 joined_in_use [] = refl
 joined_in_use (b ∷ bs) = go (is_in_use b) refl (joined_in_use bs)
   where
@@ -144,7 +148,7 @@ joined_in_use (b ∷ bs) = go (is_in_use b) refl (joined_in_use bs)
     go true h r = ap (λ (es : List Entry). b.entries ++ es) r
     go false h r = r ∙ ap (λ (es : List Entry). es ++ joined (parts bs)) (sym (no_entries b.entries b.room h).0)
 
-room-in_use : (r r' : ℕ) (bs : List Line) → r ≤ r' → room_after r bs ≤ room_after r' (filter is_in_use bs)
+room-in_use : (r r' : ℕ) (bs : List Stretch) → r ≤ r' → room_after r bs ≤ room_after r' (filter is_in_use bs)
 room-in_use r r' [] le = le
 room-in_use r r' (b ∷ bs) le = go (is_in_use b) refl (room-in_use b.room b.room bs (omega arith)) (room-in_use b.room r' bs)
   where
@@ -153,23 +157,23 @@ room-in_use r r' (b ∷ bs) le = go (is_in_use b) refl (room-in_use b.room b.roo
     go true h k d = k
     go false h k d = d (let z = (no_entries b.entries b.room h).1 in omega (arith, z))
 
-pub room_in_use : (bs : List Line) → last_room bs ≤ last_room (filter is_in_use bs)
+pub room_in_use : (bs : List Stretch) → last_room bs ≤ last_room (filter is_in_use bs)
 room_in_use bs = room-in_use 0 0 bs (omega arith)
 
 -- ---- all marked as what stood
 
-parts-stood : (bs : List Line) → parts (map stood_block bs) ≡ map (λ (es : List Entry). map stood_now es) (parts bs)
+parts-stood : (bs : List Stretch) → parts (map stood_block bs) ≡ map (λ (es : List Entry). map stood_now es) (parts bs)
 parts-stood [] = refl
 parts-stood (b ∷ bs) = ap (λ (ps : List (List Entry)). map stood_now b.entries ∷ ps) (parts-stood bs)
 
-pub joined_stood : (bs : List Line) → joined (parts (map stood_block bs)) ≡ map stood_now (joined (parts bs))
+pub joined_stood : (bs : List Stretch) → joined (parts (map stood_block bs)) ≡ map stood_now (joined (parts bs))
 joined_stood bs = ap (λ (ps : List (List Entry)). joined ps) (parts-stood bs) ∙ joined_mapped stood_now (parts bs)
 
-room-stood : (r : ℕ) (bs : List Line) → room_after r (map stood_block bs) ≡ room_after r bs
+room-stood : (r : ℕ) (bs : List Stretch) → room_after r (map stood_block bs) ≡ room_after r bs
 room-stood r [] = refl
 room-stood r (b ∷ bs) = room-stood b.room bs
 
-pub room_stood : (bs : List Line) → last_room (map stood_block bs) ≡ last_room bs
+pub room_stood : (bs : List Stretch) → last_room (map stood_block bs) ≡ last_room bs
 room_stood bs = room-stood 0 bs
 
 part-stood : (ps : List (List Entry)) (i : ℕ) → get_or (map (λ (es : List Entry). map stood_now es) ps) i [] ≡ map stood_now (get_or ps i [])
@@ -185,7 +189,7 @@ ready-stood (e ∷ es) = go (is_ready e) (ready-stood es)
     go true r = refl
     go false r = r
 
-pub signed_stood : (bs : List Line) (bits : SlotBits) → AreBlocksSigned (parts bs) bits → AreBlocksSigned (parts (map stood_block bs)) bits
+pub signed_stood : (bs : List Stretch) (bits : SlotBits) → AreBlocksSigned (parts bs) bits → AreBlocksSigned (parts (map stood_block bs)) bits
 signed_stood bs bits s i = s i ∙ ap num (sym (ready-stood (get_or (parts bs) i [])) ∙ ap (some_pass is_ready) (sym (part-stood (parts bs) i) ∙ ap (λ (ps : List (List Entry)). get_or ps i []) (sym (parts-stood bs))))
 
 -- ---- the bits
@@ -249,7 +253,7 @@ signed_more ps bits bits' place places lt s t = record {
   above = λ k ge. t.turned.others k (λ e. absurd (omega arith)) ∙ s.above k ge;
 }
 
-pub signed_done : (bs : List Line) (bits : SlotBits) (place places : ℕ) → places ≤ place → length bs ≤ places → SignedBelow (parts bs) bits place places → AreBlocksSigned (parts bs) bits
+pub signed_done : (bs : List Stretch) (bits : SlotBits) (place places : ℕ) → places ≤ place → length bs ≤ places → SignedBelow (parts bs) bits place places → AreBlocksSigned (parts bs) bits
 signed_done bs bits place places le len s k = elim (leb_tells places k) [
   | inl q ↦ s.above k q.1 ∙ sym (ap (λ (es : List Entry). num (some_pass is_ready es)) (parts-past bs k (let h = q.1 in omega arith)))
   | inr q ↦ let h = q.1 in s.below k (omega arith)

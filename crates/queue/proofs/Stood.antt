@@ -34,7 +34,7 @@ total-mapped : {X : Type 0} (g : X → ℕ) (f : X → X) → ((x : X) → g (f 
 total-mapped g f same [] = refl
 total-mapped g f same (x ∷ xs) = let a = same x in let b = total-mapped g f same xs in omega arith
 
-length-mapped : {X : Type 0} (f : X → X) (xs : List X) → length (map f xs) ≡ length xs
+pub length-mapped : {X : Type 0} (f : X → X) (xs : List X) → length (map f xs) ≡ length xs
 length-mapped f [] = refl
 length-mapped f (x ∷ xs) = ap suc (length-mapped f xs)
 

@@ -1,5 +1,5 @@
 -- Blocks of messages, one after another (own).
-use Rattle.std.specs.Prelude.{◌≡◌, ℕ, ◌≤◌, ◌+◌, ◌||◌, List, [], ◌∷◌, ◌++◌, length, map, filter, not, slice_set, vec_len, vec_capacity}
+use Rattle.std.specs.Prelude.{◌≡◌, ℕ, ◌<◌, ◌≤◌, ◌+◌, ◌*◌, ◌||◌, List, [], ◌∷◌, ◌++◌, length, map, filter, not, slice_set, vec_len, vec_capacity}
 use Rattle.std.specs.Prelude.{Bool, cond, nat_lt, Option, Some, None, find, is_some, get_or}
 use Rattle.std.specs.Global.{Vec}
 use Rattle.model.specs.Broker.{is_ready, body_bytes}
@@ -8,19 +8,24 @@ use Rattle.model.specs.Reloading.{stood_now}
 use Rattle.model.specs.declared.messages.Entry.{Entry}
 use Rattle.model.specs.declared.messages.Holder.{Holder}
 use Rattle.marks.specs.Places.{bit_of}
-use Rattle.queue.specs.Line.{Line}
 use Rattle.queue.specs.Slots.{num, tally, SlotBits, HavePlaces}
 
+-- a block: its entries, how many pushes into it need no memory, and how many slots it keeps
+pub record Stretch : Type 0 where
+  pub entries : List Entry
+  pub room : ℕ
+  pub slots : ℕ
+
 -- the entries of each block
-abbrev pub parts : List Line → List (List Entry)
-parts blocks = map (λ (b : Line). b.entries) blocks
+abbrev pub parts : List Stretch → List (List Entry)
+parts blocks = map (λ (b : Stretch). b.entries) blocks
 
 -- what stands in the block at this place
-abbrev pub part_at : List Line → ℕ → List Entry
+abbrev pub part_at : List Stretch → ℕ → List Entry
 part_at blocks place = get_or (parts blocks) place []
 
 -- the entries of each block, where this was done to those of the block at this place
-abbrev pub part_changed : (List Entry → List Entry) → List Line → ℕ → List (List Entry)
+abbrev pub part_changed : (List Entry → List Entry) → List Stretch → ℕ → List (List Entry)
 part_changed f blocks place = slice_set (parts blocks) place (f (part_at blocks place))
 
 -- the entries without those that are held under this tag
@@ -33,20 +38,59 @@ joined [] = []
 joined (xs ∷ xss) = xs ++ joined xss
 
 -- messages stand in the block, or there is room for some
-abbrev pub is_in_use : Line → Bool
+abbrev pub is_in_use : Stretch → Bool
 is_in_use b = nat_lt 0 (length b.entries) || nat_lt 0 b.room
 
 -- the block with all that stands in it marked as what stood when a reload was done
-abbrev pub stood_block : Line → Line
-stood_block b = record { entries = map stood_now b.entries; room = b.room }
+abbrev pub stood_block : Stretch → Stretch
+stood_block b = record { entries = map stood_now b.entries; room = b.room; slots = b.slots }
+
+-- a block with nothing
+abbrev pub no_stretch : Stretch
+no_stretch = record { entries = []; room = 0; slots = 0 }
+
+-- the block at this place
+abbrev pub block_at : List Stretch → ℕ → Stretch
+block_at blocks place = get_or blocks place no_stretch
+
+-- No block keeps more slots than so many, and each but the last holds a message if it keeps any.
+pub record AreFilled (most : ℕ) (blocks : List Stretch) : Type 0 where
+  pub narrow : (i : ℕ) → (block_at blocks i).slots ≤ most
+  pub filled : (i : ℕ) → i + 1 < length blocks → 0 < (block_at blocks i).slots → 0 < length (block_at blocks i).entries
+
+-- So it is but for the block at this place, which may hold none.
+pub record AreFilledBut (place most : ℕ) (blocks : List Stretch) : Type 0 where
+  pub narrow : (i : ℕ) → (block_at blocks i).slots ≤ most
+  pub filled : (i : ℕ) → i + 1 < length blocks → (i ≡ place → ⊥) → 0 < (block_at blocks i).slots → 0 < length (block_at blocks i).entries
+
+-- where they were filled they are
+abbrev pub StayFilled : List Stretch → List Stretch → Type 0
+StayFilled old new = (most : ℕ) → AreFilled most old → AreFilled most new
+
+-- so they are, for blocks with as many slots as one has that is begun for so many messages
+abbrev pub StayFilledFor : ℕ → List Stretch → List Stretch → Type 0
+StayFilledFor more old new = (most : ℕ) → 1024 ≤ most → more ≤ most → AreFilled most old → AreFilled most new
+
+-- the block holds a message if it keeps slots
+abbrev pub IsFilled : Stretch → Type 0
+IsFilled b = 0 < b.slots → 0 < length b.entries
+
+-- so it is with the last one, if there is one
+abbrev pub LastIsFilled : List Stretch → Type 0
+LastIsFilled blocks = (i : ℕ) → i + 1 ≡ length blocks → IsFilled (block_at blocks i)
+
+-- how many slots all of them keep
+abbrev pub slots_of : List Stretch → ℕ
+slots_of [] = 0
+slots_of (b ∷ bs) = b.slots + slots_of bs
 
 -- the room of the last block, or this where there is none
-abbrev pub room_after : ℕ → List Line → ℕ
+abbrev pub room_after : ℕ → List Stretch → ℕ
 room_after room [] = room
 room_after room (b ∷ bs) = room_after b.room bs
 
 -- the room of the last block, or none
-abbrev pub last_room : List Line → ℕ
+abbrev pub last_room : List Stretch → ℕ
 last_room blocks = room_after 0 blocks
 
 -- The last block has the room that is promised, and so many messages more can be counted.
@@ -89,8 +133,15 @@ pub record IsCounted (entries : List Entry) (ready live bytes : ℕ) : Type 0 wh
   pub apart : (holder : Holder) → tally (is_held_as holder) entries ≤ 1
   pub short : tally is_long entries ≡ 0
 
+-- As many slots are kept as a block may have for each message, and those of one block more.
+pub record IsBounded (most : ℕ) (blocks : List Stretch) : Type 0 where
+  pub usual : 1024 ≤ most
+  pub filled : AreFilled most blocks
+  pub few : slots_of blocks ≤ length (joined (parts blocks)) * most + most
+
 -- What a queue in blocks keeps beside its blocks is true of them.
-abbrev pub IsIndexed : Vec Line → SlotBits → (ready live bytes room : ℕ) → Type 0
-IsIndexed blocks bits ready live bytes room =
+abbrev pub IsIndexed : Vec Stretch → SlotBits → (ready live bytes room most : ℕ) → Type 0
+IsIndexed blocks bits ready live bytes room most =
     AreBlocksSigned (parts blocks.items) bits × HavePlaces blocks bits
     × IsCounted (joined (parts blocks.items)) ready live bytes × HasRoom room (last_room blocks.items) live
+    × IsBounded most blocks.items

@@ -4,12 +4,11 @@ use Rattle.model.specs.declared.messages.Entry.{Entry}
 use Rattle.queue.specs.declared.walks.Ahead.{Ahead}
 use Rattle.queue.specs.declared.walks.Ahead.TheVariants.{Entries, Blocks}
 use Rattle.queue.specs.declared.slots.Slot.{Slot}
-use Rattle.queue.specs.Line.{Line}
 use Rattle.queue.specs.Slots.{contents, somes}
-use Rattle.queue.specs.Blocks.{parts, joined}
+use Rattle.queue.specs.Blocks.{Stretch, parts, joined}
 
 -- the entries in these slots, and then those in these blocks
-abbrev pub all_in : List Slot → List Line → List Entry
+abbrev pub all_in : List Slot → List Stretch → List Entry
 all_in slots blocks = somes (contents slots) ++ joined (parts blocks)
 
 -- the entries that are not gone over yet

@@ -1,5 +1,7 @@
 //! A block: messages in slots by arrival, of which the ready ones are marked.
 
+ghost use Rattle.std.specs.Prelude.{◌+◌, ◌≤◌, ℕ, IfSome};
+
 use crate::signs::Signs;
 use crate::slots::{
     Slot, append, close_gaps, entry_at, free_at, hold_at, place_held, place_of, stand_in, take_at,
@@ -8,8 +10,42 @@ use model::{Entry, Holder, Mark, Message};
 use std::alloc::{AllocError, Global};
 use std::marker::Model;
 
-/// A block has no more slots than this, but where more are asked for at once.
+/// A block has no more slots than this, unless more are asked for at once.
 pub(crate) const BLOCK_SLOTS: usize = 1024;
+
+/// A short queue begins with so many slots.
+pub(crate) const FIRST_SLOTS: usize = 4;
+
+/// Twice as many slots, up to the usual size of a block.
+fn twice(slots: usize) -> usize
+    ensures { result ≤ 1024 }
+{
+    if slots < FIRST_SLOTS {
+        FIRST_SLOTS
+    } else if slots < BLOCK_SLOTS / 2 {
+        slots * 2
+    } else {
+        BLOCK_SLOTS
+    }
+}
+
+/// How many slots are made for so many messages more, behind so many slots of these: so many, or what doubles them. None are
+/// if that leaves no block of the usual size.
+fn growth(slots: usize, capacity: usize, more: usize) -> Option<usize>
+    ensures enough { IfSome result (λ grown. more ≤ grown) }
+    ensures few { IfSome result (λ grown. (most : ℕ) → 1024 ≤ most → more ≤ most → slots + grown ≤ most) }
+{
+    if slots == 0 {
+        return Some(more.max(twice(capacity)));
+    }
+    if slots > BLOCK_SLOTS || more > BLOCK_SLOTS - slots {
+        return None;
+    }
+    if more <= capacity.saturating_sub(slots) {
+        return Some(more);
+    }
+    Some(more.max(twice(capacity).saturating_sub(slots)))
+}
 
 /// Messages that came one after another, ready or held.
 ///
@@ -27,35 +63,41 @@ pub(crate) struct Block {
 
 impl Model for Block {
     ghost use Rattle.std.specs.Prelude.{◌-◌, vec_len, vec_capacity};
-    ghost use Rattle.queue.specs.Line.{Line};
+    ghost use Rattle.queue.specs.Blocks.{Stretch};
     ghost use Rattle.queue.specs.Slots.{contents, somes, IsBlock};
 
-    ghost Value = { Line };
+    ghost Value = { Stretch };
 
-    ghost view = { λ b. record { entries = somes (contents b.slots.items); room = b.signs.places - vec_len b.slots } };
+    ghost view = { λ b. record { entries = somes (contents b.slots.items); room = b.signs.places - vec_len b.slots; slots = vec_capacity b.slots } };
 
     ghost invariant = { λ b. IsBlock b.slots b.signs b.live };
 }
 
 impl Block {
-    ghost use Rattle.std.specs.Prelude.{◌≡◌, ◌+◌, ◌<◌, ◌≤◌, ◌∷◌, ◌++◌, [], OnOk, OnErr, None, find, filter, not, is_some, option_map};
+    ghost use Rattle.std.specs.Prelude.{◌≡◌, ◌+◌, ◌<◌, ◌≤◌, ◌∷◌, ◌++◌, [], ℕ, true, IfOk, OnErr, None, find, filter, not, is_some, option_map};
     ghost use Rattle.model.specs.Broker.{is_ready};
     ghost use Rattle.model.specs.Entries.{is_under, is_held_as, held_as, change_first, without_first};
     ghost use Rattle.model.specs.declared.messages.Mark.TheVariants.{Ready};
-    ghost use Rattle.queue.specs.Blocks.{is_in_use, stood_block};
+    ghost use Rattle.queue.specs.Blocks.{is_in_use, stood_block, IsFilled};
     ghost use Rattle.queue.specs.Line.{requeued};
     ghost use Rattle.queue.specs.Slots.{contents, somes};
 
-    /// A block with no message, for arrivals with this number or later ones. It takes no memory.
-    pub(crate) fn new(alloc: Global, first: u64) -> Block
-        ensures { result.entries ≡ [] }
+    /// A block with no message and so many slots, for arrivals with this number or later ones.
+    pub(crate) fn new(alloc: Global, first: u64, places: usize) -> Result<Block, AllocError>
+        ensures entries { IfOk result (λ block. block.entries ≡ []) }
+        ensures room { IfOk result (λ block. block.room ≡ places) }
+        ensures slots { IfOk result (λ block. block.slots ≡ places) }
     {
-        Block {
-            slots: Vec::new(alloc),
-            signs: Signs::empty(alloc),
+        let mut slots = Vec::new(alloc);
+        slots.reserve_exact(places)?;
+        let mut signs = Signs::empty(alloc);
+        signs.grow(places)?;
+        Ok(Block {
+            slots,
+            signs,
             live: 0,
             first,
-        }
+        })
     }
 
     /// The arrivals here have this number or later ones.
@@ -70,30 +112,27 @@ impl Block {
         self.signs.places() - self.slots.len()
     }
 
-    /// Whether so many messages more leave this a block of the usual size.
-    pub(crate) fn fits(&self, more: usize) -> bool {
-        let used = if self.live <= self.slots.len() / 2 {
-            self.live
-        } else {
-            self.slots.len()
-        };
-        used == 0 || more <= BLOCK_SLOTS.saturating_sub(used)
-    }
-
-    /// Makes room for so many messages more: closes gaps where more than half of the slots are empty, and grows where
-    /// that is not enough.
-    pub(crate) fn reserve(&mut self, more: usize) -> Result<(), AllocError>
+    /// Makes room for so many messages more, if that leaves this a block of the usual size, and tells whether it does. Closes
+    /// gaps if more than half of the slots are empty, and grows if that is not enough.
+    pub(crate) fn reserve(&mut self, more: usize) -> Result<bool, AllocError>
         ensures entries { self.new.entries ≡ self.old.entries }
         ensures kept { self.old.room ≤ self.new.room }
-        ensures room { OnOk result (more ≤ self.new.room) }
+        ensures room { IfOk result (λ fits. fits ≡ true → more ≤ self.new.room) }
         ensures full { OnErr result (self.old.room < more) }
+        ensures slots { (most : ℕ) → 1024 ≤ most → more ≤ most → self.old.slots ≤ most → self.new.slots ≤ most }
     {
         if more <= self.signs.places() - self.slots.len() {
-            return Ok(());
+            return Ok(true);
         }
         close_gaps(&mut self.slots, &mut self.signs, self.live);
-        self.slots.reserve(more)?;
-        self.signs.grow(self.slots.capacity())
+        match growth(self.slots.len(), self.slots.capacity(), more) {
+            None => Ok(false),
+            Some(grown) => {
+                self.slots.reserve_exact(grown)?;
+                self.signs.grow(self.slots.capacity())?;
+                Ok(true)
+            }
+        }
     }
 
     /// The message comes to the end, with this number of its arrival, and is ready. There is room for it.
@@ -101,6 +140,7 @@ impl Block {
         requires { 0 < self.old.room }
         ensures entries { self.new.entries ≡ self.old.entries ++ record { message = message; mark = Ready } ∷ [] }
         ensures room { self.new.room + 1 ≡ self.old.room }
+        ensures slots { self.new.slots ≡ self.old.slots }
     {
         self.signs.set_ready(self.slots.len());
         append(
@@ -128,7 +168,9 @@ impl Block {
 
     /// Gives the memory back, if no message stands here. The slots go last: the system takes memory back when a large piece is freed.
     pub(crate) fn give_back(&mut self, alloc: Global)
-        ensures { self.new.entries ≡ self.old.entries }
+        ensures entries { self.new.entries ≡ self.old.entries }
+        ensures slots { self.new.slots ≤ self.old.slots }
+        ensures filled { IsFilled self.new }
     {
         if self.live == 0 {
             self.signs = Signs::empty(alloc);
@@ -163,6 +205,7 @@ impl Block {
         ensures told { is_some result ≡ is_some (find is_ready self.old.entries) }
         ensures entries { self.new.entries ≡ change_first is_ready (held_as holder) self.old.entries }
         ensures room { self.new.room ≡ self.old.room }
+        ensures slots { self.new.slots ≡ self.old.slots }
     {
         match self.signs.first_ready() {
             None => None,
@@ -178,6 +221,7 @@ impl Block {
         ensures taken { result ≡ find is_ready self.old.entries }
         ensures entries { self.new.entries ≡ without_first is_ready self.old.entries }
         ensures room { self.new.room ≡ self.old.room }
+        ensures slots { self.new.slots ≡ self.old.slots }
     {
         match self.signs.first_ready() {
             None => None,
@@ -213,6 +257,7 @@ impl Block {
         ensures told { result ≡ is_some (find (is_held_as holder.now) self.old.entries) }
         ensures entries { self.new.entries ≡ requeued (is_under holder.now) self.old.entries }
         ensures room { self.new.room ≡ self.old.room }
+        ensures slots { self.new.slots ≡ self.old.slots }
     {
         match place_held(&self.slots, holder, near) {
             None => false,
@@ -229,6 +274,7 @@ impl Block {
         ensures taken { result ≡ find (is_held_as holder.now) self.old.entries }
         ensures entries { self.new.entries ≡ filter (λ e. not (is_held_as holder.now e)) self.old.entries }
         ensures room { self.new.room ≡ self.old.room }
+        ensures slots { self.new.slots ≡ self.old.slots }
     {
         match place_held(&self.slots, holder, near) {
             None => None,

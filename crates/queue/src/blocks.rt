@@ -1,7 +1,7 @@
 //! Blocks of messages, one after another.
 
 ghost use Rattle.std.specs.Prelude.{◌≡◌, ◌+◌, ◌<◌, ◌≤◌, ◌++◌, ◌∷◌, [], ℕ, true, length, map, find, is_some, vec_len, vec_capacity};
-ghost use Rattle.std.specs.Prelude.{option_map, IfSome, IfNone, OnOk, OnErr, None};
+ghost use Rattle.std.specs.Prelude.{option_map, IfSome, IfNone, IfOk, OnOk, OnErr, None};
 ghost use Rattle.model.specs.Broker.{is_ready, body_bytes};
 ghost use Rattle.model.specs.Entries.{is_under, is_held_as, held_as, change_first, without_first};
 ghost use Rattle.model.specs.declared.messages.Mark.TheVariants.{Ready};
@@ -9,8 +9,9 @@ ghost use Rattle.marks.specs.Places.{bit_of};
 ghost use Rattle.queue.specs.Line.{requeued};
 ghost use Rattle.queue.specs.Slots.{num, BitTurned, HavePlaces};
 ghost use Rattle.queue.specs.Blocks.{parts, part_at, part_changed, without_held, joined, last_room, some_pass, size_of, stood_block, AreBlocksSigned};
+ghost use Rattle.queue.specs.Blocks.{AreFilled, AreFilledBut, LastIsFilled, StayFilled, StayFilledFor};
 
-use crate::block::{BLOCK_SLOTS, Block};
+use crate::block::{BLOCK_SLOTS, Block, FIRST_SLOTS};
 use crate::signs::Signs;
 use model::{Entry, Holder, Message};
 use std::alloc::{AllocError, Global};
@@ -135,6 +136,7 @@ pub(crate) fn hold_at(blocks: &mut Vec<Block>, place: usize, holder: Holder) -> 
     ensures room { last_room blocks.new.items ≡ last_room blocks.old.items }
     ensures len { vec_len blocks.new ≡ vec_len blocks.old }
     ensures capacity { vec_capacity blocks.new ≡ vec_capacity blocks.old }
+    ensures filled { StayFilled blocks.old.items blocks.new.items }
 {
     blocks[place].hold(holder)
 }
@@ -146,6 +148,7 @@ pub(crate) fn free_at(blocks: &mut Vec<Block>, place: usize, holder: &Holder, ne
     ensures room { last_room blocks.new.items ≡ last_room blocks.old.items }
     ensures len { vec_len blocks.new ≡ vec_len blocks.old }
     ensures capacity { vec_capacity blocks.new ≡ vec_capacity blocks.old }
+    ensures filled { StayFilled blocks.old.items blocks.new.items }
 {
     blocks[place].release(holder, near);
 }
@@ -157,6 +160,7 @@ fn give_back(blocks: &mut Vec<Block>, place: usize, alloc: Global)
     ensures room { last_room blocks.new.items ≡ last_room blocks.old.items }
     ensures len { vec_len blocks.new ≡ vec_len blocks.old }
     ensures capacity { vec_capacity blocks.new ≡ vec_capacity blocks.old }
+    ensures filled { (most : ℕ) → AreFilledBut place most blocks.old.items → AreFilled most blocks.new.items }
 {
     if place + 1 < blocks.len() {
         blocks[place].give_back(alloc);
@@ -171,6 +175,7 @@ pub(crate) fn take_at(blocks: &mut Vec<Block>, place: usize, alloc: Global) -> O
     ensures room { last_room blocks.new.items ≡ last_room blocks.old.items }
     ensures len { vec_len blocks.new ≡ vec_len blocks.old }
     ensures capacity { vec_capacity blocks.new ≡ vec_capacity blocks.old }
+    ensures filled { StayFilled blocks.old.items blocks.new.items }
 {
     let entry = blocks[place].take_first();
     give_back(blocks, place, alloc);
@@ -191,6 +196,7 @@ pub(crate) fn remove_at(
     ensures room { last_room blocks.new.items ≡ last_room blocks.old.items }
     ensures len { vec_len blocks.new ≡ vec_len blocks.old }
     ensures capacity { vec_capacity blocks.new ≡ vec_capacity blocks.old }
+    ensures filled { StayFilled blocks.old.items blocks.new.items }
 {
     let entry = blocks[place].remove(holder, near);
     give_back(blocks, place, alloc);
@@ -205,6 +211,7 @@ pub(crate) fn give_back_spare(blocks: &mut Vec<Block>, place: usize, room: usize
     ensures room { room ≤ last_room blocks.new.items }
     ensures len { vec_len blocks.new ≡ vec_len blocks.old }
     ensures capacity { vec_capacity blocks.new ≡ vec_capacity blocks.old }
+    ensures filled { StayFilled blocks.old.items blocks.new.items }
 {
     if room > 0 {
         return;
@@ -233,28 +240,36 @@ fn room_of(blocks: &[Block]) -> usize
     blocks[blocks.len() - 1].room()
 }
 
-/// Whether so many messages more come into the last block.
-fn last_fits(blocks: &[Block], more: usize) -> bool
-    ensures { result ≡ true → 0 < length blocks.now }
-{
-    match blocks.last() {
-        Some(block) => block.fits(more),
-        None => false,
-    }
-}
-
-/// Makes room for so many messages more in the last block.
-fn reserve_last(blocks: &mut Vec<Block>, more: usize) -> Result<(), AllocError>
-    requires { 0 < vec_len blocks.old }
+/// Makes room for so many messages more in the last block, if they come into it, and tells whether they do.
+fn reserve_last(blocks: &mut Vec<Block>, more: usize) -> Result<bool, AllocError>
     ensures parts { parts blocks.new.items ≡ parts blocks.old.items }
     ensures kept { last_room blocks.old.items ≤ last_room blocks.new.items }
-    ensures room { OnOk result (more ≤ last_room blocks.new.items) }
+    ensures room { IfOk result (λ fits. fits ≡ true → more ≤ last_room blocks.new.items) }
     ensures len { vec_len blocks.new ≡ vec_len blocks.old }
     ensures capacity { vec_capacity blocks.new ≡ vec_capacity blocks.old }
     ensures full { OnErr result (last_room blocks.old.items < more) }
+    ensures filled { StayFilledFor more blocks.old.items blocks.new.items }
 {
+    if blocks.is_empty() {
+        return Ok(false);
+    }
     let last = blocks.len() - 1;
     blocks[last].reserve(more)
+}
+
+/// Gives the memory of the last block back, if no message stands in it: another comes behind it.
+fn leave_last(blocks: &mut Vec<Block>, alloc: Global)
+    ensures parts { parts blocks.new.items ≡ parts blocks.old.items }
+    ensures len { vec_len blocks.new ≡ vec_len blocks.old }
+    ensures capacity { vec_capacity blocks.new ≡ vec_capacity blocks.old }
+    ensures filled { StayFilled blocks.old.items blocks.new.items }
+    ensures last { LastIsFilled blocks.new.items }
+{
+    if blocks.is_empty() {
+        return;
+    }
+    let last = blocks.len() - 1;
+    blocks[last].give_back(alloc);
 }
 
 /// The message comes to the end of the last block, with this number of its arrival, and is ready. Tells the place of the block.
@@ -265,6 +280,7 @@ pub(crate) fn push_last(blocks: &mut Vec<Block>, arrival: u64, message: Message)
     ensures room { last_room blocks.new.items + 1 ≡ last_room blocks.old.items }
     ensures len { vec_len blocks.new ≡ vec_len blocks.old }
     ensures capacity { vec_capacity blocks.new ≡ vec_capacity blocks.old }
+    ensures filled { StayFilled blocks.old.items blocks.new.items }
 {
     let last = blocks.len() - 1;
     blocks[last].push(arrival, message);
@@ -312,6 +328,7 @@ fn drop_given_back(blocks: &mut Vec<Block>)
     ensures room { last_room blocks.old.items ≤ last_room blocks.new.items }
     ensures len { vec_len blocks.new ≤ vec_len blocks.old }
     ensures capacity { vec_capacity blocks.new ≡ vec_capacity blocks.old }
+    ensures filled { StayFilled blocks.old.items blocks.new.items }
 {
     blocks.retain(|block| block.is_in_use());
 }
@@ -326,6 +343,7 @@ fn make_place(blocks: &mut Vec<Block>, signs: &mut Signs) -> Result<(), AllocErr
     ensures entries { joined (parts blocks.new.items) ≡ joined (parts blocks.old.items) }
     ensures kept { last_room blocks.old.items ≤ last_room blocks.new.items }
     ensures room { OnOk result (vec_len blocks.new < signs.new.places) }
+    ensures filled { StayFilled blocks.old.items blocks.new.items }
 {
     let places = blocks.len();
     if places < signs.places() {
@@ -339,12 +357,13 @@ fn make_place(blocks: &mut Vec<Block>, signs: &mut Signs) -> Result<(), AllocErr
 
 /// How many slots a block starts with, which wants so many: the first block grows as it is filled, another has all at once.
 fn slots_for(more: usize, is_first: bool) -> usize
-    ensures { more ≤ result }
+    ensures enough { more ≤ result }
+    ensures few { (most : ℕ) → 1024 ≤ most → more ≤ most → result ≤ most }
 {
-    if is_first || more > BLOCK_SLOTS {
-        more
+    if is_first {
+        more.max(FIRST_SLOTS)
     } else {
-        BLOCK_SLOTS
+        more.max(BLOCK_SLOTS)
     }
 }
 
@@ -363,10 +382,11 @@ fn start_block(
     ensures entries { joined (parts blocks.new.items) ≡ joined (parts blocks.old.items) }
     ensures room { OnOk result (more ≤ last_room blocks.new.items) }
     ensures kept { OnErr result (last_room blocks.old.items ≤ last_room blocks.new.items) }
+    ensures filled { StayFilledFor more blocks.old.items blocks.new.items }
 {
     make_place(blocks, signs)?;
-    let mut block = Block::new(alloc, first);
-    block.reserve(slots_for(more, blocks.is_empty()))?;
+    let block = Block::new(alloc, first, slots_for(more, blocks.is_empty()))?;
+    leave_last(blocks, alloc);
     blocks.push_reserved(block);
     Ok(())
 }
@@ -387,12 +407,13 @@ pub(crate) fn make_room(
     ensures entries { joined (parts blocks.new.items) ≡ joined (parts blocks.old.items) }
     ensures room { OnOk result (more ≤ last_room blocks.new.items) }
     ensures kept { OnErr result (last_room blocks.old.items ≤ last_room blocks.new.items) }
+    ensures filled { StayFilledFor more blocks.old.items blocks.new.items }
 {
     if more <= room_of(blocks) {
         return Ok(());
     }
-    if last_fits(blocks, more) {
-        return reserve_last(blocks, more);
+    if reserve_last(blocks, more)? {
+        return Ok(());
     }
     start_block(blocks, signs, alloc, first, more)
 }

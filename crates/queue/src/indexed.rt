@@ -5,7 +5,7 @@ ghost use Rattle.model.specs.Broker.{is_ready};
 ghost use Rattle.queue.specs.Line.{ready_count};
 ghost use Rattle.model.specs.Entries.{number_of};
 
-use crate::block::Block;
+use crate::block::{BLOCK_SLOTS, Block};
 use crate::blocks::{
     Spot, first_ready_at, free_at, give_back_spare, held_at, held_bytes_at, hold_at, make_room,
     push_last, ready_bytes_at, remove_at, sign, spot_held, stand_in, take_at,
@@ -36,6 +36,8 @@ pub struct Indexed {
     room: usize,
     /// How many messages came so far.
     arrived: u64,
+    /// No block has more slots: the usual ones, or as many as were asked for at once.
+    most: usize,
 }
 
 impl Model for Indexed {
@@ -46,7 +48,7 @@ impl Model for Indexed {
 
     ghost view = { λ q. record { entries = joined (parts q.blocks.items); room = q.room } };
 
-    ghost invariant = { λ q. IsIndexed q.blocks q.signs q.ready_count q.live q.ready_bytes q.room };
+    ghost invariant = { λ q. IsIndexed q.blocks q.signs q.ready_count q.live q.ready_bytes q.room q.most };
 }
 
 impl Store for Indexed {
@@ -62,6 +64,7 @@ impl Store for Indexed {
             live: 0,
             room: 0,
             arrived: 0,
+            most: BLOCK_SLOTS,
         }
     }
 
@@ -73,6 +76,7 @@ impl Store for Indexed {
         if more > usize::MAX - self.live {
             return Err(AllocError);
         }
+        self.most = self.most.max(more);
         make_room(
             &mut self.blocks,
             &mut self.signs,

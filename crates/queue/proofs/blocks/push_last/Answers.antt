@@ -1,6 +1,7 @@
 use Rattle.std.proofs.Common.{◌≡◌, ◌∙◌, ◌<◌, ◌+◌, ◌-◌, ◌++◌, ◌∷◌, [], ℕ, rules, arith, length, ap, sym, subst, List, vec_len}
 use Rattle.model.specs.declared.messages.Entry.{Entry}
 use Rattle.model.specs.declared.messages.Mark.TheVariants.{Ready}
+use Rattle.queue.proofs.Filled.{filled_kept, some_more}
 use Rattle.queue.proofs.Signed.{parts-written, room_is, room_at_last, room_somewhere}
 use Rattle.queue.proofs.blocks.push_last.Goals as goal
 
@@ -26,3 +27,11 @@ returns-clause-room c =
     let last : (c.len-last.result - 1) + 1 ≡ length c.args.blocks.now.items = omega (arith, some) in
     ap (λ (r : ℕ). r + 1) (room_at_last c.args.blocks.now.items (c.len-last.result - 1) c.push.new.self last)
     ∙ c.push.ensures.room ∙ sym (room_is c.args.blocks.now.items (c.len-last.result - 1) c.index_mut.result.now last (search rules))
+
+pub returns-clause-filled : goal.returns-clause-filled
+returns-clause-filled c most f =
+    let some = room_somewhere c.args.blocks.now.items c.requires in
+    let l : vec_len c.args.blocks.now ≡ length c.args.blocks.now.items = search rules in
+    let n = c.len-last.ensures in
+    filled_kept most c.args.blocks.now.items (c.len-last.result - 1) c.index_mut.result.now _ (omega (arith, some)) (search rules) c.push.ensures.slots
+    (λ h. rw c.push.ensures.entries (some_more c.index_mut.result.now.entries (record { message = c.args.message; mark = Ready } ∷ []) h)) f

@@ -2,18 +2,18 @@ use Rattle.std.proofs.Common.{◌≡◌, ◌∙◌, sym, ap, subst, List, Option
 use Rattle.std.specs.Prelude.{option_map}
 use Rattle.model.specs.Broker.{is_ready}
 use Rattle.model.specs.declared.messages.Entry.{Entry}
-use Rattle.queue.specs.Line.{Line}
 use Rattle.queue.specs.Slots.{contents}
 use Rattle.queue.specs.declared.slots.Slot.{Slot}
+use Rattle.queue.specs.Blocks.{Stretch}
 use Rattle.queue.proofs.Places.{find_at, none_found}
 use Rattle.queue.proofs.Slotted.{first_by_marks, none_by_marks}
 use Rattle.queue.proofs.block.Block.first_ready.Goals as goal
 
 pub returns-in-Some : goal.returns-in-Some
-returns-in-Some c = subst (λ (l : Line). option_map (λ e. e.now) c.entry_at.result ≡ find is_ready l.entries) c.self.view_is
+returns-in-Some c = subst (λ (l : Stretch). option_map (λ e. e.now) c.entry_at.result ≡ find is_ready l.entries) c.self.view_is
     (c.entry_at.ensures ∙ ap (λ (ss : List Slot). get_or (contents ss) c.in-Some.place None) c.deref.ensures.value
     ∙ sym (find_at is_ready _ _ (first_by_marks is_ready _ _ _ c.self.invariant.0.signed c.in-Some.ensures.some)))
 
 pub returns-in-None : goal.returns-in-None
-returns-in-None c = subst (λ (l : Line). ◌≡◌ {A = Option Entry} None (find is_ready l.entries)) c.self.view_is
+returns-in-None c = subst (λ (l : Stretch). ◌≡◌ {A = Option Entry} None (find is_ready l.entries)) c.self.view_is
     (sym (none_found is_ready _ (none_by_marks is_ready _ _ c.self.invariant.0.signed c.in-None.ensures.none)))

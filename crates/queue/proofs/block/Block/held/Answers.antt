@@ -1,10 +1,10 @@
 use Rattle.std.proofs.Common.{◌≡◌, ◌∙◌, sym, ap, subst, List, true, Option, None, find, get_or}
 use Rattle.std.specs.Prelude.{option_map}
 use Rattle.model.specs.declared.messages.Entry.{Entry}
-use Rattle.queue.specs.Line.{Line}
 use Rattle.model.specs.Entries.{is_held_as}
 use Rattle.queue.specs.Slots.{contents, slot_has}
 use Rattle.queue.specs.declared.slots.Slot.{Slot}
+use Rattle.queue.specs.Blocks.{Stretch}
 use Rattle.queue.proofs.Places.{find_at, none_found, only_first}
 use Rattle.queue.proofs.Slotted.{only_held}
 use Rattle.queue.proofs.Places.{NonePasses}
@@ -13,12 +13,12 @@ use Rattle.queue.proofs.block.Block.held.Goals as goal
 pub returns-in-None : goal.returns-in-None
 returns-in-None c =
     let n : NonePasses (is_held_as c.args.holder.now) (contents c.deref.result.now) = record { no = c.in-None.ensures.none } in
-    subst (λ (l : Line). ◌≡◌ {A = Option Entry} None (find (is_held_as c.args.holder.now) l.entries)) c.self.view_is
+    subst (λ (l : Stretch). ◌≡◌ {A = Option Entry} None (find (is_held_as c.args.holder.now) l.entries)) c.self.view_is
     (sym (none_found _ _ (subst (λ (ss : List Slot). NonePasses (is_held_as c.args.holder.now) (contents ss)) c.deref.ensures.value n)))
 
 pub returns-in-Some : goal.returns-in-Some
 returns-in-Some c =
     let t = subst (λ (ss : List Slot). slot_has (is_held_as c.args.holder.now) (get_or (contents ss) c.in-Some.place None) ≡ true) c.deref.ensures.value c.in-Some.ensures.some in
-    subst (λ (l : Line). option_map (λ e. e.now) c.entry_at.result ≡ find (is_held_as c.args.holder.now) l.entries) c.self.view_is
+    subst (λ (l : Stretch). option_map (λ e. e.now) c.entry_at.result ≡ find (is_held_as c.args.holder.now) l.entries) c.self.view_is
     (c.entry_at.ensures ∙ ap (λ (ss : List Slot). get_or (contents ss) c.in-Some.place None) c.deref-in-Some.ensures.value
     ∙ sym (find_at _ _ _ (only_first _ _ _ (only_held _ _ _ _ c.args.holder.now c.self.invariant.0 t))))

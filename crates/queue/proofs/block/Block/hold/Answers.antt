@@ -1,8 +1,8 @@
 use Rattle.std.proofs.Common.{◌≡◌, ◌∙◌, sym, ap, subst, true, false, None, find, is_some}
 use Rattle.model.specs.Broker.{is_ready}
-use Rattle.queue.specs.Line.{Line}
 use Rattle.model.specs.Entries.{is_held_as, held_as, change_first}
 use Rattle.queue.specs.Slots.{contents, somes}
+use Rattle.queue.specs.Blocks.{Stretch}
 use Rattle.queue.proofs.Places.{change_at, some_at, none_found, none_changed}
 use Rattle.queue.proofs.Slotted.{first_by_marks, none_by_marks, hold_shows, same_places}
 use Rattle.queue.proofs.block.Block.hold.Goals as goal
@@ -10,22 +10,22 @@ use Rattle.queue.proofs.block.Block.hold.Goals as goal
 pub invariant_of-self : goal.invariant_of-self
 invariant_of-self c = (
   hold_shows _ _ _ _ _ _ c.args.holder c.self.invariant.0 c.in-Some.ensures.some c.clear.ensures c.hold_at.ensures.contents
-      (subst (λ (l : Line). find (is_held_as c.args.holder) l.entries ≡ None) (sym c.self.view_is) c.requires),
+      (subst (λ (l : Stretch). find (is_held_as c.args.holder) l.entries ≡ None) (sym c.self.view_is) c.requires),
   same_places _ _ _ _ _ _ c.self.invariant.1 c.hold_at.ensures.len c.hold_at.ensures.capacity c.clear.ensures.places,
 )
 
 pub returns-in-None-clause-told : goal.returns-in-None-clause-told
-returns-in-None-clause-told c = subst (λ (l : Line). false ≡ is_some (find is_ready l.entries)) c.self.view_is
+returns-in-None-clause-told c = subst (λ (l : Stretch). false ≡ is_some (find is_ready l.entries)) c.self.view_is
     (ap is_some (sym (none_found is_ready _ (none_by_marks is_ready _ _ c.self.invariant.0.signed c.in-None.ensures.none))))
 
 pub returns-in-None-clause-entries : goal.returns-in-None-clause-entries
-returns-in-None-clause-entries c = subst (λ (l : Line). l.entries ≡ change_first is_ready (held_as c.args.holder) l.entries) c.self.view_is
+returns-in-None-clause-entries c = subst (λ (l : Stretch). l.entries ≡ change_first is_ready (held_as c.args.holder) l.entries) c.self.view_is
     (sym (none_changed is_ready _ _ (none_by_marks is_ready _ _ c.self.invariant.0.signed c.in-None.ensures.none)))
 
 pub returns-in-Some-clause-told : goal.returns-in-Some-clause-told
-returns-in-Some-clause-told c = subst (λ (l : Line). true ≡ is_some (find is_ready l.entries)) c.self.view_is
+returns-in-Some-clause-told c = subst (λ (l : Stretch). true ≡ is_some (find is_ready l.entries)) c.self.view_is
     (sym (some_at is_ready _ _ (first_by_marks is_ready _ _ _ c.self.invariant.0.signed c.in-Some.ensures.some)))
 
 pub returns-in-Some-clause-entries : goal.returns-in-Some-clause-entries
-returns-in-Some-clause-entries c = subst (λ (l : Line). somes (contents c.hold_at.new.slots.items) ≡ change_first is_ready (held_as c.args.holder) l.entries) c.self.view_is
+returns-in-Some-clause-entries c = subst (λ (l : Stretch). somes (contents c.hold_at.new.slots.items) ≡ change_first is_ready (held_as c.args.holder) l.entries) c.self.view_is
     (ap somes c.hold_at.ensures.contents ∙ sym (change_at is_ready _ _ _ (first_by_marks is_ready _ _ _ c.self.invariant.0.signed c.in-Some.ensures.some)))

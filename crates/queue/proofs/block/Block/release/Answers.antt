@@ -1,9 +1,10 @@
 use Rattle.std.proofs.Common.{◌≡◌, ◌∙◌, sym, ap, subst, List, true, false, Option, None, find, is_some, get_or}
 use Rattle.model.specs.declared.messages.Entry.{Entry}
-use Rattle.queue.specs.Line.{Line, requeued}
+use Rattle.queue.specs.Line.{requeued}
 use Rattle.model.specs.Entries.{is_under, is_held_as}
 use Rattle.queue.specs.Slots.{contents, somes, slot_has}
 use Rattle.queue.specs.declared.slots.Slot.{Slot}
+use Rattle.queue.specs.Blocks.{Stretch}
 use Rattle.queue.proofs.Places.{some_at, none_found, none_mapped, only_first, only_mapped}
 use Rattle.queue.proofs.Slotted.{release_shows, only_held, same_places, freed_same, slot_freed}
 use Rattle.std.proofs.Math.ListN.{set}
@@ -20,23 +21,23 @@ invariant_of-self c =
 pub returns-in-None-clause-told : goal.returns-in-None-clause-told
 returns-in-None-clause-told c =
     let n : NonePasses (is_held_as c.args.holder.now) (contents c.deref.result.now) = record { no = c.in-None.ensures.none } in
-    subst (λ (l : Line). false ≡ is_some (find (is_held_as c.args.holder.now) l.entries)) c.self.view_is
+    subst (λ (l : Stretch). false ≡ is_some (find (is_held_as c.args.holder.now) l.entries)) c.self.view_is
     (ap is_some (sym (none_found _ _ (subst (λ (ss : List Slot). NonePasses (is_held_as c.args.holder.now) (contents ss)) c.deref.ensures.value n))))
 
 pub returns-in-None-clause-entries : goal.returns-in-None-clause-entries
 returns-in-None-clause-entries c =
     let n : NonePasses (is_held_as c.args.holder.now) (contents c.deref.result.now) = record { no = c.in-None.ensures.none } in
-    subst (λ (l : Line). l.entries ≡ requeued (is_under c.args.holder.now) l.entries) c.self.view_is
+    subst (λ (l : Stretch). l.entries ≡ requeued (is_under c.args.holder.now) l.entries) c.self.view_is
     (sym (none_mapped _ _ (freed_same (is_under c.args.holder.now)) _ (subst (λ (ss : List Slot). NonePasses (is_held_as c.args.holder.now) (contents ss)) c.deref.ensures.value n)))
 
 pub returns-in-Some-clause-told : goal.returns-in-Some-clause-told
 returns-in-Some-clause-told c =
     let t = subst (λ (ss : List Slot). slot_has (is_held_as c.args.holder.now) (get_or (contents ss) c.in-Some.place None) ≡ true) c.deref.ensures.value c.in-Some.ensures.some in
-    subst (λ (l : Line). true ≡ is_some (find (is_held_as c.args.holder.now) l.entries)) c.self.view_is
+    subst (λ (l : Stretch). true ≡ is_some (find (is_held_as c.args.holder.now) l.entries)) c.self.view_is
     (sym (some_at _ _ _ (only_first _ _ _ (only_held _ _ _ _ c.args.holder.now c.self.invariant.0 t))))
 
 pub returns-in-Some-clause-entries : goal.returns-in-Some-clause-entries
 returns-in-Some-clause-entries c =
     let t = subst (λ (ss : List Slot). slot_has (is_held_as c.args.holder.now) (get_or (contents ss) c.in-Some.place None) ≡ true) c.deref.ensures.value c.in-Some.ensures.some in
-    subst (λ (l : Line). somes (contents c.free_at.new.slots.items) ≡ requeued (is_under c.args.holder.now) l.entries) c.self.view_is
+    subst (λ (l : Stretch). somes (contents c.free_at.new.slots.items) ≡ requeued (is_under c.args.holder.now) l.entries) c.self.view_is
     (ap somes (c.free_at.ensures.contents ∙ ap (λ (o : Option Entry). set (contents c.self.inside.slots.items) c.in-Some.place o) (sym (slot_freed (is_under c.args.holder.now) _ t))) ∙ sym (only_mapped _ _ (freed_same (is_under c.args.holder.now)) _ _ (only_held _ _ _ _ c.args.holder.now c.self.invariant.0 t)))

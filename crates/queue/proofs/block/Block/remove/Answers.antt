@@ -1,9 +1,9 @@
 use Rattle.std.proofs.Common.{◌≡◌, ◌∙◌, sym, ap, subst, arith, List, true, not, filter, Option, None, find, get_or}
 use Rattle.model.specs.declared.messages.Entry.{Entry}
-use Rattle.queue.specs.Line.{Line}
 use Rattle.model.specs.Entries.{is_held_as}
 use Rattle.queue.specs.Slots.{contents, somes, slot_has}
 use Rattle.queue.specs.declared.slots.Slot.{Slot}
+use Rattle.queue.specs.Blocks.{Stretch}
 use Rattle.queue.proofs.Places.{find_at, none_found, none_left_out, only_first, only_left_out}
 use Rattle.queue.proofs.Slotted.{remove_shows, held_least, only_held, same_places}
 use Rattle.queue.proofs.Places.{NonePasses}
@@ -25,23 +25,23 @@ invariant_of-self c =
 pub returns-in-None-clause-taken : goal.returns-in-None-clause-taken
 returns-in-None-clause-taken c =
     let n : NonePasses (is_held_as c.args.holder.now) (contents c.deref.result.now) = record { no = c.in-None.ensures.none } in
-    subst (λ (l : Line). ◌≡◌ {A = Option Entry} None (find (is_held_as c.args.holder.now) l.entries)) c.self.view_is
+    subst (λ (l : Stretch). ◌≡◌ {A = Option Entry} None (find (is_held_as c.args.holder.now) l.entries)) c.self.view_is
     (sym (none_found _ _ (subst (λ (ss : List Slot). NonePasses (is_held_as c.args.holder.now) (contents ss)) c.deref.ensures.value n)))
 
 pub returns-in-None-clause-entries : goal.returns-in-None-clause-entries
 returns-in-None-clause-entries c =
     let n : NonePasses (is_held_as c.args.holder.now) (contents c.deref.result.now) = record { no = c.in-None.ensures.none } in
-    subst (λ (l : Line). l.entries ≡ filter (λ e. not (is_held_as c.args.holder.now e)) l.entries) c.self.view_is
+    subst (λ (l : Stretch). l.entries ≡ filter (λ e. not (is_held_as c.args.holder.now e)) l.entries) c.self.view_is
     (sym (none_left_out _ _ (subst (λ (ss : List Slot). NonePasses (is_held_as c.args.holder.now) (contents ss)) c.deref.ensures.value n)))
 
 pub returns-in-Some-clause-taken : goal.returns-in-Some-clause-taken
 returns-in-Some-clause-taken c =
     let t = subst (λ (ss : List Slot). slot_has (is_held_as c.args.holder.now) (get_or (contents ss) c.in-Some.place None) ≡ true) c.deref.ensures.value c.in-Some.ensures.some in
-    subst (λ (l : Line). c.take_at.result ≡ find (is_held_as c.args.holder.now) l.entries) c.self.view_is
+    subst (λ (l : Stretch). c.take_at.result ≡ find (is_held_as c.args.holder.now) l.entries) c.self.view_is
     (c.take_at.ensures.taken ∙ sym (find_at _ _ _ (only_first _ _ _ (only_held _ _ _ _ c.args.holder.now c.self.invariant.0 t))))
 
 pub returns-in-Some-clause-entries : goal.returns-in-Some-clause-entries
 returns-in-Some-clause-entries c =
     let t = subst (λ (ss : List Slot). slot_has (is_held_as c.args.holder.now) (get_or (contents ss) c.in-Some.place None) ≡ true) c.deref.ensures.value c.in-Some.ensures.some in
-    subst (λ (l : Line). somes (contents c.take_at.new.slots.items) ≡ filter (λ e. not (is_held_as c.args.holder.now e)) l.entries) c.self.view_is
+    subst (λ (l : Stretch). somes (contents c.take_at.new.slots.items) ≡ filter (λ e. not (is_held_as c.args.holder.now e)) l.entries) c.self.view_is
     (ap somes c.take_at.ensures.contents ∙ sym (only_left_out _ _ _ (only_held _ _ _ _ c.args.holder.now c.self.invariant.0 t)))

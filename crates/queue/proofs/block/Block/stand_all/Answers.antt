@@ -1,9 +1,8 @@
-use Rattle.std.proofs.Common.{◌≡◌, ◌∙◌, ◌-◌, ℕ, List, Option, drop, length, ap, map, vec_len}
+use Rattle.std.proofs.Common.{◌≡◌, ◌∙◌, ◌-◌, ℕ, List, Option, drop, length, ap, map, vec_len, vec_capacity}
 use Rattle.std.proofs.lemmas.List.{take_at}
 use Rattle.model.specs.Reloading.{stood_now}
 use Rattle.model.specs.declared.messages.Entry.{Entry}
-use Rattle.queue.specs.Line.{Line}
-use Rattle.queue.specs.Blocks.{stood_block}
+use Rattle.queue.specs.Blocks.{Stretch, stood_block}
 use Rattle.queue.specs.Slots.{changed, contents, somes}
 use Rattle.queue.specs.declared.slots.Slot.{Slot}
 use Rattle.queue.proofs.Stood.{somes-changed, stood_shows}
@@ -24,12 +23,12 @@ returns c =
     let new = c.stand_in.new.slots in
     let back = take_at new (drop (length new) c.self.inside.slots.items) c.self.inside.slots.len (c.stand_in.auto.slots ∙ c.deref_mut.ensures.len) in
     let is : contents new ≡ map (changed stood_now) (contents c.self.inside.slots.items) = c.stand_in.ensures ∙ ap (λ (ss : List Slot). map (changed stood_now) (contents ss)) c.deref_mut.ensures.value in
-    with_entries _ _ (c.self.inside.signs.places - vec_len c.self.inside.slots)
+    with_entries _ _ (c.self.inside.signs.places - vec_len c.self.inside.slots) (vec_capacity c.self.inside.slots)
     (ap (λ (ss : List Slot). somes (contents ss)) back ∙ ap (λ (os : List (Option Entry)). somes os) is ∙ somes-changed stood_now (contents c.self.inside.slots.items))
     ∙ ap stood_block c.self.view_is
   where
-    line : ℕ → List Entry → Line
-    line room es = record { entries = es; room = room }
+    stretch : ℕ → ℕ → List Entry → Stretch
+    stretch room slots es = record { entries = es; room = room; slots = slots }
 
-    with_entries : (es es' : List Entry) (room : ℕ) → es ≡ es' → line room es ≡ line room es'
-    with_entries es es' room e = ap (line room) e
+    with_entries : (es es' : List Entry) (room slots : ℕ) → es ≡ es' → stretch room slots es ≡ stretch room slots es'
+    with_entries es es' room slots e = ap (stretch room slots) e

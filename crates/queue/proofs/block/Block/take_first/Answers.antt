@@ -1,9 +1,9 @@
 use Rattle.std.proofs.Common.{◌≡◌, ◌∙◌, sym, ap, subst, arith, Option, None, find}
 use Rattle.model.specs.Broker.{is_ready}
 use Rattle.model.specs.declared.messages.Entry.{Entry}
-use Rattle.queue.specs.Line.{Line}
 use Rattle.model.specs.Entries.{without_first}
 use Rattle.queue.specs.Slots.{contents, somes}
+use Rattle.queue.specs.Blocks.{Stretch}
 use Rattle.queue.proofs.Places.{remove_at, find_at, none_found, none_removed}
 use Rattle.queue.proofs.Slotted.{first_by_marks, none_by_marks, take_shows, ready_least, same_places}
 use Rattle.queue.proofs.block.Block.take_first.Goals as goal
@@ -19,17 +19,17 @@ invariant_of-self c =
     )
 
 pub returns-in-None-clause-taken : goal.returns-in-None-clause-taken
-returns-in-None-clause-taken c = subst (λ (l : Line). ◌≡◌ {A = Option Entry} None (find is_ready l.entries)) c.self.view_is
+returns-in-None-clause-taken c = subst (λ (l : Stretch). ◌≡◌ {A = Option Entry} None (find is_ready l.entries)) c.self.view_is
     (sym (none_found is_ready _ (none_by_marks is_ready _ _ c.self.invariant.0.signed c.in-None.ensures.none)))
 
 pub returns-in-None-clause-entries : goal.returns-in-None-clause-entries
-returns-in-None-clause-entries c = subst (λ (l : Line). l.entries ≡ without_first is_ready l.entries) c.self.view_is
+returns-in-None-clause-entries c = subst (λ (l : Stretch). l.entries ≡ without_first is_ready l.entries) c.self.view_is
     (sym (none_removed is_ready _ (none_by_marks is_ready _ _ c.self.invariant.0.signed c.in-None.ensures.none)))
 
 pub returns-in-Some-clause-taken : goal.returns-in-Some-clause-taken
-returns-in-Some-clause-taken c = subst (λ (l : Line). c.take_at.result ≡ find is_ready l.entries) c.self.view_is
+returns-in-Some-clause-taken c = subst (λ (l : Stretch). c.take_at.result ≡ find is_ready l.entries) c.self.view_is
     (c.take_at.ensures.taken ∙ sym (find_at is_ready _ _ (first_by_marks is_ready _ _ _ c.self.invariant.0.signed c.in-Some.ensures.some)))
 
 pub returns-in-Some-clause-entries : goal.returns-in-Some-clause-entries
-returns-in-Some-clause-entries c = subst (λ (l : Line). somes (contents c.take_at.new.slots.items) ≡ without_first is_ready l.entries) c.self.view_is
+returns-in-Some-clause-entries c = subst (λ (l : Stretch). somes (contents c.take_at.new.slots.items) ≡ without_first is_ready l.entries) c.self.view_is
     (ap somes c.take_at.ensures.contents ∙ sym (remove_at is_ready _ _ (first_by_marks is_ready _ _ _ c.self.invariant.0.signed c.in-Some.ensures.some)))

@@ -3,14 +3,14 @@ use Rattle.std.specs.Prelude.{option_map}
 use Rattle.model.specs.Broker.{is_ready}
 use Rattle.model.specs.declared.messages.Entry.{Entry}
 use Rattle.queue.specs.Line.{Line}
-use Rattle.queue.specs.Blocks.{parts}
+use Rattle.queue.specs.Blocks.{Stretch, parts}
 use Rattle.queue.proofs.Joined.{joined_found, joined_none}
 use Rattle.queue.proofs.Signed.{first_signed, none_signed}
 use Rattle.queue.proofs.indexed.IndexedStore.first_ready.Goals as goal
 
 pub returns-in-Some : goal.returns-in-Some
 returns-in-Some c = subst (λ (l : Line). option_map (λ e. e.now) c.first_ready_at.result ≡ find is_ready l.entries) c.self.view_is
-    (c.first_ready_at.ensures ∙ ap (λ (bs : List Line). find is_ready (get_or (parts bs) c.in-Some.place [])) c.deref.ensures.value
+    (c.first_ready_at.ensures ∙ ap (λ (bs : List Stretch). find is_ready (get_or (parts bs) c.in-Some.place [])) c.deref.ensures.value
     ∙ sym (joined_found is_ready (parts c.self.inside.blocks.items) c.in-Some.place (first_signed (parts c.self.inside.blocks.items) c.self.inside.signs c.in-Some.place c.self.invariant.0 c.in-Some.ensures.some)))
 
 pub returns-in-None : goal.returns-in-None

@@ -5,6 +5,7 @@ use Rattle.model.specs.declared.contents.Content.{Content}
 use Rattle.queue.specs.Line.{Line}
 use Rattle.queue.specs.Slots.{num, BitTurned}
 use Rattle.queue.specs.Blocks.{parts, joined, AreBlocksSigned, IsCounted}
+use Rattle.queue.proofs.Filled.{bounded}
 use Rattle.queue.proofs.Joined.{joined_end}
 use Rattle.queue.proofs.Signed.{signed_at, ready_at_end, parts-length}
 use Rattle.queue.proofs.Slotted.{same_places}
@@ -44,6 +45,7 @@ invariant_of-self c =
       subst (λ (es : List Entry). IsCounted es (c.self.inside.ready_count + 1) (c.self.inside.live + 1) (c.self.inside.ready_bytes + c.len.result)) (sym (ap (λ (ps : List (List Entry)). joined ps) c.push_last-place.ensures.parts ∙ joined_end (parts c.self.inside.blocks.items) c.push_last-place.result (record { message = c.args.message; mark = Ready } ∷ []) last))
           (push_counted _ _ _ _ _ _ _ c.args.message c.self.invariant.2 (omega (arith, size)) refl refl (ap (λ (k : ℕ). c.self.inside.ready_bytes + k) size)),
       record { there = (let t = c.self.invariant.3.there in let r = c.push_last-place.ensures.room in omega (arith, t, r)); few = (let r : 0 < c.self.inside.room = subst (λ (l : Line). 0 < l.room) (sym c.self.view_is) c.requires in let f = c.self.invariant.3.few in omega (arith, r, f)) },
+      bounded c.self.inside.most c.push_last-place.new.blocks.items c.self.invariant.4.usual (c.push_last-place.ensures.filled c.self.inside.most c.self.invariant.4.filled),
     )
 
 pub returns-clause-entries : goal.returns-clause-entries

@@ -4,7 +4,8 @@ use Rattle.model.specs.Entries.{is_held_as}
 use Rattle.model.specs.declared.messages.Entry.{Entry}
 use Rattle.queue.specs.Line.{Line}
 use Rattle.queue.specs.Slots.{num, BitTurned}
-use Rattle.queue.specs.Blocks.{parts, joined, some_pass}
+use Rattle.queue.specs.Blocks.{Stretch, parts, joined, some_pass}
+use Rattle.queue.proofs.Filled.{bounded}
 use Rattle.queue.proofs.Joined.{first_within, joined_found}
 use Rattle.queue.proofs.Signed.{signed_now, parts-length}
 use Rattle.queue.proofs.Slotted.{same_places}
@@ -13,12 +14,12 @@ use Rattle.queue.proofs.indexed.IndexedStore.remove.Goals as goal
 
 pub overflow_sub-self : goal.overflow_sub-self
 overflow_sub-self c =
-    let t = subst (λ (bs : List Line). some_pass (is_held_as c.args.holder.now) (get_or (parts bs) c.in-Some.field-0.block []) ≡ true) c.deref.ensures.value c.in-Some.ensures.some in
+    let t = subst (λ (bs : List Stretch). some_pass (is_held_as c.args.holder.now) (get_or (parts bs) c.in-Some.field-0.block []) ≡ true) c.deref.ensures.value c.in-Some.ensures.some in
     (held_there (parts c.self.inside.blocks.items) c.self.inside.ready_count c.self.inside.live c.self.inside.ready_bytes c.in-Some.field-0.block c.args.holder.now c.self.invariant.2 t).0
 
 pub sign-requires : goal.sign-requires
 sign-requires c =
-    let t = subst (λ (bs : List Line). some_pass (is_held_as c.args.holder.now) (get_or (parts bs) c.in-Some.field-0.block []) ≡ true) c.deref.ensures.value c.in-Some.ensures.some in
+    let t = subst (λ (bs : List Stretch). some_pass (is_held_as c.args.holder.now) (get_or (parts bs) c.in-Some.field-0.block []) ≡ true) c.deref.ensures.value c.in-Some.ensures.some in
     let lt = first_within (is_held_as c.args.holder.now) (parts c.self.inside.blocks.items) c.in-Some.field-0.block t in
     let n = parts-length c.self.inside.blocks.items in
     let l : vec_len c.self.inside.blocks ≡ length c.self.inside.blocks.items = search rules in
@@ -27,36 +28,37 @@ sign-requires c =
 
 pub invariant_of-self : goal.invariant_of-self
 invariant_of-self c =
-    let t = subst (λ (bs : List Line). some_pass (is_held_as c.args.holder.now) (get_or (parts bs) c.in-Some.field-0.block []) ≡ true) c.deref.ensures.value c.in-Some.ensures.some in
+    let t = subst (λ (bs : List Stretch). some_pass (is_held_as c.args.holder.now) (get_or (parts bs) c.in-Some.field-0.block []) ≡ true) c.deref.ensures.value c.in-Some.ensures.some in
     let least = held_there (parts c.self.inside.blocks.items) c.self.inside.ready_count c.self.inside.live c.self.inside.ready_bytes c.in-Some.field-0.block c.args.holder.now c.self.invariant.2 t in
     let turned : BitTurned c.self.inside.signs c.sign.new.signs c.in-Some.field-0.block (num (some_pass is_ready (get_or (parts c.give_back_spare.new.blocks.items) c.in-Some.field-0.block [])))
-    = subst (λ (bs : List Line). BitTurned c.self.inside.signs c.sign.new.signs c.in-Some.field-0.block (num (some_pass is_ready (get_or (parts bs) c.in-Some.field-0.block [])))) c.deref-in-Some.ensures.value c.sign.ensures in (
+    = subst (λ (bs : List Stretch). BitTurned c.self.inside.signs c.sign.new.signs c.in-Some.field-0.block (num (some_pass is_ready (get_or (parts bs) c.in-Some.field-0.block [])))) c.deref-in-Some.ensures.value c.sign.ensures in (
       signed_now (parts c.self.inside.blocks.items) _ _ c.self.inside.signs c.sign.new.signs c.in-Some.field-0.block (first_within (is_held_as c.args.holder.now) (parts c.self.inside.blocks.items) c.in-Some.field-0.block t) c.self.invariant.0 (c.give_back_spare.ensures.parts ∙ c.remove_at-entry.ensures.parts) turned,
       same_places _ _ _ _ _ _ c.self.invariant.1 (c.give_back_spare.ensures.len ∙ c.remove_at-entry.ensures.len) (c.give_back_spare.ensures.capacity ∙ c.remove_at-entry.ensures.capacity) c.sign.ensures.places,
       remove_there (parts c.self.inside.blocks.items) (parts c.give_back_spare.new.blocks.items) _ _ _ _ c.in-Some.field-0.block c.args.holder.now c.self.invariant.2 t (c.give_back_spare.ensures.parts ∙ c.remove_at-entry.ensures.parts) (omega (arith, least.0)),
       record { there = c.give_back_spare.ensures.room; few = (let f = c.self.invariant.3.few in let o = least.0 in omega (arith, f, o)) },
+      bounded c.self.inside.most c.give_back_spare.new.blocks.items c.self.invariant.4.usual (c.give_back_spare.ensures.filled c.self.inside.most (c.remove_at-entry.ensures.filled c.self.inside.most c.self.invariant.4.filled)),
     )
 
 pub returns-in-None-clause-taken : goal.returns-in-None-clause-taken
 returns-in-None-clause-taken c =
     let n : NoneIn (is_held_as c.args.holder.now) (parts c.deref.result.now) = record { no = c.in-None.ensures.none } in
     subst (λ (l : Line). ◌≡◌ {A = Option Entry} None (find (is_held_as c.args.holder.now) l.entries)) c.self.view_is
-    (sym (nothing_found (is_held_as c.args.holder.now) (parts c.self.inside.blocks.items) (subst (λ (bs : List Line). NoneIn (is_held_as c.args.holder.now) (parts bs)) c.deref.ensures.value n)))
+    (sym (nothing_found (is_held_as c.args.holder.now) (parts c.self.inside.blocks.items) (subst (λ (bs : List Stretch). NoneIn (is_held_as c.args.holder.now) (parts bs)) c.deref.ensures.value n)))
 
 pub returns-in-None-clause-entries : goal.returns-in-None-clause-entries
 returns-in-None-clause-entries c =
     let n : NoneIn (is_held_as c.args.holder.now) (parts c.deref.result.now) = record { no = c.in-None.ensures.none } in
     subst (λ (l : Line). l.entries ≡ filter (λ e. not (is_held_as c.args.holder.now e)) l.entries) c.self.view_is
-    (sym (nothing_left_out (parts c.self.inside.blocks.items) c.args.holder.now (subst (λ (bs : List Line). NoneIn (is_held_as c.args.holder.now) (parts bs)) c.deref.ensures.value n)))
+    (sym (nothing_left_out (parts c.self.inside.blocks.items) c.args.holder.now (subst (λ (bs : List Stretch). NoneIn (is_held_as c.args.holder.now) (parts bs)) c.deref.ensures.value n)))
 
 pub returns-in-Some-clause-taken : goal.returns-in-Some-clause-taken
 returns-in-Some-clause-taken c =
-    let t = subst (λ (bs : List Line). some_pass (is_held_as c.args.holder.now) (get_or (parts bs) c.in-Some.field-0.block []) ≡ true) c.deref.ensures.value c.in-Some.ensures.some in
+    let t = subst (λ (bs : List Stretch). some_pass (is_held_as c.args.holder.now) (get_or (parts bs) c.in-Some.field-0.block []) ≡ true) c.deref.ensures.value c.in-Some.ensures.some in
     subst (λ (l : Line). c.remove_at-entry.result ≡ find (is_held_as c.args.holder.now) l.entries) c.self.view_is
     (c.remove_at-entry.ensures.taken ∙ sym (joined_found (is_held_as c.args.holder.now) (parts c.self.inside.blocks.items) c.in-Some.field-0.block (held_first (parts c.self.inside.blocks.items) c.self.inside.ready_count c.self.inside.live c.self.inside.ready_bytes c.in-Some.field-0.block c.args.holder.now c.self.invariant.2 t)))
 
 pub returns-in-Some-clause-entries : goal.returns-in-Some-clause-entries
 returns-in-Some-clause-entries c =
-    let t = subst (λ (bs : List Line). some_pass (is_held_as c.args.holder.now) (get_or (parts bs) c.in-Some.field-0.block []) ≡ true) c.deref.ensures.value c.in-Some.ensures.some in
+    let t = subst (λ (bs : List Stretch). some_pass (is_held_as c.args.holder.now) (get_or (parts bs) c.in-Some.field-0.block []) ≡ true) c.deref.ensures.value c.in-Some.ensures.some in
     subst (λ (l : Line). joined (parts c.give_back_spare.new.blocks.items) ≡ filter (λ e. not (is_held_as c.args.holder.now e)) l.entries) c.self.view_is
     (ap (λ (ps : List (List Entry)). joined ps) (c.give_back_spare.ensures.parts ∙ c.remove_at-entry.ensures.parts) ∙ sym (left_out_is (parts c.self.inside.blocks.items) c.self.inside.ready_count c.self.inside.live c.self.inside.ready_bytes c.in-Some.field-0.block c.args.holder.now c.self.invariant.2 t))

@@ -4,7 +4,8 @@ use Rattle.model.specs.Entries.{without_first}
 use Rattle.model.specs.declared.messages.Entry.{Entry}
 use Rattle.queue.specs.Line.{Line}
 use Rattle.queue.specs.Slots.{num, BitTurned}
-use Rattle.queue.specs.Blocks.{parts, joined, some_pass, size_of}
+use Rattle.queue.specs.Blocks.{Stretch, parts, joined, some_pass, size_of}
+use Rattle.queue.proofs.Filled.{bounded}
 use Rattle.queue.proofs.Joined.{FirstIn, first_within, joined_found, joined_without, joined_none, none_without_in}
 use Rattle.queue.proofs.Signed.{first_signed, none_signed, signed_now, parts-length}
 use Rattle.queue.proofs.Slotted.{same_places}
@@ -17,7 +18,7 @@ overflow_sub-self c = (ready_there (parts c.self.inside.blocks.items) c.self.ins
 pub overflow_sub-self-in-Some : goal.overflow_sub-self-in-Some
 overflow_sub-self-in-Some c =
     let size : c.ready_bytes_at.result ≡ size_of body_bytes (find is_ready (get_or (parts c.self.inside.blocks.items) c.in-Some.place []))
-    = c.ready_bytes_at.ensures ∙ ap (λ (bs : List Line). size_of body_bytes (find is_ready (get_or (parts bs) c.in-Some.place []))) c.deref.ensures.value in
+    = c.ready_bytes_at.ensures ∙ ap (λ (bs : List Stretch). size_of body_bytes (find is_ready (get_or (parts bs) c.in-Some.place []))) c.deref.ensures.value in
     let there = (ready_there (parts c.self.inside.blocks.items) c.self.inside.ready_count c.self.inside.live c.self.inside.ready_bytes c.in-Some.place c.self.invariant.2 (first_signed (parts c.self.inside.blocks.items) c.self.inside.signs c.in-Some.place c.self.invariant.0 c.in-Some.ensures.some)).1.1 in
     omega (arith, size, there)
 
@@ -36,15 +37,16 @@ pub invariant_of-self : goal.invariant_of-self
 invariant_of-self c =
     let first : FirstIn is_ready (parts c.self.inside.blocks.items) c.in-Some.place = first_signed (parts c.self.inside.blocks.items) c.self.inside.signs c.in-Some.place c.self.invariant.0 c.in-Some.ensures.some in
     let size : c.ready_bytes_at.result ≡ size_of body_bytes (find is_ready (get_or (parts c.self.inside.blocks.items) c.in-Some.place []))
-    = c.ready_bytes_at.ensures ∙ ap (λ (bs : List Line). size_of body_bytes (find is_ready (get_or (parts bs) c.in-Some.place []))) c.deref.ensures.value in
+    = c.ready_bytes_at.ensures ∙ ap (λ (bs : List Stretch). size_of body_bytes (find is_ready (get_or (parts bs) c.in-Some.place []))) c.deref.ensures.value in
     let least = ready_there (parts c.self.inside.blocks.items) c.self.inside.ready_count c.self.inside.live c.self.inside.ready_bytes c.in-Some.place c.self.invariant.2 first in
     let turned : BitTurned c.self.inside.signs c.sign.new.signs c.in-Some.place (num (some_pass is_ready (get_or (parts c.give_back_spare.new.blocks.items) c.in-Some.place [])))
-    = subst (λ (bs : List Line). BitTurned c.self.inside.signs c.sign.new.signs c.in-Some.place (num (some_pass is_ready (get_or (parts bs) c.in-Some.place [])))) c.deref-in-Some.ensures.value c.sign.ensures in (
+    = subst (λ (bs : List Stretch). BitTurned c.self.inside.signs c.sign.new.signs c.in-Some.place (num (some_pass is_ready (get_or (parts bs) c.in-Some.place [])))) c.deref-in-Some.ensures.value c.sign.ensures in (
       signed_now (parts c.self.inside.blocks.items) _ _ c.self.inside.signs c.sign.new.signs c.in-Some.place (first_within is_ready (parts c.self.inside.blocks.items) c.in-Some.place first.there) c.self.invariant.0 (c.give_back_spare.ensures.parts ∙ c.take_at-entry.ensures.parts) turned,
       same_places _ _ _ _ _ _ c.self.invariant.1 (c.give_back_spare.ensures.len ∙ c.take_at-entry.ensures.len) (c.give_back_spare.ensures.capacity ∙ c.take_at-entry.ensures.capacity) c.sign.ensures.places,
       take_there (parts c.self.inside.blocks.items) (parts c.give_back_spare.new.blocks.items) _ _ _ _ _ _ c.ready_bytes_at.result c.in-Some.place c.self.invariant.2 first
           (c.give_back_spare.ensures.parts ∙ c.take_at-entry.ensures.parts) size (omega (arith, least.0)) (let l = least.1.0 in omega (arith, l)) (let b = least.1.1 in omega (arith, size, b)),
       record { there = c.give_back_spare.ensures.room; few = (let f = c.self.invariant.3.few in let o = least.1.0 in omega (arith, f, o)) },
+      bounded c.self.inside.most c.give_back_spare.new.blocks.items c.self.invariant.4.usual (c.give_back_spare.ensures.filled c.self.inside.most (c.take_at-entry.ensures.filled c.self.inside.most c.self.invariant.4.filled)),
     )
 
 pub returns-in-None-clause-taken : goal.returns-in-None-clause-taken
