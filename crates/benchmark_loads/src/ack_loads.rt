@@ -10,22 +10,38 @@ pub enum Order {
     Swapped,
     /// From the last one back to the first.
     Backward,
+    /// As if each came at random.
+    Random,
 }
+
+/// By how much a place counts in the order that is as if at random.
+const PLACE: u64 = 7_919;
+
+/// By how much its square does.
+const SQUARE: u64 = 12_370;
 
 /// One load: messages that are all delivered to a consumer, and then acknowledged one by one.
 #[derive(Clone, Copy, Drop)]
 pub struct AckLoad {
     pub name: &'static str,
     pub order: Order,
-    /// How many are outstanding before the first ack: an even number.
+    /// How many are outstanding before the first ack: a number of which 2 and 5 are all primes, so that each comes once.
     pub outstanding: u64,
 }
 
 impl AckLoad {
+    /// A number below that of all outstanding ones, by a polynomial of a place: at each place another.
+    fn at_random(&self, place: u64) -> u64 {
+        let outstanding = self.outstanding.max(1);
+        let factor = SQUARE.saturating_mul(place).saturating_add(PLACE) % outstanding;
+        factor.saturating_mul(place) % outstanding
+    }
+
     /// The delivery tag that is acknowledged behind so many others.
     fn tag_behind(&self, others: u64) -> u64 {
         match self.order {
             Order::Backward => self.outstanding.saturating_sub(others),
+            Order::Random => self.at_random(others).saturating_add(1),
             Order::Swapped => {
                 if others.is_multiple_of(2) {
                     others.saturating_add(2)
@@ -53,8 +69,15 @@ pub fn load_at(place: u32) -> Option<AckLoad> {
             Order::Swapped,
             100_000,
         ),
-        2 => ("backward, 10,000 outstanding", Order::Backward, 10_000),
-        3 => ("backward, 100,000 outstanding", Order::Backward, 100_000),
+        2 => (
+            "pairs swapped, 200,000 outstanding",
+            Order::Swapped,
+            200_000,
+        ),
+        3 => ("random, 10,000 outstanding", Order::Random, 10_000),
+        4 => ("random, 200,000 outstanding", Order::Random, 200_000),
+        5 => ("backward, 10,000 outstanding", Order::Backward, 10_000),
+        6 => ("backward, 100,000 outstanding", Order::Backward, 100_000),
         _ => return None,
     };
     Some(AckLoad {

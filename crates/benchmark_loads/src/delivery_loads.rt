@@ -18,6 +18,8 @@ pub struct DeliveryLoad {
     pub waiting: u64,
     /// Whether the first queue has a limit of bytes.
     pub is_limited: bool,
+    /// How many bindings the topic exchange has, whose keys never come again; the exchange is a direct one where it is 0.
+    pub bindings: u32,
 }
 
 /// How many messages a load publishes, delivers and acknowledges.
@@ -26,6 +28,9 @@ pub const MESSAGES: u64 = 100_000;
 impl DeliveryLoad {
     /// The topology of the load.
     pub fn shape(&self) -> Shape {
+        if self.bindings != 0 {
+            return Shape::Topic(self.bindings);
+        }
         if self.is_limited {
             return Shape::Limited(2);
         }
@@ -37,6 +42,9 @@ impl DeliveryLoad {
 
     /// The keys of its messages.
     pub fn keys(&self) -> Keys {
+        if self.bindings != 0 {
+            return Keys::Fresh;
+        }
         if self.queues == 1 {
             return Keys::One;
         }
@@ -54,7 +62,13 @@ fn one(name: &'static str, prefetch: u16, waiting: u64) -> DeliveryLoad {
         prefetch,
         waiting,
         is_limited: false,
+        bindings: 0,
     }
+}
+
+/// The load of a drain: so many messages wait, and no more come.
+pub fn drain_of(messages: u64) -> DeliveryLoad {
+    one("drain", 0, messages)
 }
 
 /// The load at this place, none past the last.
@@ -90,6 +104,14 @@ pub fn load_at(place: u32) -> Option<DeliveryLoad> {
         12 => DeliveryLoad {
             full: 200,
             ..one("200 consumers beside that hold what they may", 0, 0)
+        },
+        13 => DeliveryLoad {
+            bindings: 1,
+            ..one("topic, fresh keys", 0, 0)
+        },
+        14 => DeliveryLoad {
+            bindings: 4_096,
+            ..one("topic with 4,096 bindings, fresh keys", 0, 0)
         },
         _ => return None,
     };

@@ -1,6 +1,6 @@
 //! What an ack costs that comes out of order, where many deliveries are outstanding.
 
-use crate::deliveries::filled;
+use crate::deliveries::{deliver_to, filled};
 use crate::removals::left_of;
 use benchmark_loads::ack_loads::{AckLoad, load_at};
 use benchmark_loads::consumers::put_consume;
@@ -59,8 +59,7 @@ fn start(alloc: Global, mut engine: Measured, load: AckLoad) -> RunningAcks {
     let mut consume = Written::new(alloc);
     put_consume(&mut consume, b"q");
     engine.perform(consumer, consume.as_slice());
-    engine.deliver(load.outstanding);
-    engine.take_output(consumer);
+    deliver_to(&mut engine, consumer, load.outstanding);
     RunningAcks {
         alloc,
         engine,

@@ -17,7 +17,7 @@ const BODY: usize = 12;
 
 /// A load, as its parts are run: a connection that publishes, and one that consumes.
 #[derive(Drop)]
-struct RunningDeliveries {
+pub struct RunningDeliveries {
     alloc: Global,
     engine: Measured,
     publisher: u64,
@@ -25,7 +25,7 @@ struct RunningDeliveries {
     client: Client,
     acks: Acks,
     /// How many deliveries were made.
-    delivered: u64,
+    pub delivered: u64,
 }
 
 impl RunningDeliveries {
@@ -46,7 +46,7 @@ impl RunningDeliveries {
     }
 
     /// Makes so many deliveries, as many at once as the limits allow.
-    fn deliver_all(&mut self, messages: u64) {
+    pub fn deliver_all(&mut self, messages: u64) {
         let mut left = messages;
         for _ in 0..messages {
             if left == 0 {
@@ -56,7 +56,8 @@ impl RunningDeliveries {
         }
     }
 
-    fn is_whole(&self) -> bool {
+    /// Whether no memory was refused.
+    pub fn is_whole(&self) -> bool {
         self.engine.is_whole() && self.client.is_whole() && self.acks.is_whole()
     }
 }
@@ -134,6 +135,17 @@ pub fn filled(alloc: Global, shape: Shape, messages: u64, keys: Keys) -> Option<
     }
 }
 
+/// Makes deliveries to a connection until none can be made, at most so many. Tells how many. Its output is taken between them: a client
+/// that leaves a MiB of it gets no more.
+pub fn deliver_to(engine: &mut Measured, connection: u64, most: u64) -> u64 {
+    let mut made: u64 = 0;
+    for _ in 0..most / WINDOW {
+        made = made.saturating_add(engine.deliver(WINDOW));
+        engine.take_output(connection);
+    }
+    made
+}
+
 /// Has so many consumers of `q` each hold the one message that they may, on a connection of their own. Tells how many are held.
 pub fn hold_back(engine: &mut Measured, alloc: Global, publisher: u64, consumers: u32) -> u64 {
     let holder = engine.open_ready();
@@ -150,7 +162,7 @@ pub fn hold_back(engine: &mut Measured, alloc: Global, publisher: u64, consumers
 }
 
 /// Fills the load's queue, and has its consumers made.
-fn start(alloc: Global, mut engine: Measured, load: &DeliveryLoad) -> RunningDeliveries {
+pub fn start(alloc: Global, mut engine: Measured, load: &DeliveryLoad) -> RunningDeliveries {
     let publisher = engine.open_ready();
     engine.perform(publisher, SELECT.as_slice());
     let consumer = engine.open_ready();
@@ -183,7 +195,7 @@ fn measure_over(rt: &HostRuntime, engine: Measured, load: &DeliveryLoad) -> io::
 }
 
 /// An engine over the load's topology, none where it is refused or memory is.
-fn engine_of(alloc: Global, load: &DeliveryLoad) -> Option<Measured> {
+pub fn engine_of(alloc: Global, load: &DeliveryLoad) -> Option<Measured> {
     Measured::over(alloc, built(alloc, load.shape())?, Vec::new(alloc))
 }
 

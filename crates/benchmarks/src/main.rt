@@ -1,12 +1,14 @@
-//! Benchmarks: what publishes, deliveries, acks, losses, purges, rejects, openings and reloads cost the engine, what waiting messages and
-//! open connections take, and how long matchers, routes, large definitions files and certificates take. What is printed is to be
-//! read; nothing tests it.
+//! Benchmarks: what publishes, deliveries, drains, acks, losses, purges, rejects, openings and reloads cost the engine, how long an
+//! event of a large queue takes at most, what waiting messages and open connections take, and how long matchers, routes, large
+//! definitions files and certificates take. What is printed is to be read; nothing tests it.
 #![tactic(auto)]
 
 mod acks;
 mod certificates;
 mod definitions_files;
 mod deliveries;
+mod drains;
+mod events;
 mod matchers;
 mod memory;
 mod openings;
@@ -21,7 +23,7 @@ use std::{env, io};
 
 /// How the program is called.
 const USAGE: &str =
-    "benchmarks openings|strangers|memory|deliveries|acks|removals|rejects|reloads|publishes [NAME]|matchers|routes|files|certificates|all: prints what connections, messages, reloads, matchers, routes, large definitions files and certificates cost";
+    "benchmarks openings|strangers|memory|deliveries|drains|events|acks|removals|rejects|reloads|publishes [NAME]|matchers|routes|files|certificates|all: prints what connections, messages, reloads, matchers, routes, large definitions files and certificates cost";
 
 /// Measures all. Memory comes early, since what is measured later takes what was given back.
 fn measure_all(rt: &HostRuntime) -> io::Result<()> {
@@ -30,6 +32,8 @@ fn measure_all(rt: &HostRuntime) -> io::Result<()> {
     memory::measure_all(rt)?;
     reloads::measure_all(rt)?;
     deliveries::measure_all(rt)?;
+    drains::measure_all(rt)?;
+    events::measure_all(rt)?;
     acks::measure_all(rt)?;
     removals::measure_all(rt)?;
     rejects::measure_all(rt)?;
@@ -47,6 +51,8 @@ fn measure(rt: &HostRuntime, word: &str) -> io::Result<()> {
         "strangers" => strangers::measure_all(rt),
         "memory" => memory::measure_all(rt),
         "deliveries" => deliveries::measure_all(rt),
+        "drains" => drains::measure_all(rt),
+        "events" => events::measure_all(rt),
         "acks" => acks::measure_all(rt),
         "removals" => removals::measure_all(rt),
         "rejects" => rejects::measure_all(rt),

@@ -1,5 +1,6 @@
 //! What it costs to reject many messages at once, where their dead letters come to another queue.
 
+use crate::deliveries::deliver_to;
 use benchmark_loads::consumers::{put_consume, put_nack_all};
 use benchmark_loads::properties;
 use measuring::{Client, Keys, Measured, Shape, Written, built, processor_time, resident_bytes};
@@ -9,7 +10,7 @@ use std::io;
 /// How many messages are rejected at once.
 const REJECTED: u64 = 500_000;
 
-/// How many are published, and how many delivered, before outputs are taken.
+/// How many are published at once.
 const WINDOW: u64 = 1_000;
 
 /// The bytes of a body.
@@ -69,11 +70,7 @@ fn hold(engine: &mut Measured, alloc: Global, queue: &[u8]) -> Holder {
     let mut consume = Written::new(alloc);
     put_consume(&mut consume, queue);
     engine.perform(connection, consume.as_slice());
-    let mut held: u64 = 0;
-    for _ in 0..REJECTED / WINDOW {
-        held = held.saturating_add(engine.deliver(WINDOW));
-        engine.take_output(connection);
-    }
+    let held = deliver_to(engine, connection, REJECTED);
     Holder { connection, held }
 }
 

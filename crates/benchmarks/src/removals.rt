@@ -1,6 +1,6 @@
 //! What it costs to have back what a lost connection held, and to purge a queue.
 
-use crate::deliveries::filled;
+use crate::deliveries::{deliver_to, filled};
 use benchmark_loads::consumers::{put_consume, put_purge};
 use measuring::{Keys, Measured, Part, Shape, Written, print_parts, processor_time};
 use std::alloc::Global;
@@ -30,8 +30,8 @@ impl Losing {
         let mut consume = Written::new(self.alloc);
         put_consume(&mut consume, b"q");
         self.engine.perform(self.holder, consume.as_slice());
-        self.held = self.held.saturating_add(self.engine.deliver(HELD));
-        self.engine.take_output(self.holder);
+        let made = deliver_to(&mut self.engine, self.holder, HELD);
+        self.held = self.held.saturating_add(made);
     }
 }
 
@@ -51,7 +51,7 @@ pub fn left_of(engine: &mut Measured, alloc: Global, messages: u64) -> u64 {
     let mut consume = Written::new(alloc);
     put_consume(&mut consume, b"q");
     engine.perform(consumer, consume.as_slice());
-    engine.deliver(messages)
+    deliver_to(engine, consumer, messages)
 }
 
 /// Prints what it costs for each message that a lost connection held, ten times one after another.
