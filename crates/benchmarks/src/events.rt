@@ -149,7 +149,7 @@ impl Large {
 }
 
 /// An empty queue with its clients.
-fn large(alloc: Global, mut engine: Measured) -> Large {
+fn start(alloc: Global, mut engine: Measured) -> Large {
     let publisher = engine.open_ready();
     let consumer = engine.open_ready();
     Large {
@@ -165,7 +165,7 @@ fn large(alloc: Global, mut engine: Measured) -> Large {
 
 /// Prints the longest events while a queue grows, gets many gaps, grows behind them, is purged up to what is held, and grows again.
 fn measure_over(rt: &HostRuntime, engine: Measured) -> io::Result<()> {
-    let mut large = large(rt.alloc(), engine);
+    let mut large = start(rt.alloc(), engine);
     large
         .publish(rt, WAITING)?
         .print(rt, "publishes of 4,000,000")?;
