@@ -55,7 +55,7 @@ front_at [] ys i d lt = absurd (omega (arith, lt))
 front_at (x ∷ xs) ys zero d lt = refl
 front_at (x ∷ xs) ys (suc i) d lt = front_at xs ys i d (omega (arith, lt))
 
-one_consumer : (p : Pick) → is_consumer p p ≡ true
+pub one_consumer : (p : Pick) → is_consumer p p ≡ true
 one_consumer p = go (p.connection == p.connection) (p.channel == p.channel) (p.number == p.number) (eq-eqb p.connection p.connection refl) (eq-eqb p.channel p.channel refl) (eq-eqb p.number p.number refl)
   where
     go : (u v w : Bool) → u ≡ true → v ≡ true → w ≡ true → (u && (v && w)) ≡ true

@@ -1,11 +1,17 @@
 mod Among
 mod Desks
 mod Ending
+mod Later
+mod Lining
 mod Marked
 mod Moving
+mod Nearer
+mod Orders
 mod Outcomes
+mod Picks
 mod Present
 mod Reloading
 mod Seated
 mod Sleeping
+mod Waits
 mod Waking

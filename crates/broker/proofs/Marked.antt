@@ -59,20 +59,20 @@ marked_set rings marks queue r here m = record {
   where
     go : (place : ℕ) (p : Pick) → IsAwake (ring_at (set rings queue r) place) p → (v : Bool) → (place == queue) ≡ v → bit_of marks place ≡ 1
     go place p up true f = ap (bit_of marks) (eqb-true place queue f) ∙ here
-    go place p up false f = m.awake place p (subst (λ (x : Seats). IsAwake x p) (get_or-set_other rings queue place r (record { seats = []; marks = [] }) (apart place queue f)) up)
+    go place p up false f = m.awake place p (subst (λ (x : Seats). IsAwake x p) (get_or-set_other rings queue place r (record { seats = []; marks = []; next = 0; room = 0 }) (apart place queue f)) up)
 
 -- the ring of one queue changes, and no other
 module _ (rings : List Seats) (queue : ℕ) (r : Seats) (lt : queue < length rings) where
   abbrev no_seats : Seats
-  no_seats = record { seats = []; marks = [] }
+  no_seats = record { seats = []; marks = []; next = 0; room = 0 }
 
-  set_here : (place : ℕ) → (place == queue) ≡ true → ring_at (set rings queue r) place ≡ r
+  pub set_here : (place : ℕ) → (place == queue) ≡ true → ring_at (set rings queue r) place ≡ r
   set_here place f = ap (ring_at (set rings queue r)) (eqb-true place queue f) ∙ get_or-set_same rings queue r no_seats lt
 
-  was_here : (place : ℕ) → (place == queue) ≡ true → ring_at rings place ≡ ring_at rings queue
+  pub was_here : (place : ℕ) → (place == queue) ≡ true → ring_at rings place ≡ ring_at rings queue
   was_here place f = ap (ring_at rings) (eqb-true place queue f)
 
-  set_there : (place : ℕ) → (place == queue) ≡ false → ring_at (set rings queue r) place ≡ ring_at rings place
+  pub set_there : (place : ℕ) → (place == queue) ≡ false → ring_at (set rings queue r) place ≡ ring_at rings place
   set_there place f = get_or-set_other rings queue place r no_seats (apart place queue f)
 
   -- no seat of a consumer that is there is gone
@@ -103,7 +103,7 @@ module _ (rings : List Seats) (queue : ℕ) (r : Seats) (lt : queue < length rin
     where
       go : (v : Bool) → (place == queue) ≡ v → Wakens (ring_at rings place) (ring_at (set rings queue r) place)
       go true f = subst (λ (x : Seats). Wakens x (ring_at (set rings queue r) place)) (sym (was_here place f)) (subst (Wakens (ring_at rings queue)) (sym (set_here place f)) w)
-      go false f = subst (Wakens (ring_at rings place)) (sym (set_there place f)) (record { awake = λ p up. up; asleep = λ p i. inl i })
+      go false f = subst (Wakens (ring_at rings place)) (sym (set_there place f)) (record { awake = λ p up. up; asleep = λ p i. inl i; same = refl; next = refl })
 
 -- they want no mark
 pub marked_empty : (rings : List Seats) (marks : List ℕ) → length rings ≤ length marks * 64 → ((place : ℕ) → (ring_at rings place).seats ≡ []) → QueuesAreMarked rings marks

@@ -52,7 +52,7 @@ marked_moved rings old new place r lt len stay here m = record {
 }
   where
     none : Seats
-    none = record { seats = []; marks = [] }
+    none = record { seats = []; marks = []; next = 0; room = 0 }
 
     go : (q : ℕ) (p : Pick) → IsAwake (ring_at (set rings place r) q) p → (v : Bool) → (q == place) ≡ v → bit_of new q ≡ 1
     go q p up true f =

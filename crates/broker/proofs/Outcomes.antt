@@ -11,3 +11,8 @@ either_way (Err e) ok err f g = g err
 pub if_some : {A : Type 0} (o : Option A) (P Q : A → Type 0) → ((x : A) → P x → Q x) → IfSome o P → IfSome o Q
 if_some None P Q f p = p
 if_some (Some x) P Q f p = f x p
+
+-- what follows of it from two facts follows
+pub if_both : {A : Type 0} (o : Option A) (P Q R : A → Type 0) → ((x : A) → P x → Q x → R x) → IfSome o P → IfSome o Q → IfSome o R
+if_both None P Q R f p q = p
+if_both (Some x) P Q R f p q = f x p q

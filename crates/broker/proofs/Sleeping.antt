@@ -15,6 +15,7 @@ use Rattle.broker_core.specs.Seats.{has_consumer}
 use Rattle.broker_core.specs.declared.picks.Pick.{Pick}
 use Rattle.broker.specs.declared.roster.seats.Seat.{Seat}
 use Rattle.broker.specs.Roster.{Seats, Lists, Listing, ring_of, awake_seat, asleep_seat, has_its_consumer, IsAwakeAt, IsAwake, IsAsleep, IsListed, IsSeatedIn, KeepsIn, KeepsRing, ListsMore, ListsStay, NoneAwake, Dozes, FallsAsleep, NoneSeated, StaysAt, Wakens, AllWaken, IsWoken}
+use Rattle.broker.proofs.Picks.{picks_set}
 use Rattle.broker.proofs.Among.{stays, place_in, in_at, in_front, front_at}
 
 -- to one who may take nothing no delivery can be made
@@ -69,7 +70,7 @@ module _ (seats : List Seat) (old new : List ℕ) (place : ℕ) (s : Seat) (with
 
   -- it is woken
   pub roused : ((d : Seat) → get_or seats place d ≡ s) → Differs (bit_of old) (bit_of new) place 1 → Wakens (ring_of seats old) (ring_of (set seats place (awake_seat s.pick)) new)
-  roused there d = record { awake = awake; asleep = asleep }
+  roused there d = record { awake = awake; asleep = asleep; same = picks_set seats place (awake_seat s.pick) s within (ap (λ (z : Seat). z.pick) (sym (there s))); next = refl }
     where
       here : (p : Pick) → s.pick ≡ p → IsAwake (ring_of (set seats place (awake_seat s.pick)) new) p
       here p is = (place, awake_here (awake_seat s.pick) p (ap awake_seat is) d.there)
@@ -183,7 +184,7 @@ seated_woken b lists queue old new p w (inr f) = elim (w.asleep p f.asleep) [
 ]
 
 pub waken_on : (old mid new : Seats) → Wakens old mid → Wakens mid new → Wakens old new
-waken_on old mid new v w = record { awake = λ p up. w.awake p (v.awake p up); asleep = λ p i. elim (v.asleep p i) [ inl still ↦ w.asleep p still | inr up ↦ inr (w.awake p up) ] }
+waken_on old mid new v w = record { awake = λ p up. w.awake p (v.awake p up); asleep = λ p i. elim (v.asleep p i) [ inl still ↦ w.asleep p still | inr up ↦ inr (w.awake p up) ]; same = w.same ∙ v.same; next = w.next ∙ v.next }
 
 -- after a sweep picks look at all that are left
 pub swept : (kept : Kept) (old new : Seats) → new.seats ≡ filter (has_its_consumer kept) old.seats → ((i : ℕ) → i < length new.seats → bit_of new.marks i ≡ 1) → KeepsRing kept old new

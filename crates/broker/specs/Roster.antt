@@ -1,5 +1,5 @@
 -- The consumers of all channels by their numbers, over which deliveries go round, and which of them are passed over (own).
-use Rattle.std.specs.Prelude.{◌≡◌, ◌==◌, ◌&&◌, ◌<◌, ◌≤◌, ◌*◌, ◌⊎◌, ℕ, List, [], Bool, true, false, Option, Some, None, length, slice_index_or, nat_eq, IfSome}
+use Rattle.std.specs.Prelude.{◌≡◌, ◌==◌, ◌&&◌, ◌<◌, ◌≤◌, ◌*◌, ◌+◌, ◌⊎◌, ◌++◌, ℕ, List, [], ◌∷◌, map, Bool, true, false, Option, Some, None, length, slice_index_or, nat_eq, count_by, IfSome}
 use Rattle.std.specs.Map.{lookup}
 use Rattle.model.specs.Topology.{Topology, IsIn}
 use Rattle.model.specs.Broker.{Consumer, Broker}
@@ -17,6 +17,7 @@ use Rattle.broker_core.specs.Picked.{IsPickFrom, CannotTake}
 use Rattle.broker_core.specs.Seats.{has_consumer, seat_of, IsConsumed}
 use Rattle.broker_core.specs.declared.picks.Pick.{Pick}
 use Rattle.broker.specs.declared.roster.seats.Seat.{Seat}
+use Rattle.broker.specs.Lines.{turned, ahead, standing, IsPassed}
 
 -- ---- seats
 
@@ -24,6 +25,10 @@ use Rattle.broker.specs.declared.roster.seats.Seat.{Seat}
 pub record Seats : Type 0 where
   pub seats : List Seat
   pub marks : List ℕ
+  -- the place from which they are gone round
+  pub next : ℕ
+  -- how many there is room for
+  pub room : ℕ
 
 -- The seat of a consumer, by its numbers, and the place of the queue in whose ring it is.
 pub record Listing : Type 0 where
@@ -38,18 +43,28 @@ Lists = List (ℕ × List (List Listing))
 pub record Rings : Type 0 where
   pub rings : List Seats
   pub lists : Lists
+  -- the place from which the queues are gone round
+  pub next : ℕ
 
 -- the seats of the consumers of the queue at this place, where each queue has such a ring
 abbrev pub ring_at : List Seats → ℕ → Seats
-ring_at rings place = slice_index_or rings place (record { seats = []; marks = [] })
+ring_at rings place = slice_index_or rings place (record { seats = []; marks = []; next = 0; room = 0 })
 
--- seats and their bits
+-- seats and their bits, gone round from the first
 abbrev pub ring_of : List Seat → List ℕ → Seats
-ring_of seats marks = record { seats = seats; marks = marks }
+ring_of seats marks = record { seats = seats; marks = marks; next = 0; room = 0 }
 
--- rings, and what sleeps
+-- rings, and what sleeps, gone round from the first
 abbrev pub rings_of : List Seats → Lists → Rings
-rings_of rings lists = record { rings = rings; lists = lists }
+rings_of rings lists = record { rings = rings; lists = lists; next = 0 }
+
+-- the consumers of these seats, in their order
+abbrev pub picks : List Seat → List Pick
+picks seats = map (λ (s : Seat). s.pick) seats
+
+-- those of a ring's seats, from the one that is next on and then from the front
+abbrev pub order : Seats → List Pick
+order r = turned r.next (picks r.seats)
 
 -- two consumers are one
 abbrev pub is_consumer : Pick → Pick → Bool
@@ -71,11 +86,15 @@ awake_seat p = record { pick = p; asleep = false }
 abbrev pub asleep_seat : Pick → Seat
 asleep_seat p = record { pick = p; asleep = true }
 
--- At this place of the ring this consumer's seat stands, awake, where picks look at it.
-pub record IsAwakeAt (r : Seats) (place : ℕ) (p : Pick) : Type 0 where
-  pub within : place < length r.seats
-  pub there : (d : Seat) → slice_index_or r.seats place d ≡ awake_seat p
-  pub marked : bit_of r.marks place ≡ 1
+-- At this place of the seats this consumer's stands, awake, where picks look at it.
+pub record StandsAwake (seats : List Seat) (marks : List ℕ) (place : ℕ) (p : Pick) : Type 0 where
+  pub within : place < length seats
+  pub there : (d : Seat) → slice_index_or seats place d ≡ awake_seat p
+  pub marked : bit_of marks place ≡ 1
+
+-- so it does in the ring
+abbrev pub IsAwakeAt : Seats → ℕ → Pick → Type 0
+IsAwakeAt r place p = StandsAwake r.seats r.marks place p
 
 -- it stands somewhere in the ring
 abbrev pub IsAwake : Seats → Pick → Type 0
@@ -106,14 +125,14 @@ pub record HasList (lists : Lists) (c h : ℕ) : Type 0 where
   pub within : h < length desk
 
 -- The seat stands in the ring of the queue at this place, asleep; its consumer may take nothing now, and it is listed.
-pub record Sleeps (b : Broker) (lists : Lists) (queue : ℕ) (r : Seats) (p : Pick) : Type 0 where
-  pub asleep : IsAsleep r p
+pub record Sleeps (b : Broker) (lists : Lists) (queue : ℕ) (seats : List Seat) (p : Pick) : Type 0 where
+  pub asleep : IsIn (asleep_seat p) seats
   pub cannot : CannotTake b p
   pub listed : IsListed lists (record { queue = queue; seat = p })
 
 -- it stands there, and is awake, or sleeps so
 abbrev pub IsSeatedIn : Broker → Lists → ℕ → Seats → Pick → Type 0
-IsSeatedIn b lists queue r p = IsAwake r p ⊎ Sleeps b lists queue r p
+IsSeatedIn b lists queue r p = IsAwake r p ⊎ Sleeps b lists queue r.seats p
 
 -- the consumer of these numbers has its seat in the ring of the queue at this place, and is found when it is to be woken
 abbrev pub IsSeated : Broker → Rings → ℕ → Pick → Type 0
@@ -190,9 +209,88 @@ NoneBetween kept r from to = (place : ℕ) (p : Pick) → from ≤ place → pla
 abbrev pub NoneSeated : Kept → Lists → ℕ → Seats → Type 0
 NoneSeated kept lists queue r = (p : Pick) → IsSeatedIn (broker_of kept) lists queue r p → IsPickFrom kept queue p → ⊥
 
+-- nor from those that are passed from `next` round to this one
+abbrev pub NonePassed : Kept → Rings → ℕ → ℕ → Type 0
+NonePassed kept r next to = (at : ℕ) (p : Pick) → IsPassed (length r.rings) next to at → IsSeated (broker_of kept) r at p → IsPickFrom kept at p → ⊥
+
 -- nor to one whose seat is awake at these places of the ring
 abbrev pub NoneAwake : Kept → ℕ → Seats → ℕ → ℕ → Type 0
 NoneAwake kept queue r from to = (i : ℕ) (p : Pick) → from ≤ i → i < to → IsAwakeAt r i p → IsPickFrom kept queue p → ⊥
+
+-- nor to one whose seat is awake at a place of the ring that is passed from `next` round to this one
+abbrev pub NoneAwakePassed : Kept → ℕ → Seats → ℕ → ℕ → Type 0
+NoneAwakePassed kept queue r next to = (i : ℕ) (p : Pick) → IsPassed (length r.seats) next to i → IsAwakeAt r i p → IsPickFrom kept queue p → ⊥
+
+-- ---- whose turn it is
+
+-- The consumer is told from the ring of the queue at this place: no delivery can be made to one before it who has a seat there.
+-- All who were before it, and itself, are last from then on.
+pub record GoesLast (kept : Kept) (lists : Lists) (queue : ℕ) (old new : Seats) (p : Pick) : Type 0 where
+  pub front : List Pick
+  pub back : List Pick
+  pub was : order old ≡ front ++ p ∷ back
+  pub now : order new ≡ back ++ front ++ p ∷ []
+  pub passed : (q : Pick) → IsIn q front → IsSeatedIn (broker_of kept) lists queue old q → IsPickFrom kept queue q → ⊥
+
+-- each ring is gone round as before
+abbrev pub SameOrders : List Seats → List Seats → Type 0
+SameOrders old new = (at : ℕ) → order (ring_at new at) ≡ order (ring_at old at)
+
+-- The consumer is told from the ring of the queue at this place, and the others are gone round as before.
+pub record PicksFrom (kept : Kept) (lists : Lists) (old new : List Seats) (queue : ℕ) (p : Pick) : Type 0 where
+  pub ring : GoesLast kept lists queue (ring_at old queue) (ring_at new queue) p
+  pub others : (at : ℕ) → (at ≡ queue → ⊥) → order (ring_at new at) ≡ order (ring_at old at)
+
+-- The consumer is told: from none of the queues that are passed a delivery can be made, and picks go on from behind its own from then on.
+pub record PicksFirst (kept : Kept) (old new : Rings) (p : Pick) : Type 0 where
+  pub queue : ℕ
+  pub within : queue < length old.rings
+  pub passed : NonePassed kept old old.next queue
+  pub told : PicksFrom kept old.lists old.rings new.rings queue p
+  pub next : new.next ≡ queue + 1
+
+-- how many deliveries may come before the one to this consumer from the queue at this place:
+-- one of each queue for each that is before it in its ring, and one of each queue before its own
+abbrev pub before : Rings → ℕ → Pick → ℕ
+before r place p = standing (is_consumer p) (order (ring_at r.rings place)) * length r.rings + ahead (length r.rings) r.next place
+
+-- whoever is there has no more before it in the one line than in the other
+abbrev pub IsNoLater : Kept → List Pick → List Pick → Type 0
+IsNoLater kept old new = (p : Pick) → has_consumer kept p ≡ true → standing (is_consumer p) new ≤ standing (is_consumer p) old
+
+-- or at most one more
+abbrev pub IsOneLater : Kept → List Pick → List Pick → Type 0
+IsOneLater kept old new = (p : Pick) → has_consumer kept p ≡ true → standing (is_consumer p) new ≤ standing (is_consumer p) old + 1
+
+-- in each ring
+abbrev pub AreOneLater : Kept → List Seats → List Seats → Type 0
+AreOneLater kept old new = (place : ℕ) → IsOneLater kept (order (ring_at old place)) (order (ring_at new place))
+
+-- A seat is made, and else all go round as before.
+pub record ComesIn (kept : Kept) (old new : Rings) : Type 0 where
+  pub len : length new.rings ≡ length old.rings
+  pub later : AreOneLater kept old.rings new.rings
+  pub next : new.next ≡ old.next
+
+-- The rings are gone round as before, and so are the queues.
+pub record GoesOn (old new : Rings) : Type 0 where
+  pub len : length new.rings ≡ length old.rings
+  pub same : SameOrders old.rings new.rings
+  pub next : new.next ≡ old.next
+
+-- How many seats a ring has where one was to be made:
+pub data IsBounded (kept : Kept) (old new : Seats) : Type 0 where
+  -- no more than it had
+  as_many : length new.seats ≤ length old.seats → IsBounded kept old new
+  -- there was room for them
+  had_room : length new.seats ≤ old.room → IsBounded kept old new
+  -- all but one are of consumers that are there
+  all_there : length new.seats ≤ count_by (has_its_consumer kept) new.seats + 1 → IsBounded kept old new
+
+-- Whoever has a seat, and could be told in place of this consumer, is nearer to its turn.
+abbrev pub AllNearer : Kept → Rings → Rings → Pick → Type 0
+AllNearer kept old new told =
+    (place : ℕ) (p : Pick) → IsSeated (broker_of kept) old place p → IsPickFrom kept place p → (p ≡ told → ⊥) → before new place p < before old place p
 
 -- ---- what stays
 
@@ -254,10 +352,12 @@ pub record FallsAsleep (b : Broker) (lists : Lists) (queue : ℕ) (old new : Sea
 abbrev pub Dozes : Kept → Lists → ℕ → Seat → Seat → Type 0
 Dozes kept lists queue old new = old.asleep ≡ false → has_consumer kept old.pick ≡ true → FallsAsleep (broker_of kept) lists queue old new
 
--- Seats are woken: who is awake stays so, and who sleeps does so still or is awake now.
+-- Seats are woken: who is awake stays so, who sleeps does so still or is awake now, and all stand at their places.
 pub record Wakens (old new : Seats) : Type 0 where
   pub awake : (p : Pick) → IsAwake old p → IsAwake new p
   pub asleep : (p : Pick) → IsAsleep old p → IsAsleep new p ⊎ IsAwake new p
+  pub same : picks new.seats ≡ picks old.seats
+  pub next : new.next ≡ old.next
 
 -- in each ring
 abbrev pub AllWaken : List Seats → List Seats → Type 0

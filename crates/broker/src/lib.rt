@@ -7,8 +7,10 @@
 mod brokers;
 mod roster;
 mod turns;
+mod waiting;
 
 pub use broker_core::Pick;
 pub use brokers::Broker;
 pub use model::Event;
 pub use replies::Step;
+pub use waiting::nobody_waits;

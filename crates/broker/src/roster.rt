@@ -53,6 +53,8 @@ fn connection_of(event: &Event) -> u64
 pub(crate) struct Roster {
     seating: Seating,
     desks: Desks,
+    /// The place behind the queue from which was picked last.
+    next: usize,
 }
 
 /// Written out, so that a drop is one call.
@@ -61,6 +63,7 @@ impl Drop for Roster {
         let Roster {
             seating: _,
             desks: _,
+            next: _,
         } = self;
     }
 }
@@ -70,7 +73,7 @@ impl Model for Roster {
 
     ghost Value = { Rings };
 
-    ghost view = { λ r. record { rings = r.seating; lists = r.desks.entries } };
+    ghost view = { λ r. record { rings = r.seating; lists = r.desks.entries; next = r.next } };
 }
 
 impl Roster {
@@ -80,7 +83,7 @@ impl Roster {
     ghost use Rattle.broker_core.specs.State.{broker_of, topology_kept};
     ghost use Rattle.broker_core.specs.Picked.{IsPickFrom};
     ghost use Rattle.broker_core.specs.Seats.{seat_of};
-    ghost use Rattle.broker.specs.Roster.{wakes, IsAt, IsSeated, SeatsNext, HasNoList, MakesNoList, ListsRunning, KeepsSeats, KeepsAll, AllWaken, WakesSeat};
+    ghost use Rattle.broker.specs.Roster.{wakes, IsAt, IsSeated, SeatsNext, HasNoList, MakesNoList, ListsRunning, KeepsSeats, KeepsAll, AllWaken, WakesSeat, PicksFirst, AllNearer, ComesIn, GoesOn};
     ghost use Rattle.broker.specs.Moving.{ArePlacesApart, RingsAreMoved, ListsAreEmptied};
 
     /// No seat, for so many queues.
@@ -91,6 +94,7 @@ impl Roster {
         Ok(Roster {
             seating: Seating::new(alloc, queues)?,
             desks: HashMap::new(alloc),
+            next: 0,
         })
     }
 
@@ -103,6 +107,7 @@ impl Roster {
         ensures running { ListsRunning (broker_of core.now) self.old.lists self.new.lists }
         ensures len { length self.new.rings ≡ length self.old.rings }
         ensures quiet { seat_of core.now event.now ≡ None → IsOk result }
+        ensures comes { ComesIn core.now self.old self.new }
     {
         let Some(consumer) = core.seat_of(event) else {
             return Ok(());
@@ -127,6 +132,7 @@ impl Roster {
         ensures wakens { AllWaken self.old.rings self.new.rings }
         ensures none { MakesNoList self.old.lists self.new.lists }
         ensures len { length self.new.rings ≡ length self.old.rings }
+        ensures on { GoesOn self.old self.new }
     {
         wake_desk(&mut self.desks, &mut self.seating, connection, channel);
     }
@@ -138,6 +144,7 @@ impl Roster {
         ensures wakens { AllWaken self.old.rings self.new.rings }
         ensures none { MakesNoList self.old.lists self.new.lists }
         ensures len { length self.new.rings ≡ length self.old.rings }
+        ensures on { GoesOn self.old self.new }
     {
         match event {
             Event::Command {
@@ -161,6 +168,7 @@ impl Roster {
         ensures gone { (broker_of core.now).connection connection ≡ None → HasNoList self.new.lists connection }
         ensures none { MakesNoList self.old.lists self.new.lists }
         ensures len { length self.new.rings ≡ length self.old.rings }
+        ensures on { GoesOn self.old self.new }
     {
         forget_desk(&mut self.desks, core, connection);
     }
@@ -171,6 +179,7 @@ impl Roster {
         ensures gone { (broker_of core.now).connection (connection_of_event event.now) ≡ None → HasNoList self.new.lists (connection_of_event event.now) }
         ensures none { MakesNoList self.old.lists self.new.lists }
         ensures len { length self.new.rings ≡ length self.old.rings }
+        ensures on { GoesOn self.old self.new }
     {
         self.forget(core, connection_of(event));
     }
@@ -187,6 +196,7 @@ impl Roster {
         let Roster {
             seating,
             desks: mut left,
+            next: _,
         } = old;
         self.seating.take_over(seating, places);
         empty_desks(&mut left);
@@ -202,7 +212,12 @@ impl Roster {
         ensures len { length self.new.rings ≡ length self.old.rings }
         ensures some { IfSome result (λ p. (place : ℕ) × IsPickFrom core.now place p) }
         ensures none { result ≡ None → (place : ℕ) (p : Consumer) → IsSeated (broker_of core.now) self.old place p → IsPickFrom core.now place p → ⊥ }
+        ensures told { IfSome result (λ p. PicksFirst core.now self.old self.new p) }
+        ensures nearer { IfSome result (λ p. AllNearer core.now self.old self.new p) }
+        ensures on { result ≡ None → GoesOn self.old self.new }
     {
-        self.seating.pick(core, &mut self.desks)
+        let found = self.seating.pick(core, &mut self.desks, self.next)?;
+        self.next = found.queue + 1;
+        Some(found.pick)
     }
 }

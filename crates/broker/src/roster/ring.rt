@@ -5,46 +5,15 @@
 //! seat whose consumer may take nothing then falls asleep, if it can be listed, and is passed over until it is woken. Picks look at
 //! the seats whose bit is 1: that of a seat that sleeps may be, after a sweep, until one looks at it.
 
-ghost use Rattle.std.specs.Prelude.{
-  ◌≡◌,
-  ◌<◌,
-  ◌≤◌,
-  ◌+◌,
-  ◌*◌,
-  ℕ,
-  true,
-  false,
-  None,
-  IfSome,
-  OnOk,
-  length,
-  count_by,
-  filter,
-  slice_index_or,
-  vec_len,
-  vec_capacity,
-};
+ghost use Rattle.std.specs.Prelude.{◌≡◌, ◌<◌, ◌≤◌, ◌+◌, ◌*◌, ◌⊎◌, ℕ, true, false, None, IfSome, OnOk, length, count_by, filter, slice_index_or, vec_len, vec_capacity};
 ghost use Rattle.std.specs.List.{position_from};
 ghost use Rattle.model.specs.Topology.{IsIn};
 ghost use Rattle.marks.specs.Places.{bit_of};
 ghost use Rattle.broker_core.specs.Picked.{IsPickFrom};
+ghost use Rattle.broker_core.specs.declared.picks.Pick.{Pick as Consumer};
 ghost use Rattle.broker.specs.declared.roster.seats.Seat.{Seat as Taken};
-ghost use Rattle.broker.specs.Roster.{
-  ring_of,
-  is_consumer,
-  is_seat_of,
-  has_its_consumer,
-  IsAwakeAt,
-  IsAwake,
-  IsAsleep,
-  StaysAt,
-  KeepsIn,
-  KeepsRing,
-  NoneAwake,
-  ListsMore,
-  Dozes,
-  Wakens,
-};
+ghost use Rattle.broker.specs.Lines.{turned, AreDistinct};
+ghost use Rattle.broker.specs.Roster.{ring_of, picks, is_consumer, is_seat_of, has_its_consumer, IsAwakeAt, IsAwake, IsAsleep, StaysAt, KeepsIn, KeepsRing, IsNoLater, IsOneLater, NoneAwake, NoneAwakePassed, ListsMore, Dozes, Wakens};
 ghost use Rattle.broker.specs.Moving.{all_awake};
 
 use crate::roster::desk::{Desks, Listed, list_seat};
@@ -103,6 +72,7 @@ fn wake_seat(seats: &mut [Seat], awake: &mut SeatMarks, consumer: Pick, guess: u
     ensures len { length awake.new ≡ length awake.old }
     ensures yes { result ≡ true → IsAwake (ring_of seats.new awake.new) consumer }
     ensures no { result ≡ false → IsAsleep (ring_of seats.old awake.old) consumer → ⊥ }
+    ensures absent { result ≡ false → IsIn consumer (picks seats.new) → ⊥ }
     ensures wakens { Wakens (ring_of seats.old awake.old) (ring_of seats.new awake.new) }
 {
     match place_of(seats, consumer, guess) {
@@ -169,6 +139,10 @@ fn make_room(
     ensures mark { OnOk result (vec_len seats.new + 1 ≤ length awake.new * 64) }
     ensures marks { length seats.new.items ≤ length awake.new * 64 }
     ensures kept { KeepsRing core.now (ring_of seats.old.items awake.old) (ring_of seats.new.items awake.new) }
+    ensures fewer { (p : Consumer) → IsIn p (picks seats.new.items) → IsIn p (picks seats.old.items) }
+    ensures apart { AreDistinct (picks seats.old.items) → AreDistinct (picks seats.new.items) }
+    ensures later { IsNoLater core.now (turned next.old (picks seats.old.items)) (turned next.new (picks seats.new.items)) }
+    ensures bounded { (length seats.new.items < vec_capacity seats.old) ⊎ (length seats.new.items ≤ count_by (has_its_consumer core.now) seats.new.items) }
 {
     if seats.len() < seats.capacity() {
         return awake.grow(seats.len() + 1);
@@ -190,8 +164,12 @@ fn add_seat(
     core: &Core,
     consumer: Pick,
 ) -> Result<(), AllocError>
-    requires { length seats.old.items ≤ length awake.old * 64 }
+    requires room { length seats.old.items ≤ length awake.old * 64 }
+    requires absent { IsIn consumer (picks seats.old.items) → ⊥ }
     ensures marks { length seats.new.items ≤ length awake.new * 64 }
+    ensures apart { AreDistinct (picks seats.old.items) → AreDistinct (picks seats.new.items) }
+    ensures later { IsOneLater core.now (turned next.old (picks seats.old.items)) (turned next.new (picks seats.new.items)) }
+    ensures bounded { (length seats.new.items ≤ vec_capacity seats.old) ⊎ (length seats.new.items ≤ count_by (has_its_consumer core.now) seats.new.items + 1) }
     ensures seated { OnOk result (IsAwake (ring_of seats.new.items awake.new) consumer) }
     ensures kept { KeepsRing core.now (ring_of seats.old.items awake.old) (ring_of seats.new.items awake.new) }
 {
@@ -227,6 +205,7 @@ fn may_deliver(core: &Core, queue: usize, seat: Seat) -> bool
 /// Whether picks need not look any more at this seat at this place, to which nothing can be delivered. It falls asleep where its
 /// consumer may take nothing now, if it can be listed; one whose consumer is gone need not be.
 fn dozes(core: &Core, queue: usize, seat: &mut Seat, desks: &mut Desks, place: usize) -> bool
+    ensures same { seat.new.pick ≡ seat.old.pick }
     ensures asleep { seat.old.asleep ≡ true → seat.new ≡ seat.old }
     ensures awake { result ≡ false → seat.new ≡ seat.old }
     ensures sleeps { result ≡ true → Dozes core.now desks.new.entries queue seat.old seat.new }
@@ -263,6 +242,7 @@ fn rest(
     ensures kept { KeepsIn core.now queue desks.old.entries desks.new.entries (ring_of seats.old awake.old) (ring_of seats.new awake.new) }
     ensures more { ListsMore desks.old.entries desks.new.entries }
     ensures others { (i : ℕ) → (i ≡ place → ⊥) → StaysAt (ring_of seats.old awake.old) (ring_of seats.new awake.new) i }
+    ensures same { picks seats.new ≡ picks seats.old }
 {
     if dozes(core, queue, &mut seats[place], desks, place) {
         awake.clear(place);
@@ -289,6 +269,10 @@ fn first_between(
     ensures within { IfSome result (λ i. i < length seats.new) }
     ensures some { IfSome result (λ i. (d : Taken) → IsPickFrom core.now queue (slice_index_or seats.new i d).pick) }
     ensures none { result ≡ None → NoneAwake core.now queue (ring_of seats.old awake.old) from to }
+    ensures passed { IfSome result (λ i. NoneAwake core.now queue (ring_of seats.old awake.old) from i) }
+    ensures least { IfSome result (λ i. from ≤ i) }
+    ensures below { IfSome result (λ i. i < to) }
+    ensures same { picks seats.new ≡ picks seats.old }
 {
     let mut next = from;
     'seats: while let Some(place) = awake.next(next) {
@@ -320,6 +304,8 @@ fn first_round(
     ensures within { IfSome result (λ i. i < length seats.new) }
     ensures some { IfSome result (λ i. (d : Taken) → IsPickFrom core.now queue (slice_index_or seats.new i d).pick) }
     ensures none { result ≡ None → NoneAwake core.now queue (ring_of seats.old awake.old) 0 (length seats.old) }
+    ensures passed { IfSome result (λ i. NoneAwakePassed core.now queue (ring_of seats.old awake.old) next i) }
+    ensures same { picks seats.new ≡ picks seats.old }
 {
     let turn = next.min(seats.len());
     match first_between(core, queue, seats, awake, desks, turn, seats.len()) {
@@ -349,14 +335,15 @@ impl Drop for Ring {
 }
 
 impl Model for Ring {
-    ghost use Rattle.std.specs.Prelude.{◌≤◌, ◌*◌, length};
-    ghost use Rattle.broker.specs.Roster.{Seats};
+    ghost use Rattle.std.specs.Prelude.{◌≤◌, ◌*◌, length, vec_capacity};
+    ghost use Rattle.broker.specs.Lines.{AreDistinct};
+    ghost use Rattle.broker.specs.Roster.{Seats, picks};
 
     ghost Value = { Seats };
 
-    ghost view = { λ r. record { seats = r.seats.items; marks = r.awake } };
+    ghost view = { λ r. record { seats = r.seats.items; marks = r.awake; next = r.next; room = vec_capacity r.seats } };
 
-    ghost invariant = { λ r. length r.seats.items ≤ length r.awake * 64 };
+    ghost invariant = { λ r. (length r.seats.items ≤ length r.awake * 64) × AreDistinct (picks r.seats.items) };
 }
 
 impl Ring {
@@ -364,7 +351,7 @@ impl Ring {
     ghost use Rattle.marks.specs.Places.{bit_of};
     ghost use Rattle.broker_core.specs.declared.picks.Pick.{Pick as Consumer};
     ghost use Rattle.broker_core.specs.Picked.{IsPickFrom};
-    ghost use Rattle.broker.specs.Roster.{IsAwake, IsAsleep, KeepsIn, KeepsRing, NoneSeated, ListsMore, Wakens};
+    ghost use Rattle.broker.specs.Roster.{order, IsAwake, IsAsleep, KeepsIn, KeepsRing, NoneSeated, GoesLast, IsOneLater, IsBounded, ListsMore, Wakens};
     ghost use Rattle.broker.specs.Moving.{AllRoused};
 
     /// No seat. It takes no memory.
@@ -383,6 +370,8 @@ impl Ring {
     pub fn seat(&mut self, core: &Core, consumer: Pick) -> Result<(), AllocError>
         ensures seated { OnOk result (IsAwake self.new consumer) }
         ensures kept { KeepsRing core.now self.old self.new }
+        ensures later { IsOneLater core.now (order self.old) (order self.new) }
+        ensures bounded { IsBounded core.now self.old self.new }
     {
         if wake_seat(&mut self.seats, &mut self.awake, consumer, 0) {
             return Ok(());
@@ -406,7 +395,8 @@ impl Ring {
 
     /// Each seat is awake from now on. It takes no memory.
     pub fn wake_all(&mut self)
-        ensures { AllRoused self.old self.new }
+        ensures roused { AllRoused self.old self.new }
+        ensures same { order self.new ≡ order self.old }
     {
         rouse_each(&mut self.seats);
         mark_all(&mut self.awake, self.seats.len());
@@ -427,6 +417,8 @@ impl Ring {
         ensures more { ListsMore desks.old.entries desks.new.entries }
         ensures some { IfSome result (λ p. IsPickFrom core.now queue p) }
         ensures none { result ≡ None → NoneSeated core.now desks.old.entries queue self.old }
+        ensures told { IfSome result (λ p. GoesLast core.now desks.old.entries queue self.old self.new p) }
+        ensures same { result ≡ None → order self.new ≡ order self.old }
     {
         match first_round(
             core,

@@ -8,20 +8,7 @@ ghost use Rattle.std.specs.Prelude.{◌≡◌, ◌<◌, ◌≤◌, ◌*◌, [], 
 ghost use Rattle.marks.specs.Places.{bit_of};
 ghost use Rattle.broker_core.specs.State.{topology_kept};
 ghost use Rattle.broker_core.specs.Picked.{IsPickFrom};
-ghost use Rattle.broker.specs.Roster.{
-  ring_at,
-  rings_of,
-  IsAwake,
-  IsAsleep,
-  QueuesAreMarked,
-  IsNextMarked,
-  KeepRings,
-  KeepsSeats,
-  ListsMore,
-  AllWaken,
-  NoneSeated,
-  NoneBetween,
-};
+ghost use Rattle.broker.specs.Roster.{ring_at, rings_of, IsAwake, IsAsleep, QueuesAreMarked, IsNextMarked, KeepRings, AreOneLater, IsBounded, KeepsSeats, ListsMore, AllWaken, NoneSeated, NoneBetween, NonePassed, PicksFrom, SameOrders};
 ghost use Rattle.broker.specs.Moving.{AllRoused, ArePlacesApart, RingsAreMoved};
 ghost use Rattle.broker_core.specs.declared.picks.Pick.{Pick as Consumer};
 
@@ -35,9 +22,9 @@ use std::mem::swap;
 
 /// A consumer to which a delivery can be made, from the queue at this place.
 #[derive(Clone, Copy, PartialEq, Eq, Debug, Drop)]
-struct FoundSeat {
-    queue: usize,
-    pick: Pick,
+pub(crate) struct FoundSeat {
+    pub queue: usize,
+    pub pick: Pick,
 }
 
 /// So many rings with no seat.
@@ -74,6 +61,8 @@ fn seat_at(
     requires marked { QueuesAreMarked rings.old awake.old }
     ensures seated { OnOk result (IsAwake (ring_at rings.new queue) consumer) }
     ensures kept { KeepRings core.now rings.old rings.new }
+    ensures later { AreOneLater core.now rings.old rings.new }
+    ensures bounded { IsBounded core.now (ring_at rings.old queue) (ring_at rings.new queue) }
     ensures marked { QueuesAreMarked rings.new awake.new }
 {
     awake.set(queue);
@@ -136,6 +125,8 @@ fn pick_at(
     ensures marked { QueuesAreMarked rings.new awake.new }
     ensures some { IfSome result (λ p. IsPickFrom core.now queue p) }
     ensures none { result ≡ None → NoneSeated core.now desks.old.entries queue (ring_at rings.old queue) }
+    ensures told { IfSome result (λ p. PicksFrom core.now desks.old.entries rings.old rings.new queue p) }
+    ensures same { result ≡ None → SameOrders rings.old rings.new }
 {
     match rings[queue].pick(core, desks, queue) {
         Some(pick) => Some(pick),
@@ -163,6 +154,11 @@ fn first_between(
     ensures within { IfSome result (λ f. f.queue < length rings.new) }
     ensures some { IfSome result (λ f. IsPickFrom core.now f.queue f.pick) }
     ensures none { result ≡ None → NoneBetween core.now (rings_of rings.old desks.old.entries) from to }
+    ensures passed { IfSome result (λ f. NoneBetween core.now (rings_of rings.old desks.old.entries) from f.queue) }
+    ensures least { IfSome result (λ f. from ≤ f.queue) }
+    ensures below { IfSome result (λ f. f.queue < to) }
+    ensures told { IfSome result (λ f. PicksFrom core.now desks.old.entries rings.old rings.new f.queue f.pick) }
+    ensures same { result ≡ None → SameOrders rings.old rings.new }
 {
     let mut next = from;
     'queues: while let Some(queue) = next_both(core, awake, next) {
@@ -193,6 +189,9 @@ fn first_round(
     ensures within { IfSome result (λ f. f.queue < length rings.new) }
     ensures some { IfSome result (λ f. IsPickFrom core.now f.queue f.pick) }
     ensures none { result ≡ None → NoneBetween core.now (rings_of rings.old desks.old.entries) 0 (length rings.old) }
+    ensures passed { IfSome result (λ f. NonePassed core.now (rings_of rings.old desks.old.entries) next f.queue) }
+    ensures told { IfSome result (λ f. PicksFrom core.now desks.old.entries rings.old rings.new f.queue f.pick) }
+    ensures same { result ≡ None → SameOrders rings.old rings.new }
 {
     let turn = next.min(rings.len());
     match first_between(rings, awake, core, desks, turn, rings.len()) {
@@ -256,18 +255,12 @@ pub(crate) struct Seating {
     rings: Vec<Ring>,
     /// A bit for each queue, 1 where some seat of its ring is awake.
     awake: SeatMarks,
-    /// The place behind the queue from which was picked last.
-    next: usize,
 }
 
 /// Written out, so that a drop is one call.
 impl Drop for Seating {
     fn drop(self) {
-        let Seating {
-            rings: _,
-            awake: _,
-            next: _,
-        } = self;
+        let Seating { rings: _, awake: _ } = self;
     }
 }
 
@@ -283,10 +276,10 @@ impl Model for Seating {
 }
 
 impl Seating {
-    ghost use Rattle.std.specs.Prelude.{◌≡◌, ◌<◌, ℕ, None, IfSome, IfOk, OnOk, length};
+    ghost use Rattle.std.specs.Prelude.{◌≡◌, ◌<◌, ◌+◌, ◌^◌, ℕ, None, IfSome, IfOk, OnOk, length};
     ghost use Rattle.broker_core.specs.State.{topology_kept};
     ghost use Rattle.broker_core.specs.Picked.{IsPickFrom};
-    ghost use Rattle.broker.specs.Roster.{ring_at, rings_of, IsAwake, IsAsleep, KeepRings, KeepsSeats, ListsMore, AllWaken, NoneBetween};
+    ghost use Rattle.broker.specs.Roster.{ring_at, rings_of, IsAwake, IsAsleep, KeepRings, AreOneLater, IsBounded, KeepsSeats, ListsMore, AllWaken, NoneBetween, NonePassed, PicksFrom, SameOrders};
     ghost use Rattle.broker.specs.Moving.{ArePlacesApart, RingsAreMoved};
 
     /// So many rings with no seat.
@@ -295,11 +288,7 @@ impl Seating {
     {
         let rings = empty_rings(alloc, queues)?;
         let awake = empty_marks(alloc, queues)?;
-        Ok(Seating {
-            rings,
-            awake,
-            next: 0,
-        })
+        Ok(Seating { rings, awake })
     }
 
     /// This consumer has its seat in the ring of the queue at this place from now on, and it is awake. Where memory is wanting it
@@ -308,6 +297,8 @@ impl Seating {
         requires { queue < length self.old }
         ensures seated { OnOk result (IsAwake (ring_at self.new queue) consumer) }
         ensures kept { KeepRings core.now self.old self.new }
+        ensures later { AreOneLater core.now self.old self.new }
+        ensures bounded { IsBounded core.now (ring_at self.old queue) (ring_at self.new queue) }
         ensures len { length self.new ≡ length self.old }
     {
         seat_at(&mut self.rings, &mut self.awake, core, queue, consumer)
@@ -336,22 +327,24 @@ impl Seating {
         let Seating {
             rings: mut left,
             awake: _,
-            next: _,
         } = old;
         move_rings(&mut self.rings, &mut self.awake, &mut left, places);
     }
 
-    /// The first delivery that can be made, from the queue behind that from which was picked last, and then from the front.
-    pub fn pick(&mut self, core: &Core, desks: &mut Desks) -> Option<Pick>
+    /// The first delivery that can be made from one of the queues, from this place on and then from the front.
+    pub fn pick(&mut self, core: &Core, desks: &mut Desks, next: usize) -> Option<FoundSeat>
         requires { length self.old ≡ length (topology_kept core.now).queues }
         ensures kept { KeepsSeats core.now (rings_of self.old desks.old.entries) (rings_of self.new desks.new.entries) }
         ensures more { ListsMore desks.old.entries desks.new.entries }
         ensures len { length self.new ≡ length self.old }
-        ensures some { IfSome result (λ p. (place : ℕ) × IsPickFrom core.now place p) }
+        ensures within { IfSome result (λ f. f.queue < length self.new) }
+        ensures fits { IfSome result (λ f. f.queue + 1 < 2 ^ 64) }
+        ensures some { IfSome result (λ f. IsPickFrom core.now f.queue f.pick) }
         ensures none { result ≡ None → NoneBetween core.now (rings_of self.old desks.old.entries) 0 (length self.old) }
+        ensures passed { IfSome result (λ f. NonePassed core.now (rings_of self.old desks.old.entries) next f.queue) }
+        ensures told { IfSome result (λ f. PicksFrom core.now desks.old.entries self.old self.new f.queue f.pick) }
+        ensures same { result ≡ None → SameOrders self.old self.new }
     {
-        let found = first_round(&mut self.rings, &mut self.awake, core, desks, self.next)?;
-        self.next = found.queue + 1;
-        Some(found.pick)
+        first_round(&mut self.rings, &mut self.awake, core, desks, next)
     }
 }

@@ -1,7 +1,11 @@
-use Rattle.std.proofs.Common.{List, [], ◌∷◌, sym, subst}
+use Rattle.std.proofs.Common.{◌≤◌, ◌+◌, ◌⊎◌, List, [], ◌∷◌, length, count_by, sym, subst, arith}
+use Rattle.std.specs.Prelude.{vec_capacity}
 use Rattle.broker_core.specs.State.{broker_of}
 use Rattle.broker.specs.declared.roster.seats.Seat.{Seat}
-use Rattle.broker.specs.Roster.{ring_of, awake_seat, IsSeatedIn}
+use Rattle.broker.specs.Lines.{turned, standing, AreDistinct}
+use Rattle.broker.specs.Roster.{ring_of, picks, is_consumer, has_its_consumer, awake_seat, IsSeatedIn}
+use Rattle.broker.proofs.Later.{later_end, bounded_end}
+use Rattle.broker.proofs.Picks.{apart_end}
 use Rattle.broker.proofs.Sleeping.{pushed}
 use Rattle.broker.proofs.roster.ring.add_seat.Goals as goal
 
@@ -9,3 +13,20 @@ pub returns-clause-kept : goal.returns-clause-kept
 returns-clause-kept c = λ lists queue p i has.
     subst (λ (xs : List Seat). IsSeatedIn (broker_of c.args.core.now) lists queue (ring_of xs c.set.new.self) p) (sym c.push_reserved.ensures.items)
     (pushed c.args.core.now c.make_room.new.seats.items (awake_seat c.args.consumer ∷ []) c.make_room.new.awake c.set.new.self _ c.set.ensures.set lists queue p (c.make_room.ensures.kept lists queue p i has) has)
+
+pub returns-clause-apart : goal.returns-clause-apart
+returns-clause-apart c = λ apart.
+    subst (λ (xs : List Seat). AreDistinct (picks xs)) (sym c.push_reserved.ensures.items)
+    (apart_end c.make_room.new.seats.items (awake_seat c.args.consumer) (c.make_room.ensures.apart apart) (λ i. c.requires.absent (c.make_room.ensures.fewer c.args.consumer i)))
+
+pub returns-clause-later : goal.returns-clause-later
+returns-clause-later c = λ p has.
+    let more = later_end p c.make_room.new.seats.items (awake_seat c.args.consumer) c.make_room.new.next in
+    let less = c.make_room.ensures.later p has in
+    subst (λ (xs : List Seat). standing (is_consumer p) (turned c.make_room.new.next (picks xs)) ≤ standing (is_consumer p) (turned c.args.next.now (picks c.args.seats.now.items)) + 1) (sym c.push_reserved.ensures.items)
+    (omega (arith, more, less))
+
+pub returns-clause-bounded : goal.returns-clause-bounded
+returns-clause-bounded c =
+    subst (λ (xs : List Seat). (length xs ≤ vec_capacity c.args.seats.now) ⊎ (length xs ≤ count_by (has_its_consumer c.args.core.now) xs + 1)) (sym c.push_reserved.ensures.items)
+    (bounded_end c.args.core.now c.make_room.new.seats.items (awake_seat c.args.consumer) (vec_capacity c.args.seats.now) c.make_room.ensures.bounded)

@@ -39,9 +39,15 @@ seats-preserved c =
           (λ p at pick.
           let is = (c.seats.invariant.behind c.in-Some.place next p at).there none in
           c.may_deliver.ensures.no c.if-may_deliver.false (ap (λ (s : Seat). s.asleep) is) (subst (IsPickFrom c.args.core.now c.args.queue) (sym (ap (λ (s : Seat). s.pick) is)) pick));
+      same = c.rest.ensures.same ∙ c.seats.invariant.same;
     }
 
 pub returns-clause-none : goal.returns-clause-none
 returns-clause-none c = λ e.
     none_gap c.args.core.now c.args.queue (ring_of c.args.seats.now c.args.awake.now) (ring_of c.seats.seats c.seats.awake) c.args.from c.seats.next c.args.to c.seats.invariant.none c.seats.invariant.behind
     (λ k le lt. c.in_default.ensures.none k le)
+
+pub returns-then-may_deliver-clause-passed : goal.returns-then-may_deliver-clause-passed
+returns-then-may_deliver-clause-passed c =
+    none_gap c.args.core.now c.args.queue (ring_of c.args.seats.now c.args.awake.now) (ring_of c.seats.seats c.seats.awake) c.args.from c.seats.next c.in-Some.place c.seats.invariant.none c.seats.invariant.behind
+    (λ k le lt. c.in-Some.ensures.some.before k le lt)

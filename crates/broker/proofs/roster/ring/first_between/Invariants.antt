@@ -1,5 +1,5 @@
 use Rattle.std.proofs.Common.{◌≡◌, ◌<◌, ◌≤◌, ◌-◌, ℕ, length}
-use Rattle.broker.specs.Roster.{ring_of, StaysAt, KeepsIn, ListsMore, NoneAwake}
+use Rattle.broker.specs.Roster.{ring_of, picks, StaysAt, KeepsIn, ListsMore, NoneAwake}
 use Rattle.broker.proofs.roster.ring.first_between.Given as goal
 
 -- no delivery can be made to those before the next that were awake, and those behind are as they were
@@ -12,6 +12,7 @@ invariant-seats l = record {
   before : (i : ℕ) → i < l.from → StaysAt (ring_of l.fn.seats l.fn.awake) (ring_of l.seats l.awake) i;
   behind : (i : ℕ) → l.next ≤ i → StaysAt (ring_of l.fn.seats l.fn.awake) (ring_of l.seats l.awake) i;
   none : NoneAwake l.core l.queue (ring_of l.fn.seats l.fn.awake) l.from l.next;
+  same : picks l.seats ≡ picks l.fn.seats;
 }
 
 abbrev pub decreases-seats : goal.decreases-seats

@@ -1,5 +1,7 @@
-use Rattle.std.proofs.Common.{length, refl}
-use Rattle.broker.specs.Roster.{ring_of}
+use Rattle.std.proofs.Common.{◌<◌, length, refl, arith}
+use Rattle.broker.specs.Roster.{ring_of, NoneAwake, NoneAwakePassed}
+use Rattle.broker.proofs.Orders.{none_on, none_back}
+use Rattle.broker.proofs.Outcomes.{if_both}
 use Rattle.broker.proofs.Sleeping.{none_round}
 use Rattle.broker.proofs.roster.ring.first_round.Goals as goal
 
@@ -7,3 +9,18 @@ pub returns-in-None-clause-none : goal.returns-in-None-clause-none
 returns-in-None-clause-none c = λ e.
     none_round c.args.core.now c.args.queue (ring_of c.args.seats.now c.args.awake.now) (ring_of c.first_between.new.seats c.first_between.new.awake) c.min-turn.result (length c.args.seats.now) (c.in-None.ensures.none refl) c.in-None.ensures.before
     (c.first_between-in-None.ensures.none e)
+
+pub returns-in-Some-clause-passed : goal.returns-in-Some-clause-passed
+returns-in-Some-clause-passed c =
+    let turn = c.min-turn.ensures in
+    let below = c.in-Some.ensures.below in
+    none_on c.args.core.now c.args.queue (ring_of c.args.seats.now c.args.awake.now) c.args.next c.min-turn.result c.in-Some.place (omega (arith, turn)) c.in-Some.ensures.least (omega (arith, below)) c.in-Some.ensures.passed
+
+pub returns-in-None-clause-passed : goal.returns-in-None-clause-passed
+returns-in-None-clause-passed c =
+    let turn = c.min-turn.ensures in
+    let old = ring_of c.args.seats.now c.args.awake.now in
+    let mid = ring_of c.first_between.new.seats c.first_between.new.awake in
+    if_both c.first_between-in-None.result (λ i. i < c.min-turn.result) (λ i. NoneAwake c.args.core.now c.args.queue mid 0 i) (λ i. NoneAwakePassed c.args.core.now c.args.queue old c.args.next i)
+    (λ i below before. none_back c.args.core.now c.args.queue old mid c.args.next c.min-turn.result i (omega (arith, turn)) below (c.in-None.ensures.none refl) c.in-None.ensures.before before)
+    c.first_between-in-None.ensures.below c.first_between-in-None.ensures.passed

@@ -1,5 +1,6 @@
 use Rattle.std.proofs.Common.{refl, subst}
 use Rattle.broker.specs.Roster.{ring_of, asleep_seat, IsAwakeAt}
+use Rattle.broker.proofs.Picks.{no_pick}
 use Rattle.broker.proofs.roster.ring.wake_seat.Goals as goal
 
 pub returns-in-Some-clause-yes : goal.returns-in-Some-clause-yes
@@ -9,3 +10,6 @@ returns-in-Some-clause-yes c = λ e.
 
 pub returns-in-None-clause-no : goal.returns-in-None-clause-no
 returns-in-None-clause-no c = λ e i. c.in-None.ensures.none refl (asleep_seat c.args.consumer) i refl
+
+pub returns-in-None-clause-absent : goal.returns-in-None-clause-absent
+returns-in-None-clause-absent c = λ e i. no_pick c.args.consumer c.args.seats.now (c.in-None.ensures.none refl) i

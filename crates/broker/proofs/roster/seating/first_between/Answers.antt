@@ -5,6 +5,7 @@ use Rattle.broker_core.specs.State.{broker_of}
 use Rattle.broker.specs.Roster.{rings_of, IsSeated}
 use Rattle.broker.proofs.Desks.{more_on}
 use Rattle.broker.proofs.Marked.{marked_by}
+use Rattle.broker.proofs.Orders.{picks_since}
 use Rattle.broker.proofs.Present.{picked_kept}
 use Rattle.broker.proofs.roster.seating.first_between.Goals as goal
 
@@ -45,6 +46,7 @@ queues-preserved c =
                   from
             ]
       ];
+      same = λ at. c.in_default-pick_at.ensures.same refl at ∙ c.queues.invariant.same at;
     }
 
 pub returns-clause-none : goal.returns-clause-none
@@ -53,3 +55,19 @@ returns-clause-none c = λ e place p from lt i pick.
       | inl a ↦ let le = a.1 in c.queues.invariant.none place p from (omega (arith, le)) i pick
       | inr a ↦ let gt = a.1 in c.in_default.ensures place p (omega (arith, gt)) (marked_by c.args.core.now c.queues.desks.entries c.queues.rings c.queues.awake place p c.queues.invariant.marked (c.queues.invariant.kept place p i (picked_kept c.args.core.now place p pick)) pick) pick
     ]
+
+pub returns-in-Some-pick_at-clause-kept : goal.returns-in-Some-pick_at-clause-kept
+returns-in-Some-pick_at-clause-kept c = λ place p i has. c.in-Some-pick_at.ensures.kept place p (c.queues.invariant.kept place p i has) has
+
+pub returns-in-Some-pick_at-clause-passed : goal.returns-in-Some-pick_at-clause-passed
+returns-in-Some-pick_at-clause-passed c = λ place p from lt i pick.
+    elim (leb_tells (place + 1) c.queues.next) [
+      | inl a ↦ let le = a.1 in c.queues.invariant.none place p from (omega (arith, le)) i pick
+      | inr a ↦
+          let gt = a.1 in
+          c.in-Some.ensures.before place p (omega (arith, gt)) lt (marked_by c.args.core.now c.queues.desks.entries c.queues.rings c.queues.awake place p c.queues.invariant.marked (c.queues.invariant.kept place p i (picked_kept c.args.core.now place p pick)) pick) pick
+    ]
+
+pub returns-in-Some-pick_at-clause-told : goal.returns-in-Some-pick_at-clause-told
+returns-in-Some-pick_at-clause-told c =
+    picks_since c.args.core.now (rings_of c.args.rings.now c.args.desks.now.entries) (rings_of c.queues.rings c.queues.desks.entries) c.pick_at.new.rings c.in-Some.queue c.in-Some-pick_at.pick c.queues.invariant.same c.queues.invariant.kept c.in-Some-pick_at.ensures.told

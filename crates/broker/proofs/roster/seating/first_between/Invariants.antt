@@ -1,5 +1,5 @@
 use Rattle.std.proofs.Common.{◌≡◌, ◌≤◌, ◌-◌, length}
-use Rattle.broker.specs.Roster.{rings_of, QueuesAreMarked, KeepsSeats, ListsMore, NoneBetween}
+use Rattle.broker.specs.Roster.{rings_of, QueuesAreMarked, KeepsSeats, ListsMore, NoneBetween, SameOrders}
 use Rattle.broker_core.specs.State.{topology_kept}
 use Rattle.broker.proofs.roster.seating.first_between.Given as goal
 
@@ -12,6 +12,7 @@ invariant-queues l = record {
   marked : QueuesAreMarked l.rings l.awake;
   least : l.from ≤ l.next;
   none : NoneBetween l.core (rings_of l.fn.rings l.fn.desks.entries) l.from l.next;
+  same : SameOrders l.fn.rings l.rings;
 }
 
 abbrev pub decreases-queues : goal.decreases-queues

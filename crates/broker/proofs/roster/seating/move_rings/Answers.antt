@@ -16,7 +16,7 @@ loop-from-preserved c =
     let mid = c.loop-from.rings in
     let new = c.move_ring.new.rings in
     let one = c.index-old-from.result in
-    let none : Seats = record { seats = []; marks = [] } in
+    let none : Seats = record { seats = []; marks = []; next = 0; room = 0 } in
     let lt = c.loop-from-test.true in
     let len = c.loop-from.auto.rings in
     let old_len = c.loop-from.auto.old in

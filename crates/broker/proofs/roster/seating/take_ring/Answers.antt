@@ -6,7 +6,7 @@ use Rattle.broker.proofs.roster.seating.take_ring.Goals as goal
 
 pub returns-clause-roused : goal.returns-clause-roused
 returns-clause-roused c = λ p stands.
-    subst (λ (r : Seats). IsAwake r p) (sym (get_or-set_same c.args.rings.now c.args.place c.swap.new.x (record { seats = []; marks = [] }) c.requires.within ∙ c.swap.ensures.x_after)) (c.wake_all.ensures p stands)
+    subst (λ (r : Seats). IsAwake r p) (sym (get_or-set_same c.args.rings.now c.args.place c.swap.new.x (record { seats = []; marks = []; next = 0; room = 0 }) c.requires.within ∙ c.swap.ensures.x_after)) (c.wake_all.ensures.roused p stands)
 
 pub returns-clause-marked : goal.returns-clause-marked
 returns-clause-marked c =

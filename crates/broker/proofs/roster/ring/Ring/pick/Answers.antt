@@ -1,34 +1,72 @@
-use Rattle.std.proofs.Common.{◌∙◌, List, length, get_or, refl, sym, ap, subst}
+use Rattle.std.proofs.Common.{◌∙◌, ◌+◌, ◌++◌, List, [], ◌∷◌, length, take, drop, arith, get_or, refl, sym, ap, subst}
+use Rattle.std.specs.Prelude.{vec_capacity}
 use Rattle.std.proofs.lemmas.List.{take_at}
 use Rattle.broker_core.specs.Picked.{IsPickFrom}
+use Rattle.broker_core.specs.declared.picks.Pick.{Pick}
 use Rattle.broker.specs.declared.roster.seats.Seat.{Seat}
-use Rattle.broker.specs.Roster.{Seats, ring_of, KeepsIn, NoneAwake}
+use Rattle.broker.specs.Lines.{turned, AreDistinct}
+use Rattle.broker.specs.Roster.{Seats, ring_of, picks, order, KeepsIn, NoneAwake, NoneAwakePassed, GoesLast}
+use Rattle.broker.proofs.Orders.{goes_last}
+use Rattle.broker.proofs.Picks.{picks_at}
 use Rattle.broker.proofs.Sleeping.{none_seated}
 use Rattle.broker.proofs.roster.ring.Ring.pick.Goals as goal
 
 pub returns-in-Some-clause-kept : goal.returns-in-Some-clause-kept
 returns-in-Some-clause-kept c =
     let same = c.deref_mut.ensures.value in
-    let was = ap (λ (xs : List Seat). ring_of xs c.self.inside.awake) same ∙ c.self.view_is in
-    let back = take_at c.first_round.new.seats _ c.self.inside.seats.len (c.first_round.auto.seats ∙ c.deref_mut.ensures.len) in
+    let was = ap (λ (xs : List Seat). record { seats = xs; marks = c.self.inside.awake; next = c.self.inside.next; room = vec_capacity c.self.inside.seats }) same ∙ c.self.view_is in
+    let back = take_at c.first_round.new.seats (drop (length c.first_round.new.seats) c.self.inside.seats.items) c.self.inside.seats.len (c.first_round.auto.seats ∙ c.deref_mut.ensures.len) in
     subst (λ (xs : List Seat). KeepsIn c.args.core.now c.args.queue c.args.desks.now.entries c.first_round.new.desks.entries c.args.self.now (ring_of xs c.first_round.new.awake)) (sym back)
     (subst (λ (r : Seats). KeepsIn c.args.core.now c.args.queue c.args.desks.now.entries c.first_round.new.desks.entries r (ring_of c.first_round.new.seats c.first_round.new.awake)) was c.first_round.ensures.kept)
 
 pub returns-in-Some-clause-some : goal.returns-in-Some-clause-some
 returns-in-Some-clause-some c =
     let one = c.index.result.now in
-    let back = take_at c.first_round.new.seats _ c.self.inside.seats.len (c.first_round.auto.seats ∙ c.deref_mut.ensures.len) in
+    let back = take_at c.first_round.new.seats (drop (length c.first_round.new.seats) c.self.inside.seats.items) c.self.inside.seats.len (c.first_round.auto.seats ∙ c.deref_mut.ensures.len) in
     subst (λ (s : Seat). IsPickFrom c.args.core.now c.args.queue s.pick) (ap (λ (xs : List Seat). get_or xs c.in-Some.place one) (sym back) ∙ sym c.index.ensures) (c.in-Some.ensures.some one)
 
 pub returns-in-None-clause-kept : goal.returns-in-None-clause-kept
 returns-in-None-clause-kept c =
     let same = c.deref_mut.ensures.value in
-    let was = ap (λ (xs : List Seat). ring_of xs c.self.inside.awake) same ∙ c.self.view_is in
-    let back = take_at c.first_round.new.seats _ c.self.inside.seats.len (c.first_round.auto.seats ∙ c.deref_mut.ensures.len) in
+    let was = ap (λ (xs : List Seat). record { seats = xs; marks = c.self.inside.awake; next = c.self.inside.next; room = vec_capacity c.self.inside.seats }) same ∙ c.self.view_is in
+    let back = take_at c.first_round.new.seats (drop (length c.first_round.new.seats) c.self.inside.seats.items) c.self.inside.seats.len (c.first_round.auto.seats ∙ c.deref_mut.ensures.len) in
     subst (λ (xs : List Seat). KeepsIn c.args.core.now c.args.queue c.args.desks.now.entries c.first_round.new.desks.entries c.args.self.now (ring_of xs c.first_round.new.awake)) (sym back)
     (subst (λ (r : Seats). KeepsIn c.args.core.now c.args.queue c.args.desks.now.entries c.first_round.new.desks.entries r (ring_of c.first_round.new.seats c.first_round.new.awake)) was c.first_round.ensures.kept)
 
 pub returns-in-None-clause-none : goal.returns-in-None-clause-none
 returns-in-None-clause-none c = λ e.
-    let was = ap (λ (xs : List Seat). ring_of xs c.self.inside.awake) c.deref_mut.ensures.value ∙ c.self.view_is in
+    let was = ap (λ (xs : List Seat). record { seats = xs; marks = c.self.inside.awake; next = c.self.inside.next; room = vec_capacity c.self.inside.seats }) c.deref_mut.ensures.value ∙ c.self.view_is in
     none_seated c.args.core.now c.args.desks.now.entries c.args.queue c.args.self.now (subst (λ (r : Seats). NoneAwake c.args.core.now c.args.queue r 0 (length r.seats)) was (c.in-None.ensures.none refl))
+
+pub returns-in-Some-clause-told : goal.returns-in-Some-clause-told
+returns-in-Some-clause-told c =
+    let one = c.index.result.now in
+    let place = c.in-Some.place in
+    let was = ap (λ (xs : List Seat). record { seats = xs; marks = c.self.inside.awake; next = c.self.inside.next; room = vec_capacity c.self.inside.seats }) c.deref_mut.ensures.value ∙ c.self.view_is in
+    let back = take_at c.first_round.new.seats (drop (length c.first_round.new.seats) c.self.inside.seats.items) c.self.inside.seats.len (c.first_round.auto.seats ∙ c.deref_mut.ensures.len) in
+    let same = ap picks back ∙ c.first_round.ensures.same ∙ ap (λ (r : Seats). picks r.seats) was in
+    let within = c.in-Some.ensures.within in
+    let long = c.first_round.auto.seats in
+    let size = ap (λ (r : Seats). length r.seats) was in
+    let new : Seats = record {
+      seats = take c.self.inside.seats.len (c.first_round.new.seats ++ drop (length c.first_round.new.seats) c.self.inside.seats.items);
+      marks = c.first_round.new.awake;
+      next = place + 1;
+      room = 0;
+    } in
+    let told = sym (picks_at c.args.self.now.seats place one) ∙ sym (ap (λ (ps : List Pick). get_or ps place one.pick) same) ∙ picks_at new.seats place one ∙ ap (λ (s : Seat). s.pick) (sym c.index.ensures) in
+    let goes : GoesLast c.args.core.now c.args.desks.now.entries c.args.queue c.args.self.now new (get_or c.args.self.now.seats place one).pick =
+    goes_last c.args.core.now c.args.desks.now.entries c.args.queue c.args.self.now new place one (omega (arith, within, long, size)) (subst (λ (r : Seats). AreDistinct (picks r.seats)) c.self.view_is c.self.invariant.1) same refl
+    (subst (λ (r : Seats). NoneAwakePassed c.args.core.now c.args.queue r r.next place) was c.in-Some.ensures.passed) in
+    record {
+      front = goes.front;
+      back = goes.back;
+      was = goes.was ∙ ap (λ (p : Pick). goes.front ++ p ∷ goes.back) told;
+      now = goes.now ∙ ap (λ (p : Pick). goes.back ++ goes.front ++ p ∷ []) told;
+      passed = goes.passed;
+    }
+
+pub returns-in-None-clause-same : goal.returns-in-None-clause-same
+returns-in-None-clause-same c = λ e.
+    let back = take_at c.first_round.new.seats (drop (length c.first_round.new.seats) c.self.inside.seats.items) c.self.inside.seats.len (c.first_round.auto.seats ∙ c.deref_mut.ensures.len) in
+    ap (turned c.self.inside.next) (ap picks back ∙ c.first_round.ensures.same ∙ ap picks c.deref_mut.ensures.value) ∙ ap order c.self.view_is
