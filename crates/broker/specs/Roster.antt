@@ -1,5 +1,6 @@
 -- The consumers of all channels by their numbers, over which deliveries go round, and which of them are passed over (own).
-use Rattle.std.specs.Prelude.{◌≡◌, ◌==◌, ◌&&◌, ◌<◌, ◌≤◌, ◌*◌, ◌+◌, ◌⊎◌, ◌++◌, ℕ, List, [], ◌∷◌, map, Bool, true, false, Option, Some, None, length, slice_index_or, nat_eq, count_by, IfSome}
+use Rattle.std.specs.Prelude.{◌≡◌, ◌==◌, ◌&&◌, ◌<◌, ◌≤◌, ◌*◌, ◌+◌, ◌⊎◌, ◌++◌, ℕ, List, []}
+use Rattle.std.specs.Prelude.{◌∷◌, map, Bool, true, false, Option, Some, None, length, slice_index_or, nat_eq, count_by, IfSome}
 use Rattle.std.specs.Map.{lookup}
 use Rattle.model.specs.Topology.{Topology, IsIn}
 use Rattle.model.specs.Broker.{Consumer, Broker}

@@ -20,11 +20,13 @@ pub record IsPassedOver (kept : Kept) (old new : Rings) (place : ℕ) (p : Pick)
 pub data Waits (place : ℕ) (p : Pick) (start : Rings) : ℕ → ℕ → Rings → Type 0 where
   begins : Waits place p start 0 0 start
   -- it is passed over
-  passed : {told made : ℕ} {old new : Rings} (kept : Kept) → Waits place p start told made old → IsPassedOver kept old new place p → Waits place p start (told + 1) made new
+  passed : {told made : ℕ} {old new : Rings} (kept : Kept)
+      → Waits place p start told made old → IsPassedOver kept old new place p → Waits place p start (told + 1) made new
   -- nobody's turn changes
   stays : {told made : ℕ} {old new : Rings} → Waits place p start told made old → GoesOn old new → Waits place p start told made new
   -- a seat is made, and it is there still
-  seated : {told made : ℕ} {old new : Rings} (kept : Kept) → Waits place p start told made old → ComesIn kept old new → has_consumer kept p ≡ true → Waits place p start told (made + 1) new
+  seated : {told made : ℕ} {old new : Rings} (kept : Kept)
+      → Waits place p start told made old → ComesIn kept old new → has_consumer kept p ≡ true → Waits place p start told (made + 1) new
 
 -- The consumer of the queue at this place stands in its ring.
 pub record Stands (r : Rings) (place : ℕ) (p : Pick) : Type 0 where
@@ -38,6 +40,8 @@ IsTold start place told made = told < length (ring_at start.rings place).seats *
 -- Nobody waits for ever while others are told:
 pub record NobodyWaits : Type 0 where
   -- whoever waits is nearer by one with each that is told, and further by one of each queue at most with each seat
-  pub nearer : (place : ℕ) (p : Pick) (start now : Rings) (told made : ℕ) → Stands start place p → Waits place p start told made now → told + before now place p ≤ before start place p + made * length start.rings
+  pub nearer : (place : ℕ) (p : Pick) (start now : Rings) (told made : ℕ) → Stands start place p → Waits place p start told made now
+      → told + before now place p ≤ before start place p + made * length start.rings
   -- so it is passed over so often at most
-  pub fewer : (place : ℕ) (p : Pick) (start now : Rings) (told made : ℕ) → Stands start place p → Waits place p start told made now → IsTold start place told made
+  pub fewer : (place : ℕ) (p : Pick) (start now : Rings) (told made : ℕ) → Stands start place p → Waits place p start told made now
+      → IsTold start place told made

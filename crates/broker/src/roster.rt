@@ -83,7 +83,8 @@ impl Roster {
     ghost use Rattle.broker_core.specs.State.{broker_of, topology_kept};
     ghost use Rattle.broker_core.specs.Picked.{IsPickFrom};
     ghost use Rattle.broker_core.specs.Seats.{seat_of};
-    ghost use Rattle.broker.specs.Roster.{wakes, IsAt, IsSeated, SeatsNext, HasNoList, MakesNoList, ListsRunning, KeepsSeats, KeepsAll, AllWaken, WakesSeat, PicksFirst, AllNearer, ComesIn, GoesOn};
+    ghost use Rattle.broker.specs.Roster.{wakes, IsAt, IsSeated, SeatsNext, HasNoList, MakesNoList, ListsRunning};
+    ghost use Rattle.broker.specs.Roster.{KeepsSeats, KeepsAll, AllWaken, WakesSeat, PicksFirst, AllNearer, ComesIn, GoesOn};
     ghost use Rattle.broker.specs.Moving.{ArePlacesApart, RingsAreMoved, ListsAreEmptied};
 
     /// No seat, for so many queues.

@@ -5,7 +5,8 @@
 //! seat whose consumer may take nothing then falls asleep, if it can be listed, and is passed over until it is woken. Picks look at
 //! the seats whose bit is 1: that of a seat that sleeps may be, after a sweep, until one looks at it.
 
-ghost use Rattle.std.specs.Prelude.{◌≡◌, ◌<◌, ◌≤◌, ◌+◌, ◌*◌, ◌⊎◌, ℕ, true, false, None, IfSome, OnOk, length, count_by, filter, slice_index_or, vec_len, vec_capacity};
+ghost use Rattle.std.specs.Prelude.{◌≡◌, ◌<◌, ◌≤◌, ◌+◌, ◌*◌, ◌⊎◌, ℕ, true, false};
+ghost use Rattle.std.specs.Prelude.{None, IfSome, OnOk, length, count_by, filter, slice_index_or, vec_len, vec_capacity};
 ghost use Rattle.std.specs.List.{position_from};
 ghost use Rattle.model.specs.Topology.{IsIn};
 ghost use Rattle.marks.specs.Places.{bit_of};
@@ -13,7 +14,8 @@ ghost use Rattle.broker_core.specs.Picked.{IsPickFrom};
 ghost use Rattle.broker_core.specs.declared.picks.Pick.{Pick as Consumer};
 ghost use Rattle.broker.specs.declared.roster.seats.Seat.{Seat as Taken};
 ghost use Rattle.broker.specs.Lines.{turned, AreDistinct};
-ghost use Rattle.broker.specs.Roster.{ring_of, picks, is_consumer, is_seat_of, has_its_consumer, IsAwakeAt, IsAwake, IsAsleep, StaysAt, KeepsIn, KeepsRing, IsNoLater, IsOneLater, NoneAwake, NoneAwakePassed, ListsMore, Dozes, Wakens};
+ghost use Rattle.broker.specs.Roster.{ring_of, picks, is_consumer, is_seat_of, has_its_consumer, IsAwakeAt, IsAwake, IsAsleep, StaysAt};
+ghost use Rattle.broker.specs.Roster.{KeepsIn, KeepsRing, IsNoLater, IsOneLater, NoneAwake, NoneAwakePassed, ListsMore, Dozes, Wakens};
 ghost use Rattle.broker.specs.Moving.{all_awake};
 
 use crate::roster::desk::{Desks, Listed, list_seat};

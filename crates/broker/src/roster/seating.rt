@@ -8,7 +8,8 @@ ghost use Rattle.std.specs.Prelude.{◌≡◌, ◌<◌, ◌≤◌, ◌*◌, [], 
 ghost use Rattle.marks.specs.Places.{bit_of};
 ghost use Rattle.broker_core.specs.State.{topology_kept};
 ghost use Rattle.broker_core.specs.Picked.{IsPickFrom};
-ghost use Rattle.broker.specs.Roster.{ring_at, rings_of, IsAwake, IsAsleep, QueuesAreMarked, IsNextMarked, KeepRings, AreOneLater, IsBounded, KeepsSeats, ListsMore, AllWaken, NoneSeated, NoneBetween, NonePassed, PicksFrom, SameOrders};
+ghost use Rattle.broker.specs.Roster.{ring_at, rings_of, IsAwake, IsAsleep, QueuesAreMarked, IsNextMarked, KeepRings, AreOneLater};
+ghost use Rattle.broker.specs.Roster.{IsBounded, KeepsSeats, ListsMore, AllWaken, NoneSeated, NoneBetween, NonePassed, PicksFrom, SameOrders};
 ghost use Rattle.broker.specs.Moving.{AllRoused, ArePlacesApart, RingsAreMoved};
 ghost use Rattle.broker_core.specs.declared.picks.Pick.{Pick as Consumer};
 
@@ -279,7 +280,8 @@ impl Seating {
     ghost use Rattle.std.specs.Prelude.{◌≡◌, ◌<◌, ◌+◌, ◌^◌, ℕ, None, IfSome, IfOk, OnOk, length};
     ghost use Rattle.broker_core.specs.State.{topology_kept};
     ghost use Rattle.broker_core.specs.Picked.{IsPickFrom};
-    ghost use Rattle.broker.specs.Roster.{ring_at, rings_of, IsAwake, IsAsleep, KeepRings, AreOneLater, IsBounded, KeepsSeats, ListsMore, AllWaken, NoneBetween, NonePassed, PicksFrom, SameOrders};
+    ghost use Rattle.broker.specs.Roster.{ring_at, rings_of, IsAwake, IsAsleep, KeepRings, AreOneLater, IsBounded};
+    ghost use Rattle.broker.specs.Roster.{KeepsSeats, ListsMore, AllWaken, NoneBetween, NonePassed, PicksFrom, SameOrders};
     ghost use Rattle.broker.specs.Moving.{ArePlacesApart, RingsAreMoved};
 
     /// So many rings with no seat.
