@@ -6,6 +6,9 @@ import struct
 PATIENCE = 30
 """How many seconds a client waits for an answer."""
 
+LARGEST_FRAME = 131072
+"""How many bytes a frame may have."""
+
 
 def short_text(text):
     return bytes([len(text)]) + text.encode()
@@ -32,10 +35,11 @@ def properties(content_type=None, delivery_mode=None, message_id=None):
 
 
 def publish(exchange, key, body, given=properties()):
-    """The three frames of a publish on channel 1 with these properties, or two where the body is empty."""
+    """The frames of a publish on channel 1 with these properties: three, two if the body is empty, or more if it is longer than a frame."""
     arguments = b"\0\0" + short_text(exchange) + short_text(key) + b"\0"
     header = struct.pack(">HHQ", 60, 0, len(body)) + given
-    content = frame(3, 1, body) if body else b""
+    most = LARGEST_FRAME - 8
+    content = b"".join(frame(3, 1, body[at : at + most]) for at in range(0, len(body), most))
     return method(1, 60, 40, arguments) + frame(2, 1, header) + content
 
 
@@ -49,12 +53,13 @@ class Client:
         self.socket = socket.create_connection(("127.0.0.1", port), PATIENCE)
         self.socket.setsockopt(socket.IPPROTO_TCP, socket.TCP_NODELAY, 1)
         self.unread = b""
+        self.early = []
         self.acked = self.wanted = 0
         self.socket.sendall(b"AMQP\0\0\x09\x01")
         self.expect(10, 10)
         self.socket.sendall(method(0, 10, 11, START_OK))
         self.expect(10, 30)
-        self.socket.sendall(method(0, 10, 31, struct.pack(">HIH", 255, 131072, 0)))
+        self.socket.sendall(method(0, 10, 31, struct.pack(">HIH", 255, LARGEST_FRAME, 0)))
         self.ask(method(0, 10, 40, short_text("/") + b"\0\0"), 10, 41)
         self.ask(method(1, 20, 10, b"\0"), 20, 11)
 
@@ -94,8 +99,11 @@ class Client:
         self.ask(method(1, 85, 10, b"\0"), 85, 11)
 
     def consume(self, queue):
-        """Consumes with acknowledgement and no limit."""
-        self.ask(method(1, 60, 20, b"\0\0" + short_text(queue) + short_text("c") + b"\0" + struct.pack(">I", 0)), 60, 21)
+        """Consumes with acknowledgement and no limit. The first deliveries may come with the answer."""
+        self.socket.sendall(method(1, 60, 20, b"\0\0" + short_text(queue) + short_text("c") + b"\0" + struct.pack(">I", 0)))
+        answer, *self.early = self.methods()
+        if answer[:2] != (60, 21):
+            raise ValueError(f"60 21 was to come, and {answer[:2]} came")
 
     def purge(self, queue):
         self.ask(method(1, 50, 30, b"\0\0" + short_text(queue) + b"\0"), 50, 31)
@@ -110,17 +118,23 @@ class Client:
                 number, is_multiple = struct.unpack(">Q?", arguments)
                 self.acked = number if is_multiple else self.acked + 1
 
-    def acknowledge(self, count):
-        """Waits until so many deliveries came, and acknowledges each by an ack of its own."""
+    def deliveries(self, count):
+        """Waits until so many deliveries came, and gives their tags, read by read."""
         while count > 0:
-            tags = []
-            for class_id, method_id, arguments in self.methods():
+            tags, came = [], self.early or self.methods()
+            self.early = []
+            for class_id, method_id, arguments in came:
                 if (class_id, method_id) != (60, 60):
                     raise ValueError(f"a delivery was to come, and {class_id} {method_id} came")
                 at = 1 + arguments[0]
                 tags.append(arguments[at : at + 8])
-            self.socket.sendall(b"".join(method(1, 60, 80, tag + b"\0") for tag in tags))
             count -= len(tags)
+            yield tags
+
+    def acknowledge(self, count):
+        """Waits until so many deliveries came, and acknowledges each by an ack of its own."""
+        for tags in self.deliveries(count):
+            self.socket.sendall(b"".join(method(1, 60, 80, tag + b"\0") for tag in tags))
 
     def close(self):
         self.socket.close()

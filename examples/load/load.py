@@ -1,6 +1,6 @@
 """Loads a server over sockets, and prints what each message costs the server's process.
 
-Takes the server's port, the number of its process, and which loads are wanted: `few` or `steady`, which another server is given, too,
+Takes the server's port, the number of its process, and which loads are wanted: `few`, `steady` or `rare`, which another server is given, too,
 `neighbours` or `all`, and the program.
 Each load is a fixed number of messages and ends early once it has taken its seconds, so the whole ends by itself.
 """
@@ -13,6 +13,7 @@ import time
 from client import Client, properties, publish
 from neighbours import neighbours
 from occasional import latencies, publishers, tell_latencies
+from rare import rare
 from steady import steady
 
 SECONDS = 10
@@ -217,6 +218,8 @@ def main(port, process, kind, program=None):
         loads(server, publish("direct", "new", SMALL), publish("direct", "new", LARGE))
     if kind in ("steady", "all"):
         steady(server)
+    if kind in ("rare", "all"):
+        rare(server)
     if kind in ("neighbours", "all"):
         neighbours(server, program)
 
