@@ -1,16 +1,14 @@
 -- Consumers that are made and cancelled, as the model has them.
-use Rattle.std.proofs.Common.{◌≡◌, ◌∙◌, ◌<◌, ℕ, List, [], ◌∷◌, Bool, true, false, cond, Option, Some, None, Result, Ok, Err, length, map, filter, not, refl, sym, ap, subst, if◌then◌else◌}
-use Rattle.std.specs.Prelude.{is_some, nat_le, ◌==◌, ◌||◌}
+use Rattle.std.proofs.Common.{◌≡◌, ◌<◌, ℕ, List, [], ◌∷◌, Bool, true, false, cond, Option, Some, None, Result, Ok, Err, length, map, filter, not, refl, sym, ap, subst, if◌then◌else◌}
+use Rattle.std.specs.Prelude.{is_some, ◌==◌, ◌||◌}
 use Rattle.std.specs.Str.{bytes_eq}
 use Rattle.std.proofs.lemmas.Bool.{leb-false, false≢true}
 use Rattle.model.specs.Words.{Text}
-use Rattle.model.specs.Topology.{Topology}
 use Rattle.model.specs.Broker as seen
-use Rattle.model.specs.Broker.{Broker, Channel, Connection}
-use Rattle.model.specs.Consuming.{next_free, tag_for, is_tagged, is_tag_taken, is_tag_wanting, without_consumer}
-use Rattle.model.specs.Step.{Is, Refusal, Ignored, Of_connection, greatest, or_else, refusal_of_tag, refusal_of_many, refusal_of_numbers, refusal_of_seat, refusal, channel_or_new, with_channel}
+use Rattle.model.specs.Broker.{Broker, Channel}
+use Rattle.model.specs.Consuming.{next_free, tag_for, is_tagged, is_tag_wanting, without_consumer}
+use Rattle.model.specs.Step.{Is, Refusal, Of_connection, greatest, or_else, refusal_of_tag, refusal_of_many, refusal_of_numbers, refusal_of_seat, with_channel}
 use Rattle.model.specs.declared.methods.Consume.{Consume}
-use Rattle.model.specs.declared.methods.Method.{Method}
 use Rattle.channel.specs.Open.{Open, open_in, consumer_in, without_named, SeatsConsumer}
 use Rattle.channel.specs.Seats.{is_named}
 use Rattle.channel.specs.declared.consumers.Consumer.{Consumer}
@@ -18,27 +16,10 @@ use Rattle.channel.specs.declared.consumers.SeatRefusal as why
 use Rattle.channel.specs.declared.consumers.SeatRefusal.TheVariants.{InUse, TooMany, Spent, Memory}
 use Rattle.links.specs.Links.{PutsChannel}
 use Rattle.broker_core.specs.Consumed.{MakesConsumer}
-use Rattle.judging.specs.Judged.{IsQueuePlace, IsIgnored, JudgesOn, refusal_left}
-use Rattle.judging.specs.declared.refusals.Act.{Act}
-use Rattle.judging.specs.declared.refusals.Act.TheVariants as act
+use Rattle.judging.specs.Judged.{IsQueuePlace}
 use Rattle.broker_core.specs.State.{Kept, broker_of, topology_kept, names_of}
 use Rattle.broker_core.proofs.Stepping.{put_is}
 use Rattle.laws.proofs.Named.{server_short}
-
--- ---- what is said against a consume
-
-ignored_not : (b : Bool) (code : ℕ) (rest : Option Refusal) → (rest ≡ Some Ignored → ⊥) → or_else (if b then Some (Of_connection code) else None) rest ≡ Some Ignored → ⊥
-ignored_not true code rest none e = cc
-ignored_not false code rest none e = none e
-
-last_not : (b : Bool) (code : ℕ) → (if b then Some (Of_connection code) else None) ≡ Some Ignored → ⊥
-last_not true code e = cc
-last_not false code e = cc
-
--- nothing that its channel says makes it ignored
-pub seat_not_ignored : (ch : Channel) (m : Consume) → refusal_of_seat ch m ≡ Some Ignored → ⊥
-seat_not_ignored ch m = ignored_not (is_tag_taken ch m.consumer_tag) 530 (or_else (refusal_of_many ch) (refusal_of_numbers ch m.consumer_tag))
-    (ignored_not (nat_le 256 (length ch.consumers)) 506 (refusal_of_numbers ch m.consumer_tag) (last_not ((ch.next_number == greatest) || is_tag_wanting ch m.consumer_tag) 541))
 
 -- ---- its tag
 
@@ -98,32 +79,3 @@ pub cancelled_is : (old new : Kept) (c h : ℕ) (ch : Open) (tag : Text) (seats 
     → Is (with_channel (broker_of old) c h (Some (without_consumer (open_in (names_of old) ch) tag))) (broker_of new)
 cancelled_is old new c h ch tag seats e put =
     subst (λ (x : Channel). Is (with_channel (broker_of old) c h (Some x)) (broker_of new)) (cancelled_seen (names_of old) ch tag seats) (put_is old new c h (Some (without_named ch tag seats)) e put)
-
--- ---- what is left to say of an act
-
--- nothing that is left to say of an act makes it ignored
-left_not_ignored : (ch : Channel) (a : Act) → refusal_left ch a ≡ Some Ignored → ⊥
-left_not_ignored ch (act.Consume place m) e = seat_not_ignored ch m.now e
-left_not_ignored ch act.OpenChannel e = absurd (false≢true (ap is_some e))
-left_not_ignored ch act.Flow e = absurd (false≢true (ap is_some e))
-left_not_ignored ch (act.FindExchange d) e = absurd (false≢true (ap is_some e))
-left_not_ignored ch (act.FindQueue place d) e = absurd (false≢true (ap is_some e))
-left_not_ignored ch (act.Select no_wait) e = absurd (false≢true (ap is_some e))
-left_not_ignored ch (act.Publish p) e = absurd (false≢true (ap is_some e))
-left_not_ignored ch (act.Purge place p) e = absurd (false≢true (ap is_some e))
-left_not_ignored ch (act.Get place g) e = absurd (false≢true (ap is_some e))
-left_not_ignored ch (act.Cancel k) e = absurd (false≢true (ap is_some e))
-left_not_ignored ch (act.Limit q) e = absurd (false≢true (ap is_some e))
-left_not_ignored ch (act.Acknowledge k) e = absurd (false≢true (ap is_some e))
-left_not_ignored ch (act.Reject r) e = absurd (false≢true (ap is_some e))
-left_not_ignored ch (act.Nack n) e = absurd (false≢true (ap is_some e))
-left_not_ignored ch act.Recover e = absurd (false≢true (ap is_some e))
-left_not_ignored ch (act.CloseChannel is_closing) e = absurd (false≢true (ap is_some e))
-left_not_ignored ch act.EndChannel e = absurd (false≢true (ap is_some e))
-left_not_ignored ch act.CloseConnection e = absurd (false≢true (ap is_some e))
-
--- nothing that is ignored is performed
-pub performed_not : (t : Topology) (b : Broker) (c h : ℕ) (m : Method) (a : Act) → JudgesOn t b c h m (Some (Ok a)) → IsIgnored t b c h m (b.connection c) → ⊥
-performed_not t b c h m a (conn, at, judged) is =
-    let ignored : refusal t b conn h m (b.channel c h) ≡ Some Ignored = subst (λ (o : Option Connection). IsIgnored t b c h m o) at is in
-    left_not_ignored (channel_or_new (b.channel c h)) a (sym judged.0 ∙ ignored)

@@ -10,5 +10,8 @@ pub mod Placing
 mod Purging
 pub mod Reloading
 mod Settling
+mod Lending
+mod Answering
+mod Commanding
 mod Standing
 pub mod Stepping

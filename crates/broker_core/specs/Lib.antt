@@ -4,4 +4,5 @@ pub mod Picked
 pub mod Seats
 pub mod Freed
 pub mod Steps
+pub mod Commands
 pub mod Obstacles

@@ -4,6 +4,7 @@
 //! (`Kept`), and `broker_of` reads the model's state from it.
 #![tactic(auto)]
 
+mod commands;
 mod cores;
 mod freeing;
 mod picks;

@@ -1,3 +1,3 @@
 mod Exchanges
-mod Judging
+pub mod Judging
 mod Settling

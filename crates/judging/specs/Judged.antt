@@ -1,11 +1,11 @@
 -- What is decided of a command.
-use Rattle.std.specs.Prelude.{◌≡◌, ◌<◌, ◌⊎◌, Bool, true, false, length, ℕ, Option, Some, None, Result, Ok, Err, IsSome}
+use Rattle.std.specs.Prelude.{◌≡◌, ◌<◌, ◌⊎◌, Bool, true, false, length, ℕ, Option, Some, None, Result, Ok, Err, IsSome, if◌then◌else◌, nat_lt}
 use Rattle.model.specs.Words.{Text}
 use Rattle.model.specs.Topology.{Topology}
 use Rattle.model.specs.Broker.{Broker, Channel, Connection}
 use Rattle.model.specs.Step as step
-use Rattle.model.specs.Step.{Of_channel, Of_connection, refusal, refusal_of, refusal_of_large, refusal_of_publish, refusal_of_get}
-use Rattle.model.specs.Step.{refusal_of_seat, refusal_of_settling, channel_or_new}
+use Rattle.model.specs.Step.{Of_channel, Of_connection, refusal, refusal_of, refusal_of_large, refusal_of_publish, refusal_of_get, is_of_connection}
+use Rattle.model.specs.Step.{refusal_of_seat, channel_or_new}
 use Rattle.model.specs.declared.methods.Close.{Close}
 use Rattle.model.specs.declared.methods.Method.{Method}
 use Rattle.model.specs.declared.methods.Method.TheVariants as method
@@ -29,6 +29,11 @@ abbrev pub seen_if : Option Refusal → Option step.Refusal
 seen_if None = None
 seen_if (Some r) = Some (refusal_seen r)
 
+-- why something is refused, if it is
+abbrev pub refused_by : {A : Type 0} → Result A Refusal → Option step.Refusal
+refused_by (Ok x) = None
+refused_by (Err r) = Some (refusal_seen r)
+
 -- a channel that a refusal closes is there
 abbrev pub HasChannel : Refusal → Option Channel → Type 0
 HasChannel refused.Ignored ch = Unit {0}
@@ -45,17 +50,23 @@ abbrev pub IsLargeIgnored : Broker → ℕ → ℕ → Option Connection → Typ
 IsLargeIgnored b c h None = Unit {0}
 IsLargeIgnored b c h (Some conn) = refusal_of_large conn h (b.channel c h) ≡ step.Ignored
 
+-- what stands against a method for the number of its channel, which is not 0, where this is the greatest number that was agreed on
+abbrev pub refusal_of_number : ℕ → ℕ → Method → Option step.Refusal
+refusal_of_number max h m = if is_of_connection m then Some (Of_connection 503) else if nat_lt max h then Some (Of_connection 504) else None
+
+-- a method that settles deliveries: it is judged as it is performed
+abbrev pub is_settling : Method → Bool
+is_settling (method.BasicAck m) = true
+is_settling (method.BasicReject m) = true
+is_settling (method.BasicNack m) = true
+is_settling (method.BasicRecover requeue) = true
+is_settling _ = false
+
 -- a rejection that requeues
 abbrev pub is_requeueing : Method → Bool
 is_requeueing (method.BasicReject m) = m.requeue
 is_requeueing (method.BasicNack m) = m.requeue
 is_requeueing _ = false
-
--- the act is such a rejection
-abbrev pub requeues : Act → Bool
-requeues (act.Reject r) = r.now.requeue
-requeues (act.Nack n) = n.now.requeue
-requeues _ = false
 
 -- a rejection that requeues, and nothing stands against it
 abbrev pub IsRequeued : Topology → Broker → ℕ → ℕ → Method → Option Connection → Type 0
@@ -104,11 +115,6 @@ AsksAct t b ch m (act.Get place g) =
 AsksAct t b ch m (act.Consume place k) = (m ≡ method.BasicConsume k.now) × IsSome ch × IsQueuePlace t k.now.queue place
 AsksAct t b ch m (act.Cancel k) = (m ≡ method.BasicCancel k.now) × IsSome ch
 AsksAct t b ch m (act.Limit q) = (m ≡ method.BasicQos q.now) × IsSome ch
-AsksAct t b ch m (act.Acknowledge a) =
-    (m ≡ method.BasicAck a.now) × IsSome ch × (refusal_of_settling (channel_or_new ch) a.now.delivery_tag a.now.multiple ≡ None)
-AsksAct t b ch m (act.Reject r) = (m ≡ method.BasicReject r.now) × IsSome ch × (refusal_of_settling (channel_or_new ch) r.now.delivery_tag false ≡ None)
-AsksAct t b ch m (act.Nack n) = (m ≡ method.BasicNack n.now) × IsSome ch × (refusal_of_settling (channel_or_new ch) n.now.delivery_tag n.now.multiple ≡ None)
-AsksAct t b ch m act.Recover = (m ≡ method.BasicRecover true) × IsSome ch
 AsksAct t b ch m (act.CloseChannel is_closing) = (x : Close) × (m ≡ method.ChannelClose x) × IsSome ch × ((channel_or_new ch).is_closing ≡ is_closing)
 AsksAct t b ch m act.EndChannel = (m ≡ method.ChannelCloseOk) × IsSome ch
 AsksAct t b ch m act.CloseConnection = (x : Close) × (m ≡ method.ConnectionClose x)
@@ -135,12 +141,7 @@ JudgesOpen t b ch m result = Judges t b (Some ch) m (refusal_of t b ch m) result
 abbrev pub JudgesThere : Topology → Broker → Connection → ℕ → Option Channel → Method → Result Act Refusal → Type 0
 JudgesThere t b conn h ch m result = Judges t b ch m (refusal t b conn h m ch) result
 
--- The same of a command on a connection, which is silent where that doesn't run.
-abbrev pub JudgesOn : Topology → Broker → ℕ → ℕ → Method → Option (Result Act Refusal) → Type 0
-JudgesOn t b c h m None = b.connection c ≡ None
-JudgesOn t b c h m (Some r) = (conn : Connection) × (b.connection c ≡ Some conn) × Judges t b (b.channel c h) m (refusal t b conn h m (b.channel c h)) r
-
--- The same of a publish whose content is too large: it is refused as the model says.
+-- A publish whose content is too large is refused as the model says, and nothing is said where its connection doesn't run.
 abbrev pub JudgesLarge : Broker → ℕ → ℕ → Option Refusal → Type 0
 JudgesLarge b c h None = b.connection c ≡ None
 JudgesLarge b c h (Some r) =

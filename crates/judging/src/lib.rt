@@ -5,4 +5,7 @@
 
 mod refusals;
 
-pub use refusals::{Act, Refusal, judge, judge_large};
+pub use refusals::{
+    Act, Refusal, Stop, check_number, check_recover, check_settling, judge_large, judge_on_none,
+    judge_on_open, judge_on_zero, judge_while_closing,
+};

@@ -5,7 +5,7 @@
 ghost use Rattle.std.specs.Prelude.{◌≡◌, ◌<◌, ◌==◌, ◌||◌, ◌&&◌, not, List, Some, None, true, false, Option, IsSome, is_some, length, option_map};
 ghost use Rattle.std.specs.Option.{option_copied};
 ghost use Rattle.model.specs.Words.{Text as Name};
-ghost use Rattle.model.specs.Broker.{Broker};
+ghost use Rattle.model.specs.Broker.{Broker, Connection};
 ghost use Rattle.model.specs.Broker.{Channel as Seen};
 ghost use Rattle.model.specs.Topology.{Topology as Handed, queue_names};
 ghost use Rattle.model.specs.Step as said;
@@ -14,7 +14,7 @@ ghost use Rattle.model.specs.Prefetch.{has_tag_left};
 ghost use Rattle.model.specs.Deliveries.{first_ready};
 ghost use Rattle.depot.specs.Store.{queue_at};
 ghost use Rattle.model.specs.declared.methods.Method.TheVariants.{BasicPublish, QueuePurge, BasicQos, BasicGet};
-ghost use Rattle.judging.specs.Judged.{refusal_seen, seen_if, HasChannel, HasStore, Judges, JudgesOpen, JudgesThere};
+ghost use Rattle.judging.specs.Judged.{refusal_seen, seen_if, refused_by, refusal_of_number, is_settling, HasChannel, HasStore, Judges, JudgesOpen, JudgesThere};
 ghost use Rattle.channel.specs.Open.{open_in};
 ghost use Rattle.links.specs.Links.{limits_of, channel_seen};
 
@@ -24,15 +24,13 @@ mod settlements;
 
 use crate::refusals::consumers::judge_consume;
 use crate::refusals::declares::{judge_exchange_declare, judge_flow, judge_queue_declare};
-use crate::refusals::settlements::{judge_ack, judge_nack, judge_recover, judge_reject};
+pub use crate::refusals::settlements::{check_recover, check_settling};
 use channel::Channel;
 use depot::Depot;
 use kept_routes::{Access, Router};
 use links::Link;
-use model::{
-    Ack, Cancel, Consume, ExchangeDeclare, Get, Method, Nack, Publish, Purge, Qos, QueueDeclare,
-    Reject,
-};
+use model::{Cancel, Consume, ExchangeDeclare, Get, Method, Publish, Purge, Qos, QueueDeclare};
+use std::alloc::AllocError;
 
 /// Why a command is not performed.
 #[derive(Clone, Copy, Drop)]
@@ -45,7 +43,38 @@ pub enum Refusal {
     Connection(u16),
 }
 
-/// What a command that is not refused asks for.
+/// Why a command was not performed.
+#[derive(Clone, Copy, Drop)]
+pub enum Stop {
+    /// This stands against it.
+    Refused(Refusal),
+    /// Memory was wanting.
+    Memory,
+}
+
+impl From<Refusal> for Stop {
+    ghost use Rattle.std.specs.Prelude.{◌≡◌};
+    ghost use Rattle.judging.specs.declared.refusals.Stop.TheVariants.{Refused};
+
+    ghost from_gives = { λ refusal stop. stop ≡ Refused refusal };
+
+    fn from(refusal: Refusal) -> Stop {
+        Stop::Refused(refusal)
+    }
+}
+
+impl From<AllocError> for Stop {
+    ghost use Rattle.std.specs.Prelude.{◌≡◌};
+    ghost use Rattle.judging.specs.declared.refusals.Stop.TheVariants.{Memory};
+
+    ghost from_gives = { λ _ stop. stop ≡ Memory };
+
+    fn from(_: AllocError) -> Stop {
+        Stop::Memory
+    }
+}
+
+/// What a command that is not refused asks for, if it is not performed on its channel alone.
 #[derive(Clone, Copy, Drop)]
 pub enum Act<'a> {
     /// The channel is opened.
@@ -69,13 +98,6 @@ pub enum Act<'a> {
     Cancel(&'a Cancel),
     /// The channel is limited as this qos says.
     Limit(&'a Qos),
-    /// What the tag settles was taken, and leaves its queues.
-    Acknowledge(&'a Ack),
-    /// What the tag settles was not taken.
-    Reject(&'a Reject),
-    Nack(&'a Nack),
-    /// All that is outstanding on the channel is requeued.
-    Recover,
     /// The client closes the channel; true where the server has closed it too and awaits close-ok.
     CloseChannel(bool),
     /// The client agrees to the server's close of the channel.
@@ -126,7 +148,7 @@ fn refusal_of_publish(
 }
 
 /// A method on a channel that awaits close-ok: all is ignored but a close and close-ok.
-fn judge_while_closing(method: &Method) -> Result<Act<'_>, Refusal>
+pub fn judge_while_closing(method: &Method) -> Result<Act<'_>, Refusal>
     ensures { (t : Handed) (b : Broker) (ch : Seen) → ch.is_closing ≡ true → Judges t b (Some ch) method.now (said.refusal_while_closing method.now) result }
 {
     match method {
@@ -137,7 +159,7 @@ fn judge_while_closing(method: &Method) -> Result<Act<'_>, Refusal>
 }
 
 /// A method on channel 0.
-fn judge_on_zero(method: &Method) -> Result<Act<'_>, Refusal>
+pub fn judge_on_zero(method: &Method) -> Result<Act<'_>, Refusal>
     ensures { (t : Handed) (b : Broker) (ch : Option Seen) → Judges t b ch method.now (said.refusal_on_zero method.now) result }
 {
     match method {
@@ -217,13 +239,14 @@ fn judge_qos(qos: &Qos) -> Result<Act<'_>, Refusal>
     }
 }
 
-/// A method on an open channel. One that is not built yet is not implemented.
-fn judge_on_open<'a>(
+/// A method on an open channel, but for those that settle deliveries. One that is not built yet is not implemented.
+pub fn judge_on_open<'a>(
     depot: &Depot,
     channel: &Channel,
     method: &'a Method,
 ) -> Result<Act<'a>, Refusal>
-    requires { channel.now.is_closing ≡ false }
+    requires closing { channel.now.is_closing ≡ false }
+    requires settling { is_settling method.now ≡ false }
     ensures { (b : Broker) → HasStore b depot.now
         → JudgesOpen depot.now.topology b (open_in (queue_names depot.now.topology.queues) channel.now) method.now result }
 {
@@ -237,10 +260,6 @@ fn judge_on_open<'a>(
         Method::BasicConsume(consume) => judge_consume(depot.topology(), consume),
         Method::BasicCancel(cancel) => Ok(Act::Cancel(cancel)),
         Method::BasicQos(qos) => judge_qos(qos),
-        Method::BasicAck(ack) => judge_ack(channel, ack),
-        Method::BasicReject(reject) => judge_reject(channel, reject),
-        Method::BasicNack(nack) => judge_nack(channel, nack),
-        Method::BasicRecover { requeue } => judge_recover(*requeue),
         Method::ChannelOpen { .. } => Err(Refusal::Connection(504)),
         Method::ChannelFlow { active } => judge_flow(*active),
         Method::ExchangeDeclare(declare) => judge_exchange_declare(depot.topology(), declare),
@@ -278,31 +297,30 @@ fn is_of_connection(method: &Method) -> bool
     method.ids().class == 10
 }
 
-/// A method on a channel that awaits nothing, of a connection that runs: on channel 0 only a close of the connection is
-/// known, and elsewhere no method of its class; a channel that is not open can only be opened.
-fn judge_on_number<'a>(
-    depot: &Depot,
-    link: &Link,
-    number: u16,
-    method: &'a Method,
-) -> Result<Act<'a>, Refusal>
-    requires { (names : List Name) → said.is_awaiting (channel_seen names link.now number) ≡ false }
-    ensures { (b : Broker) → HasStore b depot.now → JudgesThere depot.now.topology b (limits_of link.now) number
-        (channel_seen (queue_names depot.now.topology.queues) link.now number) method.now result }
+/// Elsewhere than on channel 0 no method of the connection class is known, and no channel has a number greater than this, which
+/// was agreed on.
+pub fn check_number(channel_max: u16, number: u16, method: &Method) -> Result<(), Refusal>
+    ensures { refused_by result ≡ refusal_of_number channel_max number method.now }
+{
+    if is_of_connection(method) {
+        return Err(Refusal::Connection(503));
+    }
+    if number > channel_max {
+        return Err(Refusal::Connection(504));
+    }
+    Ok(())
+}
+
+/// A method on a channel that is not open: on channel 0 only a close of the connection is known, and elsewhere the channel can
+/// only be opened.
+pub fn judge_on_none(channel_max: u16, number: u16, method: &Method) -> Result<Act<'_>, Refusal>
+    ensures { (t : Handed) (b : Broker) (conn : Connection) → conn.channel_max ≡ channel_max → JudgesThere t b conn number None method.now result }
 {
     if number == 0 {
         return judge_on_zero(method);
     }
-    if is_of_connection(method) {
-        return Err(Refusal::Connection(503));
-    }
-    if number > link.channel_max() {
-        return Err(Refusal::Connection(504));
-    }
-    match link.channel(number) {
-        None => judge_on_closed(method),
-        Some(channel) => judge_on_open(depot, channel, method),
-    }
+    check_number(channel_max, number, method)?;
+    judge_on_closed(method)
 }
 
 /// Whether a close was sent on the channel and close-ok is awaited.
@@ -312,23 +330,6 @@ fn is_awaiting(channel: Option<&Channel>) -> bool
     match channel {
         None => false,
         Some(channel) => channel.is_closing(),
-    }
-}
-
-/// A method of a connection that runs.
-pub fn judge<'a>(
-    depot: &Depot,
-    link: &Link,
-    number: u16,
-    method: &'a Method,
-) -> Result<Act<'a>, Refusal>
-    ensures { (b : Broker) → HasStore b depot.now → JudgesThere depot.now.topology b (limits_of link.now) number
-        (channel_seen (queue_names depot.now.topology.queues) link.now number) method.now result }
-{
-    if is_awaiting(link.channel(number)) {
-        judge_while_closing(method)
-    } else {
-        judge_on_number(depot, link, number, method)
     }
 }
 

@@ -18,18 +18,6 @@ returns-in-BasicConsume c = λ b e. rw (c.in-BasicConsume.is, ← c.topology.ens
 pub returns-in-BasicQos : goal.returns-in-BasicQos
 returns-in-BasicQos c = λ b e. rw c.in-BasicQos.is (c.judge_qos.ensures c.args.depot.now.topology b (open_in (queue_names c.args.depot.now.topology.queues) c.args.channel.now))
 
-pub returns-in-BasicAck : goal.returns-in-BasicAck
-returns-in-BasicAck c = λ b e. rw c.in-BasicAck.is (c.judge_ack.ensures c.args.depot.now.topology b (queue_names c.args.depot.now.topology.queues))
-
-pub returns-in-BasicReject : goal.returns-in-BasicReject
-returns-in-BasicReject c = λ b e. rw c.in-BasicReject.is (c.judge_reject.ensures c.args.depot.now.topology b (queue_names c.args.depot.now.topology.queues))
-
-pub returns-in-BasicNack : goal.returns-in-BasicNack
-returns-in-BasicNack c = λ b e. rw c.in-BasicNack.is (c.judge_nack.ensures c.args.depot.now.topology b (queue_names c.args.depot.now.topology.queues))
-
-pub returns-in-BasicRecover : goal.returns-in-BasicRecover
-returns-in-BasicRecover c = λ b e. rw c.in-BasicRecover.is (c.judge_recover.ensures c.args.depot.now.topology b (open_in (queue_names c.args.depot.now.topology.queues) c.args.channel.now))
-
 pub returns-in-ChannelFlow : goal.returns-in-ChannelFlow
 returns-in-ChannelFlow c = λ b e. rw c.in-ChannelFlow.is (c.judge_flow.ensures c.args.depot.now.topology b (open_in (queue_names c.args.depot.now.topology.queues) c.args.channel.now))
 
