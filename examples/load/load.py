@@ -1,7 +1,7 @@
 """Loads a server over sockets, and prints what each message costs the server's process.
 
-Takes the server's port, the number of its process, and which loads are wanted: `few`, `steady` or `rare`, which another server is given, too,
-`neighbours` or `all`, and the program.
+Takes the server's port, the number of its process, and which loads are wanted: `few` or `steady`, which another server is given, too,
+`rare`, `neighbours` or `all`, and the program.
 Each load is a fixed number of messages and ends early once it has taken its seconds, so the whole ends by itself.
 """
 
