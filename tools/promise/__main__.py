@@ -89,9 +89,11 @@ def without_comments(text):
 
 
 def fields_of(text, record):
-    """The fields of a record, each with its line."""
+    """The fields of a record, each with its clause."""
     body = re.search(rf"^pub record {record}\b.*?(?=^\S)", text, re.MULTILINE | re.DOTALL)
-    return dict(re.findall(r"^  pub ([a-z_]+) : (.*)$", body.group(0), re.MULTILINE)) if body else {}
+    # a clause that is broken over lines is read as one
+    joined = re.sub(r"\n {3,}", " ", body.group(0)) if body else ""
+    return dict(re.findall(r"^  pub ([a-z_]+) : (.*)$", joined, re.MULTILINE))
 
 
 class Page:
@@ -128,9 +130,11 @@ class Page:
         return record, field
 
     def check_definition(self, word, file):
-        found = self.sources.definitions("model").get(word)
+        crate, _, file = file.rpartition("/")
+        crate = crate or "model"
+        found = self.sources.definitions(crate).get(word)
         if found is None or found[0] != file:
-            self.say(f"crates/model/specs/{file}.antt does not define {word}")
+            self.say(f"crates/{crate}/specs/{file}.antt does not define {word}")
 
     def check_law(self, law, word, record):
         contract = self.sources.contract("laws", law)

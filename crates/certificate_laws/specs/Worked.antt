@@ -25,7 +25,11 @@ from_x key queue = record { source = codes "X"; to = place.Queue queue; key = ke
 
 -- X leads to `audit` under `orders.#`, and to `q` under `a1`
 abbrev pub two_keys : Topology
-two_keys = record { exchanges = topic_x ∷ []; queues = plain_queue (codes "audit") ∷ plain_queue (codes "q") ∷ []; bindings = from_x (codes "orders.#") (codes "audit") ∷ from_x (codes "a1") (codes "q") ∷ [] }
+two_keys = record {
+  exchanges = topic_x ∷ [];
+  queues = plain_queue (codes "audit") ∷ plain_queue (codes "q") ∷ [];
+  bindings = from_x (codes "orders.#") (codes "audit") ∷ from_x (codes "a1") (codes "q") ∷ [];
+}
 
 -- what is sent to X under a key that begins with `orders` reaches `audit`
 abbrev pub orders_reach : Guarantee
@@ -33,7 +37,14 @@ orders_reach = record { mode = Reaches; exchange = codes "X"; pattern = codes "o
 
 -- its states, where `a1` is not tracked
 abbrev pub without_a1 : Certificate
-without_a1 = record { form = Sliced (0 ∷ []); exchange = codes "X"; mode = codes "reaches"; pattern = codes "orders.#"; queue = codes "audit"; states = (1 ∷ []) ∷ (4 ∷ []) ∷ (6 ∷ []) ∷ [] }
+without_a1 = record {
+  form = Sliced (0 ∷ []);
+  exchange = codes "X";
+  mode = codes "reaches";
+  pattern = codes "orders.#";
+  queue = codes "audit";
+  states = (1 ∷ []) ∷ (4 ∷ []) ∷ (6 ∷ []) ∷ [];
+}
 
 -- X leads to `q` under `a`
 abbrev pub one_key : Topology
@@ -45,7 +56,14 @@ never_but_a = record { mode = Never; exchange = codes "X"; pattern = codes "#"; 
 
 -- its states
 abbrev pub but_a : Certificate
-but_a = record { form = Excepting (codes "a" ∷ []) (0 ∷ 1 ∷ []); exchange = codes "X"; mode = codes "never"; pattern = codes "#"; queue = codes "q"; states = (2 ∷ 0 ∷ []) ∷ (2 ∷ 2 ∷ []) ∷ (3 ∷ 1 ∷ []) ∷ [] }
+but_a = record {
+  form = Excepting (codes "a" ∷ []) (0 ∷ 1 ∷ []);
+  exchange = codes "X";
+  mode = codes "never";
+  pattern = codes "#";
+  queue = codes "q";
+  states = (2 ∷ 0 ∷ []) ∷ (2 ∷ 2 ∷ []) ∷ (3 ∷ 1 ∷ []) ∷ [];
+}
 
 -- a part of the patterns is enough, where the others don't matter
 abbrev pub SlicedIsAccepted : Type 0

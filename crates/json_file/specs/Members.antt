@@ -1,5 +1,29 @@
 -- What stands at the members of a JSON value (RFC 8259, as `serde_json` reads it).
-use Rattle.std.specs.Prelude.{codes, ◌≡◌, ◌≤◌, ◌^◌, ℕ, List, [], ◌∷◌, Bool, true, false, ◌&&◌, Option, Some, None, length, is_some, if◌then◌else◌, nat_lt, option_map, option_and_then, unwrap_or, IsUtf8}
+use Rattle.std.specs.Prelude.{
+  codes,
+  ◌≡◌,
+  ◌≤◌,
+  ◌^◌,
+  ℕ,
+  List,
+  [],
+  ◌∷◌,
+  Bool,
+  true,
+  false,
+  ◌&&◌,
+  Option,
+  Some,
+  None,
+  length,
+  is_some,
+  if◌then◌else◌,
+  nat_lt,
+  option_map,
+  option_and_then,
+  unwrap_or,
+  IsUtf8,
+}
 use Rattle.std.specs.Str.{bytes_eq}
 use Rattle.std.specs.List.{list_any}
 use Rattle.serde_json.specs.Data.{Data, null, boolean, number, string, array, object, Items, no_items, item, Members, no_members, member}

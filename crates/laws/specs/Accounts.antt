@@ -34,7 +34,8 @@ pub record Lasts (h : Happening) : Type 0 where
   pub purges : PurgesLeaveNone h
   pub taken : PublishesAreTaken h
 
--- In every run from the empty broker what is held and what is outstanding agree, a channel is of a connection that runs, which logged in, what is settled is settled as the client asked, no delivery is forgotten, a get is answered, a purge leaves none, and a publish is noted.
+-- In every run from the empty broker what is held and what is outstanding agree, a channel is of a connection that runs, which logged in,
+-- what is settled is settled as the client asked, no delivery is forgotten, a get is answered, a purge leaves none, and a publish is noted.
 abbrev pub DeliveriesAreAccountedFor : Type 0
 DeliveriesAreAccountedFor = (hs : List Happening) (new : State) → Run empty_state hs new → AllByRecursion Lasts hs
 
@@ -89,9 +90,11 @@ pub record AccountsRefuse : Type 0 where
   -- a message that is requeued, and stands nowhere
   pub requeued_is_lost : SettlesAsAsked (quiet_event requeueing (holding (taken ∷ []) (taken_entry ∷ [])) (holding [] [])) → ⊥
   -- one that is requeued behind another before which it stood
-  pub requeued_at_the_end : SettlesAsAsked (quiet_event requeueing (holding (taken ∷ []) (taken_entry ∷ second_entry ∷ [])) (holding [] (second_entry ∷ freed_now taken_entry ∷ []))) → ⊥
+  pub requeued_at_the_end : SettlesAsAsked (quiet_event requeueing (holding (taken ∷ []) (taken_entry ∷ second_entry ∷ []))
+      (holding [] (second_entry ∷ freed_now taken_entry ∷ []))) → ⊥
   -- one that is requeued, and outstanding still
-  pub requeued_is_outstanding : SettlesAsAsked (quiet_event requeueing (holding (taken ∷ []) (taken_entry ∷ [])) (holding (taken ∷ []) (freed_now taken_entry ∷ []))) → ⊥
+  pub requeued_is_outstanding : SettlesAsAsked (quiet_event requeueing (holding (taken ∷ []) (taken_entry ∷ []))
+      (holding (taken ∷ []) (freed_now taken_entry ∷ []))) → ⊥
   -- a delivery whose connection is lost, and whose message nobody can be given any more
   pub lost_with_its_connection : NoneIsForgotten (quiet_event (Lose 1) (holding (taken ∷ []) (taken_entry ∷ [])) (left_behind (taken_entry ∷ []))) → ⊥
   -- a get beside which a message waits, and to which nothing is sent
@@ -99,7 +102,8 @@ pub record AccountsRefuse : Type 0 where
   -- a purge after which a message waits
   pub purge_leaves_one : PurgesLeaveNone (over_audit purges_all (holding [] (first_entry ∷ [])) (holding [] (first_entry ∷ []))) → ⊥
   -- a connection that runs without a login
-  pub runs_without_login : EntersByLogin (quiet_event (Command 1 0 (ConnectionTuneOk (record { channel_max = 0; frame_max = 0; heartbeat = 0 })) None) (left_behind []) (holding [] [])) → ⊥
+  pub runs_without_login : EntersByLogin (quiet_event
+      (Command 1 0 (ConnectionTuneOk (record { channel_max = 0; frame_max = 0; heartbeat = 0 })) None) (left_behind []) (holding [] [])) → ⊥
   -- and one that logged in where no user is known
   pub login_of_nobody : (start : StartOk) → EntersByLogin (quiet_event (Command 1 0 (ConnectionStartOk start) None) (left_behind []) (holding [] [])) → ⊥
   -- a connection that is there after its session ended

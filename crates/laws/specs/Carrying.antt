@@ -14,7 +14,8 @@ use Rattle.model.specs.declared.notes.Note.{Note}
 -- In the empty broker each message can be given out, and each event leaves it so, under a topology that is well formed.
 pub record MessagesStayCarried : Type 0 where
   pub empty : AreCarried empty_broker
-  pub acts : (t : Topology) (old new : Broker) (e : Event) (sends : List Send) (notes : List Note) → IsWellFormed t → IsSaid e → AreCarried old → Acts t old e sends notes new → AreCarried new
+  pub acts : (t : Topology) (old new : Broker) (e : Event) (sends : List Send) (notes : List Note) → IsWellFormed t → IsSaid e → AreCarried old
+      → Acts t old e sends notes new → AreCarried new
 
 -- Where each message can be given out, what is sent at an event to one connection can be put out, if each of it has an address.
 abbrev pub SendsAreOwn : Type 0

@@ -18,7 +18,8 @@ pub record WorldsStayConsistent : Type 0 where
   pub waits : (old new : World) (c : ℕ) → IsConsistent old → Waits old c new → IsConsistent new
   pub hears : (w : World) (c : ℕ) (bytes : List ℕ) → IsConsistent w → IsConsistent (with_heard w c bytes)
   pub takes : (old new : World) (c n : ℕ) (hs : List Happening) → IsConsistent old → Takes_off old c n hs new → IsConsistent new
-  pub opens : (old new : World) (k : ℕ) (s : Stream) (hs : List Happening) → IsConsistent old → Opens old (event.Running (old.given + 1) 255 k) s hs new → IsConsistent new
+  pub opens : (old new : World) (k : ℕ) (s : Stream) (hs : List Happening) → IsConsistent old
+      → Opens old (event.Running (old.given + 1) 255 k) s hs new → IsConsistent new
   pub awaits : (old new : World) (s : Stream) (hs : List Happening) → IsConsistent old → Opens old (event.Open (old.given + 1)) s hs new → IsConsistent new
   pub loses : (old new : World) (c : ℕ) (hs : List Happening) → IsConsistent old → Loses old c hs new → IsConsistent new
   pub pumps : (old new : World) (hs : List Happening) → IsConsistent old → Pumps old hs new → IsConsistent new
@@ -26,4 +27,5 @@ pub record WorldsStayConsistent : Type 0 where
 
 -- And so it is after any arrivals, where what each reload offers is sound.
 abbrev pub PlaysStayConsistent : Type 0
-PlaysStayConsistent = (old new : World) (arrivals : List (Arrival Config)) (os : List Occurrence) → AreOffered arrivals → IsConsistent old → Plays old arrivals os new → IsConsistent new
+PlaysStayConsistent = (old new : World) (arrivals : List (Arrival Config)) (os : List Occurrence) → AreOffered arrivals → IsConsistent old
+    → Plays old arrivals os new → IsConsistent new

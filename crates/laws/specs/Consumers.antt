@@ -27,7 +27,8 @@ use Rattle.model.specs.declared.notes.Note.{Note}
 -- In the empty broker consumers are named as they should be, and each event leaves it so.
 pub record ConsumersStayNamed : Type 0 where
   pub empty : (t : Topology) → AreNamed t empty_broker
-  pub acts : (t : Topology) (old new : Broker) (e : Event) (sends : List Send) (notes : List Note) → IsSaid e → AreNamed t old → Acts t old e sends notes new → AreNamed t new
+  pub acts : (t : Topology) (old new : Broker) (e : Event) (sends : List Send) (notes : List Note) → IsSaid e → AreNamed t old
+      → Acts t old e sends notes new → AreNamed t new
   -- the next consumer of a channel begins with nothing, also under the tag of one that was cancelled
   pub fresh : (t : Topology) (ch : Channel) → AreNamedOn t ch → count_to taker_of ch.next_number ch.outstanding ≡ 0
 
@@ -59,7 +60,8 @@ WasConsumer b c h k = (ch : Channel) × (b.channel c h ≡ Some ch) × IsIn k ch
 
 -- this event is a consume there, which makes a consumer of this number: the next one of the channel
 abbrev pub IsMadeBy : Broker → Event → ℕ → ℕ → Consumer → Type 0
-IsMadeBy b e c h k = (m : Consume) × (content : Option Content) × (e ≡ Command c h (BasicConsume m) content) × (k.number ≡ (channel_or_new (b.channel c h)).next_number)
+IsMadeBy b e c h k = (m : Consume) × (content : Option Content) × (e ≡ Command c h (BasicConsume m) content)
+    × (k.number ≡ (channel_or_new (b.channel c h)).next_number)
 
 -- At each event a consumer that is there was there before, or the event is the consume that makes it.
 abbrev pub ConsumersAreMade : Type 0
@@ -88,4 +90,5 @@ pub record NextTagsAreFound : Type 0 where
   pub next : (ch : Channel) → IsNextTag ch
   pub only : (ch : Channel) (n : ℕ) → ch.next_name ≤ n → n < greatest → is_in_use (server_tag n) ch.consumers ≡ false
       → ((k : ℕ) → ch.next_name ≤ k → k < n → is_in_use (server_tag k) ch.consumers ≡ true) → next_free ch ≡ n
-  pub none_left : (ch : Channel) → ch.next_name ≤ greatest → ((k : ℕ) → ch.next_name ≤ k → k < greatest → is_in_use (server_tag k) ch.consumers ≡ true) → next_free ch ≡ greatest
+  pub none_left : (ch : Channel) → ch.next_name ≤ greatest
+      → ((k : ℕ) → ch.next_name ≤ k → k < greatest → is_in_use (server_tag k) ch.consumers ≡ true) → next_free ch ≡ greatest

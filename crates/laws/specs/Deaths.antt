@@ -1,4 +1,5 @@
--- Worked examples of dead letters, that the checker computes: what one and two deaths make of a message, one that comes round to its queue again, and what no death does.
+-- Worked examples of dead letters, that the checker computes: what one and two deaths make of a message, one that comes round to its queue
+-- again, and what no death does.
 use Rattle.std.specs.Prelude.{◌≡◌, ◌++◌, List, [], ◌∷◌, length, codes, false, Option, Some, None}
 use Rattle.model.specs.Words.{Text}
 use Rattle.model.specs.Topology.{Topology}
@@ -44,8 +45,10 @@ binding_to_queue source key queue = record { source = source; to = place.Queue q
 abbrev pub deaths : Topology
 deaths = record {
   exchanges = one_exchange (codes "Y") Fanout ∷ one_exchange (codes "D") Direct ∷ one_exchange (codes "E") Fanout ∷ [];
-  queues = queue_with (codes "q1") (Some (codes "D")) (Some (codes "pay")) ∷ queue_with (codes "billing") (Some (codes "E")) None ∷ queue_with (codes "q3") None None ∷ [];
-  bindings = binding_to_queue (codes "Y") [] (codes "q1") ∷ binding_to_queue (codes "D") (codes "pay") (codes "billing") ∷ binding_to_queue (codes "E") [] (codes "q3") ∷ [];
+  queues = queue_with (codes "q1") (Some (codes "D")) (Some (codes "pay")) ∷ queue_with (codes "billing") (Some (codes "E")) None
+      ∷ queue_with (codes "q3") None None ∷ [];
+  bindings = binding_to_queue (codes "Y") [] (codes "q1") ∷ binding_to_queue (codes "D") (codes "pay") (codes "billing")
+      ∷ binding_to_queue (codes "E") [] (codes "q3") ∷ [];
 }
 
 -- X leads to q under keys whose first word is `a`, and q back to X; to q2 nothing leads
@@ -60,7 +63,8 @@ circle = record {
 abbrev pub full_topology : Topology
 full_topology = record {
   exchanges = one_exchange (codes "D") Fanout ∷ [];
-  queues = queue_with (codes "q1") (Some (codes "D")) None ∷ record (queue_with (codes "full") None None) { limit = Some 0 } ∷ queue_with (codes "billing") None None ∷ [];
+  queues = queue_with (codes "q1") (Some (codes "D")) None ∷ record (queue_with (codes "full") None None) { limit = Some 0 }
+      ∷ queue_with (codes "billing") None None ∷ [];
   bindings = binding_to_queue (codes "D") [] (codes "billing") ∷ binding_to_queue (codes "D") [] (codes "full") ∷ [];
 }
 
@@ -73,7 +77,16 @@ content_with headers = record { properties = record no_properties { headers = he
 -- the first publish, which was sent to this exchange under the key `a`, as it stands now
 abbrev pub first_publish : Text → Text → Text → Option Text → Message
 first_publish published exchange key headers =
-    record { number = 1; first_exchange = published; first_key = codes "a"; exchange = exchange; key = key; content = content_with headers; redelivered = false; stood = false }
+    record {
+      number = 1;
+      first_exchange = published;
+      first_key = codes "a";
+      exchange = exchange;
+      key = key;
+      content = content_with headers;
+      redelivered = false;
+      stood = false;
+    }
 
 -- it was got from the queue of this name, on channel 1 of connection 1 under tag 1
 abbrev pub got_from : Text → Outstanding
@@ -106,17 +119,23 @@ in_q = Some (first_death (codes "q") (codes "X"))
 -- What the definitions say of worked deaths: a first and a second one, a full queue, and a circle of exchanges.
 pub record WorkedDeaths : Type 0 where
   -- the dead letter stands in billing as one that was sent to D under `pay`, with the headers of its death
-  pub first : DiesTo deaths (codes "q1") (codes "billing") (first_publish (codes "Y") (codes "Y") (codes "a") None) (first_publish (codes "Y") (codes "D") (codes "pay") in_q1)
+  pub first : DiesTo deaths (codes "q1") (codes "billing") (first_publish (codes "Y") (codes "Y") (codes "a") None)
+      (first_publish (codes "Y") (codes "D") (codes "pay") in_q1)
   -- by a second death it is one that was sent to E under the same key, and its headers tell of the first
-  pub second : DiesTo deaths (codes "billing") (codes "q3") (first_publish (codes "Y") (codes "D") (codes "pay") in_q1) (first_publish (codes "Y") (codes "E") (codes "pay") in_q1)
+  pub second : DiesTo deaths (codes "billing") (codes "q3") (first_publish (codes "Y") (codes "D") (codes "pay") in_q1)
+      (first_publish (codes "Y") (codes "E") (codes "pay") in_q1)
   -- class 60, weight 0, a body of 2 bytes, headers alone, and a table of 90 bytes
-  pub header : header_bytes 2 (content_with in_q1).properties ≡ (0 ∷ 60 ∷ 0 ∷ 0 ∷ 0 ∷ 0 ∷ 0 ∷ 0 ∷ 0 ∷ 0 ∷ 0 ∷ 2 ∷ 32 ∷ 0 ∷ 0 ∷ 0 ∷ 0 ∷ 90 ∷ []) ++ first_death (codes "q1") (codes "Y")
+  pub header : header_bytes 2 (content_with in_q1).properties
+      ≡ (0 ∷ 60 ∷ 0 ∷ 0 ∷ 0 ∷ 0 ∷ 0 ∷ 0 ∷ 0 ∷ 0 ∷ 0 ∷ 2 ∷ 32 ∷ 0 ∷ 0 ∷ 0 ∷ 0 ∷ 90 ∷ []) ++ first_death (codes "q1") (codes "Y")
   pub whole : length (header_bytes 2 (content_with in_q1).properties) ≡ 108
   -- a full queue refuses it, and another takes it, in the order of the file
-  pub refused : EndsIn full_topology (codes "q1") (codes "billing") (first_publish (codes "Y") (codes "Y") (codes "a") None) (first_publish (codes "Y") (codes "D") (codes "a") in_q1) (Refused 1 (codes "full") ∷ Entered 1 (codes "billing") Dead ∷ [])
+  pub refused : EndsIn full_topology (codes "q1") (codes "billing") (first_publish (codes "Y") (codes "Y") (codes "a") None)
+      (first_publish (codes "Y") (codes "D") (codes "a") in_q1) (Refused 1 (codes "full") ∷ Entered 1 (codes "billing") Dead ∷ [])
   -- where an exchange leads back, it enters its queue again, and the next time round nothing else changes
-  pub round : DiesTo circle (codes "q") (codes "q") (first_publish (codes "X") (codes "X") (codes "a") None) (first_publish (codes "X") (codes "X") (codes "a") in_q)
-  pub round_again : DiesTo circle (codes "q") (codes "q") (first_publish (codes "X") (codes "X") (codes "a") in_q) (first_publish (codes "X") (codes "X") (codes "a") in_q)
+  pub round : DiesTo circle (codes "q") (codes "q") (first_publish (codes "X") (codes "X") (codes "a") None)
+      (first_publish (codes "X") (codes "X") (codes "a") in_q)
+  pub round_again : DiesTo circle (codes "q") (codes "q") (first_publish (codes "X") (codes "X") (codes "a") in_q)
+      (first_publish (codes "X") (codes "X") (codes "a") in_q)
 
 -- ---- what they don't
 
@@ -132,12 +151,14 @@ while_in_q1 = while_held (codes "q1") (first_publish (codes "Y") (codes "Y") (co
 pub record DeathsRefuse : Type 0 where
   -- notes of a rejection tell of its dead letter, and of each queue once
   pub letter_not_noted : AreRejections deaths while_in_q1 [] (Left 1 (codes "q1") Rejected ∷ []) → ⊥
-  pub letter_noted_twice : AreRejections deaths while_in_q1 [] (Left 1 (codes "q1") Rejected ∷ Entered 1 (codes "billing") Dead ∷ Entered 1 (codes "billing") Dead ∷ []) → ⊥
+  pub letter_noted_twice : AreRejections deaths while_in_q1 []
+      (Left 1 (codes "q1") Rejected ∷ Entered 1 (codes "billing") Dead ∷ Entered 1 (codes "billing") Dead ∷ []) → ⊥
   -- no queue refuses it that is not full, and it enters no other
   pub refused_by_none : AreRejections deaths while_in_q1 [] (Left 1 (codes "q1") Rejected ∷ Refused 1 (codes "billing") ∷ []) → ⊥
   pub entered_another : AreRejections deaths while_in_q1 [] (Left 1 (codes "q1") Rejected ∷ Entered 1 (codes "q3") Dead ∷ []) → ⊥
   -- a dead letter is not lost where a queue takes it
-  pub lost : (after : Text → List Entry) → AreRejected deaths 1 1 (got_from (codes "q1") ∷ []) (while_held (codes "q1") (first_publish (codes "Y") (codes "Y") (codes "a") None)) (Left 1 (codes "q1") Rejected ∷ []) after → ⊥
+  pub lost : (after : Text → List Entry) → AreRejected deaths 1 1 (got_from (codes "q1") ∷ [])
+      (while_held (codes "q1") (first_publish (codes "Y") (codes "Y") (codes "a") None)) (Left 1 (codes "q1") Rejected ∷ []) after → ⊥
   -- a second death is not told of
   pub told_twice : AreMarked (codes "billing") (codes "D") in_q1 (Some (first_death (codes "q1") (codes "Y") ++ first_death (codes "billing") (codes "D"))) → ⊥
   -- no guarantee holds that forgets where dead letters come

@@ -18,15 +18,19 @@ OneReading = (output : List ℕ) (fs gs : List Frame) → IsReading output fs �
 
 -- in a world that a run reaches, one command and the pause that it brings keep the promises of their events
 abbrev pub TurnsKeep : Type 0
-TurnsKeep = (old new : World) (c : ℕ) (hs : List Happening) → IsSound old.config → IsConsistent old → Turns old c hs new → KeepsEvents old.state.broker hs new.state.broker
+TurnsKeep = (old new : World) (c : ℕ) (hs : List Happening) → IsSound old.config → IsConsistent old → Turns old c hs new
+    → KeepsEvents old.state.broker hs new.state.broker
 
 -- and so do a delivery and the pause that it brings
 abbrev pub PumpsKeep : Type 0
-PumpsKeep = (old new : World) (hs : List Happening) → IsSound old.config → IsConsistent old → Pumps old hs new → KeepsEvents old.state.broker hs new.state.broker
+PumpsKeep = (old new : World) (hs : List Happening) → IsSound old.config → IsConsistent old → Pumps old hs new
+    → KeepsEvents old.state.broker hs new.state.broker
 
--- what is put out for a connection by one command, and by the pause that it brings, is behind what was put out before, and has the acks and the nacks of its own publishes
+-- what is put out for a connection by one command, and by the pause that it brings, is behind what was put out before, and has the acks and
+-- the nacks of its own publishes
 abbrev pub TurnsConfirm : Type 0
-TurnsConfirm = (old new : World) (c : ℕ) (hs : List Happening) → Turns old c hs new → ((new.wire c).output ≡ (old.wire c).output ++ put_out c hs) × Confirms c hs (put_out c hs)
+TurnsConfirm = (old new : World) (c : ℕ) (hs : List Happening) → Turns old c hs new
+    → ((new.wire c).output ≡ (old.wire c).output ++ put_out c hs) × Confirms c hs (put_out c hs)
 
 -- Whatever arrives, the headline holds of what happened and of what was seen, where what each reload offers is sound.
 abbrev pub HeadlineHolds : Config → Type 0

@@ -33,4 +33,5 @@ ReadsByPhase w c = AreToCome (is_header (w.state.session c).phase) (w.wire c).ke
 
 -- Whatever arrives, so it is of each connection.
 abbrev pub OpeningsReadByPhase : Type 0
-OpeningsReadByPhase = (f : Config) (arrivals : List (Arrival Config)) (os : List Occurrence) (w : World) → Plays (new_world f) arrivals os w → (c : ℕ) → ReadsByPhase w c
+OpeningsReadByPhase = (f : Config) (arrivals : List (Arrival Config)) (os : List Occurrence) (w : World) → Plays (new_world f) arrivals os w
+    → (c : ℕ) → ReadsByPhase w c

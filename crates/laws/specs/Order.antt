@@ -8,7 +8,8 @@ use Rattle.model.specs.Fresh.{EnterFresh, MarksWhatWasGiven}
 
 -- In every run messages are first given out of a queue in the order in which they stood there and then entered it.
 abbrev pub GivenInOrder : Type 0
-GivenInOrder = (q : Text) (hs : List Happening) (old new : State) (ns : List ℕ) → Run old hs new → FirstGiven q hs ns → IsPart ns (waiting (old.broker.queue q) ++ entered q (notes_of hs))
+GivenInOrder = (q : Text) (hs : List Happening) (old new : State) (ns : List ℕ) → Run old hs new → FirstGiven q hs ns
+    → IsPart ns (waiting (old.broker.queue q) ++ entered q (notes_of hs))
 
 -- Whatever is given out, all that stand ahead of it in its queue are given out already.
 abbrev pub GivenAfterThoseAhead : Type 0

@@ -71,7 +71,8 @@ pub record IsBegun (f : Config) (b : Broker) : Type 0 where
 
 -- Each publish that was confirmed by ack entered each queue that was promised at it exactly once.
 abbrev pub AckedEnterOnce : Type 0
-AckedEnterOnce = (hs : List Happening) (old new : State) → AreSound hs → AreSaid hs → Run old hs new → (c : ℕ) → AllByRecursion (EnteredOnce (notes_of hs)) (acked c hs)
+AckedEnterOnce = (hs : List Happening) (old new : State) → AreSound hs → AreSaid hs → Run old hs new → (c : ℕ)
+    → AllByRecursion (EnteredOnce (notes_of hs)) (acked c hs)
 
 -- The acks sent to a connection are those of its publishes confirmed by ack, one by one.
 abbrev pub AcksAreAcked : Type 0
@@ -83,17 +84,20 @@ NacksAreNacked = (hs : List Happening) (old new : State) → Run old hs new → 
 
 -- No message, of a publish or a dead letter, entered a queue that was forbidden to its publish.
 abbrev pub ForbiddenAreNotEntered : Type 0
-ForbiddenAreNotEntered = (f last : Config) (hs : List Happening) (old new : State) → AreSound hs → InForce f hs last → AreSaid hs → IsBegun f old.broker → Run old hs new → AllByRecursion (AreAllowedIn (notes_of hs)) hs
+ForbiddenAreNotEntered = (f last : Config) (hs : List Happening) (old new : State) → AreSound hs → InForce f hs last → AreSaid hs
+    → IsBegun f old.broker → Run old hs new → AllByRecursion (AreAllowedIn (notes_of hs)) hs
 
 -- Nor, as each event by itself tells, one that was forbidden to what stood in a queue before it.
 abbrev pub ForbiddenAreNotEnteredAtEvents : Type 0
-ForbiddenAreNotEnteredAtEvents = (f last : Config) (hs : List Happening) (old new : State) → AreSound hs → InForce f hs last → AreSaid hs → IsBegun f old.broker → Run old hs new → AllByRecursion AreAllowed hs
+ForbiddenAreNotEnteredAtEvents = (f last : Config) (hs : List Happening) (old new : State) → AreSound hs → InForce f hs last → AreSaid hs
+    → IsBegun f old.broker → Run old hs new → AllByRecursion AreAllowed hs
 
 -- What left a queue left it by an event that takes it out.
 abbrev pub CausesAreShown : Type 0
 CausesAreShown = (hs : List Happening) (old new : State) → Run old hs new → AllByRecursion HaveCauses hs
 
--- What entered a queue came by its publish, noted at the same event, or as a dead letter from a queue where it stood before the event and which it left by a rejection.
+-- What entered a queue came by its publish, noted at the same event, or as a dead letter from a queue where it stood before the event and
+-- which it left by a rejection.
 abbrev pub OriginsAreShown : Type 0
 OriginsAreShown = (hs : List Happening) (old new : State) → Run old hs new → AllByRecursion HaveOrigins hs
 
@@ -101,7 +105,8 @@ OriginsAreShown = (hs : List Happening) (old new : State) → Run old hs new →
 abbrev pub PublishesEnterAsRouted : Type 0
 PublishesEnterAsRouted = (hs : List Happening) (old new : State) → Run old hs new → AllByRecursion EnterAsRouted hs
 
--- Where a topology and its guarantees are sound, each message that was rejected came, as its dead letter, to each queue to which it goes on, or that queue was full; and no other dead letter came.
+-- Where a topology and its guarantees are sound, each message that was rejected came, as its dead letter, to each queue to which it goes
+-- on, or that queue was full; and no other dead letter came.
 abbrev pub LettersComeAsRouted : Type 0
 LettersComeAsRouted = (hs : List Happening) (old new : State) → AreSound hs → Run old hs new → AllByRecursion DieAsRouted hs
 
@@ -109,10 +114,12 @@ LettersComeAsRouted = (hs : List Happening) (old new : State) → AreSound hs �
 abbrev pub LettersComeOnce : Type 0
 LettersComeOnce = (hs : List Happening) (old new : State) → AreSound hs → Run old hs new → AllByRecursion DieOnce hs
 
--- Where no message stands in a queue at the beginning, each that is given out has the body and the properties with which it was published, but for headers that tell of its deaths.
+-- Where no message stands in a queue at the beginning, each that is given out has the body and the properties with which it was published,
+-- but for headers that tell of its deaths.
 abbrev pub GivenAsPublished : Type 0
 GivenAsPublished = (hs : List Happening) (old new : State) → ((q : Text) → old.broker.queue q ≡ []) → Run old hs new → AreSourced [] hs
 
 -- All of these, and the balance of every queue.
 abbrev pub RunsKeepEvents : Type 0
-RunsKeepEvents = (f last : Config) (hs : List Happening) (old new : State) → AreSound hs → InForce f hs last → AreSaid hs → IsBegun f old.broker → Run old hs new → KeepsEvents old.broker hs new.broker
+RunsKeepEvents = (f last : Config) (hs : List Happening) (old new : State) → AreSound hs → InForce f hs last → AreSaid hs → IsBegun f old.broker
+    → Run old hs new → KeepsEvents old.broker hs new.broker

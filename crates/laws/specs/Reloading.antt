@@ -29,4 +29,5 @@ pub record KeepsOn (old : State) (os : List Occurrence) (last : Config) (new : S
 
 -- From messages that may stand where they do on, every history keeps the promises, also of messages that came under what was in force before.
 abbrev pub HistoriesKeep : Type 0
-HistoriesKeep = (f last : Config) (os : List Occurrence) (old new : State) → IsSound f → OfferSound (reloads_of os) → AreSaid (events_of os) → IsBegun f old.broker → History f old os last new → KeepsOn old os last new
+HistoriesKeep = (f last : Config) (os : List Occurrence) (old new : State) → IsSound f → OfferSound (reloads_of os) → AreSaid (events_of os)
+    → IsBegun f old.broker → History f old os last new → KeepsOn old os last new

@@ -12,7 +12,19 @@ use Rattle.model.specs.Grammar.{ids, ids_of}
 use Rattle.model.specs.Headers.{header_bytes, no_properties}
 use Rattle.model.specs.Spelling.{method_frame, body_frame, spelling}
 use Rattle.model.specs.Commands.{Goes_on, Makes, Breaks, Drops, is_too_large, taken_dropped}
-use Rattle.model.specs.Step.{channel_close, connection_close, select_sends, confirm_sends, consume_sends, empty_publish, return_of, greatest, Of_channel, Of_connection, refusal_of_consume}
+use Rattle.model.specs.Step.{
+  channel_close,
+  connection_close,
+  select_sends,
+  confirm_sends,
+  consume_sends,
+  empty_publish,
+  return_of,
+  greatest,
+  Of_channel,
+  Of_connection,
+  refusal_of_consume,
+}
 use Rattle.model.specs.Phases.{no_session}
 use Rattle.model.specs.State.{Config, State}
 use Rattle.model.specs.History.{Reload, Of_reload, IsDecided, StaysOver}
@@ -59,7 +71,8 @@ pub record WordsOfKeys : Type 0 where
 -- what a client writes: confirm.select, and a publish to `orders` under the key `new`, with the body `hi`
 pub record FirstInput : Type 0 where
   pub select : frame_bytes (method_frame 1 (ConfirmSelect false)) ≡ 1 ∷ 0 ∷ 1 ∷ 0 ∷ 0 ∷ 0 ∷ 5 ∷ 0 ∷ 85 ∷ 0 ∷ 10 ∷ 0 ∷ 206 ∷ []
-  pub publish : frame_bytes (method_frame 1 (BasicPublish (record { reserved = 0; exchange = codes "orders"; routing_key = codes "new"; mandatory = false; immediate = false })))
+  pub publish : frame_bytes
+      (method_frame 1 (BasicPublish (record { reserved = 0; exchange = codes "orders"; routing_key = codes "new"; mandatory = false; immediate = false })))
       ≡ 1 ∷ 0 ∷ 1 ∷ 0 ∷ 0 ∷ 0 ∷ 18 ∷ 0 ∷ 60 ∷ 0 ∷ 40 ∷ 0 ∷ 0 ∷ 6 ∷ 111 ∷ 114 ∷ 100 ∷ 101 ∷ 114 ∷ 115 ∷ 3 ∷ 110 ∷ 101 ∷ 119 ∷ 0 ∷ 206 ∷ []
   pub header : frame_bytes (record { kind = 2; channel = 1; payload = header_bytes 2 no_properties })
       ≡ 2 ∷ 0 ∷ 1 ∷ 0 ∷ 0 ∷ 0 ∷ 14 ∷ 0 ∷ 60 ∷ 0 ∷ 0 ∷ 0 ∷ 0 ∷ 0 ∷ 0 ∷ 0 ∷ 0 ∷ 0 ∷ 2 ∷ 0 ∷ 0 ∷ 206 ∷ []
@@ -103,7 +116,8 @@ pub record TooLargeContent : Type 0 where
   pub past : taken_dropped 1 1048577 1048578 ≡ Breaks 501
   -- channel.close 311 with the text content-too-large, for class 60, method 40
   pub answer : spelling 131072 (channel_close 1 1 311 (ids_of empty_publish) ∷ [])
-      ≡ 1 ∷ 0 ∷ 1 ∷ 0 ∷ 0 ∷ 0 ∷ 28 ∷ 0 ∷ 20 ∷ 0 ∷ 40 ∷ 1 ∷ 55 ∷ 17 ∷ 99 ∷ 111 ∷ 110 ∷ 116 ∷ 101 ∷ 110 ∷ 116 ∷ 45 ∷ 116 ∷ 111 ∷ 111 ∷ 45 ∷ 108 ∷ 97 ∷ 114 ∷ 103 ∷ 101 ∷ 0 ∷ 60 ∷ 0 ∷ 40 ∷ 206 ∷ []
+      ≡ 1 ∷ 0 ∷ 1 ∷ 0 ∷ 0 ∷ 0 ∷ 28 ∷ 0 ∷ 20 ∷ 0 ∷ 40 ∷ 1 ∷ 55 ∷ 17 ∷ 99 ∷ 111 ∷ 110 ∷ 116 ∷ 101 ∷ 110 ∷ 116 ∷ 45 ∷ 116 ∷ 111 ∷ 111 ∷ 45 ∷ 108 ∷ 97
+      ∷ 114 ∷ 103 ∷ 101 ∷ 0 ∷ 60 ∷ 0 ∷ 40 ∷ 206 ∷ []
 
 -- ---- what the headline refuses
 
@@ -131,7 +145,20 @@ no_content = record { properties = no_properties; body = [] }
 
 -- the first publish as it stands in a queue
 abbrev pub first_entry : Entry
-first_entry = record { message = record { number = 1; first_exchange = codes "orders"; first_key = codes "new"; exchange = codes "orders"; key = codes "new"; content = no_content; redelivered = false; stood = false }; mark = Ready }
+first_entry =
+    record {
+      message = record {
+        number = 1;
+        first_exchange = codes "orders";
+        first_key = codes "new";
+        exchange = codes "orders";
+        key = codes "new";
+        content = no_content;
+        redelivered = false;
+        stood = false;
+      };
+      mark = Ready;
+    }
 
 -- the entries of each queue, where only the one of this name has any
 abbrev pub one_queue : Text → List Entry → Text → List Entry
@@ -159,7 +186,15 @@ under guarantees = record { topology = record { exchanges = []; queues = []; bin
 
 -- an event between two states with these notes, under what is in force
 abbrev pub event_of_notes : List Guarantee → State → List Note → State → Happening
-event_of_notes guarantees old notes new = record { config = under guarantees; event = Resume 1; before = old; sends = []; notes = notes; frame_max = 131072; after = new }
+event_of_notes guarantees old notes new = record {
+  config = under guarantees;
+  event = Resume 1;
+  before = old;
+  sends = [];
+  notes = notes;
+  frame_max = 131072;
+  after = new;
+}
 
 -- one event alone
 abbrev pub one_event : State → List Note → State → List Happening
@@ -171,7 +206,14 @@ vanishing first second last = event_of_notes [] (with_entries (first_entry ∷ [
 
 -- a topology with the queue `audit` alone in force
 abbrev pub with_audit : Config
-with_audit = record (under []) { topology = record { exchanges = []; queues = record { name = codes "audit"; limit = None; byte_limit = None; dead_letter_exchange = None; dead_letter_key = None } ∷ []; bindings = [] } }
+with_audit =
+    record (under []) {
+      topology = record {
+        exchanges = [];
+        queues = record { name = codes "audit"; limit = None; byte_limit = None; dead_letter_exchange = None; dead_letter_key = None } ∷ [];
+        bindings = [];
+      };
+    }
 
 -- a reload between two states, noted as done, by which an empty topology is in force in its place
 abbrev pub reload_of_none : State → State → Reload
@@ -179,7 +221,14 @@ reload_of_none old new = record { config = with_audit; offered = under []; befor
 
 -- one that is refused for this, after which this is in force
 abbrev pub refused_reload : Config → State → Obstacle → Config → Reload
-refused_reload offered state obstacle in_force = record { config = with_audit; offered = offered; before = state; notes = ReloadRefused obstacle ∷ []; after = state; in_force = in_force }
+refused_reload offered state obstacle in_force = record {
+  config = with_audit;
+  offered = offered;
+  before = state;
+  notes = ReloadRefused obstacle ∷ [];
+  after = state;
+  in_force = in_force;
+}
 
 -- the queue `audit`, whose messages die into `bin` by the default exchange
 abbrev pub audit_to_bin : DeclaredQueue
@@ -195,7 +244,14 @@ into_bin = record (under (forbids ∷ [])) { topology = record { exchanges = [];
 
 -- a reload by which that is in force, while such a message waits in `audit`
 abbrev pub reload_into_bin : Reload
-reload_into_bin = record { config = with_audit; offered = into_bin; before = with_entries (first_entry ∷ []); notes = Reloaded ∷ []; after = with_entries (stood_now first_entry ∷ []); in_force = into_bin }
+reload_into_bin = record {
+  config = with_audit;
+  offered = into_bin;
+  before = with_entries (first_entry ∷ []);
+  notes = Reloaded ∷ [];
+  after = with_entries (stood_now first_entry ∷ []);
+  in_force = into_bin;
+}
 
 -- a user
 abbrev pub somebody : User
@@ -212,37 +268,49 @@ pub record HeadlineRefuses : Type 0 where
   -- an output whose ack acknowledges more than its publish
   pub ack_of_more : HasAcksOf (first_acked ∷ []) (select_ok ++ multiple_ack) → ⊥
   -- a message that comes back by the next event
-  pub message_comes_back : Stays (with_entries (first_entry ∷ [])).broker (vanishing [] [] (with_entries (first_entry ∷ []))) (with_entries (first_entry ∷ [])).broker → ⊥
+  pub message_comes_back : Stays (with_entries (first_entry ∷ [])).broker (vanishing [] [] (with_entries (first_entry ∷ [])))
+      (with_entries (first_entry ∷ [])).broker → ⊥
   -- one that is noted as gone an event late
-  pub late_note : Stays (with_entries (first_entry ∷ [])).broker (vanishing [] (Left 1 (codes "audit") Acked ∷ []) (with_entries [])) (with_entries []).broker → ⊥
+  pub late_note : Stays (with_entries (first_entry ∷ [])).broker (vanishing [] (Left 1 (codes "audit") Acked ∷ []) (with_entries []))
+      (with_entries []).broker → ⊥
   -- a dead letter that enters a queue forbidden to its publish, which is known by the queue that it stood in
-  pub forbidden_entry : AreAllowed (event_of_notes (forbids ∷ []) (with_entries (first_entry ∷ [])) (Entered 1 (codes "bin") Dead ∷ []) (with_entries (first_entry ∷ []))) → ⊥
+  pub forbidden_entry : AreAllowed (event_of_notes (forbids ∷ []) (with_entries (first_entry ∷ [])) (Entered 1 (codes "bin") Dead ∷ [])
+      (with_entries (first_entry ∷ []))) → ⊥
   -- a message that leaves a queue twice in which it stood once
-  pub left_twice : Stays (with_entries (first_entry ∷ [])).broker (one_event (with_entries (first_entry ∷ [])) (Left 1 (codes "audit") Acked ∷ Left 1 (codes "audit") Acked ∷ []) (with_entries [])) (with_entries []).broker → ⊥
+  pub left_twice : Stays (with_entries (first_entry ∷ [])).broker
+      (one_event (with_entries (first_entry ∷ [])) (Left 1 (codes "audit") Acked ∷ Left 1 (codes "audit") Acked ∷ []) (with_entries []))
+      (with_entries []).broker → ⊥
   -- a message that leaves by an event that takes none out
   pub left_by_no_cause : HaveCauses (event_of_notes [] (with_entries (first_entry ∷ [])) (Left 1 (codes "audit") Acked ∷ []) (with_entries [])) → ⊥
   -- one that enters with no publish and no death
   pub entered_by_no_publish : HaveOrigins (event_of_notes [] (with_entries []) (Entered 1 (codes "audit") Publish ∷ []) (with_entries (first_entry ∷ []))) → ⊥
   -- a dead letter of a message that stood nowhere
-  pub dead_letter_of_none : HaveOrigins (event_of_notes [] (with_entries []) (Left 1 (codes "audit") Rejected ∷ Entered 1 (codes "bin") Dead ∷ []) (with_entries [])) → ⊥
+  pub dead_letter_of_none : HaveOrigins (event_of_notes [] (with_entries []) (Left 1 (codes "audit") Rejected ∷ Entered 1 (codes "bin") Dead ∷ [])
+      (with_entries [])) → ⊥
   -- and one of a message that stays where it stood
-  pub dead_letter_of_one_that_stays : HaveOrigins (event_of_notes [] (with_entries (first_entry ∷ [])) (Entered 1 (codes "bin") Dead ∷ []) (with_entries (first_entry ∷ []))) → ⊥
+  pub dead_letter_of_one_that_stays : HaveOrigins (event_of_notes [] (with_entries (first_entry ∷ [])) (Entered 1 (codes "bin") Dead ∷ [])
+      (with_entries (first_entry ∷ []))) → ⊥
   -- a publish that enters a queue to which it is not routed
-  pub entered_without_route : EnterAsRouted (event_of_notes [] (with_entries []) (first_published ∷ Entered 1 (codes "audit") Publish ∷ []) (with_entries (first_entry ∷ []))) → ⊥
+  pub entered_without_route : EnterAsRouted (event_of_notes [] (with_entries []) (first_published ∷ Entered 1 (codes "audit") Publish ∷ [])
+      (with_entries (first_entry ∷ []))) → ⊥
   -- two publishes of one number
   pub one_number_for_two : CountUp 0 (filter_map number_in (first_published ∷ first_published ∷ [])) 2 → ⊥
   -- a content that is given out and that no publish came with
-  pub content_of_no_publish : HaveSources [] (record (event_of_notes [] (with_entries (first_entry ∷ [])) [] (with_entries (first_entry ∷ []))) { sends = return_of 1 1 first_sent no_content ∷ [] }) → ⊥
+  pub content_of_no_publish : HaveSources [] (record
+      (event_of_notes [] (with_entries (first_entry ∷ [])) [] (with_entries (first_entry ∷ []))) { sends = return_of 1 1 first_sent no_content ∷ [] }) → ⊥
   -- a reload by which a message that waits is gone
-  pub reload_loses_one : StaysOver (with_entries (first_entry ∷ [])).broker (Of_reload (reload_of_none (with_entries (first_entry ∷ [])) (with_entries [])) ∷ []) (with_entries []).broker → ⊥
+  pub reload_loses_one : StaysOver (with_entries (first_entry ∷ [])).broker
+      (Of_reload (reload_of_none (with_entries (first_entry ∷ [])) (with_entries [])) ∷ []) (with_entries []).broker → ⊥
   -- one that is done although a queue in use is gone
   pub reload_strands_one : IsDecided (reload_of_none (with_entries (first_entry ∷ [])) (with_entries (stood_now first_entry ∷ []))) → ⊥
   -- a reload that is refused though nothing stands against it
   pub reload_refused_for_nothing : IsDecided (refused_reload with_audit (with_entries []) (InUse (codes "audit")) with_audit) → ⊥
   -- one that is refused for what could come to be forbidden, while a queue in use is gone
-  pub reload_refused_for_the_second : IsDecided (refused_reload (under []) (with_entries (first_entry ∷ [])) (Breaks (codes "audit") (codes "new") 1) with_audit) → ⊥
+  pub reload_refused_for_the_second : IsDecided (refused_reload (under []) (with_entries (first_entry ∷ []))
+      (Breaks (codes "audit") (codes "new") 1) with_audit) → ⊥
   -- one that is refused, and puts other users in force
-  pub reload_refused_with_users : IsDecided (refused_reload (under []) (with_entries (first_entry ∷ [])) (InUse (codes "audit")) (record with_audit { users = somebody ∷ [] })) → ⊥
+  pub reload_refused_with_users : IsDecided (refused_reload (under []) (with_entries (first_entry ∷ [])) (InUse (codes "audit"))
+      (record with_audit { users = somebody ∷ [] })) → ⊥
   -- one that is done though a message could come where it is forbidden
   pub reload_beside_a_danger : IsDecided reload_into_bin → ⊥
   -- a message where a guarantee forbids it
@@ -250,13 +318,23 @@ pub record HeadlineRefuses : Type 0 where
   -- and one that may come there by its death
   pub forbidden_death : AreSafe into_bin.topology into_bin.guarantees (with_entries (first_entry ∷ [])).broker → ⊥
   -- two dead letters of one message, in one queue
-  pub two_letters_of_one : DieOnce (event_of_notes [] (with_entries (first_entry ∷ [])) (Left 1 (codes "audit") Rejected ∷ Entered 1 (codes "bin") Dead ∷ Entered 1 (codes "bin") Dead ∷ []) (with_entries [])) → ⊥
+  pub two_letters_of_one : DieOnce (event_of_notes [] (with_entries (first_entry ∷ []))
+      (Left 1 (codes "audit") Rejected ∷ Entered 1 (codes "bin") Dead ∷ Entered 1 (codes "bin") Dead ∷ []) (with_entries [])) → ⊥
 
 -- ---- consumers
 
 -- a consume of `audit` that gives this tag
 abbrev pub consume_of : Text → Consume
-consume_of tag = record { reserved = 0; queue = codes "audit"; consumer_tag = tag; no_local = false; no_ack = false; exclusive = false; no_wait = false; arguments = [] }
+consume_of tag = record {
+  reserved = 0;
+  queue = codes "audit";
+  consumer_tag = tag;
+  no_local = false;
+  no_ack = false;
+  exclusive = false;
+  no_wait = false;
+  arguments = [];
+}
 
 -- a new channel, on which each consumer may hold one message
 abbrev pub one_each : Channel
@@ -296,7 +374,18 @@ pub record FirstConsumer : Type 0 where
 
 -- a topology with the queue `audit` alone
 abbrev pub audit_alone : Topology
-audit_alone = record { exchanges = []; queues = record { name = codes "audit"; limit = None; byte_limit = None; dead_letter_exchange = None; dead_letter_key = None } ∷ []; bindings = [] }
+audit_alone =
+    record {
+      exchanges = [];
+      queues = record {
+        name = codes "audit";
+        limit = None;
+        byte_limit = None;
+        dead_letter_exchange = None;
+        dead_letter_key = None;
+      } ∷ [];
+      bindings = [];
+    }
 
 -- a channel with so many consumers, under the tag `mine`
 abbrev pub full_channel : ℕ → Channel
@@ -317,7 +406,8 @@ pub record RefusedConsumes : Type 0 where
 
 -- the queue `audit` with these limits, of messages and of bytes
 abbrev pub audit_with : Option ℕ → Option ℕ → Option DeclaredQueue
-audit_with limit byte_limit = Some (record { name = codes "audit"; limit = limit; byte_limit = byte_limit; dead_letter_exchange = None; dead_letter_key = None })
+audit_with limit byte_limit =
+    Some (record { name = codes "audit"; limit = limit; byte_limit = byte_limit; dead_letter_exchange = None; dead_letter_key = None })
 
 -- When a queue refuses a message, by how many messages are ready, how many bytes they have, and the size of the body.
 pub record FullQueues : Type 0 where

@@ -1,4 +1,5 @@
--- Where messages stand: under one topology each came to its queue by the route of its publish and by deaths; and under whatever is in force none stands where a guarantee forbids it.
+-- Where messages stand: under one topology each came to its queue by the route of its publish and by deaths; and under whatever is in force
+-- none stands where a guarantee forbids it.
 use Rattle.std.specs.Prelude.{List}
 use Rattle.model.specs.Topology.{Topology}
 use Rattle.model.specs.Broker.{Broker}
@@ -16,7 +17,8 @@ use Rattle.model.specs.declared.notes.Note.{Note}
 -- In the empty broker messages are traced, and each event leaves it so.
 pub record MessagesStayTraced : Type 0 where
   pub empty : (t : Topology) → AreTraced t empty_broker
-  pub acts : (t : Topology) (old new : Broker) (e : Event) (sends : List Send) (notes : List Note) → IsSaid e → AreCounted old → AreTraced t old → Acts t old e sends notes new → AreTraced t new
+  pub acts : (t : Topology) (old new : Broker) (e : Event) (sends : List Send) (notes : List Note) → IsSaid e → AreCounted old → AreTraced t old
+      → Acts t old e sends notes new → AreTraced t new
 
 -- Where they are, none stands in a queue that a guarantee forbids it, nor may one come to such a queue by deaths.
 abbrev pub TracedAreSafe : Type 0
@@ -25,7 +27,8 @@ TracedAreSafe = (f : Config) (b : Broker) → IsSound f → AreTraced f.topology
 -- In the empty broker each message may stand in its queue, and each event leaves it so, where what is in force is sound.
 pub record MessagesStayKept : Type 0 where
   pub empty : (f : Config) → AreKept f empty_broker
-  pub acts : (f : Config) (old new : Broker) (e : Event) (sends : List Send) (notes : List Note) → IsSound f → IsSaid e → AreCounted old → AreKept f old → Acts f.topology old e sends notes new → AreKept f new
+  pub acts : (f : Config) (old new : Broker) (e : Event) (sends : List Send) (notes : List Note) → IsSound f → IsSaid e → AreCounted old
+      → AreKept f old → Acts f.topology old e sends notes new → AreKept f new
 
 -- A reload that nothing stands against leaves it so under what it puts in force.
 abbrev pub ReloadsKeep : Type 0
@@ -34,7 +37,8 @@ ReloadsKeep = (f g : Config) (b : Broker) → AreKept f b → NothingStands f.to
 -- No message of the empty broker is marked as having stood at a reload, and no event marks one.
 pub record NoEventMarks : Type 0 where
   pub empty : NoneStood empty_broker
-  pub acts : (t : Topology) (old new : Broker) (e : Event) (sends : List Send) (notes : List Note) → NoneStood old → Acts t old e sends notes new → NoneStood new
+  pub acts : (t : Topology) (old new : Broker) (e : Event) (sends : List Send) (notes : List Note) → NoneStood old → Acts t old e sends notes new
+      → NoneStood new
 
 -- Where none is, what every broker keeps says that no guarantee forbids a message its queue, nor one to which it may come from there by deaths.
 abbrev pub KeptAreSafe : Type 0

@@ -18,7 +18,9 @@ ghost use Rattle.laws.specs.OneStep.{EveryRunBalances, EveryRunCounts, EveryRunS
 ghost use Rattle.laws.specs.Forms.{BodiesAreCut, FirstTells, MessagesCome};
 ghost use Rattle.laws.specs.Openings.{OpeningsReadByPhase};
 ghost use Rattle.laws.specs.Order.{EnteringIsFresh, GivenAfterThoseAhead, GivenInOrder, HeldAreGiven, MarksAreGiven};
-ghost use Rattle.laws.specs.Promises.{AckedEnterOnce, AcksAreAcked, CausesAreShown, ForbiddenAreNotEntered, ForbiddenAreNotEnteredAtEvents, GivenAsPublished, LettersComeAsRouted, LettersComeOnce, NacksAreNacked, OriginsAreShown, PublishesEnterAsRouted, RunsKeepEvents};
+ghost use Rattle.laws.specs.Promises.{AckedEnterOnce, AcksAreAcked, CausesAreShown, ForbiddenAreNotEntered, ForbiddenAreNotEnteredAtEvents};
+ghost use Rattle.laws.specs.Promises.{GivenAsPublished, LettersComeAsRouted, LettersComeOnce, NacksAreNacked, OriginsAreShown};
+ghost use Rattle.laws.specs.Promises.{PublishesEnterAsRouted, RunsKeepEvents};
 ghost use Rattle.laws.specs.Rows.{WordsOfKeys, FirstInput, FirstOutput, BadEnd, TooLargeContent, HeadlineRefuses, FirstConsumer, RefusedConsumes, FullQueues};
 ghost use Rattle.laws.specs.Reloading.{HistoriesKeep};
 ghost use Rattle.laws.specs.Tracing.{KeptAreSafe, MessagesStayKept, MessagesStayTraced, NoEventMarks, ReloadsKeep, TracedAreSafe};

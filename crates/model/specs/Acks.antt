@@ -1,5 +1,29 @@
 -- The acks that a client reads in an output, and the publishes that were confirmed by them (AMQP 0-9-1, basic.ack; RabbitMQ, "Publisher Confirms").
-use Rattle.std.specs.Prelude.{◌≡◌, ◌%◌, ◌⊎◌, ℕ, List, [], ◌∷◌, take, drop, map, filter_map, flat_map, count_by, Bool, false, Option, Some, None, ◌==◌, ◌&&◌, if◌then◌else◌, Contains, slice_index_or}
+use Rattle.std.specs.Prelude.{
+  ◌≡◌,
+  ◌%◌,
+  ◌⊎◌,
+  ℕ,
+  List,
+  [],
+  ◌∷◌,
+  take,
+  drop,
+  map,
+  filter_map,
+  flat_map,
+  count_by,
+  Bool,
+  false,
+  Option,
+  Some,
+  None,
+  ◌==◌,
+  ◌&&◌,
+  if◌then◌else◌,
+  Contains,
+  slice_index_or,
+}
 use Rattle.std.specs.Int.{w64, from_be_bytes}
 use Rattle.std.specs.List.{list_any}
 use Rattle.std.specs.Str.{bytes_eq}
@@ -89,4 +113,5 @@ is_publish_into n q note = false
 
 -- each queue that a guarantee promises was entered exactly once by this publish
 abbrev pub EnteredOnce : List Note → Acked → Type 0
-EnteredOnce notes p = (g : Guarantee) → Contains p.guarantees g → g.mode ≡ Reaches → Covers g p.exchange p.key → count_by (is_publish_into p.number g.queue) notes ≡ 1
+EnteredOnce notes p = (g : Guarantee) → Contains p.guarantees g → g.mode ≡ Reaches → Covers g p.exchange p.key
+    → count_by (is_publish_into p.number g.queue) notes ≡ 1

@@ -1,5 +1,35 @@
 -- Everything that comes, and all that is done for it (own): pieces of bytes, openings, output taken, deliveries, losses, and reloads.
-use Rattle.std.specs.Prelude.{◌≡◌, ◌≢◌, ◌+◌, ◌<◌, ◌≤◌, ℕ, suc, zero, List, [], ◌∷◌, ◌++◌, map, length, drop, Bool, true, false, nat_lt, nat_le, ◌&&◌, not, Option, Some, None, ◌⊎◌, MatchBool, if◌then◌else◌, slice_get}
+use Rattle.std.specs.Prelude.{
+  ◌≡◌,
+  ◌≢◌,
+  ◌+◌,
+  ◌<◌,
+  ◌≤◌,
+  ℕ,
+  suc,
+  zero,
+  List,
+  [],
+  ◌∷◌,
+  ◌++◌,
+  map,
+  length,
+  drop,
+  Bool,
+  true,
+  false,
+  nat_lt,
+  nat_le,
+  ◌&&◌,
+  not,
+  Option,
+  Some,
+  None,
+  ◌⊎◌,
+  MatchBool,
+  if◌then◌else◌,
+  slice_get,
+}
 use Rattle.std.specs.List.{AllByRecursion}
 use Rattle.model.specs.Broker.{with_one}
 use Rattle.model.specs.State.{Config, State, Step}
@@ -147,7 +177,8 @@ under_session s next = keeping (is_running s.phase) (with_max s.frame_max next)
 
 -- after a turn nothing is kept, and what is still to come is under the session; of one that is over nothing more is read
 abbrev pub wire_after : Session → Stream → List ℕ → Wire
-wire_after s next output = if is_ended s.phase then record new_wire { output = output } else record { kept = None; stream = under_session s next; output = output }
+wire_after s next output = if is_ended s.phase then record new_wire { output = output }
+    else record { kept = None; stream = under_session s next; output = output }
 
 -- One command, or the fault of its stream, is performed for c.
 pub record Turns (old : World) (c : ℕ) (hs : List Happening) (new : World) : Type 0 where
@@ -281,9 +312,12 @@ ByEvents os Holds = (hs : List Happening) × (os ≡ map Of_event hs) × Holds h
 
 -- What one arrival brings: one for a connection that is gone does nothing, nor do bytes for one that is over. A reload offers a configuration.
 abbrev pub Answers : World → Arrival Config → List Occurrence → World → Type 0
-Answers old arrival.Open os new = ByEvents os (λ hs. MatchBool (can_open old) (Opens old (event.Open (old.given + 1)) opened_stream hs new) (Nothing_happens old hs new))
-Answers old (arrival.Ready k) os new = ByEvents os (λ hs. MatchBool (can_open old) (Opens old (event.Running (old.given + 1) 255 k) running_stream hs new) (Nothing_happens old hs new))
-Answers old (arrival.In c bytes) os new = ByEvents os (λ hs. MatchBool (is_over old c) (Nothing_happens old hs new) (WorksOff (with_heard old c bytes) c hs new))
+Answers old arrival.Open os new =
+    ByEvents os (λ hs. MatchBool (can_open old) (Opens old (event.Open (old.given + 1)) opened_stream hs new) (Nothing_happens old hs new))
+Answers old (arrival.Ready k) os new = ByEvents os
+    (λ hs. MatchBool (can_open old) (Opens old (event.Running (old.given + 1) 255 k) running_stream hs new) (Nothing_happens old hs new))
+Answers old (arrival.In c bytes) os new = ByEvents os
+    (λ hs. MatchBool (is_over old c) (Nothing_happens old hs new) (WorksOff (with_heard old c bytes) c hs new))
 Answers old (arrival.Sent c n) os new = ByEvents os (λ hs. MatchBool (is_gone old c) (Nothing_happens old hs new) (TakesAndWorks old c n hs new))
 Answers old arrival.Pump os new = ByEvents os (λ hs. Pumps old hs new)
 Answers old (arrival.Lose c) os new = ByEvents os (λ hs. MatchBool (is_gone old c) (Nothing_happens old hs new) (Loses old c hs new))
@@ -292,7 +326,8 @@ Answers old (arrival.Reload offered) os new = Reloads old offered os new
 -- A whole list of arrivals.
 abbrev pub Plays : World → List (Arrival Config) → List Occurrence → World → Type 0
 Plays old [] os new = (os ≡ []) × Same old new
-Plays old (a ∷ as') os new = (mid : World) × (first : List Occurrence) × (rest : List Occurrence) × (os ≡ first ++ rest) × Answers old a first mid × Plays mid as' rest new
+Plays old (a ∷ as') os new = (mid : World) × (first : List Occurrence) × (rest : List Occurrence) × (os ≡ first ++ rest) × Answers old a first mid
+    × Plays mid as' rest new
 
 -- the arrival as it is where its setup stands for this
 abbrev pub told : {S T : Type 0} → (S → T) → Arrival S → Arrival T

@@ -1,5 +1,26 @@
 -- The broker's state, as if it were kept by hand: lists in arrival order, and records by name and number.
-use Rattle.std.specs.Prelude.{ℕ, ◌+◌, List, [], ◌∷◌, length, filter, Bool, true, false, nat_lt, nat_le, ◌==◌, ◌&&◌, ◌||◌, if◌then◌else◌, Option, Some, None, find}
+use Rattle.std.specs.Prelude.{
+  ℕ,
+  ◌+◌,
+  List,
+  [],
+  ◌∷◌,
+  length,
+  filter,
+  Bool,
+  true,
+  false,
+  nat_lt,
+  nat_le,
+  ◌==◌,
+  ◌&&◌,
+  ◌||◌,
+  if◌then◌else◌,
+  Option,
+  Some,
+  None,
+  find,
+}
 use Rattle.std.specs.List.{sum_by}
 use Rattle.std.specs.Str.{bytes_eq}
 use Rattle.model.specs.Words.{Text}
@@ -58,7 +79,17 @@ pub record Broker : Type 0 where
 
 -- a channel with nothing on it
 abbrev pub new_channel : Channel
-new_channel = record { confirm = None; next_tag = 1; next_number = 1; next_name = 1; is_closing = false; consumers = []; each_limit = 0; limit = 0; outstanding = [] }
+new_channel = record {
+  confirm = None;
+  next_tag = 1;
+  next_number = 1;
+  next_name = 1;
+  is_closing = false;
+  consumers = [];
+  each_limit = 0;
+  limit = 0;
+  outstanding = [];
+}
 
 -- the message can be given out
 abbrev pub is_ready : Entry → Bool
@@ -104,7 +135,8 @@ body_bytes e = length e.message.content.body
 abbrev pub ready_bytes : List Entry → ℕ
 ready_bytes entries = sum_by body_bytes (filter is_ready entries)
 
--- A queue with so many ready messages, whose bodies have so many bytes, refuses a message with a body of this size: its count has come to the limit, or with that body its bytes would pass theirs (RabbitMQ, "Queue Length Limit", reject-publish).
+-- A queue with so many ready messages, whose bodies have so many bytes, refuses a message with a body of this size: its count has come to
+-- the limit, or with that body its bytes would pass theirs (RabbitMQ, "Queue Length Limit", reject-publish).
 abbrev pub refuses : Option DeclaredQueue → (count bytes size : ℕ) → Bool
 refuses q count bytes size = is_at (limit_of q) count || is_past (byte_limit_of q) (bytes + size)
 

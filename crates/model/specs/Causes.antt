@@ -78,7 +78,8 @@ IsCauseIn b c h m n q Auto = ByGiving b m n q
 IsCauseIn b c h m n q Rejected = ByRejection b c h m n q
 IsCauseIn b c h m n q Purged = ByPurge b m n q
 
--- A delivery that can be made to connection c takes out a message of this number from this queue: the first ready one, for a consumer that needs no acknowledgement (AMQP 0-9-1, basic.consume, no-ack).
+-- A delivery that can be made to connection c takes out a message of this number from this queue: the first ready one, for a consumer that
+-- needs no acknowledgement (AMQP 0-9-1, basic.consume, no-ack).
 pub record ByDelivery (b : Broker) (c n : ℕ) (q : Text) : Type 0 where
   pub made : CanDeliver b c
   pub no_ack : made.consumer.no_ack ≡ true

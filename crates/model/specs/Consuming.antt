@@ -1,6 +1,28 @@
 -- Consumers of a channel: how they are made and cancelled, and what can be delivered to them.
 -- Source: AMQP 0-9-1, section 1.5, basic.consume, basic.cancel and basic.deliver; RabbitMQ, "Consumer Prefetch"; the tags that the server makes are own.
-use Rattle.std.specs.Prelude.{◌≡◌, ◌+◌, ◌-◌, ℕ, zero, suc, List, [], ◌∷◌, ◌++◌, filter, not, Bool, true, false, nat_le, ◌&&◌, if◌then◌else◌, Some, codes, decimal}
+use Rattle.std.specs.Prelude.{
+  ◌≡◌,
+  ◌+◌,
+  ◌-◌,
+  ℕ,
+  zero,
+  suc,
+  List,
+  [],
+  ◌∷◌,
+  ◌++◌,
+  filter,
+  not,
+  Bool,
+  true,
+  false,
+  nat_le,
+  ◌&&◌,
+  if◌then◌else◌,
+  Some,
+  codes,
+  decimal,
+}
 use Rattle.std.specs.List.{list_any}
 use Rattle.std.specs.Str.{bytes_eq}
 use Rattle.model.specs.Words.{Text}
@@ -35,7 +57,8 @@ first_free (suc more) consumers n = if is_in_use (server_tag n) consumers then f
 abbrev pub next_free : Channel → ℕ
 next_free ch = first_free (18446744073709551615 - ch.next_name) ch.consumers ch.next_name
 
--- the tag under which a consumer is made: the one that the client gives, or where it gives none the next of the server (AMQP 0-9-1, basic.consume, "consumer-tag")
+-- the tag under which a consumer is made: the one that the client gives, or where it gives none the next of the server (AMQP 0-9-1,
+-- basic.consume, "consumer-tag")
 abbrev pub tag_for : Channel → Text → Text
 tag_for ch [] = server_tag (next_free ch)
 tag_for ch (b ∷ bs) = b ∷ bs
@@ -89,7 +112,8 @@ pub record MayTake (b : Broker) (c h : ℕ) (ch : Channel) (k : Consumer) : Type
   pub its : IsIn k ch.consumers
   pub may : may_take ch k ≡ true
 
--- A delivery that can be made to connection c: the first ready message of a queue goes to a consumer of it that may take it. Where several can be made, which one is made is left free.
+-- A delivery that can be made to connection c: the first ready message of a queue goes to a consumer of it that may take it. Where several
+-- can be made, which one is made is left free.
 pub record CanDeliver (b : Broker) (c : ℕ) : Type 0 where
   pub number : ℕ
   pub channel : Channel

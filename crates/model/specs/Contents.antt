@@ -1,4 +1,5 @@
--- What is given out: each content is that of a publish, but for headers that tell of deaths (AMQP 0-9-1, section 4.2.6, "Content Framing"; RabbitMQ, "Dead Letter Exchanges").
+-- What is given out: each content is that of a publish, but for headers that tell of deaths (AMQP 0-9-1, section 4.2.6, "Content Framing";
+-- RabbitMQ, "Dead Letter Exchanges").
 use Rattle.std.specs.Prelude.{◌≡◌, ℕ, List, [], ◌∷◌, ◌++◌, filter_map, Option, None}
 use Rattle.std.specs.List.{AllByRecursion}
 use Rattle.model.specs.Words.{Text}
@@ -20,7 +21,8 @@ use Rattle.model.specs.Order.{GivesOut}
 -- headers after any number of deaths, each of which tells of itself where none before it did (RabbitMQ, "Dead Letter Exchanges")
 pub data AreHeadersAfter : Option Text → Option Text → Type 0 where
   as_published : {headers : Option Text} → AreHeadersAfter headers headers
-  after_death : {first before after : Option Text} (queue exchange : Text) → AreHeadersAfter first before → AreMarked queue exchange before after → AreHeadersAfter first after
+  after_death : {first before after : Option Text} (queue exchange : Text) → AreHeadersAfter first before → AreMarked queue exchange before after
+      → AreHeadersAfter first after
 
 -- This is what has become of a content since it was published: its body and its properties are the same, but for headers that tell of deaths.
 pub record IsContentOf (published now : Content) : Type 0 where
@@ -55,9 +57,11 @@ content_in (send.Command c h m content) = content
 -- A content that is sent at an event is that of a message, or of what goes back.
 pub data HasSource (before : List Happening) (h : Happening) (content : Content) : Type 0 where
   -- the message that the event gives out, to the get that asked for it or to a consumer of its queue, which is of a publish among these
-  given_out : (queue : Text) (entry : Entry) → GivesOut h queue entry → content ≡ entry.message.content → IsOfPublish before entry.message → HasSource before h content
+  given_out : (queue : Text) (entry : Entry) → GivesOut h queue entry → content ≡ entry.message.content → IsOfPublish before entry.message
+      → HasSource before h content
   -- the event's own publish
-  sent_back : (c k : ℕ) (publish : Publish) (given : Option Content) → h.event ≡ Command c k (BasicPublish publish) given → content ≡ content_or_none given → HasSource before h content
+  sent_back : (c k : ℕ) (publish : Publish) (given : Option Content) → h.event ≡ Command c k (BasicPublish publish) given
+      → content ≡ content_or_none given → HasSource before h content
 
 -- so is each that is sent at the event, of publishes at events before it
 abbrev pub HaveSources : List Happening → Happening → Type 0

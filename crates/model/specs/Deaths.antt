@@ -33,7 +33,8 @@ death_exchange = codes "x-first-death-exchange"
 -- the three fields of a first death in this queue, of a message that was last sent to this exchange, as the bytes of their pairs
 abbrev pub first_death : Text → Text → Text
 first_death queue exchange =
-    pairs_bytes (pair death_queue (Long_string queue) (pair death_reason (Long_string (codes "rejected")) (pair death_exchange (Long_string exchange) no_pairs)))
+    pairs_bytes (pair death_queue (Long_string queue)
+    (pair death_reason (Long_string (codes "rejected")) (pair death_exchange (Long_string exchange) no_pairs)))
 
 -- a field of this name stands in the table
 abbrev pub IsFieldOf : Pairs → Text → Type 0
@@ -52,7 +53,8 @@ abbrev pub IsUnmarked : Option Text → Type 0
 IsUnmarked None = Unit {0}
 IsUnmarked (Some headers) = TellsOfDeath headers → ⊥
 
--- The headers of a message that dies in this queue, last sent to this exchange: the three fields stand behind the others, or those of an earlier death stay as they are.
+-- The headers of a message that dies in this queue, last sent to this exchange: the three fields stand behind the others, or those of an
+-- earlier death stay as they are.
 pub data AreMarked (queue exchange : Text) : Option Text → Option Text → Type 0 where
   alone : AreMarked queue exchange None (Some (first_death queue exchange))
   added : {headers : Text} → IsUnmarked (Some headers) → AreMarked queue exchange (Some headers) (Some (headers ++ first_death queue exchange))
@@ -68,14 +70,17 @@ with_headers content headers = record content { properties = record content.prop
 abbrev pub dead_letter : Message → Text → Text → Content → Message
 dead_letter m exchange key content = record m { exchange = exchange; key = key; content = content; redelivered = false; stood = false }
 
--- A death of the message in the queue p, by which it goes to this exchange: under the queue's dead-letter key, or else its own key, to each routed queue in file order. It is not confirmed, nor returned where it is routed nowhere.
-pub record IsDeath (t : Topology) (p : DeclaredQueue) (exchange : Text) (queues : Text → List Entry) (m : Message) (notes : List Note) (new : Text → List Entry) : Type 0 where
+-- A death of the message in the queue p, by which it goes to this exchange: under the queue's dead-letter key, or else its own key, to each
+-- routed queue in file order. It is not confirmed, nor returned where it is routed nowhere.
+pub record IsDeath (t : Topology) (p : DeclaredQueue) (exchange : Text) (queues : Text → List Entry) (m : Message) (notes : List Note)
+    (new : Text → List Entry) : Type 0 where
   pub headers : Option Text
   pub marked : AreMarked p.name m.exchange m.content.properties.headers headers
   pub targets : List Text
   pub routed : Picks (Routes t exchange (key_after p.dead_letter_key m.key)) (queue_names t.queues) targets
   pub noted : notes ≡ entry_notes t queues (length m.content.body) m.number way.Dead targets
-  pub left : (q : Text) → new q ≡ queues q ++ comes_to t queues (dead_letter m exchange (key_after p.dead_letter_key m.key) (with_headers m.content headers)) q targets
+  pub left : (q : Text) → new q ≡ queues q ++ comes_to t queues
+      (dead_letter m exchange (key_after p.dead_letter_key m.key) (with_headers m.content headers)) q targets
 
 -- nothing is noted, and the queues stay
 abbrev pub NothingComes : (Text → List Entry) → List Note → (Text → List Entry) → Type 0
@@ -91,7 +96,8 @@ abbrev pub DiesIn : Topology → (Text → List Entry) → Message → List Note
 DiesIn t queues m notes new None = NothingComes queues notes new
 DiesIn t queues m notes new (Some p) = DiesBy t p queues m notes new p.dead_letter_exchange
 
--- The message that was found in the queue of this name is not in these queues any more: it is noted that it left by a rejection, and then what is noted of its dead letter.
+-- The message that was found in the queue of this name is not in these queues any more: it is noted that it left by a rejection, and then
+-- what is noted of its dead letter.
 abbrev pub MayDie : Topology → Text → (Text → List Entry) → List Note → (Text → List Entry) → Option Entry → Type 0
 MayDie t name queues notes new None = NothingComes queues notes new
 MayDie t name queues notes new (Some e) =

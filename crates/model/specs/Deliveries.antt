@@ -81,7 +81,8 @@ abbrev pub left_note : Cause → Text → Option Entry → List Note
 left_note cause queue None = []
 left_note cause queue (Some e) = Left e.message.number queue cause ∷ []
 
--- What is done with each message that is settled: it leaves its queue for this cause, leaves it by a rejection and may become a dead letter, or is ready there again.
+-- What is done with each message that is settled: it leaves its queue for this cause, leaves it by a rejection and may become a dead
+-- letter, or is ready there again.
 pub data Settlement : Type 0 where
   Leaves : (cause : Cause) → Settlement
   Rejects : Settlement
@@ -98,7 +99,8 @@ AreLeft cause c h (o ∷ os) old notes new =
     (mid : Text → List Entry) × (rest : List Note) × ((q : Text) → mid q ≡ without_given c h old o q)
     × (notes ≡ left_note cause o.queue (given_in c h old o) ++ rest) × AreLeft cause c h os mid rest new
 
--- These deliveries are rejected, one after another in the order of their tags: each leaves its queue, and dies there where the queue has a dead-letter exchange, so that a later one finds the queues as the dead letters of the earlier ones left them.
+-- These deliveries are rejected, one after another in the order of their tags: each leaves its queue, and dies there where the queue has a
+-- dead-letter exchange, so that a later one finds the queues as the dead letters of the earlier ones left them.
 abbrev pub AreRejected : Topology → ℕ → ℕ → List Outstanding → (Text → List Entry) → List Note → (Text → List Entry) → Type 0
 AreRejected t c h [] old notes new = (notes ≡ []) × ((q : Text) → new q ≡ old q)
 AreRejected t c h (o ∷ os) old notes new =

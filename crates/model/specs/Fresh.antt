@@ -1,4 +1,5 @@
--- Marks of messages that were given out: what enters a queue stands at its end and is not marked as redelivered, and nothing else comes to be marked that was not given out (AMQP 0-9-1, section 4.7, "Content Ordering Guarantee", and basic.deliver, redelivered).
+-- Marks of messages that were given out: what enters a queue stands at its end and is not marked as redelivered, and nothing else comes to
+-- be marked that was not given out (AMQP 0-9-1, section 4.7, "Content Ordering Guarantee", and basic.deliver, redelivered).
 use Rattle.std.specs.Prelude.{◌≡◌, ℕ, List, ◌++◌, map, true, false}
 use Rattle.std.specs.List.{AllByRecursion}
 use Rattle.model.specs.Words.{Text}
@@ -29,4 +30,5 @@ pub record WasGivenOut (entries : List Entry) (number : ℕ) : Type 0 where
 
 -- each message that is marked as redelivered after an event was given out of its queue before it
 abbrev pub MarksWhatWasGiven : Happening → Type 0
-MarksWhatWasGiven h = (q : Text) (e : Entry) → IsIn e (h.after.broker.queue q) → e.message.redelivered ≡ true → WasGivenOut (h.before.broker.queue q) (number_of e)
+MarksWhatWasGiven h = (q : Text) (e : Entry) → IsIn e (h.after.broker.queue q) → e.message.redelivered ≡ true
+    → WasGivenOut (h.before.broker.queue q) (number_of e)

@@ -1,12 +1,85 @@
 -- How methods are spelled. Source: AMQP 0-9-1, section 4.2.4, "Method Payloads", section 4.2.5, "Data Types", and its XML.
-use Rattle.std.specs.Prelude.{◌≡◌, ◌<◌, ◌≤◌, ◌+◌, ◌*◌, ◌^◌, ℕ, List, [], ◌∷◌, ◌++◌, length, take, drop, Bool, true, false, cond, flat_map, ◌==◌, ◌&&◌, ◌||◌, if◌then◌else◌, Result, Ok, Err}
+use Rattle.std.specs.Prelude.{
+  ◌≡◌,
+  ◌<◌,
+  ◌≤◌,
+  ◌+◌,
+  ◌*◌,
+  ◌^◌,
+  ℕ,
+  List,
+  [],
+  ◌∷◌,
+  ◌++◌,
+  length,
+  take,
+  drop,
+  Bool,
+  true,
+  false,
+  cond,
+  flat_map,
+  ◌==◌,
+  ◌&&◌,
+  ◌||◌,
+  if◌then◌else◌,
+  Result,
+  Ok,
+  Err,
+}
 use Rattle.std.specs.Int.{w16, w32, w64, to_be_bytes, from_be_bytes}
 use Rattle.std.specs.List.{AllByRecursion, list_any}
 use Rattle.model.specs.Words.{Text}
 use Rattle.model.specs.Tables.{IsTable}
 use Rattle.model.specs.declared.methods.Publish.{Publish}
 use Rattle.model.specs.declared.methods.Method.{Method}
-use Rattle.model.specs.declared.methods.Method.TheVariants.{ConnectionStart, ConnectionStartOk, ConnectionTune, ConnectionTuneOk, ConnectionOpen, ConnectionOpenOk, ConnectionClose, ConnectionCloseOk, ChannelOpen, ChannelOpenOk, ChannelFlow, ChannelFlowOk, ChannelClose, ChannelCloseOk, ExchangeDeclare, ExchangeDeclareOk, ExchangeDelete, ExchangeBind, ExchangeUnbind, QueueDeclare, QueueDeclareOk, QueueBind, QueuePurge, QueuePurgeOk, QueueDelete, QueueUnbind, BasicQos, BasicQosOk, BasicConsume, BasicConsumeOk, BasicCancel, BasicCancelOk, BasicPublish, BasicReturn, BasicDeliver, BasicGet, BasicGetOk, BasicGetEmpty, BasicAck, BasicReject, BasicRecover, BasicRecoverOk, BasicNack, ConfirmSelect, ConfirmSelectOk}
+use Rattle.model.specs.declared.methods.Method.TheVariants.{
+  ConnectionStart,
+  ConnectionStartOk,
+  ConnectionTune,
+  ConnectionTuneOk,
+  ConnectionOpen,
+  ConnectionOpenOk,
+  ConnectionClose,
+  ConnectionCloseOk,
+  ChannelOpen,
+  ChannelOpenOk,
+  ChannelFlow,
+  ChannelFlowOk,
+  ChannelClose,
+  ChannelCloseOk,
+  ExchangeDeclare,
+  ExchangeDeclareOk,
+  ExchangeDelete,
+  ExchangeBind,
+  ExchangeUnbind,
+  QueueDeclare,
+  QueueDeclareOk,
+  QueueBind,
+  QueuePurge,
+  QueuePurgeOk,
+  QueueDelete,
+  QueueUnbind,
+  BasicQos,
+  BasicQosOk,
+  BasicConsume,
+  BasicConsumeOk,
+  BasicCancel,
+  BasicCancelOk,
+  BasicPublish,
+  BasicReturn,
+  BasicDeliver,
+  BasicGet,
+  BasicGetOk,
+  BasicGetEmpty,
+  BasicAck,
+  BasicReject,
+  BasicRecover,
+  BasicRecoverOk,
+  BasicNack,
+  ConfirmSelect,
+  ConfirmSelectOk,
+}
 
 -- ---- arguments
 
@@ -109,7 +182,8 @@ ids_of ConfirmSelectOk = ids 85 11
 
 -- the arguments in the order of the wire; of those that a client may not declare or bind by, none are read
 abbrev pub arguments : Method → List Argument
-arguments (ConnectionStart m) = Octet m.version_major ∷ Octet m.version_minor ∷ Field_table m.server_properties ∷ Long_text m.mechanisms ∷ Long_text m.locales ∷ []
+arguments (ConnectionStart m) = Octet m.version_major ∷ Octet m.version_minor ∷ Field_table m.server_properties ∷ Long_text m.mechanisms
+    ∷ Long_text m.locales ∷ []
 arguments (ConnectionStartOk m) = Field_table m.client_properties ∷ Short_text m.mechanism ∷ Long_text m.response ∷ Short_text m.locale ∷ []
 arguments (ConnectionTune m) = Short m.channel_max ∷ Long m.frame_max ∷ Short m.heartbeat ∷ []
 arguments (ConnectionTuneOk m) = Short m.channel_max ∷ Long m.frame_max ∷ Short m.heartbeat ∷ []
@@ -123,12 +197,14 @@ arguments (ChannelFlow active) = Bits (active ∷ []) ∷ []
 arguments (ChannelFlowOk active) = Bits (active ∷ []) ∷ []
 arguments (ChannelClose m) = Short m.reply_code ∷ Short_text m.reply_text ∷ Short m.class_id ∷ Short m.method_id ∷ []
 arguments ChannelCloseOk = []
-arguments (ExchangeDeclare m) = Short m.reserved ∷ Short_text m.exchange ∷ Short_text m.kind ∷ Bits (m.passive ∷ m.durable ∷ m.auto_delete ∷ m.internal ∷ m.no_wait ∷ []) ∷ Field_table m.arguments ∷ []
+arguments (ExchangeDeclare m) = Short m.reserved ∷ Short_text m.exchange ∷ Short_text m.kind
+    ∷ Bits (m.passive ∷ m.durable ∷ m.auto_delete ∷ m.internal ∷ m.no_wait ∷ []) ∷ Field_table m.arguments ∷ []
 arguments ExchangeDeclareOk = []
 arguments ExchangeDelete = []
 arguments ExchangeBind = []
 arguments ExchangeUnbind = []
-arguments (QueueDeclare m) = Short m.reserved ∷ Short_text m.queue ∷ Bits (m.passive ∷ m.durable ∷ m.exclusive ∷ m.auto_delete ∷ m.no_wait ∷ []) ∷ Field_table m.arguments ∷ []
+arguments (QueueDeclare m) = Short m.reserved ∷ Short_text m.queue ∷ Bits (m.passive ∷ m.durable ∷ m.exclusive ∷ m.auto_delete ∷ m.no_wait ∷ [])
+    ∷ Field_table m.arguments ∷ []
 arguments (QueueDeclareOk m) = Short_text m.queue ∷ Long m.message_count ∷ Long m.consumer_count ∷ []
 arguments QueueBind = []
 arguments (QueuePurge m) = Short m.reserved ∷ Short_text m.queue ∷ Bits (m.no_wait ∷ []) ∷ []
@@ -137,13 +213,15 @@ arguments QueueDelete = []
 arguments QueueUnbind = []
 arguments (BasicQos m) = Long m.prefetch_size ∷ Short m.prefetch_count ∷ Bits (m.global ∷ []) ∷ []
 arguments BasicQosOk = []
-arguments (BasicConsume m) = Short m.reserved ∷ Short_text m.queue ∷ Short_text m.consumer_tag ∷ Bits (m.no_local ∷ m.no_ack ∷ m.exclusive ∷ m.no_wait ∷ []) ∷ Field_table m.arguments ∷ []
+arguments (BasicConsume m) = Short m.reserved ∷ Short_text m.queue ∷ Short_text m.consumer_tag
+    ∷ Bits (m.no_local ∷ m.no_ack ∷ m.exclusive ∷ m.no_wait ∷ []) ∷ Field_table m.arguments ∷ []
 arguments (BasicConsumeOk consumer_tag) = Short_text consumer_tag ∷ []
 arguments (BasicCancel m) = Short_text m.consumer_tag ∷ Bits (m.no_wait ∷ []) ∷ []
 arguments (BasicCancelOk consumer_tag) = Short_text consumer_tag ∷ []
 arguments (BasicPublish m) = Short m.reserved ∷ Short_text m.exchange ∷ Short_text m.routing_key ∷ Bits (m.mandatory ∷ m.immediate ∷ []) ∷ []
 arguments (BasicReturn m) = Short m.reply_code ∷ Short_text m.reply_text ∷ Short_text m.exchange ∷ Short_text m.routing_key ∷ []
-arguments (BasicDeliver m) = Short_text m.consumer_tag ∷ Long_long m.delivery_tag ∷ Bits (m.redelivered ∷ []) ∷ Short_text m.exchange ∷ Short_text m.routing_key ∷ []
+arguments (BasicDeliver m) = Short_text m.consumer_tag ∷ Long_long m.delivery_tag ∷ Bits (m.redelivered ∷ []) ∷ Short_text m.exchange
+    ∷ Short_text m.routing_key ∷ []
 arguments (BasicGet m) = Short m.reserved ∷ Short_text m.queue ∷ Bits (m.no_ack ∷ []) ∷ []
 arguments (BasicGetOk m) = Long_long m.delivery_tag ∷ Bits (m.redelivered ∷ []) ∷ Short_text m.exchange ∷ Short_text m.routing_key ∷ Long m.message_count ∷ []
 arguments (BasicGetEmpty reserved) = Short_text reserved ∷ []
@@ -204,7 +282,8 @@ pub data Spells (payload : List ℕ) (m : Method) : Type 0 where
 pub data SaysMethod (payload : List ℕ) : Result Method ℕ → Type 0 where
   said : {m : Method} → IsMethod m → Spells payload m → SaysMethod payload (Ok m)
   too_short : length payload < 4 → SaysMethod payload (Err 501)
-  unknown : 4 ≤ length payload → is_known (class_at payload) (method_at payload) ≡ false → is_left_out (class_at payload) (method_at payload) ≡ false → SaysMethod payload (Err 503)
+  unknown : 4 ≤ length payload → is_known (class_at payload) (method_at payload) ≡ false
+      → is_left_out (class_at payload) (method_at payload) ≡ false → SaysMethod payload (Err 503)
   left_out : 4 ≤ length payload → is_left_out (class_at payload) (method_at payload) ≡ true → SaysMethod payload (Err 540)
   bad_arguments : 4 ≤ length payload → is_known (class_at payload) (method_at payload) ≡ true
       → ((m : Method) → IsMethod m → Spells payload m → ⊥) → SaysMethod payload (Err 502)

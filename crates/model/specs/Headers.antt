@@ -1,5 +1,31 @@
 -- How content headers are spelled. Source: AMQP 0-9-1, section 4.2.6.1, "The Content Header", and the basic class of its XML.
-use Rattle.std.specs.Prelude.{◌≡◌, ◌≢◌, ◌<◌, ◌≤◌, ◌+◌, ◌*◌, ◌^◌, ℕ, List, [], ◌∷◌, ◌++◌, length, take, drop, cond, Option, Some, None, is_some, flat_map, Result, Ok, Err, ◌⊎◌}
+use Rattle.std.specs.Prelude.{
+  ◌≡◌,
+  ◌≢◌,
+  ◌<◌,
+  ◌≤◌,
+  ◌+◌,
+  ◌*◌,
+  ◌^◌,
+  ℕ,
+  List,
+  [],
+  ◌∷◌,
+  ◌++◌,
+  length,
+  take,
+  drop,
+  cond,
+  Option,
+  Some,
+  None,
+  is_some,
+  flat_map,
+  Result,
+  Ok,
+  Err,
+  ◌⊎◌,
+}
 use Rattle.std.specs.Int.{w16, w64, to_be_bytes, from_be_bytes}
 use Rattle.std.specs.List.{AllByRecursion}
 use Rattle.model.specs.Words.{Text}
@@ -73,7 +99,8 @@ AreProperties p = AllByRecursion IsValue (properties_of p)
 
 -- class 60, weight 0, body size, flags, values
 abbrev pub header_bytes : ℕ → Properties → List ℕ
-header_bytes size p = to_be_bytes w16 60 ++ to_be_bytes w16 0 ++ to_be_bytes w64 size ++ to_be_bytes w16 (flags (properties_of p)) ++ flat_map value_of (properties_of p)
+header_bytes size p = to_be_bytes w16 60 ++ to_be_bytes w16 0 ++ to_be_bytes w64 size ++ to_be_bytes w16 (flags (properties_of p))
+    ++ flat_map value_of (properties_of p)
 
 -- ---- what a payload says
 
@@ -104,7 +131,8 @@ pub data SaysSize (payload : List ℕ) : Result ℕ ℕ → Type 0 where
   size : 14 ≤ length payload → class_at payload ≡ 60 → weight_at payload ≡ 0 → SaysSize payload (Ok (size_at payload))
   no_header : IsNoHeader payload → SaysSize payload (Err 501)
 
--- The payload of a header frame is this header, or refused by this reply code: 501 frame-error, or 502 syntax-error where it has the fixed fields of a header and spells none.
+-- The payload of a header frame is this header, or refused by this reply code: 501 frame-error, or 502 syntax-error where it has the fixed
+-- fields of a header and spells none.
 -- That is so where flag bits 1 or 0 are set, and where the properties end early, hold a table that is none, or leave bytes over (own).
 pub data SaysHeader (payload : List ℕ) : Result Header ℕ → Type 0 where
   said : {h : Header} → h.size < 2 ^ 64 → AreProperties h.properties → payload ≡ header_bytes h.size h.properties → SaysHeader payload (Ok h)

@@ -1,4 +1,5 @@
--- Certified delivery: what is promised of a whole run, in the words of a client and of the topology's owner (own). Each promise is a definition of its own: Acks, Nacks, Routed, Allowed, Causes, Letters, Order, Fresh, Contents, Unrefused, Noted, Settled, Alone, LoggedIn.
+-- Certified delivery: what is promised of a whole run, in the words of a client and of the topology's owner (own). Each promise is a
+-- definition of its own: Acks, Nacks, Routed, Allowed, Causes, Letters, Order, Fresh, Contents, Unrefused, Noted, Settled, Alone, LoggedIn.
 use Rattle.std.specs.Prelude.{◌≡◌, ◌+◌, ℕ, List, [], filter_map, Some, slice_get}
 use Rattle.std.specs.List.{AllByRecursion}
 use Rattle.model.specs.Topology.{IsWellFormed}
@@ -41,13 +42,15 @@ pub record KeepsEach (all : List Note) (from : ℕ) (hs : List Happening) (to : 
   pub never_in_all : AllByRecursion (AreAllowedIn all) hs
   -- and it left by acknowledgement, rejection or purge
   pub causes : AllByRecursion HaveCauses hs
-  -- each message that entered a queue came by its own publish, noted at this event, or, as a dead letter, from a queue where it stood before the event and which it left there
+  -- each message that entered a queue came by its own publish, noted at this event, or, as a dead letter, from a queue where it stood
+  -- before the event and which it left there
   pub come : AllByRecursion HaveOrigins hs
   -- what entered a queue stands at its end after the event, in the order of the notes, and is not marked as redelivered
   pub fresh : AllByRecursion EnterFresh hs
   -- and nothing else comes to be marked so but what was given out of its queue before the event
   pub marked : AllByRecursion MarksWhatWasGiven hs
-  -- each message that was rejected came, as its dead letter, to each queue to which it goes on from there, but where that queue was full; and no other dead letter came
+  -- each message that was rejected came, as its dead letter, to each queue to which it goes on from there, but where that queue was full;
+  -- and no other dead letter came
   pub letters : AllByRecursion DieAsRouted hs
   -- so that of the messages of a number no more dead letters came to a queue than were rejected
   pub once : AllByRecursion DieOnce hs
@@ -73,7 +76,8 @@ pub record KeepsPromises (f : Config) (os : List Occurrence) (last : Broker) (co
   pub reloads : AllByRecursion IsDecided (reloads_of os)
   -- where nothing was reloaded, no guarantee forbids a message the queue where it stands at the end, nor one to which it may come from there by deaths
   pub safe : reloads_of os ≡ [] → AreSafe f.topology f.guarantees last
-  -- after each event and each reload each message that is held is outstanding under its tag on the channel that holds it, and each that is outstanding there is held: so none is held by a channel that is not open
+  -- after each event and each reload each message that is held is outstanding under its tag on the channel that holds it, and each that is
+  -- outstanding there is held: so none is held by a channel that is not open
   pub agreed : AllByRecursion (λ (o : Occurrence). IsAgreed (state_after o).broker) os
   -- and a channel is open only on a connection that runs
   pub present : AllByRecursion (λ (o : Occurrence). ArePresent (state_after o)) os
@@ -89,7 +93,8 @@ pub record KeepsPromises (f : Config) (os : List Occurrence) (last : Broker) (co
   pub purges : AllByRecursion PurgesLeaveNone (events_of os)
   -- a publish against which nothing stood was noted, and in confirm mode confirmed under the next number of its channel
   pub taken : AllByRecursion PublishesAreTaken (events_of os)
-  -- each message was given out to one that asked for messages of its queue, with the body and the properties with which it was published, but for headers that tell of its deaths
+  -- each message was given out to one that asked for messages of its queue, with the body and the properties with which it was published,
+  -- but for headers that tell of its deaths
   pub contents : AreSourced [] (events_of os)
   -- messages were given out in order, and nothing came to be held in another way
   pub order : GivesInOrder (events_of os)
@@ -98,7 +103,8 @@ pub record KeepsPromises (f : Config) (os : List Occurrence) (last : Broker) (co
   -- and the nacks are those of its publishes confirmed by nack
   pub nacks : (i : ℕ) (seen : Shown) → slice_get connections i ≡ Some seen → HasNacks (nacks_of (i + 1) (events_of os)) seen.output
 
--- The headline. These arrivals came, one by one, to a broker with no connection under this topology and these guarantees, and reloads among them; of all that happened by them this was seen, outputs and notes; and the promises are kept, each by what was in force at its event.
+-- The headline. These arrivals came, one by one, to a broker with no connection under this topology and these guarantees, and reloads among
+-- them; of all that happened by them this was seen, outputs and notes; and the promises are kept, each by what was in force at its event.
 pub record CertifiedDelivery (f : Config) (arrivals : List (Arrival Config)) (seen : Seen) : Type 0 where
   pub occurrences : List Occurrence
   pub last : World

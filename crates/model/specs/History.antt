@@ -56,7 +56,8 @@ noted_at (Of_reload r) = r.notes
 -- From old, with the first configuration in force, these may happen one after another, and leave new, with the last in force.
 abbrev pub History : Config → State → List Occurrence → Config → State → Type 0
 History f old [] last new = (last ≡ f) × (new ≡ old)
-History f old (Of_event h ∷ os) last new = (h.config ≡ f) × (h.before ≡ old) × Step h.config h.before h.event h.sends h.notes h.after × History h.config h.after os last new
+History f old (Of_event h ∷ os) last new = (h.config ≡ f) × (h.before ≡ old) × Step h.config h.before h.event h.sends h.notes h.after
+    × History h.config h.after os last new
 History f old (Of_reload r ∷ os) last new = (r.config ≡ f) × (r.before ≡ old) × IsDecided r × History r.in_force r.after os last new
 
 -- the events among them, in order
@@ -80,7 +81,8 @@ notes_over (o ∷ os) = noted_at o ++ notes_over os
 abbrev pub LeavesQueues : Broker → Broker → Type 0
 LeavesQueues old new = Is (with_all_stood old) new ⊎ (new ≡ old)
 
--- From old to new: each begins where the one before it ended, every queue balances at each event by the event's own notes, and a reload leaves each queue what it has.
+-- From old to new: each begins where the one before it ended, every queue balances at each event by the event's own notes, and a reload
+-- leaves each queue what it has.
 abbrev pub StaysOver : Broker → List Occurrence → Broker → Type 0
 StaysOver old [] new = new ≡ old
 StaysOver old (Of_event h ∷ os) new = (h.before.broker ≡ old) × Balances h.before.broker h.notes h.after.broker × StaysOver h.after.broker os new

@@ -15,14 +15,16 @@ use Rattle.model.specs.declared.notes.Way.TheVariants as way
 use Rattle.model.specs.Broker.{body_bytes}
 use Rattle.model.specs.Routed.{Said, sized, note_at}
 
--- A message with this key that is rejected in the queue q goes on to the queue r: q dead-letters to an exchange, and the key that q fixes, or else the message's own, leads from there to r (RabbitMQ, "Dead Letter Exchanges").
+-- A message with this key that is rejected in the queue q goes on to the queue r: q dead-letters to an exchange, and the key that q fixes,
+-- or else the message's own, leads from there to r (RabbitMQ, "Dead Letter Exchanges").
 pub record DiesInto (t : Topology) (q key r : Text) : Type 0 where
   pub last : DeclaredQueue
   pub exchange : Text
   pub dies : Dies t q exchange last
   pub routes : Routes t exchange (key_after last.dead_letter_key key) r
 
--- A rejection, where queues had these entries before the event: the message stood in its queue, and its dead letter goes on to these queues, in the order of the file; to none where its queue has no dead-letter exchange.
+-- A rejection, where queues had these entries before the event: the message stood in its queue, and its dead letter goes on to these
+-- queues, in the order of the file; to none where its queue has no dead-letter exchange.
 pub record Rejection (t : Topology) (queues : Text → List Entry) : Type 0 where
   pub queue : Text
   pub entry : Entry
@@ -32,12 +34,16 @@ pub record Rejection (t : Topology) (queues : Text → List Entry) : Type 0 wher
 
 -- it is noted of a rejection that its message left, and then of each queue to which the dead letter goes on
 abbrev pub rejection_notes : (t : Topology) (queues : Text → List Entry) → List Said → Rejection t queues → List Note
-rejection_notes t queues said r = Left r.entry.message.number r.queue Rejected ∷ map (note_at t queues said (body_bytes r.entry) r.entry.message.number way.Dead) r.targets
+rejection_notes t queues said r = Left r.entry.message.number r.queue Rejected
+    ∷ map (note_at t queues said (body_bytes r.entry) r.entry.message.number way.Dead) r.targets
 
--- Behind the first notes of an event, each beside the size of its message, the others are of rejections, one after another. A dead letter keeps the body, and so the size.
+-- Behind the first notes of an event, each beside the size of its message, the others are of rejections, one after another. A dead letter
+-- keeps the body, and so the size.
 pub data AreRejections (t : Topology) (queues : Text → List Entry) : List Said → List Note → Type 0 where
   none : {said : List Said} → AreRejections t queues said []
-  next : {said : List Said} {rest : List Note} (r : Rejection t queues) → AreRejections t queues (said ++ sized (body_bytes r.entry) (rejection_notes t queues said r)) rest → AreRejections t queues said (rejection_notes t queues said r ++ rest)
+  next : {said : List Said} {rest : List Note} (r : Rejection t queues)
+      → AreRejections t queues (said ++ sized (body_bytes r.entry) (rejection_notes t queues said r)) rest
+      → AreRejections t queues said (rejection_notes t queues said r ++ rest)
 
 -- the note is of no rejection and of no dead letter
 abbrev pub IsOfNoRejection : Note → Type 0

@@ -1,4 +1,5 @@
--- Who may log in, and how a login is written. Source: RFC 4616, "The PLAIN SASL Mechanism", without an authorization identity; RabbitMQ, "Credentials and Passwords".
+-- Who may log in, and how a login is written. Source: RFC 4616, "The PLAIN SASL Mechanism", without an authorization identity; RabbitMQ,
+-- "Credentials and Passwords".
 use Rattle.std.specs.Prelude.{codes, ◌≡◌, ◌≤◌, List, ◌∷◌, ◌++◌, length}
 use Rattle.sha2.specs.Sha256.{sha256}
 use Rattle.model.specs.Words.{Text}

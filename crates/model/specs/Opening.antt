@@ -15,7 +15,16 @@ use Rattle.model.specs.declared.events.Phase.TheVariants as phase
 use Rattle.model.specs.declared.events.Send.TheVariants as send
 use Rattle.model.specs.declared.methods.Tuning.{Tuning}
 use Rattle.model.specs.declared.methods.Method.{Method}
-use Rattle.model.specs.declared.methods.Method.TheVariants.{ConnectionStart, ConnectionStartOk, ConnectionTune, ConnectionTuneOk, ConnectionOpen, ConnectionOpenOk, ConnectionClose, ConnectionCloseOk}
+use Rattle.model.specs.declared.methods.Method.TheVariants.{
+  ConnectionStart,
+  ConnectionStartOk,
+  ConnectionTune,
+  ConnectionTuneOk,
+  ConnectionOpen,
+  ConnectionOpenOk,
+  ConnectionClose,
+  ConnectionCloseOk,
+}
 
 -- ---- what the server says
 
@@ -32,7 +41,8 @@ server_properties = pair (codes "capabilities") (Inner_table capabilities) (pair
 
 -- connection.start: version 0-9, the one mechanism, and the one locale
 abbrev pub start : Method
-start = ConnectionStart (record { version_major = 0; version_minor = 9; server_properties = pairs_bytes server_properties; mechanisms = codes "PLAIN"; locales = codes "en_US" })
+start = ConnectionStart
+    (record { version_major = 0; version_minor = 9; server_properties = pairs_bytes server_properties; mechanisms = codes "PLAIN"; locales = codes "en_US" })
 
 -- connection.tune: channels up to 255, frames of at most 131,072 bytes, and no heartbeats (own)
 abbrev pub tune : Method
@@ -101,9 +111,11 @@ opening_move c is_user s phase.Tune h m = on_zero c s h m (at_tune c s m)
 opening_move c is_user s phase.Open h m = on_zero c s h m (at_open c s m)
 opening_move c is_user s p h m = stays_in s
 
--- The first eight bytes, in the phase that awaits them: the protocol header is answered by start, and any other eight by the protocol header, after which the connection is over.
+-- The first eight bytes, in the phase that awaits them: the protocol header is answered by start, and any other eight by the protocol
+-- header, after which the connection is over.
 abbrev pub first_move : ℕ → Session → Phase → Text → Move
-first_move c s phase.Header bytes = if bytes_eq bytes eight_bytes then answers_with c s start phase.Start else record { sends = send.Greeting c ∷ []; next = to_phase s phase.Over }
+first_move c s phase.Header bytes = if bytes_eq bytes eight_bytes then answers_with c s start phase.Start
+    else record { sends = send.Greeting c ∷ []; next = to_phase s phase.Over }
 first_move c s p bytes = stays_in s
 
 -- start-ok is awaited, and this is one with a login of one of these users

@@ -1,4 +1,5 @@
--- What an event gives out of a queue, and the order in which the messages of each queue are given out, to gets and to consumers (AMQP 0-9-1, section 4.7, "Content Ordering Guarantee").
+-- What an event gives out of a queue, and the order in which the messages of each queue are given out, to gets and to consumers (AMQP
+-- 0-9-1, section 4.7, "Content Ordering Guarantee").
 use Rattle.std.specs.Prelude.{◌≡◌, ℕ, List, [], ◌∷◌, ◌++◌, Bool, false, not, ◌&&◌, if◌then◌else◌, Option, Some}
 use Rattle.std.specs.Str.{bytes_eq}
 use Rattle.std.specs.List.{AllByRecursion}
@@ -23,9 +24,11 @@ use Rattle.model.specs.declared.notes.Note.TheVariants.{Entered}
 
 -- ---- what is given out
 
--- By this event, between these states, the message of this entry was given out of this queue, and nothing else was sent: to the get that asked for it, or to a consumer of the queue that may take it, under the next delivery tag of its channel.
+-- By this event, between these states, the message of this entry was given out of this queue, and nothing else was sent: to the get that
+-- asked for it, or to a consumer of the queue that may take it, under the next delivery tag of its channel.
 pub data Gives (old : Broker) (event : Event) (sends : List Send) (notes : List Note) (new : Broker) : Text → Entry → Type 0 where
-  to_get : {c k : ℕ} {m : Get} {content : Option Content} {e : Entry} (ch : Channel) → event ≡ Command c k (BasicGet m) content → old.channel c k ≡ Some ch → first_ready (old.queue m.queue) ≡ Some e
+  to_get : {c k : ℕ} {m : Get} {content : Option Content} {e : Entry} (ch : Channel) → event ≡ Command c k (BasicGet m) content
+      → old.channel c k ≡ Some ch → first_ready (old.queue m.queue) ≡ Some e
       → Gets old c k ch m (Some e) sends notes new → Gives old event sends notes new m.queue e
   to_consumer : {c : ℕ} → event ≡ Deliver c → (d : IsDelivery old c sends notes new) → Gives old event sends notes new d.made.consumer.queue d.made.entry
 
@@ -36,7 +39,8 @@ GivesOut h q e = Gives h.before.broker h.event h.sends h.notes h.after.broker q 
 -- By these events messages of these numbers were given out of this queue, one after another, none of which had been given out since it entered.
 pub data FirstGiven (q : Text) : List Happening → List ℕ → Type 0 where
   ended : FirstGiven q [] []
-  given : {h : Happening} {hs : List Happening} {e : Entry} {ns : List ℕ} → GivesOut h q e → e.message.redelivered ≡ false → FirstGiven q hs ns → FirstGiven q (h ∷ hs) (e.message.number ∷ ns)
+  given : {h : Happening} {hs : List Happening} {e : Entry} {ns : List ℕ} → GivesOut h q e → e.message.redelivered ≡ false → FirstGiven q hs ns
+      → FirstGiven q (h ∷ hs) (e.message.number ∷ ns)
   passed : {h : Happening} {hs : List Happening} {ns : List ℕ} → FirstGiven q hs ns → FirstGiven q (h ∷ hs) ns
 
 -- ---- order

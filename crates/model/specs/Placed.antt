@@ -1,8 +1,9 @@
 -- Deliveries as channels and queues keep them: by the places of queues in the file of definitions.
-use Rattle.std.specs.Prelude.{◌<◌, ◌==◌, ℕ, List, [], length, filter, not, Bool, All, AllPairs, slice_index_or}
+use Rattle.std.specs.Prelude.{◌<◌, ◌==◌, ℕ, List, [], length, filter, not, Bool, All, slice_index_or}
 use Rattle.model.specs.Words.{Text}
 use Rattle.model.specs.Topology.{Topology}
 use Rattle.model.specs.Broker.{Outstanding}
+use Rattle.model.specs.Settling.{Rises}
 use Rattle.model.specs.declared.deliveries.Delivery.{Delivery}
 use Rattle.model.specs.declared.messages.Holder.{Holder}
 
@@ -28,4 +29,4 @@ AreWithin t ds = All (λ (d : Delivery). d.queue < length t.queues) ds
 
 -- they are in the order of their tags
 abbrev pub AreByTag : List Delivery → Type 0
-AreByTag ds = AllPairs (λ (d e : Delivery). d.tag < e.tag) ds
+AreByTag ds = Rises (λ (d : Delivery). d.tag) ds

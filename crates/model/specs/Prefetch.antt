@@ -24,7 +24,8 @@ count_given taker_of given = count_by (λ x. is_delivery (taker_of x)) given
 abbrev pub is_below : ℕ → ℕ → Bool
 is_below limit n = (limit == 0) || nat_lt n limit
 
--- The consumer of this number, with this limit of its own, may be given one message more under this limit of its channel: one without acknowledgement always, else one of which neither limit is reached.
+-- The consumer of this number, with this limit of its own, may be given one message more under this limit of its channel: one without
+-- acknowledgement always, else one of which neither limit is reached.
 abbrev pub may_hold : {X : Type 0} → (X → Taker) → ℕ → Bool → ℕ → ℕ → List X → Bool
 may_hold taker_of limit no_ack own number given = no_ack || (is_below own (count_to taker_of number given) && is_below limit (count_given taker_of given))
 

@@ -1,5 +1,27 @@
 -- Properties as the bytes of a header spell them, and what such bytes tell. Source: AMQP 0-9-1, section 4.2.6.1, "The Content Header".
-use Rattle.std.specs.Prelude.{◌≡◌, ◌+◌, ◌/◌, ◌%◌, ◌^◌, ◌==◌, ℕ, List, [], ◌∷◌, ◌++◌, length, take, drop, slice_index, if◌then◌else◌, Bool, Option, Some, None, flat_map}
+use Rattle.std.specs.Prelude.{
+  ◌≡◌,
+  ◌+◌,
+  ◌/◌,
+  ◌%◌,
+  ◌^◌,
+  ◌==◌,
+  ℕ,
+  List,
+  [],
+  ◌∷◌,
+  ◌++◌,
+  length,
+  take,
+  drop,
+  slice_index,
+  if◌then◌else◌,
+  Bool,
+  Option,
+  Some,
+  None,
+  flat_map,
+}
 use Rattle.std.specs.Int.{w16, w32, w64, to_be_bytes, from_be_bytes}
 use Rattle.model.specs.Words.{Text}
 use Rattle.model.specs.Grammar.{Argument, Octet, Long_long, Short_text, Field_table, argument}

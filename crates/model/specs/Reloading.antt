@@ -81,7 +81,8 @@ IsObstacle old new b (Breaks q key number) = NoneIsStranded old new.topology b �
 -- nothing does
 pub record NothingStands (old : Topology) (new : Config) (b : Broker) : Type 0 where
   pub none_stranded : NoneIsStranded old new.topology b
-  pub none_endangered : (g : Guarantee) (q : Text) (e : Entry) → Contains new.guarantees g → IsIn q (queue_names old.queues) → IsIn e (b.queue q) → Endangers new.topology g q e.message → ⊥
+  pub none_endangered : (g : Guarantee) (q : Text) (e : Entry) → Contains new.guarantees g → IsIn q (queue_names old.queues) → IsIn e (b.queue q)
+      → Endangers new.topology g q e.message → ⊥
 
 -- ---- what a reload leaves
 

@@ -47,15 +47,20 @@ is_said_into q s = is_entry_into q s.note
 abbrev pub bytes_into : Text → List Said → ℕ
 bytes_into q said = sum_by (λ (s : Said). s.size) (filter (is_said_into q) said)
 
--- Behind these notes the queue refuses a message with a body of this size: its limits count what could be given out before the event and what has entered since (RabbitMQ, "Queue Length Limit", reject-publish).
+-- Behind these notes the queue refuses a message with a body of this size: its limits count what could be given out before the event and
+-- what has entered since (RabbitMQ, "Queue Length Limit", reject-publish).
 abbrev pub is_full_after : Topology → (Text → List Entry) → List Said → Text → ℕ → Bool
-is_full_after t queues said q size = refuses (queue_named t.queues q) (ready_in (queues q) + count_by (is_said_into q) said) (ready_bytes (queues q) + bytes_into q said) size
+is_full_after t queues said q size = refuses (queue_named t.queues q) (ready_in (queues q) + count_by (is_said_into q) said)
+    (ready_bytes (queues q) + bytes_into q said) size
 
--- it is noted of a message with a body of this size, and of a queue to which it goes, that it entered there in this way, or that the queue was full and refused it
+-- it is noted of a message with a body of this size, and of a queue to which it goes, that it entered there in this way, or that the queue
+-- was full and refused it
 abbrev pub note_at : Topology → (Text → List Entry) → List Said → ℕ → ℕ → Way → Text → Note
 note_at t queues said size n w q = if is_full_after t queues said q size then Refused n q else Entered n q w
 
--- What an event notes of the publish of this number, which it is: that it came, then of each queue to which it is routed, in the order of the file, that it entered it or that the queue was full, then that it went back, where it is mandatory and routed nowhere, and where it has a confirm number the one answer to it: ack where no queue was full, and else nack.
+-- What an event notes of the publish of this number, which it is: that it came, then of each queue to which it is routed, in the order of
+-- the file, that it entered it or that the queue was full, then that it went back, where it is mandatory and routed nowhere, and where it
+-- has a confirm number the one answer to it: ack where no queue was full, and else nack.
 pub record EntersAsRouted (h : Happening) (n c k : ℕ) (x key : Text) (confirm : Option ℕ) : Type 0 where
   pub publish : Publish
   pub given : Option Content
@@ -66,10 +71,14 @@ pub record EntersAsRouted (h : Happening) (n c k : ℕ) (x key : Text) (confirm 
   pub routed : Picks (Routes h.config.topology x key) (queue_names h.config.topology.queues) targets
   pub goes_back : Bool
   pub reply : Answer
-  pub noted : h.notes ≡ Published n c k x key confirm ∷ (map (note_at h.config.topology h.before.broker.queue [] (length (content_or_none given).body) n way.Publish) targets ++ (returned_notes n goes_back ++ confirm_notes n confirm reply))
+  pub noted : h.notes ≡ Published n c k x key confirm
+      ∷ (map (note_at h.config.topology h.before.broker.queue [] (length (content_or_none given).body) n way.Publish) targets
+      ++ (returned_notes n goes_back ++ confirm_notes n confirm reply))
   pub returned : goes_back ≡ (publish.mandatory && is_none targets)
-  pub acked : reply ≡ answer.Ack → AllByRecursion (λ (q : Text). is_full_after h.config.topology h.before.broker.queue [] q (length (content_or_none given).body) ≡ false) targets
-  pub nacked : reply ≡ answer.Nack → (q : Text) × IsIn q targets × (is_full_after h.config.topology h.before.broker.queue [] q (length (content_or_none given).body) ≡ true)
+  pub acked : reply ≡ answer.Ack
+      → AllByRecursion (λ (q : Text). is_full_after h.config.topology h.before.broker.queue [] q (length (content_or_none given).body) ≡ false) targets
+  pub nacked : reply ≡ answer.Nack → (q : Text) × IsIn q targets
+      × (is_full_after h.config.topology h.before.broker.queue [] q (length (content_or_none given).body) ≡ true)
 
 -- each publish that the event notes entered queues so
 abbrev pub EnterAsRouted : Happening → Type 0

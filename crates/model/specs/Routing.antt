@@ -39,7 +39,8 @@ pub record Binds (t : Topology) (x : Exchange) (to : Place) (b : Binding) : Type
 -- One step of a route, from the exchange of this name.
 pub data Edge (t : Topology) (r : Reading) : Text → Place → Type 0 where
   -- a binding lets the key pass
-  bound : {name : Text} {to : Place} (x : Exchange) (b : Binding) → Contains t.exchanges x → x.name ≡ name → Binds t x to b → r.opens x.kind b.key → Edge t r name to
+  bound : {name : Text} {to : Place} (x : Exchange) (b : Binding) → Contains t.exchanges x → x.name ≡ name → Binds t x to b → r.opens x.kind b.key
+      → Edge t r name to
   -- no binding of it lets the key pass: the alternate exchange (RabbitMQ, "Alternate Exchanges"; wherever x was met, own)
   alternate : {name other : Text} (x : Exchange) → Contains t.exchanges x → x.name ≡ name → x.alternate ≡ Some other
       → ((to : Place) (b : Binding) → Binds t x to b → r.shuts x.kind b.key) → Edge t r name (place.Exchange other)

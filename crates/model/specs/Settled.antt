@@ -1,4 +1,5 @@
--- What becomes of deliveries that are outstanding: of those that a command settles, and of all others (AMQP 0-9-1, basic.ack, basic.reject and basic.recover; RabbitMQ, basic.nack).
+-- What becomes of deliveries that are outstanding: of those that a command settles, and of all others (AMQP 0-9-1, basic.ack, basic.reject
+-- and basic.recover; RabbitMQ, basic.nack).
 use Rattle.std.specs.Prelude.{◌≡◌, ℕ, List, Bool, true, false, Option, Some, None, slice_get}
 use Rattle.model.specs.Topology.{IsIn}
 use Rattle.model.specs.Broker.{Outstanding, Channel, Broker}
@@ -63,12 +64,14 @@ IsSettledSo old notes new c k Returns o = IsReadyAgain old new c k o
 
 -- Each delivery of this channel that the tag takes is settled so, and outstanding no more; each other is outstanding still.
 pub record AreSettledSo (old : Broker) (notes : List Note) (new : Broker) (c k : ℕ) (channel : Channel) (s : Settling) : Type 0 where
-  pub taken : (o : Outstanding) → IsIn o channel.outstanding → takes tag_of s.tag s.multiple o ≡ true → IsSettledSo old notes new c k s.how o × (IsOutstandingOn new c k o → ⊥)
+  pub taken : (o : Outstanding) → IsIn o channel.outstanding → takes tag_of s.tag s.multiple o ≡ true
+      → IsSettledSo old notes new c k s.how o × (IsOutstandingOn new c k o → ⊥)
   pub others : (o : Outstanding) → IsIn o channel.outstanding → takes tag_of s.tag s.multiple o ≡ false → IsOutstandingOn new c k o
 
 -- Where the event is a command that settles, and nothing stands against it, all that it settles is settled as it asks.
 abbrev pub SettlesAsAsked : Happening → Type 0
-SettlesAsAsked h = (c k : ℕ) (m : Method) (s : Settling) (ch : Channel) → IsUnrefused h c k m → settling_of m ≡ Some s → h.before.broker.channel c k ≡ Some ch → AreSettledSo h.before.broker h.notes h.after.broker c k ch s
+SettlesAsAsked h = (c k : ℕ) (m : Method) (s : Settling) (ch : Channel) → IsUnrefused h c k m → settling_of m ≡ Some s
+    → h.before.broker.channel c k ≡ Some ch → AreSettledSo h.before.broker h.notes h.after.broker c k ch s
 
 -- ---- of all others
 

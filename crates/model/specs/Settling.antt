@@ -11,7 +11,8 @@ has_tag tag_of tag x = tag_of x == tag
 abbrev pub takes : {X : Type 0} → (X → ℕ) → ℕ → Bool → X → Bool
 takes tag_of tag multiple x = if multiple then (if tag == 0 then true else nat_le (tag_of x) tag) else tag_of x == tag
 
--- The tag is refused: it is not outstanding, and is not tag 0 with multiple (AMQP 0-9-1, basic.ack, "unknown delivery tag"; that the tag itself must be outstanding with multiple too is own).
+-- The tag is refused: it is not outstanding, and is not tag 0 with multiple (AMQP 0-9-1, basic.ack, "unknown delivery tag"; that the tag
+-- itself must be outstanding with multiple too is own).
 abbrev pub is_refused : {X : Type 0} → (X → ℕ) → ℕ → Bool → List X → Bool
 is_refused tag_of tag multiple given = if multiple && (tag == 0) then false else not (list_any (has_tag tag_of tag) given)
 

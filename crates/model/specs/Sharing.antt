@@ -21,4 +21,13 @@ abbrev pub message_of : Shared → Bool → Bool → Message
 message_of s redelivered stood =
     let first : Sent = first_sent s.sending in
     let last : Sent = last_sent s.sending in
-    record { number = s.number; first_exchange = first.exchange; first_key = first.key; exchange = last.exchange; key = last.key; content = s.content; redelivered = redelivered; stood = stood }
+    record {
+      number = s.number;
+      first_exchange = first.exchange;
+      first_key = first.key;
+      exchange = last.exchange;
+      key = last.key;
+      content = s.content;
+      redelivered = redelivered;
+      stood = stood;
+    }

@@ -57,7 +57,8 @@ pub record AnswersBy (users : List User) (old : State) (p : Phase) (c h : ℕ) (
 
 -- a command: in Running the broker performs it, and the phase follows what was sent; in any other the phase answers it
 abbrev pub OfCommand : Config → State → Phase → ℕ → ℕ → Method → Option Content → List Send → List Note → State → Type 0
-OfCommand f old phase.Running c h m content sends notes new = Steps f old c (event.Command c h m content) sends notes (to_phase (old.session c) (after_sends sends)) new
+OfCommand f old phase.Running c h m content sends notes new =
+    Steps f old c (event.Command c h m content) sends notes (to_phase (old.session c) (after_sends sends)) new
 OfCommand f old p c h m content sends notes new = AnswersBy f.users old p c h m sends notes new
 
 -- a publish whose content is too large: in Running the broker refuses it; in any other phase it is what a publish with empty texts is

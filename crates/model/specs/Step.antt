@@ -1,6 +1,32 @@
 -- What the broker does at one event of a connection that runs. Each case names all that changes: what it doesn't name stays.
 -- Source: AMQP 0-9-1, its XML's rules of the channel and basic classes; RabbitMQ, "Consumer Acknowledgements and Publisher Confirms".
-use Rattle.std.specs.Prelude.{◌≡◌, ◌+◌, ℕ, List, [], ◌∷◌, ◌++◌, length, map, filter, Bool, true, false, nat_lt, nat_le, not, ◌==◌, ◌&&◌, ◌||◌, if◌then◌else◌, Option, Some, None, find, is_some}
+use Rattle.std.specs.Prelude.{
+  ◌≡◌,
+  ◌+◌,
+  ℕ,
+  List,
+  [],
+  ◌∷◌,
+  ◌++◌,
+  length,
+  map,
+  filter,
+  Bool,
+  true,
+  false,
+  nat_lt,
+  nat_le,
+  not,
+  ◌==◌,
+  ◌&&◌,
+  ◌||◌,
+  if◌then◌else◌,
+  Option,
+  Some,
+  None,
+  find,
+  is_some,
+}
 use Rattle.std.specs.List.{list_any}
 use Rattle.std.specs.Str.{bytes_eq}
 use Rattle.model.specs.Words.{Text}
@@ -12,7 +38,20 @@ use Rattle.model.specs.Entries.{freed, by_channel, by_connection}
 use Rattle.model.specs.Settling.{is_refused, settled, kept}
 use Rattle.model.specs.Prefetch.{has_tag_left}
 pub use Rattle.model.specs.Entering.{entry_note, entry_notes, comes_to}
-use Rattle.model.specs.Deliveries.{Settlement, Leaves, Returns, of_rejected, AreSettled, first_ready, ready_in, written_count, after_delivery, delivery_notes, after_purge, purge_notes}
+use Rattle.model.specs.Deliveries.{
+  Settlement,
+  Leaves,
+  Returns,
+  of_rejected,
+  AreSettled,
+  first_ready,
+  ready_in,
+  written_count,
+  after_delivery,
+  delivery_notes,
+  after_purge,
+  purge_notes,
+}
 use Rattle.model.specs.Declaring.{HasConsumers}
 use Rattle.model.specs.Consuming.{tag_for, is_tag_taken, is_tag_wanting, with_consumer, without_consumer, CanDeliver}
 use Rattle.model.specs.Grammar.{Ids, ids, ids_of}
@@ -34,7 +73,47 @@ use Rattle.model.specs.declared.methods.ExchangeDeclare.{ExchangeDeclare as Decl
 use Rattle.model.specs.declared.methods.QueueDeclare.{QueueDeclare as DeclaresQueue}
 use Rattle.model.specs.declared.methods.Qos.{Qos}
 use Rattle.model.specs.declared.methods.Method.{Method}
-use Rattle.model.specs.declared.methods.Method.TheVariants.{ConnectionClose, ConnectionCloseOk, ChannelOpen, ChannelOpenOk, ChannelFlow, ChannelFlowOk, ChannelClose, ChannelCloseOk, ExchangeDeclare, ExchangeDeclareOk, ExchangeDelete, ExchangeBind, ExchangeUnbind, QueueDeclare, QueueDeclareOk, QueueBind, QueueDelete, QueueUnbind, QueuePurge, QueuePurgeOk, BasicQos, BasicQosOk, BasicConsumeOk, BasicCancelOk, BasicPublish, BasicReturn, BasicDeliver, BasicGet, BasicGetOk, BasicGetEmpty, BasicAck, BasicReject, BasicRecover, BasicRecoverOk, BasicNack, ConfirmSelect, ConfirmSelectOk, BasicConsume, BasicCancel}
+use Rattle.model.specs.declared.methods.Method.TheVariants.{
+  ConnectionClose,
+  ConnectionCloseOk,
+  ChannelOpen,
+  ChannelOpenOk,
+  ChannelFlow,
+  ChannelFlowOk,
+  ChannelClose,
+  ChannelCloseOk,
+  ExchangeDeclare,
+  ExchangeDeclareOk,
+  ExchangeDelete,
+  ExchangeBind,
+  ExchangeUnbind,
+  QueueDeclare,
+  QueueDeclareOk,
+  QueueBind,
+  QueueDelete,
+  QueueUnbind,
+  QueuePurge,
+  QueuePurgeOk,
+  BasicQos,
+  BasicQosOk,
+  BasicConsumeOk,
+  BasicCancelOk,
+  BasicPublish,
+  BasicReturn,
+  BasicDeliver,
+  BasicGet,
+  BasicGetOk,
+  BasicGetEmpty,
+  BasicAck,
+  BasicReject,
+  BasicRecover,
+  BasicRecoverOk,
+  BasicNack,
+  ConfirmSelect,
+  ConfirmSelectOk,
+  BasicConsume,
+  BasicCancel,
+}
 use Rattle.model.specs.declared.messages.Taker.TheVariants as taker
 use Rattle.model.specs.declared.notes.Cause.TheVariants.{Acked}
 use Rattle.model.specs.declared.notes.Note.{Note}
@@ -169,7 +248,9 @@ refusal_of_queue_declare t m = if m.passive then refusal_in t m.queue else Some 
 abbrev pub is_of_connection : Method → Bool
 is_of_connection m = (ids_of m).class == 10
 
--- a method on an open channel, which is not opened again: one that declares or binds for a client has no access (AMQP 0-9-1, section 1.1, access-refused; own); one that only a server sends, or that answers what the server never asks for, is invalid (command-invalid); one that is not built yet is not implemented
+-- a method on an open channel, which is not opened again: one that declares or binds for a client has no access (AMQP 0-9-1, section 1.1,
+-- access-refused; own); one that only a server sends, or that answers what the server never asks for, is invalid (command-invalid); one
+-- that is not built yet is not implemented
 abbrev pub refusal_of : Topology → Broker → Channel → Method → Option Refusal
 refusal_of t b ch (ConfirmSelect no_wait) = None
 refusal_of t b ch (BasicPublish p) = refusal_of_publish t b ch p
@@ -278,17 +359,28 @@ reply c h m = send.Command c h m None
 
 -- channel.close with this code, its text, and the ids of the method that caused it
 abbrev pub channel_close : ℕ → ℕ → ℕ → Ids → Send
-channel_close c h code cause = reply c h (ChannelClose (record { reply_code = code; reply_text = code_text code; class_id = cause.class; method_id = cause.method }))
+channel_close c h code cause =
+    reply c h (ChannelClose (record { reply_code = code; reply_text = code_text code; class_id = cause.class; method_id = cause.method }))
 
 -- connection.close with this code, its text, and the ids of the method that caused it; 0 and 0 where none did
 abbrev pub connection_close : ℕ → ℕ → Ids → Send
-connection_close c code cause = reply c 0 (ConnectionClose (record { reply_code = code; reply_text = code_text code; class_id = cause.class; method_id = cause.method }))
+connection_close c code cause =
+    reply c 0 (ConnectionClose (record { reply_code = code; reply_text = code_text code; class_id = cause.class; method_id = cause.method }))
 
 -- ---- a publish
 
 -- the message of publish n: the exchange and key that it was first sent to stay with it when it is dead-lettered
 abbrev pub message : ℕ → Publish → Content → Message
-message n p content = record { number = n; first_exchange = p.exchange; first_key = p.routing_key; exchange = p.exchange; key = p.routing_key; content = content; redelivered = false; stood = false }
+message n p content = record {
+  number = n;
+  first_exchange = p.exchange;
+  first_key = p.routing_key;
+  exchange = p.exchange;
+  key = p.routing_key;
+  content = content;
+  redelivered = false;
+  stood = false;
+}
 
 -- the publish is routed to no queue
 abbrev pub is_none : List Text → Bool
@@ -345,14 +437,16 @@ abbrev pub is_some_full : Topology → (Text → List Entry) → Content → Lis
 is_some_full t entries content targets = list_any (λ q. is_full t entries q (length content.body)) targets
 
 -- What a publish does, on a channel of this record: it goes to each routed queue in file order, and is confirmed in confirm mode.
-pub record IsPublish (t : Topology) (old : Broker) (c h : ℕ) (ch : Channel) (p : Publish) (content : Content) (sends : List Send) (notes : List Note) (new : Broker) : Type 0 where
+pub record IsPublish (t : Topology) (old : Broker) (c h : ℕ) (ch : Channel) (p : Publish) (content : Content) (sends : List Send)
+    (notes : List Note) (new : Broker) : Type 0 where
   pub targets : List Text
   pub routed : Picks (Routes t p.exchange p.routing_key) (queue_names t.queues) targets
   pub noted : notes ≡ Published (old.published + 1) c h p.exchange p.routing_key (next_of ch.confirm)
       ∷ entry_notes t old.queue (length content.body) (old.published + 1) way.Publish targets
       ++ returned_notes (old.published + 1) (p.mandatory && is_none targets)
       ++ confirm_notes (old.published + 1) (next_of ch.confirm) (answer_of (is_some_full t old.queue content targets))
-  pub sent : sends ≡ returned_sends c h p content (p.mandatory && is_none targets) ++ confirm_sends c h (next_of ch.confirm) (answer_of (is_some_full t old.queue content targets))
+  pub sent : sends ≡ returned_sends c h p content (p.mandatory && is_none targets)
+      ++ confirm_sends c h (next_of ch.confirm) (answer_of (is_some_full t old.queue content targets))
   pub left : Is (after_publish t old c h ch p content targets) new
 
 -- ---- the other commands
@@ -387,7 +481,15 @@ pub record Makes (sends : List Send) (notes : List Note) (new : Broker) (wanted_
 -- a message as the answer to a get, with its content and the number of ready messages that remain (AMQP 0-9-1, basic.get-ok)
 abbrev pub get_ok : ℕ → ℕ → ℕ → Entry → ℕ → Send
 get_ok c h tag e remaining =
-    send.Command c h (BasicGetOk (record { delivery_tag = tag; redelivered = e.message.redelivered; exchange = e.message.exchange; routing_key = e.message.key; message_count = written_count remaining })) (Some e.message.content)
+    send.Command c h
+    (BasicGetOk
+    (record {
+      delivery_tag = tag;
+      redelivered = e.message.redelivered;
+      exchange = e.message.exchange;
+      routing_key = e.message.key;
+      message_count = written_count remaining;
+    })) (Some e.message.content)
 
 -- What a get does: the first ready message of the queue is given out, or there is none (AMQP 0-9-1, basic.get).
 abbrev pub Gets : Broker → ℕ → ℕ → Channel → Get → Option Entry → List Send → List Note → Broker → Type 0
@@ -399,7 +501,8 @@ Gets old c h ch m (Some e) sends notes new =
     (after_delivery old c h ch m.no_ack m.queue taker.Get)
 
 -- What an acknowledgement or a rejection does on a channel of this record: what its tag settles is taken out or requeued, in the order of tags.
-pub record Settles (t : Topology) (how : Settlement) (old : Broker) (c h : ℕ) (ch : Channel) (tag : ℕ) (multiple : Bool) (wanted_sends : List Send) (sends : List Send) (notes : List Note) (new : Broker) : Type 0 where
+pub record Settles (t : Topology) (how : Settlement) (old : Broker) (c h : ℕ) (ch : Channel) (tag : ℕ) (multiple : Bool) (wanted_sends : List Send)
+    (sends : List Send) (notes : List Note) (new : Broker) : Type 0 where
   pub gone : List Outstanding
   pub settled_are : settled tag_of tag multiple ch.outstanding ≡ Some gone
   pub queues : AreSettled t how c h gone old.queue notes new.queue
@@ -415,7 +518,8 @@ purge_sends c h no_wait count = if no_wait then [] else reply c h (QueuePurgeOk 
 -- What a purge does.
 abbrev pub Purges : Broker → ℕ → ℕ → Purge → List Send → List Note → Broker → Type 0
 Purges old c h m sends notes new =
-    Makes sends notes new (purge_sends c h m.no_wait (ready_in (old.queue m.queue))) (purge_notes m.queue (filter is_ready (old.queue m.queue))) (after_purge old m.queue)
+    Makes sends notes new (purge_sends c h m.no_wait (ready_in (old.queue m.queue))) (purge_notes m.queue (filter is_ready (old.queue m.queue)))
+    (after_purge old m.queue)
 
 -- the channel with the limit that a qos sets: of all its consumers together, or of each that is made later (RabbitMQ, "Consumer Prefetch", global)
 abbrev pub limited : Channel → Qos → Channel
@@ -458,7 +562,15 @@ Cancels old c h ch m sends notes new =
 -- a message as it goes to a consumer, with its content (AMQP 0-9-1, basic.deliver)
 abbrev pub deliver : ℕ → ℕ → ℕ → Text → Entry → Send
 deliver c h tag consumer_tag e =
-    send.Command c h (BasicDeliver (record { consumer_tag = consumer_tag; delivery_tag = tag; redelivered = e.message.redelivered; exchange = e.message.exchange; routing_key = e.message.key })) (Some e.message.content)
+    send.Command c h
+    (BasicDeliver
+    (record {
+      consumer_tag = consumer_tag;
+      delivery_tag = tag;
+      redelivered = e.message.redelivered;
+      exchange = e.message.exchange;
+      routing_key = e.message.key;
+    })) (Some e.message.content)
 
 -- What a delivery to connection c does: of those that can be made, one is made.
 pub record IsDelivery (old : Broker) (c : ℕ) (sends : List Send) (notes : List Note) (new : Broker) : Type 0 where
@@ -566,7 +678,12 @@ channels_up_to k h = if nat_le 1 h && nat_le h k then Some new_channel else None
 
 -- connection c runs, with this channel-max, and its channels 1 to k are open and new; what one of its number held is ready again
 abbrev pub opened : Broker → ℕ → ℕ → ℕ → Broker
-opened b c max k = with_freed (record b { connection = with_one b.connection c (Some (record { channel_max = max; is_paused = false })); channel = with_row b.channel c (channels_up_to k) }) (by_connection c)
+opened b c max k =
+    with_freed
+    (record b {
+      connection = with_one b.connection c (Some (record { channel_max = max; is_paused = false }));
+      channel = with_row b.channel c (channels_up_to k);
+    }) (by_connection c)
 
 -- the connection is paused, or is not; without one there is nothing to change
 abbrev pub paused : Bool → Option Connection → Option Connection

@@ -38,7 +38,8 @@ abbrev pub IsThere : Topology → Place → Type 0
 IsThere t (place.Exchange name) = IsIn name (exchange_names t.exchanges)
 IsThere t (place.Queue name) = IsIn name (queue_names t.queues)
 
--- What every topology keeps: names apart, the default exchange `""` not among them, whatever is named is there, and what queues and dead letters go by has at most 255 bytes.
+-- What every topology keeps: names apart, the default exchange `""` not among them, whatever is named is there, and what queues and dead
+-- letters go by has at most 255 bytes.
 pub record IsWellFormed (t : Topology) : Type 0 where
   pub queues_apart : AreApart (queue_names t.queues)
   pub exchanges_apart : AreApart (exchange_names t.exchanges)
@@ -47,7 +48,8 @@ pub record IsWellFormed (t : Topology) : Type 0 where
   pub ends : (b : Binding) → Contains t.bindings b → IsThere t b.to
   pub alternates : (x : Exchange) (other : Text) → Contains t.exchanges x → x.alternate ≡ Some other → IsIn other (exchange_names t.exchanges)
   -- a queue may dead-letter to the default exchange
-  pub dead_letters : (q : DeclaredQueue) (exchange : Text) → Contains t.queues q → q.dead_letter_exchange ≡ Some exchange → (exchange ≡ []) ⊎ IsIn exchange (exchange_names t.exchanges)
+  pub dead_letters : (q : DeclaredQueue) (exchange : Text) → Contains t.queues q → q.dead_letter_exchange ≡ Some exchange
+      → (exchange ≡ []) ⊎ IsIn exchange (exchange_names t.exchanges)
   -- what a dead letter is sent by and told of can be spelled
   pub short_queues : (q : DeclaredQueue) → Contains t.queues q → length q.name ≤ 255
   pub short_exchanges : (q : DeclaredQueue) (exchange : Text) → Contains t.queues q → q.dead_letter_exchange ≡ Some exchange → length exchange ≤ 255

@@ -11,10 +11,12 @@ use Rattle.model.specs.declared.topologies.DeclaredQueue.{DeclaredQueue}
 use Rattle.model.specs.declared.topologies.Mode.TheVariants.{Never}
 use Rattle.model.specs.declared.messages.Entry.{Entry}
 
--- A publish that was sent to x under this key came to a queue, last sent to some exchange under some key: by its own route, or by a death in a queue to which it came.
+-- A publish that was sent to x under this key came to a queue, last sent to some exchange under some key: by its own route, or by a death
+-- in a queue to which it came.
 pub data HasCome (t : Topology) (x key : Text) : Text → Text → Text → Type 0 where
   by_publish : {q : Text} → Routes t x key q → HasCome t x key x key q
-  by_death : {y k p exchange q : Text} (last : DeclaredQueue) → HasCome t x key y k p → Dies t p exchange last → Routes t exchange (key_after last.dead_letter_key k) q
+  by_death : {y k p exchange q : Text} (last : DeclaredQueue) → HasCome t x key y k p → Dies t p exchange last
+      → Routes t exchange (key_after last.dead_letter_key k) q
       → HasCome t x key exchange (key_after last.dead_letter_key k) q
 
 -- The message came to this queue from where it was first sent, under a key that a publish can have.
@@ -36,7 +38,8 @@ pub record AreTraced (t : Topology) (b : Broker) : Type 0 where
 
 -- No guarantee forbids a message its queue, or one to which it may come from there by deaths.
 abbrev pub AreSafe : Topology → List Guarantee → Broker → Type 0
-AreSafe t gs b = (q : Text) (e : Entry) → IsIn e (b.queue q) → (g : Guarantee) → Contains gs g → g.mode ≡ Never → Covers g e.message.first_exchange e.message.first_key
+AreSafe t gs b = (q : Text) (e : Entry) → IsIn e (b.queue q) → (g : Guarantee) → Contains gs g → g.mode ≡ Never
+    → Covers g e.message.first_exchange e.message.first_key
     → (q ≢ g.queue) × (Later t q e.message.key g.queue → ⊥)
 
 -- ---- what every broker keeps, also where what is in force changes
@@ -48,7 +51,8 @@ pub record IsKept (f : Config) (q : Text) (m : Message) : Type 0 where
   -- a publish can have the message's first key
   pub short : length m.first_key ≤ 255
   -- no guarantee forbids it a queue to which it may come from there by deaths, nor, unless it stood when the last reload was done, the queue where it stands
-  pub safe : (g : Guarantee) → Contains f.guarantees g → g.mode ≡ Never → Covers g m.first_exchange m.first_key → (Later f.topology q m.key g.queue → ⊥) × (m.stood ≡ false → q ≢ g.queue)
+  pub safe : (g : Guarantee) → Contains f.guarantees g → g.mode ≡ Never → Covers g m.first_exchange m.first_key
+      → (Later f.topology q m.key g.queue → ⊥) × (m.stood ≡ false → q ≢ g.queue)
 
 -- What every broker keeps of its messages:
 pub record AreKept (f : Config) (b : Broker) : Type 0 where

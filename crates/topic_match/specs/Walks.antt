@@ -50,7 +50,8 @@ pub record IsStep (patterns : List (List Token)) (nodes : List Node) (words : Li
 -- by this token no word of the key goes on
 abbrev pub IsBarren : List (List Token) → List Node → List Text → ℕ → Token → Type 0
 IsBarren patterns nodes words at token = (c i : ℕ) (rest : List Token) → c < length nodes
-    → beginning_at patterns nodes c ≡ beginning_at patterns nodes at ++ token ∷ rest → Matches (beginning_at patterns nodes c) (take i words) → i ≤ length words → ⊥
+    → beginning_at patterns nodes c ≡ beginning_at patterns nodes at ++ token ∷ rest → Matches (beginning_at patterns nodes c) (take i words)
+    → i ≤ length words → ⊥
 
 -- how many numbers of words are told of all these nodes together
 abbrev pub told_in : List Met → ℕ

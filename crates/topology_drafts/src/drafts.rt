@@ -167,7 +167,9 @@ pub fn judge(
     queues: &[DeclaredQueue],
     bindings: &[Binding],
 ) -> Result<(), BadTopology>
-    ensures { MatchResult result (λ _. IsBuildable (record { exchanges = exchanges.now; queues = queues.now; bindings = bindings.now })) (λ e. StandsAgainst e (record { exchanges = exchanges.now; queues = queues.now; bindings = bindings.now })) }
+    ensures { MatchResult result
+        (λ _. IsBuildable (record { exchanges = exchanges.now; queues = queues.now; bindings = bindings.now }))
+        (λ e. StandsAgainst e (record { exchanges = exchanges.now; queues = queues.now; bindings = bindings.now })) }
 {
     let draft = Draft::of(alloc, exchanges, queues, bindings);
     draft.judge()
