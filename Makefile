@@ -1,7 +1,7 @@
 # `make` alone lists the targets.
 SHELL := bash
 .SHELLFLAGS := -o pipefail -c
-.PHONY: help try look run shop verdicts serve clients libraries deploy reload load refusals cases same promise edits prose tools pictures examples bench install package manual test
+.PHONY: help try look run shop verdicts serve clients libraries deploy reload load refusals cases same promise edits widths map prose tools pictures examples bench install package manual test
 
 # where `make install` puts the program
 PREFIX ?= /usr/local
@@ -94,9 +94,9 @@ load: warren
 	@examples/load/run $(WARREN)
 
 refusals: warren
-	@$(PROVED) refusals > /dev/null
-	@cd crates/refusals && out/refusals < stdin | diff stdout -
-	@examples/refusals/run $(WARREN) crates/refusals/out/refusals
+	@$(PROVED) memory_refusals > /dev/null
+	@cd crates/memory_refusals && out/memory_refusals < stdin | diff stdout -
+	@examples/refusals/run $(WARREN) crates/memory_refusals/out/memory_refusals
 
 cases:
 	@$(PROVED) cases > /dev/null
@@ -131,7 +131,15 @@ ONE_TEST = said=$$(python3 {} 2>&1) && echo "{}: $$(echo "$$said" | grep ^Ran)" 
 edits:
 	@python3 tools/edits
 
-tools: promise edits
+# no clause or definition is wider than a reader sees at once
+widths:
+	@python3 tools/widths
+
+# the calls that docs/inside/ARCHITECTURE.md lists are where it says, and made by one another
+map:
+	@python3 tools/map
+
+tools: promise edits widths map
 	@ls tools/*/tests/test.py | xargs -P 4 -I {} sh -c '$(ONE_TEST)'
 
 # makes the shop's pictures anew; this wants Graphviz

@@ -1,10 +1,10 @@
 //! How long certificates take: found, checked, and admitted.
 
-use benchmark_loads::stated::{Stated, certificates, found, guarantee_of};
+use crate::loads::stated::{Stated, certificates, found, guarantee_of};
+use crate::measuring::{LARGE, Shape, Texts, built};
 use certificate::{Certificate, admit, check};
 use exchange_graph::Topology;
 use guarantees::Guarantee;
-use measuring::{LARGE, Shape, Texts, built};
 use model::{Mode, Text};
 use std::alloc::Global;
 use std::io;

@@ -1,8 +1,8 @@
 //! How long large definitions files take.
 
-use benchmark_loads::files::{many_bindings, many_users, padded};
+use crate::loads::files::{many_bindings, many_users, padded};
+use crate::measuring::Written;
 use definitions::read_definitions;
-use measuring::Written;
 use std::alloc::Global;
 use std::io;
 use std::time::Instant;

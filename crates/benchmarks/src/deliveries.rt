@@ -1,8 +1,8 @@
 //! What it costs to publish a message, to deliver it and to have it acknowledged, bytes to bytes.
 
-use benchmark_loads::consumers::{Acks, put_consume, put_qos};
-use benchmark_loads::delivery_loads::{DeliveryLoad, MESSAGES, load_at};
-use measuring::{Client, Keys, Measured, Part, SELECT, Shape, Written, built, print_parts};
+use crate::loads::consumers::{Acks, put_consume, put_qos};
+use crate::loads::delivery_loads::{DeliveryLoad, MESSAGES, load_at};
+use crate::measuring::{Client, Keys, Measured, Part, SELECT, Shape, Written, built, print_parts};
 use std::alloc::Global;
 use std::io;
 

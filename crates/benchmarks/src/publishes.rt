@@ -2,8 +2,8 @@
 //!
 //! Each load runs ten equal parts, so that a cost that grows with what waits shows between the first and the last.
 
-use benchmark_loads::loads::{Load, load_at};
-use measuring::{Client, Measured, Part, SELECT, built, print_parts, resident_bytes};
+use crate::loads::named::{Load, load_at};
+use crate::measuring::{Client, Measured, Part, SELECT, built, print_parts, resident_bytes};
 use std::alloc::Global;
 use std::io;
 

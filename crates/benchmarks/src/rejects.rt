@@ -1,9 +1,11 @@
 //! What it costs to reject many messages at once, where their dead letters come to another queue.
 
 use crate::deliveries::deliver_to;
-use benchmark_loads::consumers::{put_consume, put_nack_all};
-use benchmark_loads::properties;
-use measuring::{Client, Keys, Measured, Shape, Written, built, processor_time, resident_bytes};
+use crate::loads::consumers::{put_consume, put_nack_all};
+use crate::loads::properties;
+use crate::measuring::{
+    Client, Keys, Measured, Shape, Written, built, processor_time, resident_bytes,
+};
 use std::alloc::Global;
 use std::io;
 

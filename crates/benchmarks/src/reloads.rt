@@ -1,13 +1,13 @@
 //! What it costs to put a configuration in force while messages wait.
 
 use crate::deliveries::{fill, filled, hold_back};
+use crate::loads::named::{Load, plain};
+use crate::loads::reload_loads::{ReloadLoad, WAITING, load_at, same};
+use crate::loads::stated::{Stated, certificates};
+use crate::measuring::{Measured, Part, built, print_times, resident_bytes};
 use crate::publishes::{Running, engine_of};
-use benchmark_loads::loads::{Load, plain};
-use benchmark_loads::reload_loads::{ReloadLoad, WAITING, load_at, same};
-use benchmark_loads::stated::{Stated, certificates};
 use certificate::{Checked, admit};
 use guarantees::Guarantee;
-use measuring::{Measured, Part, built, print_times, resident_bytes};
 use model::Mode;
 use std::alloc::Global;
 use std::io;

@@ -1,7 +1,7 @@
 //! How long a topology takes to build, and a route to be taken.
 
+use crate::measuring::{Shape, built};
 use exchange_graph::Topology;
-use measuring::{Shape, built};
 use std::io;
 use std::time::Instant;
 

@@ -8,7 +8,7 @@ use Rattle.model.specs.Guarantee.{Guarantee, CoversKey}
 use Rattle.model.specs.Refutations.{Refutation, Breaks, Refutes}
 use Rattle.model.specs.declared.topologies.Mode.{Mode}
 use Rattle.model.specs.declared.topologies.Mode.TheVariants.{Never}
-use Rattle.paths.specs.Stands.{IsPath}
+use Rattle.paths.specs.Keyed.{IsPath}
 use Rattle.certificate.specs.Disproved.{IsSendable, MayRefute}
 
 -- ---- keys that can be sent

@@ -3,15 +3,15 @@
 use crate::counts::Count;
 use crate::parts::{LineParts, is_silent, parts_of};
 use crate::wire;
-use line_words::{LineAnswer, Unanswered};
+use line_parts::{LineAnswer, Unanswered, certificates, routing, stores};
 use std::process::ExitCode;
 use std::{fs, io};
 
 /// Answers a line of this kind. One that is neither about routing, nor about certificates, nor about queues is about the wire.
 fn put_answer(out: &mut LineAnswer, rt: &HostRuntime, kind: &str, asked: &str) {
-    if !routing_lines::answer(out, rt, kind, asked)
-        && !certificate_lines::answer(out, rt, kind, asked)
-        && !store_lines::answer(out, kind, asked)
+    if !routing::answer(out, rt, kind, asked)
+        && !certificates::answer(out, rt, kind, asked)
+        && !stores::answer(out, kind, asked)
     {
         wire::answer(out, kind, asked);
     }

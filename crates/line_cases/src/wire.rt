@@ -14,7 +14,7 @@ mod segments;
 mod streams;
 mod tables;
 
-use line_words::{LineAnswer, Unanswered, bytes_of};
+use line_parts::{LineAnswer, Unanswered, bytes_of};
 
 /// Answers a line that asks about bytes alone.
 fn answer_of_bytes(out: &mut LineAnswer, kind: &str, bytes: &[u8]) {

@@ -1,3 +1,4 @@
 pub mod Rebuilt
 pub mod Whole
 pub mod Rows
+pub mod Taken

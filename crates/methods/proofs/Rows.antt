@@ -6,9 +6,9 @@ use Rattle.std.specs.List.{AllByRecursion, flat_map}
 use Rattle.model.specs.Grammar.{Argument, argument, IsArgument, ids_of, arguments, method_bytes, IsMethod}
 use Rattle.model.specs.Headers.{value_of, IsValue}
 use Rattle.model.specs.declared.methods.Method.{Method}
-use Rattle.method_arguments.specs.declared.pieces.Pieces.{Pieces}
-use Rattle.method_arguments.specs.Pieces.{piece_seen, onto_arguments, given}
-use Rattle.method_arguments.specs.Putting.{pieces_bytes, AreSpelled}
+use Rattle.methods.specs.declared.pieces.Pieces.{Pieces}
+use Rattle.methods.specs.Pieces.{piece_seen, onto_arguments, given}
+use Rattle.methods.specs.Putting.{pieces_bytes, AreSpelled}
 
 abbrev Fit : List Argument → Type 0
 Fit all = AllByRecursion IsArgument all

@@ -2,3 +2,6 @@ pub mod Kinds
 pub mod Reading
 pub mod Writing
 pub mod Laws
+pub mod Pieces
+pub mod Taking
+pub mod Putting

@@ -46,9 +46,10 @@ ghost use Rattle.methods.specs.Kinds.{
 };
 ghost use Rattle.methods.specs.Reading.{GivesArguments};
 
+use crate::pieces::Kind;
 use crate::refusals::BadMethod;
 use crate::tables::table_in;
-use method_arguments::{Kind, pieces_at};
+use crate::taking::pieces_at;
 use model::{
     Ack, Cancel, Close, Consume, Deliver, Get, GetOk, Nack, Open, Publish, Purge, Qos,
     QueueDeclared, Reject, Return, Start, StartOk, Text, Tuning,

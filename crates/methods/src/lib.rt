@@ -9,9 +9,12 @@ mod classes;
 mod fields;
 mod laws;
 mod lines;
+mod pieces;
+mod putting;
 mod reading;
 mod refusals;
 mod tables;
+mod taking;
 mod writing;
 
 pub use laws::one_method;

@@ -24,10 +24,10 @@ ghost use Rattle.model.specs.declared.methods.Method.TheVariants.{
   BasicReject,
   BasicNack,
 };
-ghost use Rattle.method_arguments.specs.declared.pieces.Piece.TheVariants.{Nothing};
-ghost use Rattle.method_arguments.specs.Pieces.{given};
+ghost use Rattle.methods.specs.declared.pieces.Piece.TheVariants.{Nothing};
+ghost use Rattle.methods.specs.Pieces.{given};
 
-use method_arguments::{NOTHING, Piece, Pieces};
+use crate::pieces::{NOTHING, Piece, Pieces};
 use model::{
     Ack, Cancel, Close, Consume, Deliver, Get, GetOk, Method, Nack, Open, Publish, Purge, Qos,
     QueueDeclared, Reject, Return, Start, StartOk, Tuning,

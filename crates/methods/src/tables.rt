@@ -1,12 +1,12 @@
 //! Tables among the arguments.
 
 ghost use Rattle.field_table.specs.Arguments.{a_field_table};
-ghost use Rattle.method_arguments.specs.Pieces.{piece_seen, IsOfKind};
+ghost use Rattle.methods.specs.Pieces.{piece_seen, IsOfKind};
 ghost use Rattle.methods.specs.Reading.{IsTableOr, MakesTable};
 
+use crate::pieces::Piece;
 use crate::refusals::BadMethod;
 use field_table::is_table;
-use method_arguments::Piece;
 use model::{Table, Text};
 use std::alloc::Global;
 

@@ -6,9 +6,9 @@ ghost use Rattle.methods.specs.declared.refusals.UnwrittenMethod.TheVariants.{Me
 ghost use Rattle.methods.specs.Writing.{CountsMethod, MethodRefused};
 
 use crate::lines::arguments_of;
+use crate::putting::{pieces_len, put_pieces};
 use crate::refusals::UnwrittenMethod;
 use field_table::put_bytes;
-use method_arguments::{pieces_len, put_pieces};
 use model::Method;
 
 /// Appends the payload of a method frame that spells `m` to `out`. On an error `out` is as it was.

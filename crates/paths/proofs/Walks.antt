@@ -9,9 +9,9 @@ use Rattle.model.specs.Routing.{of_key, Edge, reading_after, fixed_after, key_af
 use Rattle.model.specs.Refutations.{Walk, ends, edge, dies, name_of}
 use Rattle.model.specs.declared.topologies.Place.{Place}
 use Rattle.model.specs.declared.topologies.Place.TheVariants as place
-use Rattle.paths.specs.declared.stands.KeyedPlace.{KeyedPlace}
-use Rattle.paths.specs.declared.stands.KeyedPlace.TheVariants.{Exchange, Queue}
-use Rattle.paths.specs.Stands.{WalksOn, SomeGoesOn, NextStand, on, into, dies as dead, AreOneOn, is_queue}
+use Rattle.paths.specs.declared.keyed.KeyedPlace.{KeyedPlace}
+use Rattle.paths.specs.declared.keyed.KeyedPlace.TheVariants.{Exchange, Queue}
+use Rattle.paths.specs.Keyed.{WalksOn, SomeGoesOn, NextStand, on, into, dies as dead, AreOneOn, is_queue}
 
 -- ---- a walk goes by the key alone
 

@@ -3,10 +3,10 @@
 ghost use Rattle.std.specs.Prelude.{Decides, IfOk, OnOk, ◌≡◌};
 ghost use Rattle.std.specs.List.{list_any};
 ghost use Rattle.model.specs.Routing.{key_after};
-ghost use Rattle.paths.specs.Stands.{AddsAll, AreOneOn, WalksOn, IsPath, LeadsDead, NextStand, is_queue};
-ghost use Rattle.paths.specs.declared.stands.KeyedPlace.TheVariants.{Exchange, Queue};
+ghost use Rattle.paths.specs.Keyed.{AddsAll, AreOneOn, WalksOn, IsPath, LeadsDead, NextStand, is_queue};
+ghost use Rattle.paths.specs.declared.keyed.KeyedPlace.TheVariants.{Exchange, Queue};
 
-use crate::stands::{KeyedPlace, add_if};
+use crate::keyed::{KeyedPlace, add_if};
 use exchange_graph::Topology;
 use model::{DeclaredQueue, Text};
 use std::alloc::{AllocError, Global};

@@ -3,17 +3,17 @@
 ghost use Rattle.std.specs.Prelude.{◌≡◌, ◌<◌, ◌-◌, ◌^◌, IfOk};
 ghost use Rattle.model.specs.Topology.{queue_names};
 ghost use Rattle.model.specs.declared.obstacles.Obstacle.TheVariants.{Breaks};
-ghost use Rattle.dead_paths.specs.Leading.{AreLeading};
+ghost use Rattle.paths.specs.Leading.{AreLeading};
 ghost use Rattle.reloading.specs.First.{TellsFirst};
 ghost use Rattle.reloading.specs.Obstacles.{TellsEntries, TellsQueues};
 
 use crate::dangers::{endangers_next, may_endanger};
 use crate::passed::{keep, like_at, none_passed, slot_of};
 use crate::standing::Standing;
-use dead_paths::Leading;
 use exchange_graph::Topology;
 use guarantees::Guarantee;
 use model::{Message, Mode, Obstacle, Text};
+use paths::Leading;
 use std::alloc::{AllocError, Global};
 
 /// A message in this queue breaks the guarantee of this number.

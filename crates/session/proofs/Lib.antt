@@ -2,3 +2,5 @@ pub mod Faults
 pub mod Owned
 pub mod Table
 pub mod Rows
+pub mod Cutting
+pub mod Hashing

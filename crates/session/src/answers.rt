@@ -6,8 +6,8 @@ ghost use Rattle.model.specs.Opening as said;
 ghost use Rattle.model.specs.Opening.{LogsIn};
 ghost use Rattle.session.specs.Answers.{move_of, awaited_move, IsAnswer};
 
+use crate::accepts;
 use crate::sends::{close, open_ok, tune};
-use login::accepts;
 use model::{Method, Phase, Tuning, User};
 
 /// What is sent, and where the connection stands then.

@@ -17,8 +17,8 @@ use Rattle.model.specs.declared.topologies.Place.TheVariants as place
 use Rattle.model.specs.declared.topologies.ExchangeKind.{ExchangeKind}
 use Rattle.model.specs.declared.topologies.ExchangeKind.TheVariants.{Direct, Fanout, Topic}
 use Rattle.exchange_graph.specs.Marks.{IsSet}
-use Rattle.dead_paths.specs.declared.reach.Hop.{Hop}
-use Rattle.dead_paths.specs.Reach.{Chain, still, along, LinksAreWithin}
+use Rattle.paths.specs.declared.reach.Hop.{Hop}
+use Rattle.paths.specs.Reach.{Chain, still, along, LinksAreWithin}
 use Rattle.state_routes.specs.Nodes.{node, count, end_node, link_of, links_of, alternate_links, any_links}
 use Rattle.state_routes.specs.declared.gates.Gate.{Gate}
 use Rattle.state_routes.specs.Deaths.{AreEntered, IsUnfixedEnd, dying, entry, default_entry, links_in, unfixed_end}
@@ -26,7 +26,7 @@ use Rattle.state_routes.specs.Collected.{AreInReach, onto_tracked, keys_onto, ke
 use Rattle.state_routes.proofs.Numbers.{node_same, node_default, node_above, node_within}
 use Rattle.state_routes.proofs.Known.{alternate_in, from_alternates}
 use Rattle.state_routes.proofs.DeadLetters.{FromDeath, ToDeath, from_entered, to_entered, dying_tells, dying_has, unfixed_tells, link_of_gate, gate_of_link}
-use Rattle.dead_paths.proofs.Chains.{chain_on}
+use Rattle.paths.proofs.Chains.{chain_on}
 use Rattle.laws.proofs.Counts.{in_front, in_back, in-append}
 use Rattle.certificate_laws.proofs.Onces.{in_map, from_map}
 use Rattle.certificate_laws.proofs.Trackings.{contained, has_place, first_is}

@@ -19,11 +19,11 @@ use Rattle.model.specs.declared.topologies.Place.{Place}
 use Rattle.model.specs.declared.topologies.Place.TheVariants as place
 use Rattle.model.specs.declared.topologies.ExchangeKind.{ExchangeKind}
 use Rattle.model.specs.declared.topologies.ExchangeKind.TheVariants.{Direct, Fanout, Topic}
-use Rattle.dead_paths.specs.declared.reach.Hop.{Hop}
+use Rattle.paths.specs.declared.reach.Hop.{Hop}
 use Rattle.state_routes.specs.declared.gates.Gate.{Gate}
 use Rattle.state_routes.specs.declared.gates.Test.{Test}
 use Rattle.state_routes.specs.declared.gates.Test.TheVariants.{Pattern}
-use Rattle.dead_paths.specs.Reach.{Chain, still, along}
+use Rattle.paths.specs.Reach.{Chain, still, along}
 use Rattle.state_routes.specs.Nodes.{node, end_node, alternate_link, alternate_links}
 use Rattle.state_routes.specs.Gates.{tracked_place, test_by, kind_at, kind_or_direct, gate_of, binding_gates, has_queue, default_gate, gates_of, accepted, is_open, is_shut, passes, blocks, all_block, open_links, open_alternates, open_ways}
 use Rattle.state_routes.specs.Deaths.{entry, default_entry, AreEntered, dying, GoOn, IsEnd}

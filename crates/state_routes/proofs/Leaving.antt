@@ -5,9 +5,9 @@ use Rattle.std.proofs.lemmas.Bool.{false≢true, eqb-true}
 use Rattle.std.proofs.lemmas.List.{drop_more, at_drop_all, length-set, length-append}
 use Rattle.model.specs.Topology.{IsIn}
 use Rattle.model.specs.declared.topologies.Mode.{Mode}
-use Rattle.dead_paths.specs.declared.reach.Hop.{Hop}
+use Rattle.paths.specs.declared.reach.Hop.{Hop}
 use Rattle.state_routes.specs.declared.gates.Gate.{Gate}
-use Rattle.dead_paths.specs.Reach.{Chain, still, along}
+use Rattle.paths.specs.Reach.{Chain, still, along}
 use Rattle.state_routes.specs.Gates.{open_alternates, open_links, open_ways}
 use Rattle.state_routes.specs.Exits.{Exit, no_exit, exit_at, gates_from, links_from, AreExits, open_through, LeadsFrom, LeadFrom, IsBounded, AreEmpty, AddsGates, AddsAlternates}
 use Rattle.state_routes.proofs.Known.{all_block_at, blocked_in, blocks_all, eqb_same, from_blocked, from_open, open_in}

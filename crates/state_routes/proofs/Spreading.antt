@@ -6,12 +6,12 @@ use Rattle.model.specs.Topology.{IsIn}
 use Rattle.model.specs.declared.topologies.Mode.{Mode}
 use Rattle.exchange_graph.specs.Marks.{IsSet, unset}
 use Rattle.exchange_graph.proofs.Marking.{set_here, set_only, set_within, unset_fewer}
-use Rattle.dead_paths.specs.declared.reach.Hop.{Hop}
-use Rattle.dead_paths.specs.Reach.{AreReached, Chain, MarksBegin}
+use Rattle.paths.specs.declared.reach.Hop.{Hop}
+use Rattle.paths.specs.Reach.{AreReached, Chain, MarksBegin}
 use Rattle.state_routes.specs.Gates.{open_ways}
 use Rattle.state_routes.specs.Exits.{Exit, IsBounded, LeadFrom, exit_at, open_through}
 use Rattle.state_routes.specs.Following.{Enters, Spreads}
-use Rattle.dead_paths.proofs.Chains.{all_marked, begun_at, chain_on, none_set}
+use Rattle.paths.proofs.Chains.{all_marked, begun_at, chain_on, none_set}
 use Rattle.state_routes.proofs.Leaving.{in_through, open_at, open_leads}
 use Rattle.laws.proofs.Counts.{in_front, in_back, in-append}
 

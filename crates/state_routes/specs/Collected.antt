@@ -5,7 +5,7 @@ use Rattle.model.specs.Words.{Text}
 use Rattle.model.specs.Topology.{Topology}
 use Rattle.state_routes.specs.declared.gates.Gate.{Gate}
 use Rattle.state_routes.specs.Nodes.{node, count, any_links}
-use Rattle.dead_paths.specs.Reach.{AreReached}
+use Rattle.paths.specs.Reach.{AreReached}
 use Rattle.state_routes.specs.Deaths.{AreEntered, IsUnfixedEnd, dying, links_in}
 use Rattle.model.specs.Tracking.{Tracked, once_more, same_tracked}
 use Rattle.model.specs.declared.topologies.Mode.{Mode}

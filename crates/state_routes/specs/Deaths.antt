@@ -13,7 +13,7 @@ use Rattle.model.specs.declared.topologies.Binding.{Binding}
 use Rattle.model.specs.declared.topologies.Place.{Place}
 use Rattle.model.specs.declared.topologies.Place.TheVariants as place
 use Rattle.model.specs.declared.topologies.ExchangeKind.TheVariants.{Direct}
-use Rattle.dead_paths.specs.declared.reach.Hop.{Hop}
+use Rattle.paths.specs.declared.reach.Hop.{Hop}
 use Rattle.state_routes.specs.declared.gates.Gate.{Gate}
 use Rattle.state_routes.specs.declared.gates.Test.TheVariants.{Pattern}
 use Rattle.state_routes.specs.Nodes.{node}

@@ -3,7 +3,7 @@ use Rattle.std.specs.Prelude.{◌≡◌, ◌<◌, ◌==◌, ℕ, List, [], ◌�
 use Rattle.std.specs.List.{filter}
 use Rattle.model.specs.Topology.{IsIn}
 use Rattle.model.specs.declared.topologies.Mode.{Mode}
-use Rattle.dead_paths.specs.declared.reach.Hop.{Hop}
+use Rattle.paths.specs.declared.reach.Hop.{Hop}
 use Rattle.state_routes.specs.declared.gates.Gate.{Gate}
 use Rattle.state_routes.specs.Gates.{open_ways}
 

@@ -2,8 +2,8 @@
 use Rattle.std.specs.Prelude.{◌≡◌, ◌≤◌, ◌⊎◌, ◌+◌, ℕ, List, Bool, length}
 use Rattle.model.specs.Topology.{IsIn}
 use Rattle.exchange_graph.specs.Marks.{IsSet, unset}
-use Rattle.dead_paths.specs.declared.reach.Hop.{Hop}
-use Rattle.dead_paths.specs.Reach.{Chain}
+use Rattle.paths.specs.declared.reach.Hop.{Hop}
+use Rattle.paths.specs.Reach.{Chain}
 
 -- The ends of these links are marked, and those that were not wait to be left.
 pub record Enters (links : List Hop) (marks : List Bool) (rest : List ℕ) (marks' : List Bool) (rest' : List ℕ) : Type 0 where

@@ -8,7 +8,7 @@ use Rattle.model.specs.declared.topologies.Binding.{Binding}
 use Rattle.model.specs.declared.topologies.Place.{Place}
 use Rattle.model.specs.declared.topologies.Place.TheVariants as place
 use Rattle.exchange_graph.specs.Fans.{exchange_place}
-use Rattle.dead_paths.specs.declared.reach.Hop.{Hop}
+use Rattle.paths.specs.declared.reach.Hop.{Hop}
 
 -- the number of the exchange of this name; one that is not there has a number of its own
 abbrev pub node : List Exchange → Text → ℕ

@@ -6,8 +6,8 @@ ghost use Rattle.state_routes.specs.Gates.{open_ways};
 ghost use Rattle.state_routes.specs.Exits.{AddsAlternates, AddsGates, AreEmpty, AreExits, exit_at, no_exit};
 
 use crate::gates::{Gate, add_alternates, add_open};
-use dead_paths::Hop;
 use model::Mode;
+use paths::Hop;
 use std::alloc::{AllocError, Global};
 use std::marker::Model;
 

@@ -5,11 +5,11 @@ ghost use Rattle.model.specs.Topology.{IsIn};
 ghost use Rattle.state_routes.specs.Gates.{open_ways};
 ghost use Rattle.state_routes.specs.Exits.{IsBounded, LeadFrom, exit_at, open_through};
 ghost use Rattle.state_routes.specs.Following.{Enters, Spreads};
-ghost use Rattle.dead_paths.specs.Reach.{AreReached};
+ghost use Rattle.paths.specs.Reach.{AreReached};
 
 use crate::exits::Exits;
-use dead_paths::{Hop, unmarked};
 use model::Mode;
+use paths::{Hop, unmarked};
 use std::alloc::{AllocError, Global};
 
 /// Marks a place, which then waits to be left, unless it is marked.

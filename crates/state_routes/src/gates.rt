@@ -20,9 +20,9 @@ ghost use Rattle.state_routes.specs.Gates.{
 };
 
 use crate::nodes::link_of;
-use dead_paths::Hop;
 use exchange_graph::Topology;
 use model::{Binding, ExchangeKind, Mode};
+use paths::Hop;
 use std::alloc::{AllocError, Global};
 use word_automata::Tracked;
 

@@ -4,9 +4,9 @@ ghost use Rattle.std.specs.Prelude.{◌≡◌, ◌+◌, ◌<◌, ◌≤◌, leng
 ghost use Rattle.exchange_graph.specs.Fans.{exchange_place};
 ghost use Rattle.state_routes.specs.Nodes.{alternate_links, any_links, end_node, link_of, links_of, node};
 
-use dead_paths::Hop;
 use exchange_graph::Topology;
 use model::{Binding, Exchange, Place};
+use paths::Hop;
 use std::alloc::{AllocError, Global};
 
 /// The place of the exchange of this name, or how many there are.

@@ -8,10 +8,10 @@ use crate::gates::kind_at;
 use crate::keys::Keys;
 use crate::nodes::{alternate_links, node};
 use crate::tracking::met;
-use dead_paths::Hop;
 use exchange_graph::Topology;
 use guarantees::Guarantee;
 use model::{Binding, DeclaredQueue, ExchangeKind, Mode, Place};
+use paths::Hop;
 use std::alloc::{AllocError, Global};
 use word_automata::Tracked;
 

@@ -8,7 +8,7 @@ ghost use Rattle.model.specs.Certificates.{IsKept};
 ghost use Rattle.model.specs.Positions.{FitsEach};
 ghost use Rattle.state_routes.specs.Gates.{accepted};
 ghost use Rattle.state_routes.specs.Exits.{IsBounded, open_through};
-ghost use Rattle.dead_paths.specs.Reach.{Chain};
+ghost use Rattle.paths.specs.Reach.{Chain};
 ghost use Rattle.certificate_laws.specs.Soundness.{AreOnce};
 ghost use Rattle.state_routes.specs.Known.{IsKeptBy, IsKnown, LeadsBy, keeps};
 

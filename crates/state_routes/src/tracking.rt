@@ -9,10 +9,10 @@ ghost use Rattle.state_routes.specs.Fitting.{HavePatterns};
 use crate::deaths::{add_links, dying, unfixed_gates};
 use crate::nodes::{any_links, node};
 use crate::patterns::Patterns;
-use dead_paths::reached;
 use exchange_graph::Topology;
 use guarantees::Guarantee;
 use model::{Binding, DeclaredQueue, Exchange, ExchangeKind, Mode, Text};
+use paths::reached;
 use std::alloc::{AllocError, Global};
 use word_automata::Tracked;
 

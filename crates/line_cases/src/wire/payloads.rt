@@ -2,7 +2,7 @@
 
 use super::put_again;
 use headers::{Header, UnwrittenHeader, read_header, read_size, write_header};
-use line_words::{LineAnswer, Unanswered};
+use line_parts::{LineAnswer, Unanswered};
 use methods::{read_method, write_method};
 use model::{Fields, Method, Properties, Text};
 

@@ -2,7 +2,7 @@
 
 use super::payloads::put_header_refusal;
 use headers::{Header, fields_of, read_header};
-use line_words::{LineAnswer, Unanswered};
+use line_parts::{LineAnswer, Unanswered};
 use model::{Fields, Table, Text};
 
 /// Appends ` NAME=`.

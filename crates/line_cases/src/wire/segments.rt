@@ -1,7 +1,7 @@
 //! Lines about frames.
 
 use frame::{Frame, Read, read_frame, write_frame};
-use line_words::{LineAnswer, Unanswered, bytes_of, cut};
+use line_parts::{LineAnswer, Unanswered, bytes_of, cut};
 
 /// The longest payload that stands in a line, in bytes.
 const LONGEST: usize = 131_072;

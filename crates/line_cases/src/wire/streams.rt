@@ -4,7 +4,7 @@ use super::segments::put_frame;
 use assembly::{Fault, Stream};
 use frame::Frame;
 use headers::write_header;
-use line_words::{LineAnswer, Unanswered, bytes_of};
+use line_parts::{LineAnswer, Unanswered, bytes_of};
 use methods::write_method;
 use model::{Command, Content, Method};
 

@@ -2,7 +2,7 @@
 
 use super::put_again;
 use field_table::{BadTable, Table, read_table, write_table};
-use line_words::{LineAnswer, Unanswered};
+use line_parts::{LineAnswer, Unanswered};
 
 fn put_written(out: &mut LineAnswer, table: &Table, bytes: &[u8]) {
     let mut written = Vec::new(out.alloc());

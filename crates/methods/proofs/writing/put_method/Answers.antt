@@ -2,7 +2,7 @@
 use Rattle.std.proofs.Common.{◌≡◌, ◌++◌, ◌∙◌, ℕ, List, length, append_assoc, ap, arith}
 use Rattle.std.specs.Int.{w16, to_be_bytes}
 use Rattle.model.specs.Grammar.{Ids, ids}
-use Rattle.method_arguments.specs.Putting.{pieces_bytes}
+use Rattle.methods.specs.Putting.{pieces_bytes}
 use Rattle.methods.proofs.Rows.{are}
 use Rattle.methods.proofs.writing.put_method.Goals as goal
 

@@ -1,5 +1,5 @@
 use Rattle.std.proofs.Common.{take}
-use Rattle.paths.specs.Stands.{AreOneOn}
+use Rattle.paths.specs.Keyed.{AreOneOn}
 use Rattle.paths.proofs.walking.advance.Given as goal
 
 abbrev pub invariant-loop-stand : goal.invariant-loop-stand

@@ -3,9 +3,9 @@ use Rattle.std.proofs.lemmas.Result.{on_ok_weaker}
 use Rattle.std.specs.Prelude.{Decides, ◌⊎◌, ◌↔◌}
 use Rattle.model.specs.Words.{Text}
 use Rattle.exchange_graph.specs.Edges.{LeadsToQueue, LeadsOn}
-use Rattle.paths.specs.declared.stands.KeyedPlace.{KeyedPlace}
-use Rattle.paths.specs.declared.stands.KeyedPlace.TheVariants.{Exchange, Queue}
-use Rattle.paths.specs.Stands.{NextStand}
+use Rattle.paths.specs.declared.keyed.KeyedPlace.{KeyedPlace}
+use Rattle.paths.specs.declared.keyed.KeyedPlace.TheVariants.{Exchange, Queue}
+use Rattle.paths.specs.Keyed.{NextStand}
 use Rattle.paths.proofs.Among.{add_both, on_or_into}
 use Rattle.paths.proofs.walking.go_on.Goals as goal
 

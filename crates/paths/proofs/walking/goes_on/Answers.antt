@@ -4,9 +4,9 @@ use Rattle.std.specs.List.{list_any}
 use Rattle.std.proofs.lemmas.List.{drop_all}
 use Rattle.std.proofs.lemmas.Slice.Eq.{bytes_eq-Decides}
 use Rattle.model.specs.Words.{Text}
-use Rattle.paths.specs.declared.stands.KeyedPlace.{KeyedPlace}
-use Rattle.paths.specs.declared.stands.KeyedPlace.TheVariants.{Exchange}
-use Rattle.paths.specs.Stands.{AreOneOn, WalksOn, SomeGoesOn, is_queue}
+use Rattle.paths.specs.declared.keyed.KeyedPlace.{KeyedPlace}
+use Rattle.paths.specs.declared.keyed.KeyedPlace.TheVariants.{Exchange}
+use Rattle.paths.specs.Keyed.{AreOneOn, WalksOn, SomeGoesOn, is_queue}
 use Rattle.paths.proofs.Walks.{goes_more, goes_to_end}
 use Rattle.paths.proofs.walking.goes_on.Goals.{then-eq, else-eq}
 use Rattle.paths.proofs.walking.goes_on.Goals as goal

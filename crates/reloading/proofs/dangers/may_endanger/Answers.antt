@@ -2,7 +2,7 @@ use Rattle.std.proofs.Common.{◌∙◌, subst, sym}
 use Rattle.std.proofs.lemmas.Result.{IfOk-weaker}
 use Rattle.model.specs.Words.{Text}
 use Rattle.model.specs.Routing.{Later}
-use Rattle.dead_paths.specs.Leading.{AreLeading}
+use Rattle.paths.specs.Leading.{AreLeading}
 use Rattle.reloading.proofs.dangers.may_endanger.Goals as goal
 
 pub may_lead-requires : goal.may_lead-requires

@@ -1,6 +1,6 @@
 use Rattle.std.proofs.Common.{ap, length, arith}
 use Rattle.state_routes.specs.Deaths.{IsEnd}
-use Rattle.dead_paths.proofs.Traced.{get_there}
+use Rattle.paths.proofs.Traced.{get_there}
 use Rattle.state_routes.proofs.DeadLetters.{entered_more, entered_all}
 use Rattle.state_routes.proofs.deaths.death_gates.Goals as goal
 

@@ -1,5 +1,5 @@
 use Rattle.std.proofs.Common.{◌<◌, ℕ, arith, sym, subst, refl, get_or}
-use Rattle.dead_paths.specs.declared.reach.Hop.{Hop}
+use Rattle.paths.specs.declared.reach.Hop.{Hop}
 use Rattle.topology_drafts.proofs.Members.{in_get}
 use Rattle.state_routes.proofs.Leaving.{links_done, links_more, itself}
 use Rattle.state_routes.proofs.exits.put_alternates.Goals as goal

@@ -1,7 +1,7 @@
 use Rattle.std.proofs.Common.{List, [], ◌+◌, ◌++◌, length, ap, subst, ◌∙◌}
 use Rattle.model.specs.declared.topologies.Exchange.{Exchange}
 use Rattle.model.specs.declared.topologies.DeclaredQueue.{DeclaredQueue}
-use Rattle.dead_paths.specs.declared.reach.Hop.{Hop}
+use Rattle.paths.specs.declared.reach.Hop.{Hop}
 use Rattle.state_routes.specs.declared.gates.Gate.{Gate}
 use Rattle.state_routes.specs.Nodes.{any_links}
 use Rattle.state_routes.specs.Deaths.{AreEntered, IsUnfixedEnd, links_in}

@@ -1,0 +1,119 @@
+//! The loads of deliveries.
+
+use crate::measuring::{Keys, Shape};
+
+/// One load: messages of 12 bytes that are published, delivered to consumers and acknowledged, 100 at a time.
+#[derive(Clone, Copy, Drop)]
+pub struct DeliveryLoad {
+    pub name: &'static str,
+    /// How many queues have a consumer.
+    pub queues: u32,
+    /// How many consumers stand beside, on a queue without messages.
+    pub idle: u32,
+    /// How many consumers stand beside, on the first queue, that hold as much as they may.
+    pub full: u32,
+    /// How many deliveries a consumer may have outstanding, any number where it is 0.
+    pub prefetch: u16,
+    /// How many messages wait all the time.
+    pub waiting: u64,
+    /// Whether the first queue has a limit of bytes.
+    pub is_limited: bool,
+    /// How many bindings the topic exchange has, whose keys never come again; the exchange is a direct one where it is 0.
+    pub bindings: u32,
+}
+
+/// How many messages a load publishes, delivers and acknowledges.
+pub const MESSAGES: u64 = 100_000;
+
+impl DeliveryLoad {
+    /// The topology of the load.
+    pub fn shape(&self) -> Shape {
+        if self.bindings != 0 {
+            return Shape::Topic(self.bindings);
+        }
+        if self.is_limited {
+            return Shape::Limited(2);
+        }
+        if self.queues == 1 {
+            return Shape::Queues(2);
+        }
+        Shape::Keyed(self.queues)
+    }
+
+    /// The keys of its messages.
+    pub fn keys(&self) -> Keys {
+        if self.bindings != 0 {
+            return Keys::Fresh;
+        }
+        if self.queues == 1 {
+            return Keys::One;
+        }
+        Keys::Turns(self.queues)
+    }
+}
+
+/// A load with one queue and one consumer.
+fn one(name: &'static str, prefetch: u16, waiting: u64) -> DeliveryLoad {
+    DeliveryLoad {
+        name,
+        queues: 1,
+        idle: 0,
+        full: 0,
+        prefetch,
+        waiting,
+        is_limited: false,
+        bindings: 0,
+    }
+}
+
+/// The load of a drain: so many messages wait, and no more come.
+pub fn drain_of(messages: u64) -> DeliveryLoad {
+    one("drain", 0, messages)
+}
+
+/// The load at this place, none past the last.
+pub fn load_at(place: u32) -> Option<DeliveryLoad> {
+    let load = match place {
+        0 => one("one consumer, prefetch 0", 0, 0),
+        1 => one("one consumer, prefetch 1", 1, 0),
+        2 => one("one consumer, prefetch 100", 100, 0),
+        3 => one("10 waiting", 0, 10),
+        4 => one("100,000 waiting", 0, 100_000),
+        5 => one("1,000,000 waiting", 0, 1_000_000),
+        6 => one("1,000,000 waiting, prefetch 1", 1, 1_000_000),
+        7 => DeliveryLoad {
+            is_limited: true,
+            ..one("1,000,000 waiting, limit of bytes", 0, 1_000_000)
+        },
+        8 => DeliveryLoad {
+            is_limited: true,
+            ..one("one consumer, prefetch 0, limit of bytes", 0, 0)
+        },
+        9 => DeliveryLoad {
+            queues: 256,
+            ..one("256 queues, each with a consumer", 0, 0)
+        },
+        10 => DeliveryLoad {
+            idle: 1,
+            ..one("1 idle consumer beside", 0, 0)
+        },
+        11 => DeliveryLoad {
+            idle: 255,
+            ..one("255 idle consumers beside", 0, 0)
+        },
+        12 => DeliveryLoad {
+            full: 200,
+            ..one("200 consumers beside that hold what they may", 0, 0)
+        },
+        13 => DeliveryLoad {
+            bindings: 1,
+            ..one("topic, fresh keys", 0, 0)
+        },
+        14 => DeliveryLoad {
+            bindings: 4_096,
+            ..one("topic with 4,096 bindings, fresh keys", 0, 0)
+        },
+        _ => return None,
+    };
+    Some(load)
+}

@@ -1,0 +1,100 @@
+//! Definitions files of nearly 16,777,216 bytes.
+
+use crate::measuring::Written;
+use std::alloc::Global;
+
+/// As many bytes as a file may have, less what a last entry and an end take.
+const NEARLY: usize = 16_776_800;
+
+/// What stands before the lists.
+const HEAD: &str =
+    r#"{"vhosts":[{"name":"/"}],"permissions":[],"queues":[{"name":"q","vhost":"/","durable":true,"auto_delete":false,"arguments":{}}],"exchanges":[{"name":"x","vhost":"/","type":"topic","durable":true,"auto_delete":false,"internal":false,"arguments":{}}],"#;
+
+/// Appends a text, a number, and a text behind it.
+fn put_entry(out: &mut Written, before: &str, number: u32, after: &str) {
+    out.put_text(before);
+    out.put_number(u64::from(number));
+    out.put_text(after);
+}
+
+/// Appends a binding by this key.
+fn put_binding(out: &mut Written, place: u32) {
+    put_entry(
+        out,
+        "{\"source\":\"x\",\"vhost\":\"/\",\"destination\":\"q\",\"destination_type\":\"queue\",\"routing_key\":\"a.",
+        place,
+        ".#\",\"arguments\":{}},",
+    );
+}
+
+/// Appends a user of this number.
+fn put_user(out: &mut Written, place: u32) {
+    put_entry(
+        out,
+        "{\"name\":\"u",
+        place,
+        "\",\"password_hash\":\"YWJjZCSNamHSBji45cAmkww+YDmjPORZZP8hZ/bs7dQZ2wbB\",\"hashing_algorithm\":\"rabbit_password_hashing_sha256\"},",
+    );
+}
+
+/// Appends an entry of an ignored member.
+fn put_ignored(out: &mut Written, place: u32) {
+    put_entry(out, "{\"name\":\"p", place, "\",\"value\":[");
+    put_entry(out, "", place, ",true,null]},");
+}
+
+/// Appends the head, a first list, and a second of bindings.
+fn put_bindings(out: &mut Written, first: &str, count: u32) {
+    out.put_text(HEAD);
+    out.put_text(first);
+    out.put_text("\"bindings\":[");
+    for place in 1..count {
+        if out.as_slice().len() > NEARLY {
+            break;
+        }
+        put_binding(out, place);
+    }
+    out.put_text(
+        "{\"source\":\"x\",\"vhost\":\"/\",\"destination\":\"q\",\"destination_type\":\"queue\",\"routing_key\":\"\",\"arguments\":{}}]",
+    );
+}
+
+/// A file with 4,096 bindings, filled up with an ignored member of many small values.
+pub fn padded(alloc: Global) -> Written {
+    let mut file = Written::new(alloc);
+    put_bindings(&mut file, "\"users\":[],", 4096);
+    file.put_text(",\"global_parameters\":[");
+    for place in 0..16_777_216_u32 {
+        if file.as_slice().len() > NEARLY {
+            break;
+        }
+        put_ignored(&mut file, place);
+    }
+    file.put_text("0]}");
+    file
+}
+
+/// A file of bindings, far more than are taken.
+pub fn many_bindings(alloc: Global) -> Written {
+    let mut file = Written::new(alloc);
+    put_bindings(&mut file, "\"users\":[],", 16_777_216);
+    file.put_text("}");
+    file
+}
+
+/// A file of users, far more than are taken, no two of one name.
+pub fn many_users(alloc: Global) -> Written {
+    let mut file = Written::new(alloc);
+    file.put_text(HEAD);
+    file.put_text("\"bindings\":[],\"users\":[");
+    for place in 1..16_777_216_u32 {
+        if file.as_slice().len() > NEARLY {
+            break;
+        }
+        put_user(&mut file, place);
+    }
+    file.put_text(
+        "{\"name\":\"u\",\"password_hash\":\"YWJjZCSNamHSBji45cAmkww+YDmjPORZZP8hZ/bs7dQZ2wbB\",\"hashing_algorithm\":\"rabbit_password_hashing_sha256\"}]}",
+    );
+    file
+}

@@ -1,0 +1,169 @@
+//! What is measured.
+
+use crate::loads::properties::{MODE, MODE_TYPE, MODE_TYPE_ID, NONE};
+use crate::measuring::{Keys, Shape};
+
+/// One load: so many publishes of one size.
+#[derive(Clone, Copy, Drop)]
+pub struct Load {
+    pub name: &'static str,
+    pub shape: Shape,
+    pub connections: u64,
+    pub publishes: u64,
+    /// How many of them a client writes at once.
+    pub window: u64,
+    /// Bytes of a body.
+    pub body: usize,
+    /// How many bytes are handed in at once.
+    pub piece: usize,
+    /// How the keys go.
+    pub keys: Keys,
+    /// Flags and values of the properties.
+    pub properties: &'static [u8],
+}
+
+const WHOLE: usize = 16_777_216;
+
+/// What the system gives of a socket at most by one read.
+const READ: usize = 65_536;
+
+/// How many publishes most clients write at once.
+const WINDOW: u64 = 100;
+
+/// A load of one connection and one key, whose windows are handed in whole.
+pub fn plain(name: &'static str, shape: Shape, publishes: u64, body: usize) -> Load {
+    Load {
+        name,
+        shape,
+        connections: 1,
+        publishes,
+        window: WINDOW,
+        body,
+        piece: WHOLE,
+        keys: Keys::One,
+        properties: NONE,
+    }
+}
+
+/// A load by so many connections in turn.
+fn by(name: &'static str, connections: u64) -> Load {
+    Load {
+        name,
+        shape: Shape::Direct,
+        connections,
+        publishes: 100_000,
+        window: WINDOW,
+        body: 12,
+        piece: WHOLE,
+        keys: Keys::One,
+        properties: NONE,
+    }
+}
+
+/// A load whose keys never come again.
+fn fresh(name: &'static str, shape: Shape, publishes: u64) -> Load {
+    Load {
+        name,
+        shape,
+        connections: 1,
+        publishes,
+        window: WINDOW,
+        body: 12,
+        piece: WHOLE,
+        keys: Keys::Fresh,
+        properties: NONE,
+    }
+}
+
+/// A load handed in by pieces of so many bytes.
+fn pieces(name: &'static str, piece: usize, publishes: u64) -> Load {
+    Load {
+        name,
+        shape: Shape::Direct,
+        connections: 1,
+        publishes,
+        window: WINDOW,
+        body: 12,
+        piece,
+        keys: Keys::One,
+        properties: NONE,
+    }
+}
+
+/// A load whose contents have these properties.
+fn with_properties(name: &'static str, properties: &'static [u8]) -> Load {
+    Load {
+        name,
+        shape: Shape::Direct,
+        connections: 1,
+        publishes: 100_000,
+        window: WINDOW,
+        body: 12,
+        piece: WHOLE,
+        keys: Keys::One,
+        properties,
+    }
+}
+
+/// A load of large bodies, each of which is read in parts.
+fn large(name: &'static str, publishes: u64, body: usize) -> Load {
+    Load {
+        name,
+        shape: Shape::Direct,
+        connections: 1,
+        publishes,
+        window: 1,
+        body,
+        piece: READ,
+        keys: Keys::One,
+        properties: NONE,
+    }
+}
+
+/// The load at this place, none past the last.
+pub fn load_at(place: u32) -> Option<Load> {
+    let load = match place {
+        0 => plain("direct, 12 bytes", Shape::Direct, 1_000_000, 12),
+        1 => plain(
+            "direct, 12 bytes, limit of bytes",
+            Shape::Limited(1),
+            1_000_000,
+            12,
+        ),
+        2 => plain("direct, 1,024 bytes", Shape::Direct, 100_000, 1_024),
+        3 => plain("fanout to 3, 12 bytes", Shape::Fanout, 100_000, 12),
+        4 => plain("fanout to 3, 1,024 bytes", Shape::Fanout, 100_000, 1_024),
+        5 => plain("topic with 1 binding", Shape::Topic(1), 100_000, 12),
+        6 => plain("topic with 100 bindings", Shape::Topic(100), 100_000, 12),
+        7 => plain(
+            "topic with 1,000 bindings",
+            Shape::Topic(1_000),
+            100_000,
+            12,
+        ),
+        8 => plain("among 256 exchanges", Shape::Exchanges(256), 100_000, 12),
+        9 => plain("among 256 queues", Shape::Queues(256), 100_000, 12),
+        10 => by("64 connections", 64),
+        11 => by("1,000 connections", 1_000),
+        12 => fresh("topic, fresh keys", Shape::Topic(1), 100_000),
+        13 => fresh(
+            "topic with 1,000 bindings, fresh keys",
+            Shape::Topic(1_000),
+            20_000,
+        ),
+        14 => fresh(
+            "topic with 4,096 bindings, fresh keys",
+            Shape::Topic(4_096),
+            20_000,
+        ),
+        15 => pieces("pieces of 1 byte", 1, 20_000),
+        16 => pieces("pieces of 64 bytes", 64, 100_000),
+        17 => with_properties("no property", NONE),
+        18 => with_properties("delivery-mode", MODE),
+        19 => with_properties("delivery-mode, content-type", MODE_TYPE),
+        20 => with_properties("delivery-mode, content-type, message-id", MODE_TYPE_ID),
+        21 => large("direct, 1,000,000 bytes", 200, 1_000_000),
+        _ => return None,
+    };
+    Some(load)
+}

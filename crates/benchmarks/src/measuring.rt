@@ -1,0 +1,17 @@
+//! What benchmarks share: topologies, an engine over them, what clients write, and what the process has used.
+
+mod clients;
+mod engines;
+mod meters;
+mod parts;
+mod shapes;
+mod topologies;
+mod written;
+
+pub use clients::{Client, NO_PROPERTIES, SELECT};
+pub use engines::Measured;
+pub use meters::{processor_time, resident_bytes};
+pub use parts::{Part, print_parts, print_times};
+pub use shapes::{Keys, Shape};
+pub use topologies::{LARGE, built};
+pub use written::{Texts, Written};

@@ -1,0 +1,142 @@
+//! What a publishing client writes.
+
+use crate::measuring::shapes::Keys;
+use crate::measuring::written::Written;
+use std::alloc::Global;
+
+/// confirm.select on channel 1.
+pub const SELECT: [u8; 13] = [1, 0, 1, 0, 0, 0, 5, 0, 85, 0, 10, 0, 206];
+
+/// The end of a frame.
+const END: [u8; 1] = [206];
+
+/// The longest payload of a frame.
+const LONGEST: usize = 131_064;
+
+/// Flags and values of no property.
+pub const NO_PROPERTIES: &[u8] = &[0, 0];
+
+/// A client that publishes to the exchange `x` on channel 1.
+#[derive(Drop)]
+pub struct Client {
+    body: Written,
+    keys: Keys,
+    /// Flags and values, as they stand in each header.
+    properties: &'static [u8],
+    /// How many publishes were written.
+    count: u64,
+    /// The last window.
+    bytes: Written,
+}
+
+/// Appends the head of a frame of channel 1 with a payload of so many bytes.
+fn put_head(out: &mut Written, kind: u8, size: usize) {
+    let size = u32::try_from(size).unwrap_or(0);
+    out.put(&[kind, 0, 1]);
+    out.put(size.to_be_bytes().as_slice());
+}
+
+/// Appends basic.publish to `x` under this key.
+fn put_publish(out: &mut Written, key: &[u8]) {
+    put_head(out, 1, key.len().saturating_add(10));
+    out.put(&[0, 60, 0, 40, 0, 0, 1, b'x']);
+    out.put(&[u8::try_from(key.len()).unwrap_or(0)]);
+    out.put(key);
+    out.put(&[0]);
+    out.put(END.as_slice());
+}
+
+/// Appends a content header with these flags and values.
+fn put_header(out: &mut Written, size: u64, properties: &[u8]) {
+    put_head(out, 2, properties.len().saturating_add(12));
+    out.put(&[0, 60, 0, 0]);
+    out.put(size.to_be_bytes().as_slice());
+    out.put(properties);
+    out.put(END.as_slice());
+}
+
+/// Appends a content header, and the body in the longest frames.
+fn put_content(out: &mut Written, properties: &[u8], body: &[u8]) {
+    put_header(out, body.len() as u64, properties);
+    for piece in body.chunks(LONGEST) {
+        put_head(out, 3, piece.len());
+        out.put(piece);
+        out.put(END.as_slice());
+    }
+}
+
+/// Puts together the key of the publish of this number: `k`, or `k.` and a number.
+fn put_key(key: &mut Written, keys: Keys, number: u64) {
+    key.put_text("k");
+    match keys {
+        Keys::One => {}
+        Keys::Fresh => put_number(key, number),
+        Keys::Turns(count) => put_number(key, number % u64::from(count.max(1))),
+    }
+}
+
+/// Appends a dot and a number.
+fn put_number(key: &mut Written, number: u64) {
+    key.put_text(".");
+    key.put_number(number);
+}
+
+impl Client {
+    /// A client whose bodies have so many bytes, and whose contents have no properties.
+    pub fn new(alloc: Global, body: usize, keys: Keys) -> Client {
+        Client::with_properties(alloc, body, keys, NO_PROPERTIES)
+    }
+
+    /// A client whose bodies have so many bytes, and whose headers have these flags and values.
+    pub fn with_properties(
+        alloc: Global,
+        body: usize,
+        keys: Keys,
+        properties: &'static [u8],
+    ) -> Client {
+        let mut content = Written::new(alloc);
+        content.put_times(b'b', body);
+        Client {
+            body: content,
+            keys,
+            properties,
+            count: 0,
+            bytes: Written::new(alloc),
+        }
+    }
+
+    /// Whether the last window can be written once more.
+    fn is_standing(&self) -> bool {
+        self.keys == Keys::One && !self.bytes.as_slice().is_empty()
+    }
+
+    /// Spells a publish.
+    fn spell_one(&mut self, alloc: Global) {
+        let mut key = Written::new(alloc);
+        put_key(&mut key, self.keys, self.count);
+        put_publish(&mut self.bytes, key.as_slice());
+        put_content(&mut self.bytes, self.properties, self.body.as_slice());
+        self.count = self.count.saturating_add(1);
+    }
+
+    /// Spells so many publishes.
+    fn spell(&mut self, alloc: Global, publishes: u64) {
+        self.bytes.clear();
+        for _ in 0..publishes {
+            self.spell_one(alloc);
+        }
+    }
+
+    /// The bytes of so many publishes. Where memory was refused they end early.
+    pub fn window(&mut self, alloc: Global, publishes: u64) -> &[u8] {
+        if !self.is_standing() {
+            self.spell(alloc, publishes);
+        }
+        self.bytes.as_slice()
+    }
+
+    /// Whether no memory was refused.
+    pub fn is_whole(&self) -> bool {
+        self.body.is_whole() && self.bytes.is_whole()
+    }
+}

@@ -1,5 +1,0 @@
-use Rattle.dead_paths.specs.Leading.{AreLinked}
-use Rattle.dead_paths.proofs.leading.all_links.Given as goal
-
-abbrev pub invariant-loop-at : goal.invariant-loop-at
-invariant-loop-at l = AreLinked l.topology l.queue l.links.items l.at

@@ -1,6 +1,0 @@
-use Rattle.std.proofs.Common.{take}
-use Rattle.dead_paths.specs.Leading.{LinksAll}
-use Rattle.dead_paths.proofs.leading.link_all.Given as goal
-
-abbrev pub invariant-loop-visit : goal.invariant-loop-visit
-invariant-loop-visit l = LinksAll l.topology l.queue (take l.visit-index l.visits) l.to l.initial.links.items l.links.items

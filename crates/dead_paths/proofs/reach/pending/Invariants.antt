@@ -1,5 +1,0 @@
-use Rattle.dead_paths.proofs.Chains.{NoneBefore}
-use Rattle.dead_paths.proofs.reach.pending.Given as goal
-
-abbrev pub invariant-loop-link : goal.invariant-loop-link
-invariant-loop-link l = NoneBefore l.links l.marks l.link-index

@@ -1,0 +1,170 @@
+//! Answers: a text that is written piece by piece, or why there is none.
+
+ghost use Rattle.std.specs.Prelude.{◌≡◌, [], length, codes, decimal, Some, None, string_bytes, if◌then◌else◌};
+ghost use Rattle.hex.specs.Hex.{encode_lower};
+ghost use Rattle.line_parts.specs.Answers.{PutsPiece, failed};
+
+use model::Text;
+use std::alloc::Global;
+use std::marker::Model;
+
+/// Why a line has no answer. Such a line differs, whatever it wants.
+#[derive(Clone, Copy, Drop)]
+pub enum Unanswered {
+    /// No line is of this kind, or what it asks is not of its form.
+    Form,
+    /// A file that it names is not there, or is not what it has to be.
+    File,
+    /// Memory was refused.
+    Memory,
+}
+
+/// An answer that is written piece by piece, or the first reason why there is none.
+///
+/// Once there is such a reason nothing more is appended. So no piece says whether it was appended, and what could not be
+/// made for it is empty.
+#[derive(Drop)]
+pub struct LineAnswer {
+    alloc: Global,
+    text: String,
+    lack: Option<Unanswered>,
+}
+
+impl Model for LineAnswer {
+    ghost use Rattle.std.specs.Prelude.{string_bytes};
+    ghost use Rattle.line_parts.specs.Answers.{Answering};
+
+    ghost Value = { Answering };
+
+    ghost view = { λ a. record { text = string_bytes a.text; lack = a.lack } };
+}
+
+impl LineAnswer {
+    /// An answer without a piece.
+    pub fn new(alloc: Global) -> LineAnswer
+        ensures { result ≡ record { text = []; lack = None } }
+    {
+        LineAnswer {
+            alloc,
+            text: String::new(alloc),
+            lack: None,
+        }
+    }
+
+    pub fn alloc(&self) -> Global {
+        self.alloc
+    }
+
+    /// There is no answer, for this reason if it is the first.
+    pub fn fail(&mut self, why: Unanswered)
+        ensures { self.new ≡ failed why self.old }
+    {
+        if self.lack.is_none() {
+            self.lack = Some(why);
+        }
+    }
+
+    /// Why there is no answer, if there is none.
+    pub fn lack(&self) -> Option<Unanswered>
+        ensures { result ≡ self.now.lack }
+    {
+        self.lack
+    }
+
+    /// What was appended.
+    pub fn text(&self) -> &str
+        ensures { result.now ≡ self.now.text }
+    {
+        self.text.as_str()
+    }
+
+    /// How many bytes were appended.
+    pub fn len(&self) -> usize
+        ensures { result ≡ length self.now.text }
+    {
+        self.text.len()
+    }
+
+    /// Appends a text.
+    pub fn put(&mut self, text: &str)
+        ensures { PutsPiece text.now self.old self.new }
+    {
+        if self.lack.is_none() && self.text.push_str(text).is_err() {
+            self.lack = Some(Unanswered::Memory);
+        }
+    }
+
+    /// Appends a number.
+    pub fn put_number(&mut self, number: u64)
+        ensures { PutsPiece (decimal number) self.old self.new }
+    {
+        match format!(in self.alloc; "{number}") {
+            Ok(digits) => self.put(digits.as_str()),
+            Err(_) => self.fail(Unanswered::Memory),
+        }
+    }
+
+    /// Appends bytes in hex.
+    pub fn put_hex(&mut self, bytes: &[u8])
+        ensures { PutsPiece (encode_lower bytes.now) self.old self.new }
+    {
+        match hex::encode(self.alloc, bytes) {
+            Ok(digits) => self.put(digits.as_str()),
+            Err(_) => self.fail(Unanswered::Memory),
+        }
+    }
+
+    /// Appends the characters that bytes spell.
+    pub fn put_bytes(&mut self, bytes: &[u8]) {
+        match String::from_utf8_lossy(self.alloc, bytes) {
+            Ok(text) => self.put(text.as_str()),
+            Err(_) => self.fail(Unanswered::Memory),
+        }
+    }
+
+    /// Appends the characters of a text in quotes.
+    pub fn put_quoted(&mut self, text: &Text) {
+        self.put("\"");
+        self.put_bytes(text.as_bytes());
+        self.put("\"");
+    }
+
+    /// Appends a space, unless nothing stands before it.
+    pub fn put_space(&mut self) {
+        if !self.text.is_empty() {
+            self.put(" ");
+        }
+    }
+
+    /// Appends the characters of a name, behind a space if it is not the first.
+    pub fn put_name(&mut self, name: &Text) {
+        self.put_space();
+        self.put_bytes(name.as_bytes());
+    }
+
+    /// Appends `yes` or `no`.
+    pub fn put_yes_or_no(&mut self, is: bool)
+        ensures { PutsPiece (if is then codes "yes" else codes "no") self.old self.new }
+    {
+        self.put(if is { "yes" } else { "no" });
+    }
+
+    /// Appends `none` where nothing stands before it.
+    pub fn put_none_if_empty(&mut self) {
+        if self.text.is_empty() {
+            self.put("none");
+        }
+    }
+
+    /// The text, as a part of another answer: that has none where this has none.
+    pub fn into_part_of(self, whole: &mut LineAnswer) -> String
+        ensures part { string_bytes result ≡ self.text }
+        ensures lack { (why : Unanswered) → self.lack ≡ Some why → whole.new ≡ failed why whole.old }
+        ensures whole { self.lack ≡ None → whole.new ≡ whole.old }
+    {
+        if let Some(why) = self.lack {
+            whole.fail(why);
+        }
+        self.text
+    }
+}

@@ -1,0 +1,36 @@
+//! Lines about certificates: what is admitted, checked, found and disproved, and certificates files.
+//!
+//! | kinds | asked of |
+//! |---|---|
+//! | `admit`, `admitted` | `certificate`: what is admitted of a file of guarantees by one of certificates, and where it leads a key |
+//! | `check` | `certificate`: whether the certificate of a file is accepted, or its fault |
+//! | `search`, `certificate` | `guarantee_search`: the verdict, which a check or `disprove` then takes; the file of the certificate that was found |
+//! | `disprove` | `certificate`: whether a key, with a path, breaks a guarantee |
+//! | `certificates`, `certificates-hex`, `rewritten` | `certificate`: whether a file is read, or why it is refused; whether it is written as it was |
+
+mod admission;
+mod faults;
+mod rewriting;
+mod verdicts;
+
+use crate::LineAnswer;
+
+/// The kinds of lines about one guarantee.
+const OF_ONE: [&str; 4] = ["check", "search", "certificate", "disprove"];
+
+/// The kinds of lines about certificates files.
+const OF_FILES: [&str; 3] = ["certificates", "certificates-hex", "rewritten"];
+
+/// Answers a line about certificates. Tells whether its kind is one of these.
+pub fn answer(out: &mut LineAnswer, rt: &HostRuntime, kind: &str, asked: &str) -> bool {
+    if OF_ONE.contains(&kind) {
+        verdicts::answer(out, rt, kind, asked);
+    } else if OF_FILES.contains(&kind) {
+        rewriting::answer(out, rt, kind, asked);
+    } else if kind == "admit" || kind == "admitted" {
+        admission::answer(out, rt, asked);
+    } else {
+        return false;
+    }
+    true
+}

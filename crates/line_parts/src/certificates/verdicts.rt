@@ -1,0 +1,268 @@
+//! Lines about certificates, searches and refutations of one guarantee, which the line states.
+
+use super::faults::put_fault;
+use super::rewriting::put_file_of;
+use crate::{LineAnswer, Unanswered, named_and_edits, sources_of, words_of};
+use certificate::{Certificate, Refutation, check, disprove};
+use definitions::read_definitions;
+use exchange_graph::Topology;
+use guarantee_search::{UndecidedCause, Verdict, search};
+use guarantees::Guarantee;
+use model::{Mode, Text};
+
+/// The mode of this name.
+fn mode_of(out: &mut LineAnswer, mode: &str) -> Mode {
+    match mode {
+        "reaches" => Mode::Reaches,
+        "never" => Mode::Never,
+        _ => {
+            out.fail(Unanswered::Form);
+            Mode::Never
+        }
+    }
+}
+
+/// The text of a word.
+fn text_of(out: &mut LineAnswer, word: &str) -> Text {
+    match Text::from_slice(out.alloc(), word.as_bytes()) {
+        Ok(text) => text,
+        Err(_) => {
+            out.fail(Unanswered::Memory);
+            Text::empty()
+        }
+    }
+}
+
+/// Appends what is told of a certificate.
+fn put_checked(
+    out: &mut LineAnswer,
+    topology: &Topology,
+    guarantee: &Guarantee,
+    certificate: &Certificate,
+) {
+    match check(out.alloc(), topology, guarantee, certificate) {
+        Ok(()) => out.put("ok"),
+        Err(fault) => put_fault(out, &fault),
+    }
+}
+
+/// Appends what is told of the one certificate among these.
+fn put_one_checked(
+    out: &mut LineAnswer,
+    topology: &Topology,
+    guarantee: &Guarantee,
+    found: &[Certificate],
+) {
+    match found {
+        [one] => put_checked(out, topology, guarantee, one),
+        _ => out.fail(Unanswered::File),
+    }
+}
+
+/// Appends what is told of the one certificate of a file.
+fn put_check_of(out: &mut LineAnswer, topology: &Topology, guarantee: &Guarantee, file: &str) {
+    match Certificate::read(out.alloc(), file.as_bytes()) {
+        Ok(found) => put_one_checked(out, topology, guarantee, found.as_slice()),
+        Err(_) => out.fail(Unanswered::File),
+    }
+}
+
+/// Appends that a certificate was found, and whether a check accepts it.
+fn put_yes(out: &mut LineAnswer, topology: &Topology, guarantee: &Guarantee, found: &Certificate) {
+    if check(out.alloc(), topology, guarantee, found).is_ok() {
+        out.put("yes states ");
+        out.put_number(found.states().len() as u64);
+    } else {
+        out.put("yes, which is not accepted");
+    }
+}
+
+/// Appends the names of a path, if it has some.
+fn put_path(out: &mut LineAnswer, path: &[Text]) {
+    if path.is_empty() {
+        return;
+    }
+    out.put(" path");
+    for name in path {
+        out.put(" ");
+        out.put_quoted(name);
+    }
+}
+
+/// Appends that a key was found, with its path, if it is seen to break the guarantee.
+fn put_no(out: &mut LineAnswer, topology: &Topology, guarantee: &Guarantee, found: &Refutation) {
+    if disprove(out.alloc(), topology, guarantee, found) {
+        out.put("no key ");
+        out.put_quoted(found.key());
+        put_path(out, found.path());
+    } else {
+        out.put("no, which is not shown");
+    }
+}
+
+/// Appends why a search did not decide.
+fn put_cause(out: &mut LineAnswer, cause: UndecidedCause) {
+    out.put(match cause {
+        UndecidedCause::TooManyStates => "undecided states",
+        UndecidedCause::KeyTooLong => "undecided key",
+    });
+}
+
+/// Appends what a search says.
+fn put_searched(out: &mut LineAnswer, topology: &Topology, guarantee: &Guarantee) {
+    match search(out.alloc(), topology, guarantee) {
+        Ok(Verdict::Yes(found)) => put_yes(out, topology, guarantee, &found),
+        Ok(Verdict::No(found)) => put_no(out, topology, guarantee, &found),
+        Ok(Verdict::Undecided(cause)) => put_cause(out, cause),
+        Err(_) => out.fail(Unanswered::Memory),
+    }
+}
+
+/// Appends the file of the certificate that a search finds, or `none`.
+fn put_found(out: &mut LineAnswer, topology: &Topology, guarantee: &Guarantee) {
+    match search(out.alloc(), topology, guarantee) {
+        Ok(Verdict::Yes(found)) => put_file_of(out, &[found]),
+        Ok(_) => out.put("none"),
+        Err(_) => out.fail(Unanswered::Memory),
+    }
+}
+
+/// Appends a name to a path.
+fn push_name(out: &mut LineAnswer, path: &mut Vec<Text>, name: &str) {
+    let name = text_of(out, name);
+    if path.push(name).is_err() {
+        out.fail(Unanswered::Memory);
+    }
+}
+
+/// The path of these names.
+fn path_of(out: &mut LineAnswer, names: &[&str]) -> Vec<Text> {
+    let mut path = Vec::new(out.alloc());
+    for name in names {
+        push_name(out, &mut path, name);
+    }
+    path
+}
+
+/// Appends whether a key, with a path of these names, is seen to break the guarantee.
+fn put_disproved(
+    out: &mut LineAnswer,
+    topology: &Topology,
+    guarantee: &Guarantee,
+    key: &str,
+    names: &[&str],
+) {
+    let path = path_of(out, names);
+    let refutation = Refutation::new(text_of(out, key), path);
+    out.put_yes_or_no(disprove(out.alloc(), topology, guarantee, &refutation));
+}
+
+/// Answers what is asked about a guarantee, with the words that stand behind it, and with a file of certificates if one
+/// is named.
+fn answer_of_guarantee(
+    out: &mut LineAnswer,
+    kind: &str,
+    topology: &Topology,
+    guarantee: &Guarantee,
+    files: &[String],
+    words: &[&str],
+) {
+    match (words, files) {
+        ([], [_]) if kind == "search" => put_searched(out, topology, guarantee),
+        ([], [_]) if kind == "certificate" => put_found(out, topology, guarantee),
+        ([], [_, file]) if kind == "check" => {
+            put_check_of(out, topology, guarantee, file.as_str());
+        }
+        ([key, names @ ..], [_]) if kind == "disprove" => {
+            put_disproved(out, topology, guarantee, key, names);
+        }
+        _ => out.fail(Unanswered::Form),
+    }
+}
+
+/// Appends a pattern whose keys are taken out, if the word names one.
+fn push_except(out: &mut LineAnswer, excepts: &mut Vec<Text>, word: &str) {
+    let Some(pattern) = word.strip_prefix('-') else {
+        return;
+    };
+    let pattern = text_of(out, pattern);
+    if excepts.push(pattern).is_err() {
+        out.fail(Unanswered::Memory);
+    }
+}
+
+/// The patterns whose keys are taken out: those of the words that begin with a dash.
+fn excepts_of(out: &mut LineAnswer, words: &[&str]) -> Vec<Text> {
+    let mut excepts = Vec::new(out.alloc());
+    for word in words {
+        push_except(out, &mut excepts, word);
+    }
+    excepts
+}
+
+/// Appends a word that doesn't begin with a dash.
+fn push_other<'a>(out: &mut LineAnswer, others: &mut Vec<&'a str>, word: &'a str) {
+    if !word.starts_with('-') && others.push(word).is_err() {
+        out.fail(Unanswered::Memory);
+    }
+}
+
+/// The words that don't begin with a dash.
+fn others_of<'a>(out: &mut LineAnswer, words: &[&'a str]) -> Vec<&'a str> {
+    let mut others = Vec::new(out.alloc());
+    for word in words {
+        push_other(out, &mut others, word);
+    }
+    others
+}
+
+/// Answers a line over a topology. Its first words are a guarantee, `MODE EXCHANGE PATTERN QUEUE`, and `-PATTERN` for each
+/// pattern whose keys it takes out.
+fn answer_over(
+    out: &mut LineAnswer,
+    kind: &str,
+    topology: &Topology,
+    files: &[String],
+    words: &[&str],
+) {
+    let [mode, exchange, pattern, queue, rest @ ..] = words else {
+        return out.fail(Unanswered::Form);
+    };
+    let mode = mode_of(out, mode);
+    let exchange = text_of(out, exchange);
+    let pattern = text_of(out, pattern);
+    let queue = text_of(out, queue);
+    let excepts = excepts_of(out, rest);
+    let others = others_of(out, rest);
+    match Guarantee::new(mode, exchange, pattern, queue, excepts) {
+        Some(guarantee) => {
+            answer_of_guarantee(out, kind, topology, &guarantee, files, others.as_slice());
+        }
+        None => out.fail(Unanswered::Form),
+    }
+}
+
+/// Answers a line over files, the first of which is a definitions file.
+fn answer_of_files(out: &mut LineAnswer, kind: &str, files: &[String], words: &[&str]) {
+    let Some(definitions) = files.first() else {
+        return out.fail(Unanswered::File);
+    };
+    match read_definitions(out.alloc(), definitions.as_bytes()) {
+        Ok(read) => answer_over(out, kind, read.topology(), files, words),
+        Err(_) => out.fail(Unanswered::File),
+    }
+}
+
+/// Answers a line about the certificates or the refutations of a guarantee, which names a definitions file, and for a check
+/// a file of certificates.
+pub fn answer(out: &mut LineAnswer, rt: &HostRuntime, kind: &str, asked: &str) {
+    let (named, edits) = named_and_edits(asked);
+    let words = words_of(out, named);
+    let count = if kind == "check" { 2 } else { 1 };
+    if words.len() < count {
+        return out.fail(Unanswered::Form);
+    }
+    let (names, rest) = words.as_slice().split_at(count);
+    let files = sources_of(out, rt, names, edits);
+    answer_of_files(out, kind, files.as_slice(), rest);
+}

@@ -1,0 +1,21 @@
+//! Lines about queues: the same calls of both bodies of a queue, and what they answer.
+//!
+//! | kind | asked of |
+//! |---|---|
+//! | `store` | `queue`: calls one after another, of a queue over a list and of one with indexes |
+
+mod calls;
+mod entries;
+mod runs;
+mod tags;
+
+use crate::LineAnswer;
+
+/// Answers a line about queues. Tells whether its kind is one of these.
+pub fn answer(out: &mut LineAnswer, kind: &str, asked: &str) -> bool {
+    if kind == "store" {
+        runs::answer(out, asked);
+        return true;
+    }
+    false
+}

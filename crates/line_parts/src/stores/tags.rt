@@ -1,0 +1,94 @@
+//! What is held under tags of a channel.
+
+use crate::stores::entries::put_entry;
+use crate::{LineAnswer, Unanswered};
+use model::{Holder, Taker};
+use queue::Store;
+
+/// So many tags of a channel, from the first one on, and the number of the arrival of what is held under that.
+#[derive(Clone, Copy, Drop)]
+pub(crate) struct Tags {
+    pub(crate) connection: u32,
+    pub(crate) channel: u32,
+    pub(crate) first: u32,
+    pub(crate) count: u32,
+    pub(crate) arrival: u32,
+}
+
+impl Tags {
+    /// Who holds what is held under one of these tags.
+    fn holder(&self, index: u32, by: Taker) -> Holder {
+        Holder {
+            connection: u64::from(self.connection),
+            channel: u16::try_from(self.channel).unwrap_or(u16::MAX),
+            tag: u64::from(self.first) + u64::from(index),
+            by,
+        }
+    }
+
+    /// The number of an arrival, so many behind that of the first tag.
+    fn arrival(&self, index: u32) -> u64 {
+        u64::from(self.arrival) + u64::from(index)
+    }
+}
+
+/// Appends a number, by a space from what stands before it.
+pub(crate) fn put_count(out: &mut LineAnswer, count: u64) {
+    out.put_space();
+    out.put_number(count);
+}
+
+/// Gives the first ready message out, unless something is held under this tag. Tells whether one was given out.
+fn is_given<S: Store>(store: &mut S, holder: Holder) -> bool {
+    if store.held(&holder, 0).is_some() {
+        return false;
+    }
+    store.hold(holder).is_some()
+}
+
+/// Gives a message out under each of these tags, and appends how many were.
+pub(crate) fn put_given<S: Store>(out: &mut LineAnswer, store: &mut S, tags: Tags) {
+    let mut given: u64 = 0;
+    for index in 0..tags.count {
+        let holder = tags.holder(index, Taker::Consumer(1));
+        given = given.saturating_add(u64::from(is_given(store, holder)));
+    }
+    put_count(out, given);
+}
+
+/// Appends what is held under each of these tags.
+fn put_held<S: Store>(out: &mut LineAnswer, store: &S, tags: Tags) {
+    for index in 0..tags.count {
+        let holder = tags.holder(index, Taker::Get);
+        put_entry(out, store.held(&holder, tags.arrival(index)));
+    }
+}
+
+/// Makes ready what is held under each of these tags, and appends how many were.
+fn put_released<S: Store>(out: &mut LineAnswer, store: &mut S, tags: Tags) {
+    let mut released: u64 = 0;
+    for index in 0..tags.count {
+        let holder = tags.holder(index, Taker::Get);
+        released = released.saturating_add(u64::from(store.release(&holder, tags.arrival(index))));
+    }
+    put_count(out, released);
+}
+
+/// Takes out what is held under each of these tags, and appends it.
+fn put_removed<S: Store>(out: &mut LineAnswer, store: &mut S, tags: Tags) {
+    for index in 0..tags.count {
+        let holder = tags.holder(index, Taker::Get);
+        let entry = store.remove(&holder, tags.arrival(index));
+        put_entry(out, entry.as_ref());
+    }
+}
+
+/// Does a call of this name for each of these tags, and appends what is answered.
+pub(crate) fn put_each<S: Store>(out: &mut LineAnswer, store: &mut S, name: &str, tags: Tags) {
+    match name {
+        "held" => put_held(out, store, tags),
+        "release" => put_released(out, store, tags),
+        "remove" => put_removed(out, store, tags),
+        _ => out.fail(Unanswered::Form),
+    }
+}

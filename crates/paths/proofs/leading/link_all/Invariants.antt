@@ -1,0 +1,6 @@
+use Rattle.std.proofs.Common.{take}
+use Rattle.paths.specs.Leading.{LinksAll}
+use Rattle.paths.proofs.leading.link_all.Given as goal
+
+abbrev pub invariant-loop-visit : goal.invariant-loop-visit
+invariant-loop-visit l = LinksAll l.topology l.queue (take l.visit-index l.visits) l.to l.initial.links.items l.links.items

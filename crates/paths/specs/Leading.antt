@@ -1,0 +1,81 @@
+-- Which queues with a key of their own have dead letters that come to one queue (RabbitMQ, "Dead Letter Exchanges").
+use Rattle.std.specs.Prelude.{◌≡◌, ◌⊎◌, ◌<◌, ◌+◌, ℕ, List, [], ◌∷◌, ◌++◌, Bool, Option, Some, None, length}
+use Rattle.model.specs.Words.{Text}
+use Rattle.model.specs.Topology.{Topology, IsIn}
+use Rattle.model.specs.Routing.{Comes, of_key}
+use Rattle.model.specs.declared.topologies.Place.TheVariants as place
+use Rattle.exchange_graph.specs.Marks.{IsSet}
+use Rattle.paths.specs.declared.reach.Hop.{Hop}
+use Rattle.paths.specs.declared.stands.Stand.{Stand}
+use Rattle.paths.specs.declared.visits.Visit.{Visit}
+use Rattle.paths.specs.Stands.{spot_place}
+use Rattle.paths.specs.Onward.{Refixes}
+use Rattle.paths.specs.Exploring.{AreExplored}
+
+-- dead letters of the queue at this place, which has a key of its own, come to the queue q
+pub record ComesAfter (t : Topology) (q : Text) (at : ℕ) : Type 0 where
+  pub exchange : Text
+  pub key : Text
+  pub fixes : Refixes t at exchange key
+  pub comes : Comes t (of_key key) None exchange q
+
+-- so do those of this queue, or it is the number behind all queues, which is of the queue q itself
+abbrev pub IsLeading : Topology → Text → ℕ → Type 0
+IsLeading t q n = (n ≡ length t.queues) ⊎ ComesAfter t q n
+
+-- Exactly those are marked.
+pub record AreLeading (t : Topology) (q : Text) (marks : List Bool) : Type 0 where
+  pub size : length marks ≡ length t.queues + 1
+  pub sound : (n : ℕ) → IsSet marks n → IsLeading t q n
+  pub all : (n : ℕ) → IsLeading t q n → IsSet marks n
+
+-- what a stand adds: the queue that fixed its key, or the number behind all queues where it is the queue q
+abbrev pub IsSource : Topology → Text → Stand → Option ℕ → Type 0
+IsSource t q s None = (s.fixed ≡ None) × (spot_place t s.spot ≡ place.Queue q → ⊥)
+IsSource t q s (Some n) = (s.fixed ≡ Some n) ⊎ ((s.fixed ≡ None) × (n ≡ length t.queues) × (spot_place t s.spot ≡ place.Queue q))
+
+-- a stand adds what is marked
+abbrev pub Leads : Topology → Text → Stand → List Bool → Type 0
+Leads t q s marks = (n : ℕ) × IsSource t q s (Some n) × IsSet marks n
+
+-- one of the visits adds what is marked
+abbrev pub SomeLeads : Topology → Text → List Visit → List Bool → Type 0
+SomeLeads t q visits marks = (v : Visit) × IsIn v visits × Leads t q v.stand marks
+
+-- a link from what was added, if anything was
+abbrev pub links_from : Option ℕ → ℕ → List Hop
+links_from None to = []
+links_from (Some from) to = record { from = from; to = to } ∷ []
+
+-- what a stand adds has a link more
+abbrev pub AddsLink : Topology → Text → Stand → ℕ → List Hop → List Hop → Type 0
+AddsLink t q s to old new = (from : Option ℕ) × IsSource t q s from × (new ≡ old ++ links_from from to)
+
+-- What each of the visits adds has a link to this queue, and there are no other links more.
+pub record LinksAll (t : Topology) (q : Text) (visits : List Visit) (to : ℕ) (old new : List Hop) : Type 0 where
+  pub kept : (l : Hop) → IsIn l old → IsIn l new
+  pub only : (l : Hop) → IsIn l new → IsIn l old ⊎ ((v : Visit) × IsIn v visits × (l.to ≡ to) × IsSource t q v.stand (Some l.from))
+  pub all : (v : Visit) (n : ℕ) → IsIn v visits → IsSource t q v.stand (Some n) → IsIn (record { from = n; to = to }) new
+
+-- A link is between numbers that are there, and leads on what leads to the queue q.
+pub record LinkHolds (t : Topology) (q : Text) (l : Hop) : Type 0 where
+  pub from : l.from < length t.queues + 1
+  pub to : l.to < length t.queues + 1
+  pub leads : IsLeading t q l.from → IsLeading t q l.to
+
+-- All that dead letters of the queue at this place come to under its key was looked at, and what it adds has its links.
+pub record IsFront (t : Topology) (q : Text) (at : ℕ) (exchange key : Text) (links : List Hop) : Type 0 where
+  pub visits : List Visit
+  pub explored : AreExplored t exchange key visits
+  pub linked : (v : Visit) (n : ℕ) → IsIn v visits → IsSource t q v.stand (Some n) → IsIn (record { from = n; to = at }) links
+
+-- The links to the queue at this place were added.
+pub record AddsFront (t : Topology) (q : Text) (at : ℕ) (old new : List Hop) : Type 0 where
+  pub kept : (l : Hop) → IsIn l old → IsIn l new
+  pub only : (l : Hop) → IsIn l new → IsIn l old ⊎ LinkHolds t q l
+  pub front : (exchange key : Text) → Refixes t at exchange key → IsFront t q at exchange key new
+
+-- The links to the first so many queues are there, and each link holds.
+pub record AreLinked (t : Topology) (q : Text) (links : List Hop) (count : ℕ) : Type 0 where
+  pub holds : (l : Hop) → IsIn l links → LinkHolds t q l
+  pub fronts : (at : ℕ) (exchange key : Text) → at < count → Refixes t at exchange key → IsFront t q at exchange key links

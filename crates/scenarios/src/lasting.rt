@@ -1,0 +1,184 @@
+//! A broker that works for long, and keeps no more room than it did.
+
+use engine::{Engine, Turn};
+use scenario_parts::{MESSAGE, Unmet, expect, expect_number, new_broker, value_of};
+use std::alloc::{AllocError, Global};
+use std::fs;
+
+/// basic.qos on channel 1: each consumer that comes may have one delivery outstanding.
+const ONE_AT_A_TIME: &[u8] =
+    b"\x01\x00\x01\x00\x00\x00\x0b\x00\x3c\x00\x0a\x00\x00\x00\x00\x00\x01\x00\xce";
+
+/// basic.consume of `audit` on channel 1 with the tag `w`, of messages that need an acknowledgement.
+const CONSUME: &[u8] =
+    b"\x01\x00\x01\x00\x00\x00\x13\x00\x3c\x00\x14\x00\x00\x05audit\x01w\x00\x00\x00\x00\x00\xce";
+
+/// The same with the tag `u`, without an answer, and basic.cancel of `u`, without an answer.
+const CONSUME_AND_CANCEL: &[u8] =
+    b"\x01\x00\x01\x00\x00\x00\x13\x00\x3c\x00\x14\x00\x00\x05audit\x01u\x08\x00\x00\x00\x00\xce\x01\x00\x01\x00\x00\x00\x07\x00\x3c\x00\x1e\x01u\x01\xce";
+
+/// basic.ack on channel 1, up to its delivery tag.
+const ACK: &[u8] = b"\x01\x00\x01\x00\x00\x00\x0d\x00\x3c\x00\x50";
+
+/// What ends an ack of one delivery.
+const ACK_END: &[u8] = b"\x00\xce";
+
+/// The client that publishes.
+const PUBLISHER: u64 = 1;
+
+/// The client whose consumer acknowledges what it gets.
+const WORKER: u64 = 2;
+
+/// The client that never acknowledges the one message that it gets, and makes and cancels consumers.
+const KEEPER: u64 = 3;
+
+/// How many messages are published, and then delivered and acknowledged, at once.
+const WINDOW: u64 = 100;
+
+/// How many consumers are made and cancelled meanwhile.
+const CONSUMERS: u64 = 10;
+
+/// A page of memory, in bytes.
+const PAGE: u64 = 4_096;
+
+/// How many bytes more may be resident once all is done.
+const MOST: u64 = 2_000_000;
+
+/// A broker with three clients.
+#[derive(Drop)]
+struct Work {
+    engine: Engine,
+    publishes: Vec<u8>,
+    consumers: Vec<u8>,
+    acks: Vec<u8>,
+    /// The delivery tag that the worker acknowledges next.
+    next_tag: u64,
+}
+
+/// So many copies of these bytes.
+fn times(alloc: Global, bytes: &[u8], count: u64) -> Result<Vec<u8>, AllocError> {
+    let mut all = Vec::new(alloc);
+    for _ in 0..count {
+        all.extend_from_slice(bytes)?;
+    }
+    Ok(all)
+}
+
+/// Appends the ack of this delivery.
+fn put_ack(acks: &mut Vec<u8>, tag: u64) -> Result<(), AllocError> {
+    acks.extend_from_slice(ACK)?;
+    acks.extend_from_slice(tag.to_be_bytes().as_slice())?;
+    acks.extend_from_slice(ACK_END)?;
+    Ok(())
+}
+
+/// Performs what a client wrote, and takes its output.
+fn perform(alloc: Global, engine: &mut Engine, client: u64, bytes: &[u8]) -> Result<(), Unmet> {
+    value_of("Engine::feed", engine.feed(client, bytes))?;
+    for _ in 0..u64::MAX {
+        let turn = value_of("Engine::turn", engine.turn(alloc, client))?;
+        if !matches!(turn, Turn::Did(_)) {
+            break;
+        }
+    }
+    let written = engine.output(client).len() as u64;
+    engine.sent(client, written);
+    Ok(())
+}
+
+/// Makes so many deliveries, each to this client.
+fn deliver(alloc: Global, engine: &mut Engine, client: u64, deliveries: u64) -> Result<(), Unmet> {
+    for _ in 0..deliveries {
+        let delivered = value_of("Engine::pump", engine.pump(alloc))?;
+        let connection = match &delivered {
+            Some(delivered) => delivered.connection,
+            None => 0,
+        };
+        expect_number("the connection of a delivery", connection, client)?;
+    }
+    Ok(())
+}
+
+/// The first message of the queue is held by the keeper, and one more is ready there.
+fn begin(alloc: Global) -> Result<Work, Unmet> {
+    let mut engine = new_broker(alloc)?;
+    for _ in 0..KEEPER {
+        value_of("Engine::open_ready", engine.open_ready(alloc, 1))?;
+    }
+    perform(alloc, &mut engine, KEEPER, ONE_AT_A_TIME)?;
+    perform(alloc, &mut engine, KEEPER, CONSUME)?;
+    perform(alloc, &mut engine, PUBLISHER, MESSAGE)?;
+    deliver(alloc, &mut engine, KEEPER, 1)?;
+    perform(alloc, &mut engine, WORKER, CONSUME)?;
+    perform(alloc, &mut engine, PUBLISHER, MESSAGE)?;
+    Ok(Work {
+        engine,
+        publishes: value_of("times", times(alloc, MESSAGE, WINDOW))?,
+        consumers: value_of("times", times(alloc, CONSUME_AND_CANCEL, CONSUMERS))?,
+        acks: Vec::new(alloc),
+        next_tag: 1,
+    })
+}
+
+impl Work {
+    /// The acks of the next deliveries of the worker.
+    fn spell_acks(&mut self) -> Result<(), AllocError> {
+        self.acks.clear();
+        for _ in 0..WINDOW {
+            put_ack(&mut self.acks, self.next_tag)?;
+            self.next_tag = self.next_tag.saturating_add(1);
+        }
+        Ok(())
+    }
+
+    /// A window of messages is published, delivered and acknowledged, one of which is ready all the time.
+    fn run(&mut self, alloc: Global) -> Result<(), Unmet> {
+        perform(alloc, &mut self.engine, PUBLISHER, &self.publishes)?;
+        perform(alloc, &mut self.engine, KEEPER, &self.consumers)?;
+        deliver(alloc, &mut self.engine, WORKER, WINDOW)?;
+        value_of("spell_acks", self.spell_acks())?;
+        perform(alloc, &mut self.engine, WORKER, &self.acks)
+    }
+}
+
+/// Runs so many windows.
+fn run_all(alloc: Global, work: &mut Work, windows: u64) -> Result<(), Unmet> {
+    for _ in 0..windows {
+        work.run(alloc)?;
+    }
+    Ok(())
+}
+
+/// The second number of a line, or 0.
+fn second_of(line: &str) -> u64 {
+    match line.split_whitespace().nth(1) {
+        Some(word) => word.parse::<u64>().unwrap_or(0),
+        None => 0,
+    }
+}
+
+/// The resident memory of this process, in bytes (Linux: the second number of `/proc/self/statm`, in pages).
+fn resident_bytes(rt: &HostRuntime) -> Result<u64, Unmet> {
+    let line = value_of(
+        "fs::read_to_string",
+        fs::read_to_string(rt, "/proc/self/statm"),
+    )?;
+    Ok(second_of(line.as_str()).saturating_mul(PAGE))
+}
+
+/// 200,000 messages are published, delivered and acknowledged, beside one that is held and one that is ready all the time, and 20,000
+/// consumers made and cancelled. A tenth of that comes first, so that what is kept for use again is there.
+pub(crate) fn a_broker_that_works_for_long_keeps_no_more_room(
+    rt: &HostRuntime,
+    alloc: Global,
+) -> Result<(), Unmet> {
+    let mut work = begin(alloc)?;
+    run_all(alloc, &mut work, 200)?;
+    let before = resident_bytes(rt)?;
+    run_all(alloc, &mut work, 2_000)?;
+    let after = resident_bytes(rt)?;
+    expect(
+        "it has grown by less than 2 MB",
+        after.saturating_sub(before) < MOST,
+    )
+}
