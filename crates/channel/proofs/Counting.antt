@@ -1,14 +1,15 @@
 -- Counts of what consumers hold, at each change.
-use Rattle.std.proofs.Common.{◌≡◌, ℕ, zero, suc, ◌+◌, ◌<◌, List, [], ◌∷◌, ◌++◌, length, get_or, map, filter, find, count_by, refl, sym, ap, ◌∙◌, arith, Bool, true, false, cond, not, Option, Some, None}
+use Rattle.std.proofs.Common.{◌≡◌, ℕ, zero, suc, ◌+◌, ◌<◌, List, [], ◌∷◌, ◌++◌, length, get_or, map, filter, find, count_by, refl, sym, ap, ◌∙◌, arith, Bool, true, false, cond, not, Some}
 use Rattle.std.specs.Prelude.{◌||◌, ◌==◌}
 use Rattle.std.specs.List.{All, list_any}
 use Rattle.std.proofs.lemmas.List.Sums.{count_by-le-length, length-filter, sum_by-cons}
-use Rattle.model.specs.Settling.{takes, is_refused, settled, kept}
+use Rattle.model.specs.Settling.{takes, is_refused, kept}
 use Rattle.model.specs.Prefetch.{is_to, count_to, count_given}
 use Rattle.model.specs.declared.messages.Taker.{Taker}
 use Rattle.channel.specs.Outstanding.{tag_of, taker_of}
-use Rattle.channel.specs.Seats.{consumers_of, counts_of, is_numbered, counted_in, counted_out, may_held, AreParts}
-use Rattle.channel.specs.Deliveries.{may_of}
+use Rattle.channel.proofs.Settlement.{taken_by}
+use Rattle.channel.specs.Seats.{consumers_of, counts_of, is_numbered, counted_in, counted_out, may_held, taker_held, AreParts}
+use Rattle.channel.specs.Deliveries.{may_of, taker_among}
 use Rattle.model.specs.declared.deliveries.Delivery.{Delivery}
 use Rattle.channel.specs.declared.consumers.Consumer.{Consumer}
 use Rattle.channel.specs.declared.consumers.CountedConsumer.{CountedConsumer}
@@ -38,28 +39,15 @@ counted_apart : {X : Type 0} (p q : X → Bool) (xs : List X) → count_by p xs 
 counted_apart p q xs = let a = length-filter p xs in let b = length-filter p (filter q xs) in let c = length-filter p (filter (λ x. not (q x)) xs) in let d = passed_apart p q xs in omega arith
 
 -- what a tag settles, and what stays
-pub settled_parts : (os gone : List Delivery) (tag : ℕ) (multiple : Bool) → Some gone ≡ settled tag_of tag multiple os → AreParts os gone (kept tag_of tag multiple os)
-settled_parts os gone tag multiple e p = go (is_refused tag_of tag multiple os) e
+pub taken_parts : (os : List Delivery) (tag : ℕ) (multiple : Bool) → AreParts os (taken_by tag multiple os) (kept tag_of tag multiple os)
+taken_parts os tag multiple p = go (is_refused tag_of tag multiple os)
   where
     t : Delivery → Bool
     t = takes tag_of tag multiple
 
-    some_is : (xs ys : List Delivery) → Some xs ≡ Some ys → xs ≡ ys
-    some_is xs ys h = cc
-
-    go : (b : Bool) → Some gone ≡ cond b None (Some (filter t os)) → count_by p os ≡ count_by p gone + count_by p (cond b os (filter (λ o. not (t o)) os))
-    go true h = absurd (cc)
-    go false h = rw (some_is gone (filter t os) h) (counted_apart p t os)
-
-pub refused_parts : (os : List Delivery) (tag : ℕ) (multiple : Bool) → ◌≡◌ {A = Option (List Delivery)} None (settled tag_of tag multiple os) → AreParts os [] (kept tag_of tag multiple os)
-refused_parts os tag multiple e p = go (is_refused tag_of tag multiple os) e
-  where
-    t : Delivery → Bool
-    t = takes tag_of tag multiple
-
-    go : (b : Bool) → ◌≡◌ {A = Option (List Delivery)} None (cond b None (Some (filter t os))) → count_by p os ≡ 0 + count_by p (cond b os (filter (λ o. not (t o)) os))
-    go true h = omega arith
-    go false h = absurd (cc)
+    go : (b : Bool) → count_by p os ≡ count_by p (cond b [] (filter t os)) + count_by p (cond b os (filter (λ o. not (t o)) os))
+    go true = omega arith
+    go false = counted_apart p t os
 
 -- ---- seats
 
@@ -171,6 +159,17 @@ may_kept limit given number (s ∷ ss) os h g = go (s.consumer.number == number)
   where
     go : (b : Bool) → may_held limit given (find (is_numbered number) ss) ≡ may_of limit os (find (λ (c : Consumer). c.number == number) (consumers_of ss))
         → may_held limit given (cond b (Some s) (find (is_numbered number) ss)) ≡ may_of limit os (cond b (Some s.consumer) (find (λ (c : Consumer). c.number == number) (consumers_of ss)))
+    go true e = rw (head_is _ _ _ _ h, g) refl
+    go false e = e
+
+-- so it is told where it may
+pub taker_kept : (limit given number : ℕ) (seats : List CountedConsumer) (os : List Delivery) → counts_of seats ≡ counts (consumers_of seats) os → given ≡ count_given taker_of os
+    → taker_held limit given (find (is_numbered number) seats) ≡ taker_among limit os (find (λ (c : Consumer). c.number == number) (consumers_of seats))
+taker_kept limit given number [] os h g = refl
+taker_kept limit given number (s ∷ ss) os h g = go (s.consumer.number == number) (taker_kept limit given number ss os (tail_is _ _ _ _ h) g)
+  where
+    go : (b : Bool) → taker_held limit given (find (is_numbered number) ss) ≡ taker_among limit os (find (λ (c : Consumer). c.number == number) (consumers_of ss))
+        → taker_held limit given (cond b (Some s) (find (is_numbered number) ss)) ≡ taker_among limit os (cond b (Some s.consumer) (find (λ (c : Consumer). c.number == number) (consumers_of ss)))
     go true e = rw (head_is _ _ _ _ h, g) refl
     go false e = e
 

@@ -1,5 +1,5 @@
 -- What is settled has its place marked; what is kept is closed up, and counted.
-use Rattle.std.proofs.Common.{◌≡◌, ℕ, length-drop, length-append, zero, suc, ◌+◌, ◌*◌, ◌<◌, ◌≤◌, List, [], ◌∷◌, ◌++◌, length, get_or, set, take, drop, refl, sym, ap, subst, ◌∙◌, arith, Bool, true, false, cond, not, Option, Some, None}
+use Rattle.std.proofs.Common.{◌≡◌, ℕ, length-drop, length-append, zero, suc, ◌+◌, ◌*◌, ◌<◌, ◌≤◌, List, [], ◌∷◌, ◌++◌, length, get_or, set, take, drop, refl, sym, ap, subst, ◌∙◌, arith, Bool, true, false, cond, not}
 use Rattle.std.specs.Prelude.{filter, count_by, ◌&&◌, Result, Ok, Err, OnOk}
 use Rattle.std.specs.Result.{is_err}
 use Rattle.std.proofs.lemmas.List.{drop-set-add, set_split, get_or-drop, length-set}
@@ -9,11 +9,11 @@ use Rattle.channel.proofs.Runs.{drop_drop, drop_push}
 use Rattle.std.proofs.lemmas.List.Sums.{length-filter, count_by-le-length}
 use Rattle.std.proofs.lemmas.List.Filters.{length-filter_both}
 use Rattle.std.proofs.lemmas.List.Kept.{AllPairs-filter}
-use Rattle.model.specs.Settling.{takes, is_refused, settled, kept, Rises}
+use Rattle.model.specs.Settling.{takes, is_refused, kept, Rises}
 use Rattle.channel.specs.Outstanding.{tag_of, given_tag, marked, IsTagAt, AreInOrder, AreKept}
 use Rattle.model.specs.Placed.{is_waiting, waiting}
 use Rattle.model.specs.declared.deliveries.Delivery.{Delivery}
-use Rattle.channel.proofs.Settlement.{at_given, waits_is, waits_by}
+use Rattle.channel.proofs.Settlement.{at_given, waits_is, waits_by, taken_by}
 
 -- ---- a marked place
 
@@ -109,28 +109,16 @@ counted_waiting p xs = sym (length-filter (λ o. is_waiting o && p o) xs) ∙ le
         go true false e rest = rest ∙ ap (λ (t : Bool). length (cond t (y ∷ filter p (waiting ys)) (filter p (waiting ys)))) (sym e)
         go false b e rest = rest
 
-pub settled_count : (os gone : List Delivery) (tag : ℕ) (multiple : Bool) → Some gone ≡ settled tag_of tag multiple os → length gone + length (kept tag_of tag multiple os) ≡ length os
-settled_count os gone tag multiple e = go (is_refused tag_of tag multiple os) e
+-- what is taken and what is kept are all
+pub taken_count : (os : List Delivery) (tag : ℕ) (multiple : Bool) → length (taken_by tag multiple os) + length (kept tag_of tag multiple os) ≡ length os
+taken_count os tag multiple = go (is_refused tag_of tag multiple os)
   where
     t : Delivery → Bool
     t = takes tag_of tag multiple
 
-    some_is : (xs ys : List Delivery) → Some xs ≡ Some ys → xs ≡ ys
-    some_is xs ys h = cc
-
-    go : (b : Bool) → Some gone ≡ cond b None (Some (filter t os)) → length gone + length (cond b os (filter (λ o. not (t o)) os)) ≡ length os
-    go true h = absurd (cc)
-    go false h = ap (λ (xs : List Delivery). length xs + length (filter (λ o. not (t o)) os)) (some_is gone (filter t os) h) ∙ length-filter_both t (λ o. not (t o)) (λ o. refl) os
-
-pub refused_count : (os : List Delivery) (tag : ℕ) (multiple : Bool) → ◌≡◌ {A = Option (List Delivery)} None (settled tag_of tag multiple os) → 0 + length (kept tag_of tag multiple os) ≡ length os
-refused_count os tag multiple e = go (is_refused tag_of tag multiple os) e
-  where
-    t : Delivery → Bool
-    t = takes tag_of tag multiple
-
-    go : (b : Bool) → ◌≡◌ {A = Option (List Delivery)} None (cond b None (Some (filter t os))) → 0 + length (cond b os (filter (λ o. not (t o)) os)) ≡ length os
-    go true h = omega arith
-    go false h = absurd (cc)
+    go : (b : Bool) → length (cond b [] (filter t os)) + length (cond b os (filter (λ o. not (t o)) os)) ≡ length os
+    go true = omega arith
+    go false = length-filter_both t (λ o. not (t o)) (λ o. refl) os
 
 -- ---- what is kept
 

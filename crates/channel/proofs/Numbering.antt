@@ -11,7 +11,7 @@ use Rattle.model.specs.Prefetch.{is_to, is_delivery, is_below, count_to, count_g
 use Rattle.model.specs.Consuming as said
 use Rattle.channel.specs.Outstanding.{taker_of}
 use Rattle.channel.specs.Seats.{consumers_of, is_numbered, AreNumbered}
-use Rattle.channel.specs.Deliveries.{Given, may_of, may_be_given, consumer_at, taker_at}
+use Rattle.channel.specs.Deliveries.{Given, may_of, taker_among, may_be_given, consumer_at, taker_at}
 use Rattle.channel.specs.Open.{Open, consumer_in, open_in, IsTaker, HasNoTaker, TellsTaker}
 use Rattle.model.specs.Placed.{outstanding_in}
 use Rattle.model.specs.declared.deliveries.Delivery.{Delivery}
@@ -152,6 +152,10 @@ may_in names ch k =
 
 may_at : (g : Given) (number : ℕ) (k : Consumer) → consumer_at g number ≡ Some k → may_be_given g number ≡ (has_tag_left g.next_tag && may_of g.limit g.outstanding (Some k))
 may_at g number k e = ap (λ (o : Option Consumer). has_tag_left g.next_tag && may_of g.limit g.outstanding o) e
+
+-- where a tag is left it is the one that may be given one message more
+pub taker_left : (g : Given) (number : ℕ) (r : Option Consumer) → has_tag_left g.next_tag ≡ true → r ≡ taker_among g.limit g.outstanding (consumer_at g number) → r ≡ taker_at g number
+taker_left g number r left e = e ∙ sym (ap (λ (b : Bool). if (b && may_of g.limit g.outstanding (consumer_at g number)) then consumer_at g number else None) left)
 
 is_taker : (ch : Open) (number : ℕ) (k : Consumer) → AreNumbered ch.given.next_number ch.given.consumers → consumer_at ch.given number ≡ Some k → may_be_given ch.given number ≡ true → IsTaker ch number k
 is_taker ch number k rise e may = let one = found ch.given.next_number number ch.given.consumers k rise e in record {

@@ -13,8 +13,8 @@ use Rattle.model.specs.declared.methods.Consume.{Consume}
 use Rattle.laws.specs.Consumers.{NextTagsAreFound}
 use Rattle.channel.specs.Seats.{is_named}
 use Rattle.channel.specs.Names.{server_name, IsNextName, AreNamesSpent}
-use Rattle.channel.specs.Deliveries.{Given, with_consumer_added, MaySeat, JudgesSeat, AddsConsumer, RefusesUnnamed, ConsumesUnnamed, IsMadeUnder}
-use Rattle.channel.specs.Open.{Open, consumer_in, open_in, places_of, IsConsumerSeated, IsUnseated, SeatsConsumer}
+use Rattle.channel.specs.Deliveries.{Given, with_consumer_added, MaySeat, JudgesSeat, JudgesUnnamed, AddsConsumer, RefusesUnnamed, ConsumesUnnamed, IsMadeUnder}
+use Rattle.channel.specs.Open.{Open, consumer_in, open_in, places_of, IsConsumerSeated, IsUnseated, JudgesConsumer, SeatsConsumer}
 use Rattle.channel.specs.declared.consumers.Consumer.{Consumer}
 use Rattle.channel.specs.declared.consumers.SeatRefusal.{SeatRefusal}
 use Rattle.channel.specs.declared.consumers.SeatRefusal.TheVariants.{InUse, TooMany, Spent, Memory}
@@ -145,6 +145,10 @@ named_refused old m Spent h (free, (few, spent)) = λ names.
     (or_spent old.given.next_number (is_tag_wanting (open_in names old) m.consumer_tag) spent)
 named_refused old m Memory h why = absurd why
 
+pub named_judged : (old : Open) (m : Consume) (o : Option SeatRefusal) → (length m.consumer_tag ≡ 0 → ⊥) → JudgesSeat old.given m.consumer_tag o → JudgesConsumer old m o
+named_judged old m None h may = named_free old m h may
+named_judged old m (Some r) h why = named_refused old m r h why
+
 -- ---- a tag of the server's
 
 no_tag : (tag : Text) → length tag ≡ 0 → tag ≡ []
@@ -212,6 +216,10 @@ unnamed_refused laws old m Spent h (few, spent) = λ names. let none = no_tag m.
         ap (λ (b : Bool). (old.given.next_number == greatest) || b) (no_tag_wanting (open_in names old) m.consumer_tag none ∙ ap (nat_le greatest) (none_is laws names old s))
         ∙ or_true (old.given.next_number == greatest)
 unnamed_refused laws old m Memory h (few, (left, (n, next))) = unnamed_free laws old m n (no_tag m.consumer_tag h) few left next
+
+pub unnamed_judged : NextTagsAreFound → (old : Open) (m : Consume) (o : Option SeatRefusal) → length m.consumer_tag ≡ 0 → JudgesUnnamed old.given o → JudgesConsumer old m o
+unnamed_judged laws old m None h (few, (left, (n, next))) = unnamed_free laws old m n (no_tag m.consumer_tag h) few left next
+unnamed_judged laws old m (Some r) h why = unnamed_refused laws old m r h why
 
 pub unnamed_seats : NextTagsAreFound → (old : Open) (given : Given) (queue : ℕ) (m : Consume) (r : Result Text SeatRefusal) → length m.consumer_tag ≡ 0
     → ConsumesUnnamed old.given queue m.no_ack r given → SeatsConsumer old queue m r (record old { given = given })

@@ -1,5 +1,5 @@
 -- What a tag takes of outstanding deliveries whose tags rise, with the places between of what was settled before.
-use Rattle.std.proofs.Common.{◌≡◌, ℕ, zero, suc, ◌+◌, ◌<◌, ◌≤◌, List, [], ◌∷◌, ◌++◌, length, get_or, take, drop, refl, sym, ap, ◌∙◌, arith, Bool, true, false, cond, not, Some, leb, eqb, eq-eqb, inl, inr}
+use Rattle.std.proofs.Common.{◌≡◌, ℕ, zero, suc, ◌+◌, ◌-◌, ◌<◌, ◌≤◌, List, [], ◌∷◌, ◌++◌, length, length-drop, get_or, take, drop, refl, sym, ap, ◌∙◌, arith, Bool, true, false, cond, not, Option, Some, None, leb, eqb, eq-eqb, inl, inr}
 use Rattle.std.specs.Prelude.{filter, ◌⊎◌, ◌==◌, ◌&&◌, ◌||◌, nat_le, if◌then◌else◌}
 use Rattle.std.specs.List.{list_any}
 use Rattle.std.proofs.lemmas.Bool.Decides.{eqb_tells, leb_tells}
@@ -86,6 +86,10 @@ drop_len : (xs : List Delivery) → drop (length xs) xs ≡ []
 drop_len [] = refl
 drop_len (x ∷ xs) = drop_len xs
 
+-- what is behind n of them is so many fewer
+pub rest_is : (n : ℕ) (xs : List Delivery) → take (length xs - n) (drop n xs) ≡ drop n xs
+rest_is n xs = ap (λ (k : ℕ). take k (drop n xs)) (sym (length-drop n xs)) ∙ take_len (drop n xs)
+
 -- ---- the run of places that a tag takes
 
 one_passes : (os : List Delivery) (i tag : ℕ) → Rises given_tag os → IsTagAt os i tag → PassWithin (takes given_tag tag false) os i (i + 1)
@@ -156,6 +160,37 @@ settle_one os i tag multiple m r h = rw m (
   sym (unkept tag false (waiting os) (not_refused os i tag false h) ∙ both (λ o. not (takes tag_of tag false o)) (λ o. not (takes given_tag tag false o)) (λ o w. ap not (takes_same tag false o w)) os
       ∙ ap waiting (failed (takes given_tag tag false) os i (i + 1) (one_passes os i tag r h)) ∙ filter-append is_waiting (take i os) (drop (i + 1) os)),
 )
+
+-- what a tag settles of these; nothing where it is refused
+abbrev pub taken_by : ℕ → Bool → List Delivery → List Delivery
+taken_by tag multiple os = if is_refused tag_of tag multiple os then [] else filter (takes tag_of tag multiple) os
+
+-- where something is settled it is that
+pub taken_some : (os gone : List Delivery) (tag : ℕ) (multiple : Bool) → Some gone ≡ settled tag_of tag multiple os → gone ≡ taken_by tag multiple os
+taken_some os gone tag multiple e = go (is_refused tag_of tag multiple os) e
+  where
+    some_is : (xs ys : List Delivery) → Some xs ≡ Some ys → xs ≡ ys
+    some_is xs ys h = cc
+
+    go : (b : Bool) → Some gone ≡ cond b None (Some (filter (takes tag_of tag multiple) os)) → gone ≡ cond b [] (filter (takes tag_of tag multiple) os)
+    go true h = absurd (cc)
+    go false h = some_is gone (filter (takes tag_of tag multiple) os) h
+
+-- and else nothing
+pub taken_none : (os : List Delivery) (tag : ℕ) (multiple : Bool) → ◌≡◌ {A = Option (List Delivery)} None (settled tag_of tag multiple os) → [] ≡ taken_by tag multiple os
+taken_none os tag multiple e = go (is_refused tag_of tag multiple os) e
+  where
+    go : (b : Bool) → ◌≡◌ {A = Option (List Delivery)} None (cond b None (Some (filter (takes tag_of tag multiple) os))) → [] ≡ cond b [] (filter (takes tag_of tag multiple) os)
+    go true h = refl
+    go false h = absurd (cc)
+
+-- a tag that is not refused settles it
+settles_it : (os : List Delivery) (tag : ℕ) (multiple : Bool) → is_refused tag_of tag multiple os ≡ false → settled tag_of tag multiple os ≡ Some (taken_by tag multiple os)
+settles_it os tag multiple e = rw e refl
+
+-- so does a tag that waits
+pub here_settles : (os : List Delivery) (i tag : ℕ) (multiple : Bool) → IsTagAt os i tag → settled tag_of tag multiple (waiting os) ≡ Some (taken_by tag multiple (waiting os))
+here_settles os i tag multiple h = settles_it (waiting os) tag multiple (not_refused os i tag multiple h)
 
 pub absent_by : (os : List Delivery) (i tag : ℕ) → Rises given_tag os → ((k : ℕ) (d : Delivery) → k < i → given_tag (get_or os k d) < tag) → ((k : ℕ) (d : Delivery) → i ≤ k → k < length os → tag ≤ given_tag (get_or os k d))
     → (IsTagAt os i tag → ⊥) → list_any (has_tag tag_of tag) (waiting os) ≡ false

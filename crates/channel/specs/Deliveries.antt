@@ -9,6 +9,7 @@ use Rattle.model.specs.declared.messages.Taker.{Taker}
 use Rattle.channel.specs.Outstanding.{taker_of}
 use Rattle.channel.specs.Seats.{is_named}
 use Rattle.channel.specs.Names.{server_name, IsNextName, AreNamesSpent}
+use Rattle.channel.specs.declared.names.Name.{Name}
 use Rattle.model.specs.declared.deliveries.Delivery.{Delivery}
 use Rattle.channel.specs.declared.consumers.Consumer.{Consumer}
 use Rattle.channel.specs.declared.consumers.SeatRefusal.{SeatRefusal}
@@ -61,6 +62,10 @@ abbrev pub may_of : ℕ → List Delivery → Option Consumer → Bool
 may_of limit outstanding None = false
 may_of limit outstanding (Some c) = may_hold taker_of limit c.no_ack c.limit c.number outstanding
 
+-- this consumer, if there is one and it may
+abbrev pub taker_among : ℕ → List Delivery → Option Consumer → Option Consumer
+taker_among limit outstanding c = if may_of limit outstanding c then c else None
+
 -- a tag is left, and the consumer of this number is the channel's and may be given one message more
 abbrev pub may_be_given : Given → ℕ → Bool
 may_be_given g number = has_tag_left g.next_tag && may_of g.limit g.outstanding (find (λ (c : Consumer). c.number == number) g.consumers)
@@ -105,6 +110,17 @@ RefusesUnnamed g InUse = ⊥
 RefusesUnnamed g TooMany = 256 ≤ length g.consumers
 RefusesUnnamed g Spent = (length g.consumers < 256) × ((g.next_number ≡ greatest) ⊎ AreNamesSpent g.consumers g.next_name)
 RefusesUnnamed g Memory = (length g.consumers < 256) × ((g.next_number < greatest) × ((n : ℕ) × IsNextName g.consumers g.next_name n))
+
+-- the next name for a consumer without a tag of its own, against which nothing stands; or why it has none
+abbrev pub NamesUnnamed : Given → Result Name SeatRefusal → Type 0
+NamesUnnamed g (Ok name) =
+    (length g.consumers < 256) × ((g.next_number < greatest) × (IsNextName g.consumers g.next_name name.number × (name.tag.bytes ≡ server_name name.number)))
+NamesUnnamed g (Err refusal) = RefusesUnnamed g refusal
+
+-- what stands against it, or that a name is left and nothing does
+abbrev pub JudgesUnnamed : Given → Option SeatRefusal → Type 0
+JudgesUnnamed g None = (length g.consumers < 256) × ((g.next_number < greatest) × ((n : ℕ) × IsNextName g.consumers g.next_name n))
+JudgesUnnamed g (Some refusal) = RefusesUnnamed g refusal
 
 -- A consumer was made under the next name, of this number.
 pub record IsMadeUnder (old : Given) (queue : ℕ) (no_ack : Bool) (tag : Text) (new : Given) (n : ℕ) : Type 0 where

@@ -1,4 +1,5 @@
 pub mod Outstanding
+pub mod Spans
 pub mod Seats
 pub mod Names
 pub mod Deliveries

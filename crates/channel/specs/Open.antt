@@ -90,6 +90,11 @@ IsUnseated old m TooMany = (names : List Text) → refusal_of_seat (open_in name
 IsUnseated old m Spent = (names : List Text) → refusal_of_seat (open_in names old) m ≡ Some (Of_connection 541)
 IsUnseated old m Memory = (names : List Text) → refusal_of_seat (open_in names old) m ≡ None
 
+-- what stands against one consumer more, or that nothing does
+abbrev pub JudgesConsumer : Open → Consume → Option SeatRefusal → Type 0
+JudgesConsumer ch m None = (names : List Text) → refusal_of_seat (open_in names ch) m ≡ None
+JudgesConsumer ch m (Some refusal) = IsUnseated ch m refusal
+
 -- A consumer was made under this tag, or refused: then nothing changed.
 abbrev pub SeatsConsumer : Open → ℕ → Consume → Result Text SeatRefusal → Open → Type 0
 SeatsConsumer old queue m (Ok tag) new = IsConsumerSeated old queue m tag new

@@ -59,6 +59,11 @@ abbrev pub may_held : ℕ → ℕ → Option CountedConsumer → Bool
 may_held limit given None = false
 may_held limit given (Some s) = s.consumer.no_ack || (is_below s.consumer.limit s.held && is_below limit given)
 
+-- this consumer, if there is one and it may
+abbrev pub taker_held : ℕ → ℕ → Option CountedConsumer → Option Consumer
+taker_held limit given None = None
+taker_held limit given (Some s) = if may_held limit given (Some s) then Some s.consumer else None
+
 -- The counts are those of what is outstanding.
 pub record SeatsAreCounted (s : Seated) (outstanding : List Delivery) : Type 0 where
   pub each : s.held ≡ map (λ (c : Consumer). count_to taker_of c.number outstanding) s.consumers

@@ -8,14 +8,15 @@ ghost use Rattle.model.specs.Step.{started, next_of, is_spent};
 ghost use Rattle.model.specs.Prefetch.{has_tag_left};
 ghost use Rattle.channel.specs.Outstanding.{tag_of};
 ghost use Rattle.model.specs.Placed.{waiting};
-ghost use Rattle.channel.specs.Deliveries.{consumer_at};
-ghost use Rattle.channel.specs.Deliveries.{nothing_given};
+ghost use Rattle.channel.specs.Spans.{settled_by, TellsSpan};
+ghost use Rattle.channel.specs.Deliveries.{nothing_given, may_be_given, consumer_at};
 ghost use Rattle.channel.specs.Open.{with_qos, given_on, settled_on, without_settled, without_named, consumers_from, open_in};
-ghost use Rattle.channel.specs.Open.{SeatsConsumer, TellsTaker};
+ghost use Rattle.channel.specs.Open.{JudgesConsumer, SeatsConsumer, TellsTaker};
 ghost use Rattle.channel.specs.Moving.{open_moved};
 
 use crate::consumers::{Consumer, SeatRefusal};
 use crate::deliveries::Deliveries;
+use crate::spans::Span;
 use laws::next_tags_are_found;
 use model::{Consume, Delivery, Qos, Taker, Text};
 use std::alloc::{AllocError, Global};
@@ -113,6 +114,19 @@ impl Channel {
         self.deliveries.limit(qos.prefetch_count, qos.global);
     }
 
+    /// What stands against the consumer that a consume asks for, in this order: that a consumer of the channel has the tag (530),
+    /// that the channel has 256 consumers (506), and that the numbers or the server's tags are spent (541). It takes no memory.
+    /// Source: AMQP 0-9-1, basic.consume.
+    pub fn refusal(&self, consume: &Consume) -> Option<SeatRefusal>
+        ensures { JudgesConsumer self.now consume.now result }
+    {
+        if consume.consumer_tag.len() == 0 {
+            next_tags_are_found();
+            return self.deliveries.refusal_unnamed();
+        }
+        self.deliveries.refusal(consume.consumer_tag.as_bytes())
+    }
+
     /// Makes a consumer of the queue at this place, under the tag that the consume gives, or where it gives none under one of
     /// the server's. Tells its tag. Refused, in this order: where a consumer of the channel has the tag (530), where the channel
     /// has 256 consumers (506), and where the numbers or the server's tags are spent (541). Memory is wanting only where nothing
@@ -164,6 +178,14 @@ impl Channel {
         self.deliveries.taker(number)
     }
 
+    /// Whether the consumer of this number is the channel's, and may be given a message now: a delivery tag is left, and neither
+    /// its limit nor the channel's is reached. Source: RabbitMQ, "Consumer Prefetch".
+    pub fn may_take(&self, number: u64) -> bool
+        ensures { result ≡ may_be_given self.now.given number }
+    {
+        self.deliveries.may_take(number)
+    }
+
     /// Whether the channel has a consumer of this number.
     pub fn has_number(&self, number: u64) -> bool
         ensures { result ≡ is_some (consumer_at self.now.given number) }
@@ -192,12 +214,13 @@ impl Channel {
         self.deliveries.next_tag()
     }
 
-    /// Makes room for so many messages more that are given out. Where memory is wanting, as it may be only where there was not
-    /// so much, nothing changes.
+    /// Makes room for so many messages more that are given out. What is made is bounded by what is outstanding. Where memory is
+    /// wanting, as it may be only where there was not so much, nothing changes.
     pub fn reserve(&mut self, more: usize) -> Result<(), AllocError>
         ensures same { self.new ≡ record self.old { given = record self.old.given { room = self.new.given.room } } }
         ensures kept { self.old.given.room ≤ self.new.given.room }
         ensures full { OnErr result (self.old.given.room < more) }
+        ensures grown { self.old.given.room < self.new.given.room → self.new.given.room ≤ 3 * length self.old.given.outstanding + more + 68 }
         ensures room { OnOk result (more ≤ self.new.given.room) }
         ensures err { OnErr result (self.new ≡ self.old) }
     {
@@ -229,19 +252,47 @@ impl Channel {
         self.deliveries.outstanding()
     }
 
+    /// What this tag settles; none where it is refused, with 406. It is searched for here alone. Source: AMQP 0-9-1, basic.ack.
+    pub fn span(&self, tag: u64, multiple: bool) -> Option<Span>
+        ensures { TellsSpan tag multiple self.now.given.outstanding result }
+    {
+        self.deliveries.span(tag, multiple)
+    }
+
+    /// What this span settles, in tag order, with the places between of what was settled before; nothing where its tag is
+    /// refused.
+    pub fn at(&self, span: Span) -> &[Delivery]
+        ensures { waiting result.now ≡ settled_by span self.now.given.outstanding }
+    {
+        self.deliveries.at(span)
+    }
+
+    /// Takes out what this span settles; nothing where its tag is refused. It takes no memory.
+    pub fn forget_span(&mut self, span: Span)
+        ensures settled { self.new ≡ without_settled self.old span.tag span.multiple self.new.given.room }
+        ensures room { self.old.given.room ≤ self.new.given.room }
+    {
+        self.deliveries.forget_span(span);
+    }
+
     /// What this tag settles, in tag order, with the places between of what was settled before; none where it is refused, with
     /// 406. Source: AMQP 0-9-1, basic.ack.
     pub fn settle(&self, tag: u64, multiple: bool) -> Option<&[Delivery]>
         ensures { option_map (λ s. waiting s.now) result ≡ settled tag_of tag multiple self.now.given.outstanding }
     {
-        self.deliveries.settle(tag, multiple)
+        match self.span(tag, multiple) {
+            Some(span) => Some(self.at(span)),
+            None => None,
+        }
     }
 
     /// Takes out what this tag settles; nothing where it is refused. It takes no memory.
     pub fn forget(&mut self, tag: u64, multiple: bool)
         ensures { self.new ≡ without_settled self.old tag multiple self.new.given.room }
     {
-        self.deliveries.forget(tag, multiple);
+        if let Some(span) = self.span(tag, multiple) {
+            self.forget_span(span);
+        }
     }
 
     /// Each queue that stood at a place of the table stands now at the place that it has there. It takes no memory.

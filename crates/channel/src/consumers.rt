@@ -1,12 +1,13 @@
 //! The consumers of a channel, and what they may be given.
 
-ghost use Rattle.std.specs.Prelude.{cond, ◌&&◌, ◌≡◌, ◌<◌, ◌≤◌, ◌-◌, ◌^◌, None, IfSome, option_map, not, true, false};
+ghost use Rattle.std.specs.Prelude.{cond, ◌&&◌, ◌≡◌, ◌<◌, ◌≤◌, ◌-◌, ◌^◌, None, Some, IfSome, option_map, not, true, false};
 ghost use Rattle.std.specs.Prelude.{length, map, find, filter, count_by, vec_len, vec_capacity};
 ghost use Rattle.model.specs.declared.messages.Taker.TheVariants as taker;
 ghost use Rattle.std.specs.List.{list_any, position_from, All};
 ghost use Rattle.model.specs.Prefetch.{is_to, is_delivery, is_below};
 ghost use Rattle.model.specs.Placed.{is_waiting, waiting};
-ghost use Rattle.channel.specs.Seats.{consumers_of, is_numbered, has_name, takes_from, counted_in, counted_out, uncounted, may_held, IsSeatAt, NumbersRise};
+ghost use Rattle.channel.specs.Seats.{consumers_of, is_numbered, has_name, takes_from, counted_in, counted_out, uncounted};
+ghost use Rattle.channel.specs.Seats.{may_held, taker_held, IsSeatAt, NumbersRise};
 ghost use Rattle.channel.specs.Moving.{seat_moved};
 
 use crate::pending::place_now;
@@ -283,18 +284,43 @@ fn is_room(limit: u16, held: usize) -> bool
     limit == 0 || held < limit as usize
 }
 
-/// The consumer of this number is there, and may be given one message more, where all consumers of the channel have `given`
-/// under this limit of theirs.
+/// The consumer there may be given one message more, where all consumers of the channel have `given` under this limit of theirs.
+fn may_hold(seat: &CountedConsumer, limit: u16, given: usize) -> bool
+    ensures { result ≡ may_held limit given (Some seat.now) }
+{
+    seat.consumer.no_ack || (is_room(seat.consumer.limit, seat.held) && is_room(limit, given))
+}
+
+/// The consumer of this number is there, and may be given one message more.
 pub(crate) fn may_one(seats: &[CountedConsumer], number: u64, limit: u16, given: usize) -> bool
     requires { NumbersRise (consumers_of seats.now) }
     ensures { result ≡ may_held limit given (find (is_numbered number) seats.now) }
 {
     match seat_of(seats, number) {
-        Some(seat) => {
-            seat.consumer.no_ack
-                || (is_room(seat.consumer.limit, seat.held) && is_room(limit, given))
-        }
+        Some(seat) => may_hold(seat, limit, given),
         None => false,
+    }
+}
+
+/// The consumer of this number, where it is there and may be given one message more.
+pub(crate) fn taker_of(
+    seats: &[CountedConsumer],
+    number: u64,
+    limit: u16,
+    given: usize,
+) -> Option<&Consumer>
+    requires { NumbersRise (consumers_of seats.now) }
+    ensures { option_map (λ k. k.now) result ≡ taker_held limit given (find (is_numbered number) seats.now) }
+{
+    match seat_of(seats, number) {
+        Some(seat) => {
+            if may_hold(seat, limit, given) {
+                Some(&seat.consumer)
+            } else {
+                None
+            }
+        }
+        None => None,
     }
 }
 

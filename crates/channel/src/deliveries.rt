@@ -1,9 +1,10 @@
 //! Delivery tags, what is outstanding under them, and the consumers with their limits.
 
 use crate::consumers::{Consumer, CountedConsumer, SeatRefusal, given_to};
-use crate::names::next_name;
+use crate::names::{Name, next_name};
 use crate::pending::Unsettled;
 use crate::seats::Seats;
+use crate::spans::Span;
 use model::{Delivery, Taker, Text};
 use std::alloc::{AllocError, Global};
 use std::marker::Model;
@@ -44,12 +45,14 @@ impl Model for Deliveries {
 
 impl Deliveries {
     ghost use Rattle.std.specs.Prelude.{◌≡◌, ◌<◌, ◌≤◌, ◌+◌, ◌-◌, ◌*◌, [], length, true, filter, count_by, not, is_some, option_map, OnOk, OnErr};
-    ghost use Rattle.model.specs.Settling.{settled, kept};
+    ghost use Rattle.model.specs.Settling.{kept};
     ghost use Rattle.model.specs.Prefetch.{has_tag_left};
     ghost use Rattle.channel.specs.Outstanding.{tag_of};
+    ghost use Rattle.channel.specs.Spans.{settled_by, TellsSpan};
     ghost use Rattle.model.specs.Placed.{waiting};
     ghost use Rattle.channel.specs.Seats.{AreNumbered, consumers_of, is_named, takes_from};
-    ghost use Rattle.channel.specs.Deliveries.{nothing_given, with_given, with_limit, may_be_given, consumer_at, taker_at, AddsConsumer, ConsumesUnnamed, JudgesSeat, MaySeat};
+    ghost use Rattle.channel.specs.Deliveries.{nothing_given, with_given, with_limit, may_be_given, consumer_at, taker_at, AddsConsumer};
+    ghost use Rattle.channel.specs.Deliveries.{ConsumesUnnamed, JudgesSeat, JudgesUnnamed, MaySeat, NamesUnnamed};
     ghost use Rattle.channel.specs.Moving.{given_moved};
 
     /// Nothing was given out, there is no consumer and no limit. It takes no memory.
@@ -73,27 +76,34 @@ impl Deliveries {
         ensures kept { self.old.room ≤ self.new.room }
         ensures room { OnOk result (more ≤ self.new.room) }
         ensures full { OnErr result (self.old.room < more) }
+        ensures grown { self.old.room < self.new.room → self.new.room ≤ 3 * length self.old.outstanding + more + 68 }
         ensures err { OnErr result (self.new ≡ self.old) }
     {
         self.pending.reserve(more)
     }
 
-    /// What this tag settles, in tag order, with the places between of what was settled before; none where it is refused, with
-    /// 406. Source: AMQP 0-9-1, basic.ack.
-    pub fn settle(&self, tag: u64, multiple: bool) -> Option<&[Delivery]>
-        ensures { option_map (λ s. waiting s.now) result ≡ settled tag_of tag multiple self.now.outstanding }
+    /// What this tag settles; none where it is refused, with 406. Source: AMQP 0-9-1, basic.ack.
+    pub fn span(&self, tag: u64, multiple: bool) -> Option<Span>
+        ensures { TellsSpan tag multiple self.now.outstanding result }
     {
-        self.pending.settle(tag, multiple, 0)
+        self.pending.span(tag, multiple)
     }
 
-    /// Takes out what this tag settles; nothing where it is refused.
-    pub fn forget(&mut self, tag: u64, multiple: bool)
-        ensures outstanding { self.new ≡ record self.old { outstanding = kept tag_of tag multiple self.old.outstanding; room = self.new.room } }
+    /// What this span settles, in tag order, with the places between of what was settled before; nothing where its tag is
+    /// refused.
+    pub fn at(&self, span: Span) -> &[Delivery]
+        ensures { waiting result.now ≡ settled_by span self.now.outstanding }
+    {
+        self.pending.at(span)
+    }
+
+    /// Takes out what this span settles; nothing where its tag is refused.
+    pub fn forget_span(&mut self, span: Span)
+        ensures outstanding { self.new ≡ record self.old { outstanding = kept tag_of span.tag span.multiple self.old.outstanding; room = self.new.room } }
         ensures room { self.old.room ≤ self.new.room }
     {
-        let near = self.pending.near(tag);
-        self.seats.count_out(self.pending.gone(tag, multiple, near));
-        self.pending.forget(tag, multiple, near);
+        self.seats.count_out(self.pending.at(span));
+        self.pending.forget(span);
     }
 
     /// All that is outstanding, in tag order, with the places between of what was settled before: at most as many again, and 32.
@@ -180,8 +190,8 @@ impl Deliveries {
         ensures taker { option_map (λ k. k.now) result ≡ taker_at self.now number }
         ensures numbered { AreNumbered self.now.next_number self.now.consumers }
     {
-        let found = self.seats.numbered(number);
-        if !self.may_take(number) {
+        let found = self.seats.taker(number, self.limit);
+        if !self.has_tag_left() {
             return None;
         }
         found
@@ -243,9 +253,36 @@ impl Deliveries {
         Ok(())
     }
 
-    /// Makes a consumer for whom the client gave no tag: its tag is `amq.ctag-N`, N counted from 1 on the channel, past those
-    /// in use. Tells the tag. Refused, in this order: where the channel has 256 consumers (506), where the numbers or the names
-    /// are spent (541), and for want of memory. Then nothing changes.
+    /// The next name for a consumer for whom the client gives no tag: `amq.ctag-N`, N counted from 1 on the channel, past those in
+    /// use. Refused, in this order: where the channel has 256 consumers (506), and where the numbers or the names are spent (541).
+    /// It takes no memory.
+    fn next_unnamed(&self) -> Result<Name, SeatRefusal>
+        ensures { NamesUnnamed self.now result }
+    {
+        if self.seats.len() >= 256 {
+            return Err(SeatRefusal::TooMany);
+        }
+        if self.next_number == u64::MAX {
+            return Err(SeatRefusal::Spent);
+        }
+        match next_name(&self.seats, self.next_name) {
+            Some(name) => Ok(name),
+            None => Err(SeatRefusal::Spent),
+        }
+    }
+
+    /// What stands against a consumer for whom the client gives no tag. It takes no memory.
+    pub fn refusal_unnamed(&self) -> Option<SeatRefusal>
+        ensures { JudgesUnnamed self.now result }
+    {
+        match self.next_unnamed() {
+            Ok(_) => None,
+            Err(refusal) => Some(refusal),
+        }
+    }
+
+    /// Makes a consumer for whom the client gave no tag, under the next name. Tells the tag. Refused where something stands
+    /// against it, and for want of memory. Then nothing changes.
     pub fn consume_unnamed(
         &mut self,
         alloc: Global,
@@ -254,15 +291,7 @@ impl Deliveries {
     ) -> Result<Text, SeatRefusal>
         ensures { ConsumesUnnamed self.old queue no_ack result self.new }
     {
-        if self.seats.len() >= 256 {
-            return Err(SeatRefusal::TooMany);
-        }
-        if self.next_number == u64::MAX {
-            return Err(SeatRefusal::Spent);
-        }
-        let Some(name) = next_name(&self.seats, self.next_name) else {
-            return Err(SeatRefusal::Spent);
-        };
+        let name = self.next_unnamed()?;
         let tag = Text::from_slice(alloc, name.tag.as_bytes())?;
         self.consume(tag.clone()?, queue, no_ack)?;
         self.next_name = name.number + 1;

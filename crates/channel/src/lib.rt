@@ -10,8 +10,10 @@ mod deliveries;
 mod names;
 mod pending;
 mod seats;
+mod spans;
 mod tags;
 
 pub use channels::Channel;
 pub use consumers::{Consumer, CountedConsumer, SeatRefusal};
 pub use deliveries::Deliveries;
+pub use spans::Span;

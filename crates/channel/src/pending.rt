@@ -1,6 +1,7 @@
 //! What was given out on a channel and is not settled.
 
-use crate::tags::{behind, close_if, count_settled, forget_in, make_place, place_near, settled_of};
+use crate::spans::Span;
+use crate::tags::{behind, close_if, count_settled, forget_in, make_place, settled_of, span_of};
 use model::Delivery;
 use std::alloc::{AllocError, Global};
 use std::marker::Model;
@@ -30,11 +31,11 @@ impl Model for Unsettled {
 }
 
 impl Unsettled {
-    ghost use Rattle.std.specs.Prelude.{◌≡◌, ◌+◌, ◌*◌, ◌<◌, ◌≤◌, ◌^◌, ◌++◌, ◌∷◌, [], ℕ, option_map, OnOk, OnErr, length, map};
+    ghost use Rattle.std.specs.Prelude.{◌≡◌, ◌+◌, ◌*◌, ◌<◌, ◌≤◌, ◌^◌, ◌++◌, ◌∷◌, [], ℕ, OnOk, OnErr, length, map};
     ghost use Rattle.model.specs.Placed.{waiting};
-    ghost use Rattle.model.specs.Settling.{settled, kept, Rises};
+    ghost use Rattle.model.specs.Settling.{kept, Rises};
     ghost use Rattle.channel.specs.Outstanding.{tag_of};
-    ghost use Rattle.channel.specs.Seats.{AreParts};
+    ghost use Rattle.channel.specs.Spans.{settled_by, TellsSpan};
     ghost use Rattle.channel.specs.Moving.{outstanding_moved};
 
     /// Nothing is outstanding. It takes no memory.
@@ -59,38 +60,28 @@ impl Unsettled {
         behind(&self.items, self.start)
     }
 
-    /// Where this tag waits behind the front, if it does, or else any place.
-    pub(crate) fn near(&self, tag: u64) -> usize {
-        place_near(behind(&self.items, self.start), tag)
-    }
-
-    /// What a tag settles, in tag order, with the places between of what was settled before. It is looked for near this place
-    /// first.
-    pub(crate) fn settle(&self, tag: u64, multiple: bool, near: usize) -> Option<&[Delivery]>
-        ensures { option_map (λ s. waiting s.now) result ≡ settled tag_of tag multiple self.now.outstanding }
+    /// What a tag settles; none where it is refused.
+    pub(crate) fn span(&self, tag: u64, multiple: bool) -> Option<Span>
+        ensures { TellsSpan tag multiple self.now.outstanding result }
     {
-        settled_of(behind(&self.items, self.start), tag, multiple, near)
+        span_of(behind(&self.items, self.start), tag, multiple)
     }
 
-    /// The same; nothing where the tag is refused.
-    pub(crate) fn gone(&self, tag: u64, multiple: bool, near: usize) -> &[Delivery]
-        ensures { AreParts self.now.outstanding (waiting result.now) (kept tag_of tag multiple self.now.outstanding) }
+    /// What a span settles, in tag order, with the places between of what was settled before; nothing where its tag is refused.
+    pub(crate) fn at(&self, span: Span) -> &[Delivery]
+        ensures { waiting result.now ≡ settled_by span self.now.outstanding }
     {
-        match self.settle(tag, multiple, near) {
-            Some(gone) => gone,
-            None => &[],
-        }
+        settled_of(behind(&self.items, self.start), span)
     }
 
-    /// Takes out what a tag settles, which is looked for near this place first. What is kept is closed up where that is more than
-    /// twice what waits, and 32.
-    pub(crate) fn forget(&mut self, tag: u64, multiple: bool, near: usize)
-        ensures outstanding { self.new.outstanding ≡ kept tag_of tag multiple self.old.outstanding }
+    /// Takes out what a span settles. What is kept is closed up where that is more than twice what waits, and 32.
+    pub(crate) fn forget(&mut self, span: Span)
+        ensures outstanding { self.new.outstanding ≡ kept tag_of span.tag span.multiple self.old.outstanding }
         ensures last { self.new.last ≡ self.old.last }
         ensures room { self.old.room ≤ self.new.room }
     {
-        let gone = count_settled(&self.items, self.start, tag, multiple, near);
-        self.start = forget_in(&mut self.items, self.start, tag, multiple, near);
+        let gone = count_settled(&self.items, self.start, span);
+        self.start = forget_in(&mut self.items, self.start, span);
         self.count -= gone;
         let is_wanted = is_sparse(self.items.len(), self.count);
         self.start = close_if(&mut self.items, self.start, is_wanted);
@@ -104,12 +95,13 @@ impl Unsettled {
         ensures kept { self.old.room ≤ self.new.room }
         ensures room { OnOk result (more ≤ self.new.room) }
         ensures full { OnErr result (self.old.room < more) }
+        ensures grown { self.old.room < self.new.room → self.new.room ≤ 3 * length self.old.outstanding + more + 68 }
         ensures err { OnErr result (self.new ≡ self.old) }
     {
         let is_enough = more <= self.items.capacity() - self.count;
         let is_worth = is_enough && is_worth_closing(&self.items, self.count, more);
         self.start = close_if(&mut self.items, self.start, is_worth);
-        if self.items.reserve(more).is_err() && !is_enough {
+        if grow(&mut self.items, more).is_err() && !is_enough {
             return Err(AllocError);
         }
         Ok(())
@@ -140,7 +132,7 @@ impl Unsettled {
     }
 }
 
-ghost use Rattle.std.specs.Prelude.{◌≡◌, ◌+◌, ◌*◌, ◌≤◌, false, vec_len, vec_capacity, map};
+ghost use Rattle.std.specs.Prelude.{◌≡◌, ◌+◌, ◌*◌, ◌<◌, ◌≤◌, false, OnOk, OnErr, vec_len, vec_capacity, map};
 ghost use Rattle.channel.specs.Moving.{place_now, outstanding_moved};
 
 /// More places are kept than twice what waits, and 32.
@@ -158,6 +150,33 @@ fn is_worth_closing(items: &Vec<Delivery>, count: usize, more: usize) -> bool
 {
     let places = items.len();
     more > items.capacity() - places && places - count > places / 4
+}
+
+/// How many places more are made where so many are wanted behind so many: as many as there are, so that growths are few.
+fn growth(places: usize, more: usize) -> usize
+    ensures enough { more ≤ result }
+    ensures few { result ≤ places + more + 4 }
+{
+    if more > places {
+        return more;
+    }
+    if places > 4 { places } else { 4 }
+}
+
+/// Makes room for so many more behind what is kept, where there is not so much.
+fn grow(items: &mut Vec<Delivery>, more: usize) -> Result<(), AllocError>
+    ensures items { items.new.items ≡ items.old.items }
+    ensures len { vec_len items.new ≡ vec_len items.old }
+    ensures ok { OnOk result (vec_len items.new + more ≤ vec_capacity items.new) }
+    ensures capacity { vec_capacity items.old ≤ vec_capacity items.new }
+    ensures full { OnErr result (vec_capacity items.old < vec_len items.old + more) }
+    ensures grown { vec_capacity items.old < vec_capacity items.new → vec_capacity items.new ≤ 2 * vec_len items.old + more + 4 }
+    ensures err { OnErr result (vec_capacity items.new ≡ vec_capacity items.old) }
+{
+    if more <= items.capacity() - items.len() {
+        return Ok(());
+    }
+    items.reserve_exact(growth(items.len(), more))
 }
 
 /// Where the queue stands now that stood at this place; behind the table, at the same one.

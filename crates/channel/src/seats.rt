@@ -4,7 +4,7 @@ ghost use Rattle.std.specs.Prelude.{◌≡◌};
 
 use crate::consumers::{
     Consumer, CountedConsumer, consumer_of, count_from, count_in, count_out, given_to_all,
-    is_in_use, may_one, one_if_consumed, renumber, take_out,
+    is_in_use, may_one, one_if_consumed, renumber, take_out, taker_of,
 };
 use model::{Delivery, Taker};
 use std::alloc::{AllocError, Global};
@@ -40,7 +40,7 @@ impl Seats {
     ghost use Rattle.channel.specs.Outstanding.{taker_of};
     ghost use Rattle.model.specs.Placed.{waiting};
     ghost use Rattle.channel.specs.Seats.{SeatsAreCounted, AreParts, NumbersRise, consumers_of, is_named, takes_from};
-    ghost use Rattle.channel.specs.Deliveries.{may_of};
+    ghost use Rattle.channel.specs.Deliveries.{may_of, taker_among};
     ghost use Rattle.channel.specs.Moving.{consumer_moved, outstanding_moved};
     ghost use Rattle.channel.specs.declared.consumers.Consumer.{Consumer as One};
     ghost use Rattle.model.specs.declared.deliveries.Delivery.{Delivery as Given};
@@ -99,6 +99,15 @@ impl Seats {
             → result ≡ may_of limit given (find (λ (c : One). c.number == number) self.now.consumers) }
     {
         may_one(&self.seats, number, limit, self.given)
+    }
+
+    /// The consumer of this number, where it is there and may be given one message more, under this limit of all.
+    pub(crate) fn taker(&self, number: u64, limit: u16) -> Option<&Consumer>
+        requires { NumbersRise self.now.consumers }
+        ensures { (given : List Given) → SeatsAreCounted self.now given
+            → option_map (λ k. k.now) result ≡ taker_among limit given (find (λ (c : One). c.number == number) self.now.consumers) }
+    {
+        taker_of(&self.seats, number, limit, self.given)
     }
 
     /// Makes room for one more. Nothing else changes, also where memory is wanting.

@@ -5,8 +5,10 @@ ghost use Rattle.std.specs.Prelude.{length, take, drop, set, get_or, count_by, v
 ghost use Rattle.std.specs.List.{list_any};
 ghost use Rattle.model.specs.Settling.{has_tag, settled, kept, Rises};
 ghost use Rattle.channel.specs.Outstanding.{tag_of, given_tag, marked, IsTagAt, AreInOrder};
+ghost use Rattle.channel.specs.Spans.{settled_by, TellsSpan};
 ghost use Rattle.model.specs.Placed.{is_waiting, waiting};
 
+use crate::spans::Span;
 use model::Delivery;
 
 /// The tag under which it was given out, also where it was settled.
@@ -77,33 +79,45 @@ fn place_of(given: &[Delivery], tag: u64, near: usize) -> Option<usize>
     search(given, tag)
 }
 
-/// Where this tag waits, if it does, or else any place.
-pub(crate) fn place_near(given: &[Delivery], tag: u64) -> usize
+/// What a tag settles, and where; none where it is refused. It is looked for at the front first.
+pub(crate) fn span_of(given: &[Delivery], tag: u64, multiple: bool) -> Option<Span>
     requires { Rises given_tag given.now }
-{
-    if is_at(given, 0, tag) {
-        return 0;
-    }
-    lower(given, tag)
-}
-
-/// The run of places that a tag settles, which is looked for near this place first.
-fn run_of(given: &[Delivery], tag: u64, multiple: bool, near: usize) -> Option<(usize, usize)>
-    requires { Rises given_tag given.now }
-    ensures within { IfSome result (λ r. (r.0 ≤ r.1) × (r.1 ≤ length given.now)) }
-    ensures run { option_map (λ r. waiting (drop r.0 (take r.1 given.now))) result ≡ settled tag_of tag multiple (waiting given.now) }
-    ensures next { IfSome result (λ r. (r.0 ≡ 0 → ⊥) → r.1 ≡ r.0 + 1) }
-    ensures there { IfSome result (λ r. (r.0 ≡ 0 → ⊥) → IsTagAt given.now r.0 tag) }
-    ensures rest { IfSome result (λ r. waiting (take r.0 given.now) ++ waiting (drop r.1 given.now) ≡ kept tag_of tag multiple (waiting given.now)) }
-    ensures none { IfNone result (kept tag_of tag multiple (waiting given.now) ≡ waiting given.now) }
+    ensures { TellsSpan tag multiple (waiting given.now) result }
 {
     if multiple && tag == 0 {
+        return Some(Span {
+            tag,
+            multiple,
+            place: 0,
+        });
+    }
+    match place_of(given, tag, 0) {
+        Some(place) => Some(Span {
+            tag,
+            multiple,
+            place,
+        }),
+        None => None,
+    }
+}
+
+/// The run of places that a span settles.
+fn run_of(given: &[Delivery], span: Span) -> Option<(usize, usize)>
+    requires { Rises given_tag given.now }
+    ensures within { IfSome result (λ r. (r.0 ≤ r.1) × (r.1 ≤ length given.now)) }
+    ensures run { option_map (λ r. waiting (drop r.0 (take r.1 given.now))) result ≡ settled tag_of span.tag span.multiple (waiting given.now) }
+    ensures next { IfSome result (λ r. (r.0 ≡ 0 → ⊥) → r.1 ≡ r.0 + 1) }
+    ensures there { IfSome result (λ r. (r.0 ≡ 0 → ⊥) → IsTagAt given.now r.0 span.tag) }
+    ensures rest { IfSome result (λ r. waiting (take r.0 given.now) ++ waiting (drop r.1 given.now) ≡ kept tag_of span.tag span.multiple (waiting given.now)) }
+    ensures none { IfNone result (kept tag_of span.tag span.multiple (waiting given.now) ≡ waiting given.now) }
+{
+    if span.multiple && span.tag == 0 {
         return Some((0, given.len()));
     }
-    match place_of(given, tag, near) {
+    match place_of(given, span.tag, span.place) {
         None => None,
         Some(i) => {
-            if multiple {
+            if span.multiple {
                 Some((0, i + 1))
             } else {
                 Some((i, i + 1))
@@ -112,19 +126,14 @@ fn run_of(given: &[Delivery], tag: u64, multiple: bool, near: usize) -> Option<(
     }
 }
 
-/// What a tag settles, with the places between of what was settled before. It is looked for near this place first.
-pub(crate) fn settled_of(
-    given: &[Delivery],
-    tag: u64,
-    multiple: bool,
-    near: usize,
-) -> Option<&[Delivery]>
+/// What a span settles, with the places between of what was settled before; nothing where its tag is refused.
+pub(crate) fn settled_of(given: &[Delivery], span: Span) -> &[Delivery]
     requires { Rises given_tag given.now }
-    ensures { option_map (λ s. waiting s.now) result ≡ settled tag_of tag multiple (waiting given.now) }
+    ensures { waiting result.now ≡ settled_by span (waiting given.now) }
 {
-    match run_of(given, tag, multiple, near) {
-        Some((from, to)) => Some(&given[..to][from..]),
-        None => None,
+    match run_of(given, span) {
+        Some((from, to)) => &given[..to][from..],
+        None => &[],
     }
 }
 
@@ -135,22 +144,13 @@ fn count_waiting(given: &[Delivery]) -> usize
     given.iter().filter(|one| one.tag != 0).count()
 }
 
-/// How many a tag settles of those behind `start`. It is looked for near this place behind it first.
-pub(crate) fn count_settled(
-    items: &Vec<Delivery>,
-    start: usize,
-    tag: u64,
-    multiple: bool,
-    near: usize,
-) -> usize
+/// How many a span settles of those behind `start`.
+pub(crate) fn count_settled(items: &Vec<Delivery>, start: usize, span: Span) -> usize
     requires start { start ≤ vec_len items.now }
     requires rises { Rises given_tag (drop start items.now.items) }
-    ensures { result + length (kept tag_of tag multiple (waiting (drop start items.now.items))) ≡ length (waiting (drop start items.now.items)) }
+    ensures { result + length (kept tag_of span.tag span.multiple (waiting (drop start items.now.items))) ≡ length (waiting (drop start items.now.items)) }
 {
-    match settled_of(behind(items, start), tag, multiple, near) {
-        Some(gone) => count_waiting(gone),
-        None => 0,
-    }
+    count_waiting(settled_of(behind(items, start), span))
 }
 
 /// The place of this one once it is settled.
@@ -192,24 +192,18 @@ pub(crate) fn behind(items: &Vec<Delivery>, start: usize) -> &[Delivery]
     &items[start..]
 }
 
-/// Takes out what a tag settles of those behind `start`: the front moves over it, or its place is marked. It is looked for near
-/// this place behind `start` first. Tells where the rest starts.
-pub(crate) fn forget_in(
-    items: &mut Vec<Delivery>,
-    start: usize,
-    tag: u64,
-    multiple: bool,
-    near: usize,
-) -> usize
+/// Takes out what a span settles of those behind `start`: the front moves over it, or its place is marked. Tells where the rest
+/// starts.
+pub(crate) fn forget_in(items: &mut Vec<Delivery>, start: usize, span: Span) -> usize
     requires start { start ≤ vec_len items.old }
     requires rises { Rises given_tag (drop start items.old.items) }
     ensures start { result ≤ vec_len items.new }
     ensures order { (last : ℕ) → AreInOrder last (drop start items.old.items) → AreInOrder last (drop result items.new.items) }
-    ensures kept { waiting (drop result items.new.items) ≡ kept tag_of tag multiple (waiting (drop start items.old.items)) }
+    ensures kept { waiting (drop result items.new.items) ≡ kept tag_of span.tag span.multiple (waiting (drop start items.old.items)) }
     ensures len { vec_len items.new ≡ vec_len items.old }
     ensures capacity { vec_capacity items.new ≡ vec_capacity items.old }
 {
-    match run_of(behind(items, start), tag, multiple, near) {
+    match run_of(behind(items, start), span) {
         None => start,
         Some((from, to)) => {
             if from == 0 {

@@ -5,6 +5,7 @@ pub mod Naming
 pub mod Named
 pub mod Moved
 pub mod Signing
+pub mod Lending
 pub mod Waiting
 pub mod Planned
 pub mod Rejected

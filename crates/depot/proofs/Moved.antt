@@ -63,6 +63,17 @@ all_empty (x ∷ ns) (suc n) q = go (bytes_eq x q) (all_empty ns n q)
 
 -- ---- all that is taken over
 
+-- one more is taken over
+pub taken_next : (places : List ℕ) (olds news : List (List Entry)) (i : ℕ) → i < length places → length places ≡ length olds
+    → taken (drop i places) (drop i olds) news ≡ taken (drop (i + 1) places) (drop (i + 1) olds) (set news (get_or places i 0) (map stood_now (get_or olds i [])))
+taken_next [] olds news i lt len = absurd (omega (arith, lt))
+taken_next (p ∷ ps) [] news i lt len = absurd (omega (arith, len))
+taken_next (p ∷ ps) (es ∷ olds) news zero lt len = refl
+taken_next (p ∷ ps) (es ∷ olds) news (suc i) lt len =
+    let step : suc (i + 1) ≡ suc i + 1 = omega arith in
+    taken_next ps olds news i (omega (arith, lt)) (omega (arith, len))
+    ∙ ap (λ (n : ℕ). taken (drop n (p ∷ ps)) (drop n (es ∷ olds)) (set news (get_or ps i 0) (map stood_now (get_or olds i [])))) step
+
 -- The queue stands at the place of its name, or is gone and has no entry.
 data IsTaken (names : List Text) (q : Text) (p : ℕ) (entries : List Entry) : Type 0 where
   kept : p < length names → get_or names p [] ≡ q → IsTaken names q p entries

@@ -1,5 +1,6 @@
 pub mod Store
 pub mod Signs
+pub mod Lends
 pub mod Turns
 pub mod Publishing
 pub mod Rejecting

@@ -37,6 +37,11 @@ outcome_of how name full m place =
     if full then record { place = place; message = None; note = Refused m.number name }
     else record { place = place; message = Some m; note = Entered m.number name how }
 
+-- what becomes of a turn at this queue, with these entries
+abbrev pub outcome_at : Way → DeclaredQueue → List Entry → PlannedTurn → TurnOutcome
+outcome_at how q entries t =
+    outcome_of how t.name (refuses (Some q) (ready_count entries) (ready_bytes entries) (length t.message.content.body)) t.message t.place
+
 -- the queue at this place, with these entries, refuses a message with a body of this size
 abbrev pub is_full_at : List DeclaredQueue → List (List Entry) → ℕ → ℕ → Bool
 is_full_at queues entries place size =

@@ -4,16 +4,16 @@ ghost use Rattle.std.specs.Prelude.{◌<◌, ℕ, length};
 ghost use Rattle.depot.specs.Store.{Store, IsStoreWhole, IsQueueNamed};
 
 use crate::moving::places_in;
-use crate::places::{queue_at, walk_at};
-use crate::publishing::{note_of, publish_in};
+use crate::publishing::{note_of, publish_in, route_of};
 use crate::queues::Queues;
 use crate::rejecting::reject_in;
 use exchange_graph::Topology;
-use kept_routes::Router;
+use kept_routes::{Route, Router};
 use model::{ChannelId, Content, Delivery, Entry, Holder, Note, Publish};
 use queue::{Store as _, Walk};
 use std::alloc::{AllocError, Global};
 use std::marker::Model;
+use std::sync::Arc;
 
 /// Where a publish went.
 #[derive(Clone, Copy, PartialEq, Eq, Debug, Drop)]
@@ -79,6 +79,7 @@ impl Depot {
       option_map,
       position,
     };
+    ghost use Rattle.std.specs.Arc.{arc_value};
     ghost use Rattle.std.specs.Str.{bytes_eq};
     ghost use Rattle.model.specs.Broker.{is_ready, queue_named};
     ghost use Rattle.model.specs.Step.{greatest};
@@ -88,6 +89,7 @@ impl Depot {
     ghost use Rattle.model.specs.Topology.{queue_names};
     ghost use Rattle.model.specs.Reloading.{stood_now};
     ghost use Rattle.model.specs.Words.{Text};
+    ghost use Rattle.kept_routes.specs.Routers.{IsRoute};
     ghost use Rattle.depot.specs.Moving.{AreMoved, GoneAreEmpty};
     ghost use Rattle.depot.specs.Publishing.{Publishing};
     ghost use Rattle.depot.specs.Rejecting.{IsApart, Rejecting};
@@ -106,33 +108,32 @@ impl Depot {
         })
     }
 
-    /// Publishes a content, on a channel of this connection: the message comes to the end of each queue that it is routed
-    /// to and that is not full, in the order of the file, ready, and under the next publish number. `confirm` is its
-    /// confirm number on the channel, where it has one. The notes tell of the publish and of each routed queue, and room
-    /// is left among them for two more. Bodies are shared. Where memory is wanting, nothing has changed but that there may
-    /// be more room.
+    /// Publishes a content, on this channel: the message comes to the end of each queue that it is routed to and that is not
+    /// full, in the order of the file, ready, and under the next publish number. `confirm` is its confirm number on the
+    /// channel, where it has one. `route` is the route of its exchange and key, where it is known; else it is learned. The
+    /// notes tell of the publish and of each routed queue, and room is left among them for two more. Bodies are shared. Where
+    /// memory is wanting, nothing has changed but that there may be more room.
     pub fn publish(
         &mut self,
         alloc: Global,
-        connection: u64,
-        channel: u16,
+        id: ChannelId,
         publish: &Publish,
         content: &Content,
         confirm: Option<u64>,
+        route: Option<Arc<Route>>,
         notes: &mut Vec<Note>,
     ) -> Result<Routed, AllocError>
-        requires { self.old.published < greatest }
+        requires counted { self.old.published < greatest }
+        requires routed { IfSome route (λ r. IsRoute self.old.topology publish.now.exchange publish.now.routing_key (arc_value r)) }
         ensures ok { IfOk result (λ routed.
-            Publishing self.old connection channel publish.now content.now confirm notes.old.items notes.new.items routed self.new) }
+            Publishing self.old id.connection id.number publish.now content.now confirm notes.old.items notes.new.items routed self.new) }
         ensures room { OnOk result (vec_len notes.new + 2 ≤ vec_capacity notes.new) }
         ensures store { OnErr result (self.new ≡ self.old) }
         ensures notes { OnErr result (notes.new.items ≡ notes.old.items) }
     {
         let number = self.published + 1;
-        let first = note_of(number, connection, channel, publish, confirm)?;
-        let route = self
-            .router
-            .route(alloc, &publish.exchange, &publish.routing_key)?;
+        let first = note_of(number, id, publish, confirm)?;
+        let route = route_of(alloc, &mut self.router, publish, route)?;
         let topology = self.router.topology();
         topology.is_well_formed();
         let routed = publish_in(
@@ -244,7 +245,7 @@ impl Depot {
         requires { place < length self.now.topology.queues }
         ensures { result ≡ ready_count (queue_at self.now place) }
     {
-        queue_at(self.queues.as_slice(), place).ready()
+        self.queues.queue(place).ready()
     }
 
     /// The first message of the queue at this place that can be given out.
@@ -252,7 +253,7 @@ impl Depot {
         requires { place < length self.now.topology.queues }
         ensures { option_map (λ e. e.now) result ≡ find is_ready (queue_at self.now place) }
     {
-        queue_at(self.queues.as_slice(), place).first_ready()
+        self.queues.queue(place).first_ready()
     }
 
     /// Gives the first ready message of the queue at this place out, if there is one: it is held from now on. Tells the
@@ -264,7 +265,11 @@ impl Depot {
         ensures told { is_some result ≡ is_some (find is_ready (queue_at self.old place)) }
         ensures store { self.new ≡ with_entries_at self.old place (change_first is_ready (held_as holder) (queue_at self.old place)) }
     {
-        self.queues.hold(place, holder)
+        let queue = self.queues.queue_mut(place);
+        let arrival = queue.hold(holder);
+        let ready = queue.ready();
+        self.queues.count_taking(place, ready);
+        arrival
     }
 
     /// Takes the first ready message of the queue at this place out, if there is one. It takes no memory.
@@ -273,7 +278,11 @@ impl Depot {
         ensures taken { result ≡ find is_ready (queue_at self.old place) }
         ensures store { self.new ≡ with_entries_at self.old place (without_first is_ready (queue_at self.old place)) }
     {
-        self.queues.take_first(place)
+        let queue = self.queues.queue_mut(place);
+        let entry = queue.take_first();
+        let ready = queue.ready();
+        self.queues.count_taking(place, ready);
+        entry
     }
 
     /// The message of the queue at this place that is held under this tag. It is found at once by the number of its arrival,
@@ -282,7 +291,7 @@ impl Depot {
         requires { place < length self.now.topology.queues }
         ensures { option_map (λ e. e.now) result ≡ find (is_held_as holder.now) (queue_at self.now place) }
     {
-        queue_at(self.queues.as_slice(), place).held(holder, arrival)
+        self.queues.queue(place).held(holder, arrival)
     }
 
     /// The message of the queue at this place that is held under this tag is ready again, in its place and marked
@@ -292,7 +301,7 @@ impl Depot {
         ensures told { result ≡ is_some (find (is_held_as holder.now) (queue_at self.old place)) }
         ensures store { self.new ≡ with_entries_at self.old place (requeued (is_under holder.now) (queue_at self.old place)) }
     {
-        self.queues.release(place, holder, arrival)
+        self.queues.queue_mut(place).release(holder, arrival)
     }
 
     /// Takes the message of the queue at this place out that is held under this tag, if there is one. It takes no memory.
@@ -301,7 +310,7 @@ impl Depot {
         ensures taken { result ≡ find (is_held_as holder.now) (queue_at self.old place) }
         ensures store { self.new ≡ with_entries_at self.old place (filter (λ e. not (is_held_as holder.now e)) (queue_at self.old place)) }
     {
-        self.queues.remove(place, holder, arrival)
+        self.queues.queue_mut(place).remove(holder, arrival)
     }
 
     /// Takes the ready messages of the queue at this place out, and appends their publish numbers in the order of arrival.
@@ -313,14 +322,14 @@ impl Depot {
         ensures capacity { vec_capacity numbers.new ≡ vec_capacity numbers.old }
         ensures store { self.new ≡ with_entries_at self.old place (filter (λ e. not (is_ready e)) (queue_at self.old place)) }
     {
-        self.queues.purge(place, numbers);
+        self.queues.queue_mut(place).purge(numbers);
     }
 
     /// The entries of the queue at this place in the order of arrival, ready and held; none where there is no such queue.
     pub fn walk(&self, place: usize) -> Walk<'_>
         ensures { result ≡ queue_at self.now place }
     {
-        walk_at(self.queues.as_slice(), place)
+        self.queues.walk(place)
     }
 
     /// For each queue, in the order of the file, the place of the queue of its name in another topology, or one behind its

@@ -25,11 +25,12 @@ ghost use Rattle.depot.specs.Store.{entries_of};
 ghost use Rattle.depot.specs.Turns.{
   turn_at,
   places,
+  outcome_at,
   outcome,
   outcomes,
   notes_of_outcomes,
-  is_full_at,
   is_refusal,
+  arriving,
   entered_one,
   all_entered,
   room_at,
@@ -63,7 +64,7 @@ pub(crate) fn turns(
 }
 
 /// The turn of a message at the queue at this place.
-pub(crate) fn turn(
+fn turn(
     declared: &[DeclaredQueue],
     place: usize,
     message: &Message,
@@ -76,6 +77,17 @@ pub(crate) fn turn(
         name: declared[place].name.clone()?,
         message: message.clone()?,
     })
+}
+
+/// Makes room for so many messages in the queue at this place.
+fn make_room_at(queues: &mut Queues, place: usize, more: usize) -> Result<(), AllocError>
+    requires { place < length queues.old }
+    ensures same { entries_of queues.new ≡ entries_of queues.old }
+    ensures len { length queues.new ≡ length queues.old }
+    ensures kept { (k : ℕ) → room_at queues.old k ≤ room_at queues.new k }
+    ensures room { OnOk result (more ≤ room_at queues.new place) }
+{
+    queues.queue_mut(place).reserve(more)
 }
 
 /// Makes room for so many messages in each of these queues.
@@ -91,23 +103,53 @@ pub(crate) fn make_room(
     ensures room { OnOk result (LinesHaveRoom queues.new (places turns.now) more) }
 {
     for turn in turns {
-        queues.reserve(turn.place, more)?;
+        make_room_at(queues, turn.place, more)?;
     }
     Ok(())
 }
 
-/// Whether the queue at this place refuses a message with a body of `size` bytes.
-fn is_full(declared: &[DeclaredQueue], queues: &[Queue], place: usize, size: usize) -> bool
-    requires within { place < length declared.now }
-    requires len { length queues.now ≡ length declared.now }
-    ensures { result ≡ is_full_at declared.now (entries_of queues.now) place size }
+/// The message comes to the queue of its turn, or is refused there where that is full now. Tells whether it is refused.
+pub(crate) fn enter(
+    declared: &DeclaredQueue,
+    queue: &mut Queue,
+    turn: PlannedTurn,
+    way: Way,
+    notes: &mut Vec<Note>,
+) -> bool
+    requires room { 0 < queue.old.room }
+    requires notes { vec_len notes.old < vec_capacity notes.old }
+    ensures refused { result ≡ is_refusal (outcome_at way declared.now queue.old.entries turn) }
+    ensures entries { queue.new.entries ≡ queue.old.entries ++ arriving (outcome_at way declared.now queue.old.entries turn).message }
+    ensures room { queue.old.room ≤ queue.new.room + 1 }
+    ensures notes { notes.new.items ≡ notes.old.items ++ (outcome_at way declared.now queue.old.entries turn).note ∷ [] }
+    ensures notes_len { vec_len notes.new ≡ vec_len notes.old + 1 }
+    ensures notes_capacity { vec_capacity notes.new ≡ vec_capacity notes.old }
 {
-    let declared = &declared[place];
-    queues[place].is_full(declared.limit, declared.byte_limit, size)
+    let PlannedTurn {
+        place: _,
+        name,
+        message,
+    } = turn;
+    let number = message.number();
+    let size = message.content().body.len();
+    if queue.is_full(declared.limit, declared.byte_limit, size) {
+        notes.push_reserved(Note::Refused {
+            number,
+            queue: name,
+        });
+        return true;
+    }
+    queue.push(message);
+    notes.push_reserved(Note::Entered {
+        number,
+        queue: name,
+        way,
+    });
+    false
 }
 
-/// The message comes to one queue, or is refused there where that is full now. Tells whether it is refused.
-pub(crate) fn enter(
+/// The same at the queue of this place, which is found once.
+fn enter_at(
     declared: &[DeclaredQueue],
     queues: &mut Queues,
     turn: PlannedTurn,
@@ -126,31 +168,10 @@ pub(crate) fn enter(
     ensures notes_len { vec_len notes.new ≡ vec_len notes.old + 1 }
     ensures notes_capacity { vec_capacity notes.new ≡ vec_capacity notes.old }
 {
-    let PlannedTurn {
-        place,
-        name,
-        message,
-    } = turn;
-    let number = message.number();
-    if is_full(
-        declared,
-        queues.as_slice(),
-        place,
-        message.content().body.len(),
-    ) {
-        notes.push_reserved(Note::Refused {
-            number,
-            queue: name,
-        });
-        return true;
-    }
-    queues.push(place, message);
-    notes.push_reserved(Note::Entered {
-        number,
-        queue: name,
-        way,
-    });
-    false
+    let place = turn.place;
+    let is_refused = enter(&declared[place], queues.queue_mut(place), turn, way, notes);
+    queues.count_coming(place, is_refused);
+    is_refused
 }
 
 /// The message comes to each queue or is refused there, one after another. Tells whether some queue refuses it.
@@ -175,7 +196,7 @@ pub(crate) fn enter_all(
 {
     let mut is_some_refused = false;
     for turn in turns {
-        is_some_refused |= enter(declared, queues, turn, way, notes);
+        is_some_refused |= enter_at(declared, queues, turn, way, notes);
     }
     is_some_refused
 }

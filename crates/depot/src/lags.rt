@@ -29,9 +29,9 @@ impl Lags {
         }
     }
 
-    /// A message comes to the queue at this place.
-    pub(crate) fn come(&mut self, place: usize) {
-        if place < self.left.len() && self.left[place] > 0 {
+    /// A message comes to the queue at this place, unless it is refused there.
+    pub(crate) fn come(&mut self, place: usize, is_refused: bool) {
+        if !is_refused && place < self.left.len() && self.left[place] > 0 {
             self.left[place] -= 1;
             self.count = self.count.wrapping_add(1);
         }

@@ -8,7 +8,6 @@ mod depots;
 mod entering;
 mod lags;
 mod moving;
-mod places;
 mod plans;
 mod publishing;
 mod queues;

@@ -1,10 +1,10 @@
 //! Queues of one topology taken over into those of another.
 
-ghost use Rattle.std.specs.Prelude.{◌≡◌, ◌+◌, ◌<◌, [], length, drop, map, slice_set, slice_index_or, IfOk};
+ghost use Rattle.std.specs.Prelude.{◌≡◌, ◌+◌, ◌*◌, ◌<◌, ◌≤◌, ℕ, [], length, drop, map, slice_set, slice_index_or, IfOk};
 ghost use Rattle.model.specs.Topology.{queue_names};
 ghost use Rattle.model.specs.Reloading.{stood_now};
 ghost use Rattle.depot.specs.Store.{entries_of};
-ghost use Rattle.depot.specs.Signs.{QueuesAreSigned};
+ghost use Rattle.depot.specs.Signs.{AreSignedBut};
 ghost use Rattle.depot.specs.Moving.{AreMoved, IsMoved, taken};
 
 use crate::queues::Queue;
@@ -62,16 +62,17 @@ fn exchange(
     from: usize,
 )
     requires from { from < length old.old }
-    requires signed { QueuesAreSigned (entries_of queues.old) signs.old }
+    requires room { length queues.old ≤ length signs.old * 64 }
     ensures entries { entries_of queues.new ≡ slice_set (entries_of queues.old) place (map stood_now (slice_index_or (entries_of old.old) from [])) }
-    ensures signed { QueuesAreSigned (entries_of queues.new) signs.new }
+    ensures signed { (lent : ℕ) → AreSignedBut lent (entries_of queues.old) signs.old → AreSignedBut lent (entries_of queues.new) signs.new }
+    ensures room { length signs.new ≡ length signs.old }
     ensures len { length queues.new ≡ length queues.old }
     ensures rest { drop (from + 1) (entries_of old.new) ≡ drop (from + 1) (entries_of old.old) }
     ensures old_len { length old.new ≡ length old.old }
 {
     if place < queues.len() {
         exchange_at(queues, place, old, from);
-        signs.sign(queues, place);
+        signs.sign(place, &queues[place]);
     }
 }
 
@@ -83,9 +84,9 @@ pub(crate) fn take_over_in(
     places: &[usize],
 )
     requires len { length places.now ≡ length old.old }
-    requires signed { QueuesAreSigned (entries_of queues.old) signs.old }
+    requires room { length queues.old ≤ length signs.old * 64 }
     ensures entries { entries_of queues.new ≡ taken places.now (entries_of old.old) (entries_of queues.old) }
-    ensures signed { QueuesAreSigned (entries_of queues.new) signs.new }
+    ensures signed { (lent : ℕ) → AreSignedBut lent (entries_of queues.old) signs.old → AreSignedBut lent (entries_of queues.new) signs.new }
     ensures len { length queues.new ≡ length queues.old }
 {
     for (from, place) in places.iter().enumerate() {

@@ -1,34 +1,56 @@
 //! A publish: planned with all its growths, and then done, which cannot fail.
 
-ghost use Rattle.std.specs.Prelude.{◌≡◌, ◌+◌, ◌<◌, ◌≤◌, ◌∷◌, [], length, IfOk, OnOk, OnErr, vec_len, vec_capacity};
+ghost use Rattle.std.specs.Prelude.{◌≡◌, ◌+◌, ◌<◌, ◌≤◌, ◌∷◌, [], length, IfOk, IfSome, OnOk, OnErr, vec_len, vec_capacity};
+ghost use Rattle.std.specs.Arc.{arc_value};
 ghost use Rattle.model.specs.Step.{message};
 ghost use Rattle.model.specs.declared.methods.Publish.{Publish as Seen};
 ghost use Rattle.model.specs.declared.notes.Note.TheVariants.{Published};
 ghost use Rattle.exchange_graph.specs.Targets.{AreTargets};
+ghost use Rattle.kept_routes.specs.Routers.{IsRoute};
 ghost use Rattle.depot.specs.Store.{entries_of};
 ghost use Rattle.depot.specs.Turns.{Enters};
 
 use crate::depots::Routed;
-use crate::entering::{enter, enter_all, make_room, turn, turns};
+use crate::entering::{enter, enter_all, make_room, turns};
 use crate::queues::Queues;
+use crate::turns::PlannedTurn;
 use exchange_graph::Topology;
-use model::{Content, Message, Note, Publish, Way};
+use kept_routes::{Route, Router};
+use model::{ChannelId, Content, Message, Note, Publish, Way};
+use queue::Store;
 use std::alloc::{AllocError, Global};
+use std::sync::Arc;
+
+/// The route of a publish: the one that is known, or else it is learned.
+pub(crate) fn route_of(
+    alloc: Global,
+    router: &mut Router,
+    publish: &Publish,
+    known: Option<Arc<Route>>,
+) -> Result<Arc<Route>, AllocError>
+    requires { IfSome known (λ r. IsRoute router.old publish.now.exchange publish.now.routing_key (arc_value r)) }
+    ensures route { IfOk result (λ r. IsRoute router.old publish.now.exchange publish.now.routing_key (arc_value r)) }
+    ensures same { router.new ≡ router.old }
+{
+    match known {
+        Some(route) => Ok(route),
+        None => router.learn(alloc, &publish.exchange, &publish.routing_key),
+    }
+}
 
 /// The note of a publish.
 pub(crate) fn note_of(
     number: u64,
-    connection: u64,
-    channel: u16,
+    id: ChannelId,
     publish: &Publish,
     confirm: Option<u64>,
 ) -> Result<Note, AllocError>
-    ensures { IfOk result (λ note. note ≡ Published number connection channel publish.now.exchange publish.now.routing_key confirm) }
+    ensures { IfOk result (λ note. note ≡ Published number id.connection id.number publish.now.exchange publish.now.routing_key confirm) }
 {
     Ok(Note::Published {
         number,
-        connection,
-        channel,
+        connection: id.connection,
+        channel: id.number,
         exchange: publish.exchange.clone()?,
         key: publish.routing_key.clone()?,
         confirm,
@@ -60,7 +82,7 @@ pub(crate) fn publish_in(
 {
     let message = Message::of_publish(alloc, number, publish, content)?;
     if targets.len() == 1 {
-        return publish_to_one(topology, queues, targets[0], &message, first, notes);
+        return publish_to_one(topology, queues, targets[0], message, first, notes);
     }
     let turns = turns(alloc, topology.queues(), targets, &message)?;
     make_room(queues, &turns, 1)?;
@@ -79,7 +101,7 @@ fn publish_to_one(
     topology: &Topology,
     queues: &mut Queues,
     place: usize,
-    message: &Message,
+    message: Message,
     first: Note,
     notes: &mut Vec<Note>,
 ) -> Result<Routed, AllocError>
@@ -87,17 +109,24 @@ fn publish_to_one(
     requires within { place < length topology.now.queues }
     ensures ok { IfOk result (λ routed. (p : Seen)
         → AreTargets topology.now p.exchange p.routing_key (place ∷ [])
-        → Enters topology.now (entries_of queues.old) (entries_of queues.new) p message.now first notes.old.items notes.new.items routed) }
+        → Enters topology.now (entries_of queues.old) (entries_of queues.new) p message first notes.old.items notes.new.items routed) }
     ensures len { length queues.new ≡ length queues.old }
     ensures room { OnOk result (vec_len notes.new + 2 ≤ vec_capacity notes.new) }
     ensures queues { OnErr result (entries_of queues.new ≡ entries_of queues.old) }
     ensures notes { OnErr result (notes.new.items ≡ notes.old.items) }
 {
-    let turn = turn(topology.queues(), place, message)?;
-    queues.reserve(place, 1)?;
+    let declared = topology.queue(place);
+    let turn = PlannedTurn {
+        place,
+        name: declared.name.clone()?,
+        message,
+    };
+    let queue = queues.queue_mut(place);
+    queue.reserve(1)?;
     notes.reserve_exact(4)?;
     notes.push_reserved(first);
-    let is_some_full = enter(topology.queues(), queues, turn, Way::Publish, notes);
+    let is_some_full = enter(declared, queue, turn, Way::Publish, notes);
+    queues.count_coming(place, is_some_full);
     Ok(Routed {
         is_none: false,
         is_some_full,

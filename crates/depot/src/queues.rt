@@ -2,13 +2,12 @@
 
 ghost use Rattle.std.specs.Prelude.{◌≡◌, [], replicate, IfOk};
 ghost use Rattle.depot.specs.Store.{entries_of};
+ghost use Rattle.depot.specs.Signs.{AreSignedBut, TellsNext, ready_places};
 
 use crate::lags::Lags;
 use crate::moving::take_over_in;
-use crate::places::{hold_at, purge_at, push_at, release_at, remove_at, reserve_at, take_first_at};
-use crate::signs::QueueSigns;
-use model::{Entry, Holder, Message};
-use queue::{Indexed, Store};
+use crate::signs::{QueueSigns, has_ready};
+use queue::{Indexed, Store, Walk};
 use std::alloc::{AllocError, Global};
 use std::marker::Model;
 
@@ -16,11 +15,12 @@ use std::marker::Model;
 pub(crate) type Queue = Indexed;
 
 /// The queues of a topology, in the order of the file. The signs say of each whether a message can be given out, so that the
-/// next such queue is found without a scan.
+/// next such queue is found without a scan; but perhaps not of the one that was lent last, which is signed as another is lent.
 #[derive(Drop)]
 pub(crate) struct Queues {
     queues: Vec<Queue>,
     signs: QueueSigns,
+    lent: usize,
     lags: Lags,
 }
 
@@ -28,13 +28,13 @@ impl Model for Queues {
     ghost use Rattle.std.specs.Prelude.{List};
     ghost use Rattle.queue.specs.Line.{Line};
     ghost use Rattle.depot.specs.Store.{entries_of};
-    ghost use Rattle.depot.specs.Signs.{QueuesAreSigned};
+    ghost use Rattle.depot.specs.Signs.{AreSignedBut};
 
     ghost Value = { List Line };
 
     ghost view = { λ q. q.queues.items };
 
-    ghost invariant = { λ q. QueuesAreSigned (entries_of q.queues.items) q.signs };
+    ghost invariant = { λ q. AreSignedBut q.lent (entries_of q.queues.items) q.signs };
 }
 
 /// So many queues with no message.
@@ -48,45 +48,59 @@ fn empty_queues(alloc: Global, count: usize) -> Result<Vec<Queue>, AllocError>
     Ok(queues)
 }
 
+/// Another queue is lent from now on: the one that was lent last is signed. It takes no memory.
+fn move_loan(queues: &[Queue], signs: &mut QueueSigns, lent: usize, place: usize)
+    requires { AreSignedBut lent (entries_of queues.now) signs.old }
+    ensures { AreSignedBut place (entries_of queues.now) signs.new }
+{
+    if lent == place || lent >= queues.len() {
+        return;
+    }
+    signs.sign(lent, &queues[lent]);
+}
+
+/// The first queue with a message that can be given out, of those from `from` on. The signs tell it of all queues but the one
+/// that was lent last.
+fn next_in(queues: &[Queue], signs: &QueueSigns, lent: usize, from: usize) -> Option<usize>
+    requires { AreSignedBut lent (entries_of queues.now) signs.now }
+    ensures { TellsNext (ready_places (entries_of queues.now)) from result }
+{
+    let next = signs.next_ready(from);
+    if lent < from || lent >= queues.len() {
+        return next;
+    }
+    let is_ready = has_ready(&queues[lent]);
+    let Some(place) = next else {
+        return if is_ready { Some(lent) } else { None };
+    };
+    if place < lent {
+        return next;
+    }
+    if is_ready {
+        return Some(lent);
+    }
+    if place == lent {
+        return signs.next_ready(lent + 1);
+    }
+    next
+}
+
 impl Queues {
     ghost use Rattle.std.specs.Prelude.{
       ◌≡◌,
-      ◌==◌,
-      cond,
-      ◌+◌,
       ◌<◌,
-      ◌≤◌,
-      ℕ,
-      ◌∷◌,
-      ◌++◌,
       [],
-      Some,
-      None,
       length,
       replicate,
-      map,
-      find,
-      filter,
-      not,
-      is_some,
       IfOk,
-      OnOk,
-      IfSome,
-      IfNone,
-      vec_len,
-      vec_capacity,
       slice_index_or,
-      slice_set,
     };
-    ghost use Rattle.model.specs.Broker.{is_ready};
-    ghost use Rattle.model.specs.declared.messages.Mark.TheVariants.{Ready};
-    ghost use Rattle.model.specs.Entries.{is_under, is_held_as, held_as, change_first, without_first, number_of};
-    ghost use Rattle.marks.specs.Places.{IsNextMark};
-    ghost use Rattle.queue.specs.Line.{ready_count, requeued};
+    ghost use Rattle.std.specs.Borrow.{sem};
     ghost use Rattle.depot.specs.Store.{entries_of};
-    ghost use Rattle.depot.specs.Signs.{ready_bit};
-    ghost use Rattle.depot.specs.Turns.{room_at};
+    ghost use Rattle.depot.specs.Signs.{ready_places, TellsNext};
+    ghost use Rattle.depot.specs.Turns.{no_line};
     ghost use Rattle.depot.specs.Moving.{taken};
+    ghost use Rattle.depot.specs.Lends.{LendsQueue};
 
     /// So many queues with no message.
     pub(crate) fn new(alloc: Global, count: usize) -> Result<Queues, AllocError>
@@ -98,124 +112,64 @@ impl Queues {
         Ok(Queues {
             queues,
             signs,
+            lent: 0,
             lags,
         })
+    }
+
+    /// The queue at this place.
+    pub(crate) fn queue(&self, place: usize) -> &Queue
+        requires { place < length self.now }
+        ensures { result.now.entries ≡ slice_index_or (entries_of self.now) place [] }
+    {
+        &self.queues[place]
+    }
+
+    /// The queue at this place, to be changed. It takes no memory.
+    pub(crate) fn queue_mut(&mut self, place: usize) -> &mut Queue
+        requires { place < length self.old }
+        ensures* writes_back { sem 𝓛 (LendsQueue self.entry place result) }
+        ensures value { result.now ≡ slice_index_or self.old place no_line }
+    {
+        move_loan(&self.queues, &mut self.signs, self.lent, place);
+        self.lent = place;
+        &mut self.queues[place]
+    }
+
+    /// The entries of the queue at this place, in the order of arrival; none where there is no such queue.
+    pub(crate) fn walk(&self, place: usize) -> Walk<'_>
+        ensures { result ≡ slice_index_or (entries_of self.now) place [] }
+    {
+        match self.queues.get(place) {
+            Some(queue) => queue.walk(),
+            None => Walk::empty(),
+        }
+    }
+
+    /// The first queue with a message that can be given out, of those from `from` on.
+    pub(crate) fn next_ready(&self, from: usize) -> Option<usize>
+        ensures { TellsNext (ready_places (entries_of self.now)) from result }
+    {
+        next_in(&self.queues, &self.signs, self.lent, from)
+    }
+
+    /// A message came to the queue at this place, unless it was refused there.
+    pub(crate) fn count_coming(&mut self, place: usize, is_refused: bool)
+        ensures { self.new ≡ self.old }
+    {
+        self.lags.come(place, is_refused);
+    }
+
+    /// A message was taken from the queue at this place, behind which so many can be given out.
+    pub(crate) fn count_taking(&mut self, place: usize, ready: usize)
+        ensures { self.new ≡ self.old }
+    {
+        self.lags.take(place, ready);
     }
 
     /// How many messages came to queues that lagged.
     pub(crate) fn lagged(&self) -> u64 {
         self.lags.count()
-    }
-
-    /// The queues themselves.
-    pub(crate) fn as_slice(&self) -> &[Queue]
-        ensures { result.now ≡ self.now }
-    {
-        &self.queues
-    }
-
-    /// The first queue with a message that can be given out, of those from `from` on.
-    pub(crate) fn next_ready(&self, from: usize) -> Option<usize>
-        ensures some { IfSome result (λ place. IsNextMark (λ k. ready_bit (slice_index_or (entries_of self.now) k [])) from place) }
-        ensures none { IfNone result ((k : ℕ) → from ≤ k → ready_bit (slice_index_or (entries_of self.now) k []) ≡ 0) }
-    {
-        self.signs.next_ready(from)
-    }
-
-    /// Makes room for so many messages in the queue at this place.
-    pub(crate) fn reserve(&mut self, place: usize, more: usize) -> Result<(), AllocError>
-        requires { place < length self.old }
-        ensures same { entries_of self.new ≡ entries_of self.old }
-        ensures len { length self.new ≡ length self.old }
-        ensures kept { (k : ℕ) → room_at self.old k ≤ room_at self.new k }
-        ensures room { OnOk result (more ≤ room_at self.new place) }
-    {
-        reserve_at(&mut self.queues, place, more)
-    }
-
-    /// The message comes to the end of the queue at this place, in which there is room for it.
-    pub(crate) fn push(&mut self, place: usize, message: Message)
-        requires within { place < length self.old }
-        requires room { 0 < room_at self.old place }
-        ensures entries { entries_of self.new
-            ≡ slice_set (entries_of self.old) place (slice_index_or (entries_of self.old) place [] ++ record { message = message; mark = Ready } ∷ []) }
-        ensures spent { (k : ℕ) → room_at self.old k ≤ room_at self.new k + cond (k == place) 1 0 }
-        ensures len { length self.new ≡ length self.old }
-    {
-        push_at(&mut self.queues, place, message);
-        self.lags.come(place);
-        self.signs.sign(&self.queues, place);
-    }
-
-    /// Gives the first ready message of the queue at this place out, if there is one. Tells the number of its arrival.
-    /// Nothing is held there under this tag yet.
-    pub(crate) fn hold(&mut self, place: usize, holder: Holder) -> Option<u64>
-        requires within { place < length self.old }
-        requires unused { find (is_held_as holder) (slice_index_or (entries_of self.old) place []) ≡ None }
-        ensures told { is_some result ≡ is_some (find is_ready (slice_index_or (entries_of self.old) place [])) }
-        ensures entries { entries_of self.new
-            ≡ slice_set (entries_of self.old) place (change_first is_ready (held_as holder) (slice_index_or (entries_of self.old) place [])) }
-        ensures len { length self.new ≡ length self.old }
-    {
-        let arrival = hold_at(&mut self.queues, place, holder);
-        self.lags.take(place, self.queues[place].ready());
-        self.signs.sign(&self.queues, place);
-        arrival
-    }
-
-    /// Takes the first ready message of the queue at this place out, if there is one.
-    pub(crate) fn take_first(&mut self, place: usize) -> Option<Entry>
-        requires { place < length self.old }
-        ensures taken { result ≡ find is_ready (slice_index_or (entries_of self.old) place []) }
-        ensures entries { entries_of self.new
-            ≡ slice_set (entries_of self.old) place (without_first is_ready (slice_index_or (entries_of self.old) place [])) }
-        ensures len { length self.new ≡ length self.old }
-    {
-        let entry = take_first_at(&mut self.queues, place);
-        self.lags.take(place, self.queues[place].ready());
-        self.signs.sign(&self.queues, place);
-        entry
-    }
-
-    /// Makes the message of the queue at this place ready again that is held under this tag. Tells whether there is one.
-    pub(crate) fn release(&mut self, place: usize, holder: &Holder, arrival: u64) -> bool
-        requires { place < length self.old }
-        ensures told { result ≡ is_some (find (is_held_as holder.now) (slice_index_or (entries_of self.old) place [])) }
-        ensures entries { entries_of self.new
-            ≡ slice_set (entries_of self.old) place (requeued (is_under holder.now) (slice_index_or (entries_of self.old) place [])) }
-        ensures len { length self.new ≡ length self.old }
-    {
-        let is_released = release_at(&mut self.queues, place, holder, arrival);
-        self.signs.sign(&self.queues, place);
-        is_released
-    }
-
-    /// Takes the message of the queue at this place out that is held under this tag, if there is one.
-    pub(crate) fn remove(&mut self, place: usize, holder: &Holder, arrival: u64) -> Option<Entry>
-        requires { place < length self.old }
-        ensures taken { result ≡ find (is_held_as holder.now) (slice_index_or (entries_of self.old) place []) }
-        ensures entries { entries_of self.new
-            ≡ slice_set (entries_of self.old) place (filter (λ e. not (is_held_as holder.now e)) (slice_index_or (entries_of self.old) place [])) }
-        ensures room { (k : ℕ) → room_at self.old k ≤ room_at self.new k }
-        ensures len { length self.new ≡ length self.old }
-    {
-        let entry = remove_at(&mut self.queues, place, holder, arrival);
-        self.signs.sign(&self.queues, place);
-        entry
-    }
-
-    /// Takes the ready messages of the queue at this place out, and appends their publish numbers. There is room for them.
-    pub(crate) fn purge(&mut self, place: usize, numbers: &mut Vec<u64>)
-        requires within { place < length self.old }
-        requires room { vec_len numbers.old + ready_count (slice_index_or (entries_of self.old) place []) ≤ vec_capacity numbers.old }
-        ensures numbers { numbers.new.items ≡ numbers.old.items ++ map number_of (filter is_ready (slice_index_or (entries_of self.old) place [])) }
-        ensures capacity { vec_capacity numbers.new ≡ vec_capacity numbers.old }
-        ensures entries { entries_of self.new
-            ≡ slice_set (entries_of self.old) place (filter (λ e. not (is_ready e)) (slice_index_or (entries_of self.old) place [])) }
-        ensures len { length self.new ≡ length self.old }
-    {
-        purge_at(&mut self.queues, place, numbers);
-        self.signs.sign(&self.queues, place);
     }
 
     /// Each queue of `old` stands at the place that the table has for it, where there is one, and all that is in it stood
@@ -228,6 +182,7 @@ impl Queues {
         let Queues {
             queues: mut left,
             signs: _,
+            lent: _,
             lags: _,
         } = old;
         take_over_in(&mut self.queues, &mut self.signs, &mut left, places);

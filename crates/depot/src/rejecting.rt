@@ -11,7 +11,7 @@ ghost use Rattle.depot.specs.Dying.{LettersAt, PlansAt, ArePlanned, died, death_
 
 use crate::entering::{enter_all, make_room, turns};
 use crate::plans::Death;
-use crate::queues::{Queue, Queues};
+use crate::queues::Queues;
 use crate::turns::PlannedTurn;
 use deaths::Marker;
 use kept_routes::Router;
@@ -59,7 +59,7 @@ fn plan_one(
     alloc: Global,
     router: &mut Router,
     marker: &mut Marker,
-    queues: &[Queue],
+    queues: &Queues,
     channel: ChannelId,
     given: &Delivery,
     deaths: &mut Vec<Death>,
@@ -73,7 +73,7 @@ fn plan_one(
 {
     let place = given.queue;
     let holder = given.holder(channel);
-    let Some(entry) = queues[place].held(&holder, given.arrival) else {
+    let Some(entry) = queues.queue(place).held(&holder, given.arrival) else {
         return Ok(());
     };
     let note = Note::Left {
@@ -97,7 +97,7 @@ fn plan_waiting(
     alloc: Global,
     router: &mut Router,
     marker: &mut Marker,
-    queues: &[Queue],
+    queues: &Queues,
     channel: ChannelId,
     given: &Delivery,
     deaths: &mut Vec<Death>,
@@ -121,7 +121,7 @@ fn plan_waiting(
 fn plan(
     alloc: Global,
     router: &mut Router,
-    queues: &[Queue],
+    queues: &Queues,
     channel: ChannelId,
     gone: &[Delivery],
 ) -> Result<Vec<Death>, AllocError>
@@ -192,7 +192,7 @@ fn die(declared: &[DeclaredQueue], queues: &mut Queues, death: Death, notes: &mu
         note,
         turns,
     } = death;
-    queues.remove(place, &holder, arrival);
+    queues.queue_mut(place).remove(&holder, arrival);
     notes.push_reserved(note);
     enter_all(declared, queues, turns, Way::Dead, notes);
 }
@@ -236,7 +236,7 @@ pub(crate) fn reject_in(
     ensures queues { OnErr result (entries_of queues.new ≡ entries_of queues.old) }
     ensures notes { OnErr result (notes.new.items ≡ notes.old.items) }
 {
-    let deaths = plan(alloc, router, queues.as_slice(), channel, gone)?;
+    let deaths = plan(alloc, router, queues, channel, gone)?;
     make_rooms(queues, &deaths)?;
     notes.reserve_exact(count_notes(&deaths))?;
     perform(router.topology().queues(), queues, deaths, notes);

@@ -28,7 +28,7 @@ impl Model for QueueSigns {
 }
 
 /// Whether a message of the queue can be given out.
-fn has_ready(queue: &Queue) -> bool
+pub(crate) fn has_ready(queue: &Queue) -> bool
     ensures { cond result 1 0 ≡ ready_bit queue.now.entries }
 {
     queue.ready() != 0
@@ -58,37 +58,30 @@ fn room_for(alloc: Global, places: usize) -> Result<QueueMarks, AllocError>
 }
 
 impl QueueSigns {
-    ghost use Rattle.std.specs.Prelude.{◌≡◌, ℕ, List, [], ◌<◌, ◌≤◌, ◌*◌, length, replicate, slice_set, IfOk, IfSome, IfNone};
-    ghost use Rattle.model.specs.declared.messages.Entry.{Entry};
-    ghost use Rattle.marks.specs.Places.{bit_of, IsNextMark};
-    ghost use Rattle.depot.specs.Store.{entries_of};
-    ghost use Rattle.depot.specs.Signs.{QueuesAreSigned};
+    ghost use Rattle.std.specs.Prelude.{◌≡◌, [], ◌<◌, ◌*◌, length, replicate, IfOk};
+    ghost use Rattle.marks.specs.Places.{bit_of, Differs};
+    ghost use Rattle.depot.specs.Signs.{ready_bit, AreSignedBut, TellsNext};
 
     /// The set of so many queues with no message, with room for all of them.
     pub(crate) fn new(alloc: Global, queues: usize) -> Result<QueueSigns, AllocError>
-        ensures { IfOk result (λ signs. QueuesAreSigned (replicate queues []) signs) }
+        ensures { IfOk result (λ signs. AreSignedBut 0 (replicate queues []) signs) }
     {
         let ready = room_for(alloc, queues)?;
         Ok(QueueSigns { ready })
     }
 
-    /// Sets the bit of this place as its queue is now, which alone has changed. It takes no memory.
-    pub(crate) fn sign(&mut self, queues: &[Queue], place: usize)
-        requires within { place < length queues.now }
-        requires room { length queues.now ≤ length self.old * 64 }
-        ensures { (lists : List (List Entry)) (entries : List Entry)
-            → entries_of queues.now ≡ slice_set lists place entries
-            → QueuesAreSigned lists self.old
-            → QueuesAreSigned (entries_of queues.now) self.new }
+    /// Sets the bit of this place as its queue is now. It takes no memory.
+    pub(crate) fn sign(&mut self, place: usize, queue: &Queue)
+        requires { place < length self.old * 64 }
+        ensures bit { Differs (bit_of self.old) (bit_of self.new) place (ready_bit queue.now.entries) }
+        ensures len { length self.new ≡ length self.old }
     {
-        let queue = &queues[place];
         put(&mut self.ready, place, has_ready(queue));
     }
 
-    /// The first queue with a message that can be given out, of those from `from` on.
+    /// The first place in the set, of those from `from` on.
     pub(crate) fn next_ready(&self, from: usize) -> Option<usize>
-        ensures some { IfSome result (λ place. IsNextMark (bit_of self.now) from place) }
-        ensures none { IfNone result ((k : ℕ) → from ≤ k → bit_of self.now k ≡ 0) }
+        ensures { TellsNext (bit_of self.now) from result }
     {
         self.ready.next(from)
     }

@@ -6,4 +6,4 @@ mod routes;
 mod slots;
 
 pub use routers::Router;
-pub use routes::{Access, Route};
+pub use routes::{Access, Found, Route};

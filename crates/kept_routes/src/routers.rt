@@ -1,7 +1,7 @@
 //! A topology with the routes that were taken last.
 
-use crate::routes::{Access, Route};
-use crate::slots::{access_to, empty_slots, kept, routed, slot_of};
+use crate::routes::{Access, Found, Route};
+use crate::slots::{empty_slots, found, learned, routed, slot_of};
 use exchange_graph::{Scratch, Topology};
 use model::Text;
 use std::alloc::{AllocError, Global};
@@ -40,10 +40,9 @@ impl Model for Router {
 }
 
 impl Router {
-    ghost use Rattle.std.specs.Prelude.{◌≡◌, IfOk};
+    ghost use Rattle.std.specs.Prelude.{◌≡◌, IfOk, IfSome};
     ghost use Rattle.std.specs.Arc.{arc_value};
-    ghost use Rattle.kept_routes.specs.Routers.{access_to};
-    ghost use Rattle.exchange_graph.specs.Targets.{AreTargets};
+    ghost use Rattle.kept_routes.specs.Routers.{access_to, IsRoute};
 
     /// A router of this topology, which keeps no route yet.
     pub fn new(alloc: Global, topology: Topology) -> Result<Router, AllocError>
@@ -58,19 +57,47 @@ impl Router {
         })
     }
 
-    /// The route of a message that is sent to this exchange under this key. It is kept, with the names that are given here,
-    /// until another one takes its slot. An exchange that is not there leads nowhere; `""` is the default exchange. Where
-    /// memory is wanting, the topology is as it was.
+    /// What is known at once of a message that is sent to this exchange under this key: whether clients may publish there, and
+    /// the route, where it is kept. It takes no memory.
+    pub fn find(&self, exchange: &Text, key: &Text) -> Found<'_>
+        ensures access { result.access ≡ access_to self.now exchange.now }
+        ensures route { IfSome result.route (λ r. IsRoute self.now exchange.now key.now (arc_value r.now)) }
+    {
+        let place = slot_of(exchange.as_bytes(), key.as_bytes());
+        found(&self.topology, &self.slots[place], exchange, key)
+    }
+
+    /// The route of a message that is sent to this exchange under this key, looked for in the topology. It is kept, with the
+    /// names that are given here, until another one takes its slot. An exchange that is not there leads nowhere; `""` is the
+    /// default exchange. Where memory is wanting, the topology is as it was.
+    pub fn learn(
+        &mut self,
+        alloc: Global,
+        exchange: &Text,
+        key: &Text,
+    ) -> Result<Arc<Route>, AllocError>
+        ensures route { IfOk result (λ r. IsRoute self.old exchange.now key.now (arc_value r)) }
+        ensures same { self.new ≡ self.old }
+    {
+        let place = slot_of(exchange.as_bytes(), key.as_bytes());
+        learned(
+            alloc,
+            &self.topology,
+            &mut self.scratch,
+            &mut self.slots[place],
+            exchange,
+            key,
+        )
+    }
+
+    /// The same, but a route that is kept is given at once.
     pub fn route(
         &mut self,
         alloc: Global,
         exchange: &Text,
         key: &Text,
     ) -> Result<Arc<Route>, AllocError>
-        ensures exchange { IfOk result (λ r. (arc_value r).exchange ≡ exchange.now) }
-        ensures key { IfOk result (λ r. (arc_value r).key ≡ key.now) }
-        ensures access { IfOk result (λ r. (arc_value r).access ≡ access_to self.old exchange.now) }
-        ensures targets { IfOk result (λ r. AreTargets self.old exchange.now key.now (arc_value r).targets.items) }
+        ensures route { IfOk result (λ r. IsRoute self.old exchange.now key.now (arc_value r)) }
         ensures same { self.new ≡ self.old }
     {
         let place = slot_of(exchange.as_bytes(), key.as_bytes());
@@ -88,11 +115,7 @@ impl Router {
     pub fn access(&self, exchange: &Text, key: &Text) -> Access
         ensures { result ≡ access_to self.now exchange.now }
     {
-        let place = slot_of(exchange.as_bytes(), key.as_bytes());
-        match kept(&self.slots[place], exchange.as_bytes(), key.as_bytes()) {
-            Some(route) => route.access,
-            None => access_to(&self.topology, exchange.as_bytes()),
-        }
+        self.find(exchange, key).access
     }
 
     /// The topology that was handed in.

@@ -2,6 +2,7 @@
 
 use exchange_graph::Targets;
 use model::Text;
+use std::sync::Arc;
 
 /// Whether clients may publish to an exchange.
 #[derive(Clone, Copy, PartialEq, Eq, Debug, Drop)]
@@ -34,4 +35,13 @@ impl Drop for Route {
             targets: _,
         } = self;
     }
+}
+
+/// What is known at once of an exchange and a key.
+#[derive(Drop)]
+pub struct Found<'a> {
+    /// Whether clients may publish to the exchange.
+    pub access: Access,
+    /// The route, where it is kept.
+    pub route: Option<&'a Arc<Route>>,
 }

@@ -5,7 +5,7 @@ ghost use Rattle.std.specs.Arc.{arc_value};
 ghost use Rattle.model.specs.Topology.{Topology as Handed};
 ghost use Rattle.kept_routes.specs.Routers.{IsRight, IsRoute, access_at, access_to};
 
-use crate::routes::{Access, Route};
+use crate::routes::{Access, Found, Route};
 use exchange_graph::{Scratch, Topology};
 use model::{Exchange, Text};
 use std::alloc::{AllocError, Global};
@@ -45,7 +45,7 @@ fn access_at(exchange: Option<&Exchange>) -> Access
 }
 
 /// Whether clients may publish to the exchange of this name.
-pub fn access_to(topology: &Topology, exchange: &[u8]) -> Access
+fn access_to(topology: &Topology, exchange: &[u8]) -> Access
     ensures { result ≡ access_to topology.now exchange.now }
 {
     if exchange.is_empty() {
@@ -64,7 +64,7 @@ fn is_of(route: &Route, exchange: &[u8], key: &[u8]) -> bool
 }
 
 /// The route of this exchange and this key, if it is kept here.
-pub fn kept<'a>(slot: &'a Option<Arc<Route>>, exchange: &[u8], key: &[u8]) -> Option<&'a Arc<Route>>
+fn kept<'a>(slot: &'a Option<Arc<Route>>, exchange: &[u8], key: &[u8]) -> Option<&'a Arc<Route>>
     ensures { (t : Handed) → IsRight t slot.now → IfSome result (λ a. IsRoute t exchange.now key.now (arc_value a.now)) }
 {
     match slot {
@@ -79,8 +79,31 @@ pub fn kept<'a>(slot: &'a Option<Arc<Route>>, exchange: &[u8], key: &[u8]) -> Op
     }
 }
 
+/// Whether clients may publish to this exchange, and the route of this exchange and this key, if it is kept here.
+pub fn found<'a>(
+    topology: &Topology,
+    slot: &'a Option<Arc<Route>>,
+    exchange: &Text,
+    key: &Text,
+) -> Found<'a>
+    requires { IsRight topology.now slot.now }
+    ensures access { result.access ≡ access_to topology.now exchange.now }
+    ensures route { IfSome result.route (λ a. IsRoute topology.now exchange.now key.now (arc_value a.now)) }
+{
+    match kept(slot, exchange.as_bytes(), key.as_bytes()) {
+        Some(route) => Found {
+            access: route.access,
+            route: Some(route),
+        },
+        None => Found {
+            access: access_to(topology, exchange.as_bytes()),
+            route: None,
+        },
+    }
+}
+
 /// The route of this exchange and this key, looked for in the topology.
-fn learned(
+fn looked_for(
     alloc: Global,
     topology: &Topology,
     scratch: &mut Scratch,
@@ -102,7 +125,25 @@ fn learned(
     }
 }
 
-/// The route of this exchange and this key, which is kept here from now on.
+/// The route of this exchange and this key, looked for in the topology, and kept here from now on.
+pub fn learned(
+    alloc: Global,
+    topology: &Topology,
+    scratch: &mut Scratch,
+    slot: &mut Option<Arc<Route>>,
+    exchange: &Text,
+    key: &Text,
+) -> Result<Arc<Route>, AllocError>
+    requires { IsRight topology.now slot.old }
+    ensures right { IsRight topology.now slot.new }
+    ensures route { IfOk result (λ a. IsRoute topology.now exchange.now key.now (arc_value a)) }
+{
+    let route = looked_for(alloc, topology, scratch, exchange, key)?;
+    *slot = Some(Arc::try_clone(&route)?);
+    Ok(route)
+}
+
+/// The route of this exchange and this key, which is kept here, or is from now on.
 pub fn routed(
     alloc: Global,
     topology: &Topology,
@@ -115,12 +156,10 @@ pub fn routed(
     ensures right { IsRight topology.now slot.new }
     ensures route { IfOk result (λ a. IsRoute topology.now exchange.now key.now (arc_value a)) }
 {
-    if let Some(route) = kept(slot, exchange.as_bytes(), key.as_bytes()) {
-        return Arc::try_clone(route);
+    match kept(slot, exchange.as_bytes(), key.as_bytes()) {
+        Some(route) => Arc::try_clone(route),
+        None => learned(alloc, topology, scratch, slot, exchange, key),
     }
-    let route = learned(alloc, topology, scratch, exchange, key)?;
-    *slot = Some(Arc::try_clone(&route)?);
-    Ok(route)
 }
 
 /// So many slots with nothing in them.

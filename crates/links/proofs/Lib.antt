@@ -2,6 +2,6 @@ pub mod Counting
 mod Opening
 pub mod Outcomes
 pub mod Setting
-mod Putting
+pub mod Putting
 pub mod Moving
 pub mod Taking

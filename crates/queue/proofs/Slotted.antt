@@ -339,6 +339,18 @@ somes-dropped (s ∷ ss) = go (is_some s.entry) refl (somes-dropped ss)
     go true h e = somes-cons s.entry (contents kept) (contents ss) e
     go false h e = somes-skip s.entry (contents kept) (contents ss) h e
 
+-- as many slots are left as were not empty
+pub length-dropped : (slots : List Slot) → length (filter (λ (s : Slot). is_some s.entry) slots) ≡ length (somes (contents slots))
+length-dropped [] = refl
+length-dropped (s ∷ ss) = go s.entry (length-dropped ss)
+  where
+    kept : List Slot
+    kept = filter (λ (s : Slot). is_some s.entry) ss
+
+    go : (o : Option Entry) → length kept ≡ length (somes (contents ss)) → length (cond (is_some o) (s ∷ kept) kept) ≡ length (somes (o ∷ contents ss))
+    go None e = e
+    go (Some x) e = ap suc e
+
 -- ---- bits set one after another
 
 -- The bits below a place are as their slots are, and those from `places` on are 0.

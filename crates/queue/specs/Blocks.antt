@@ -79,6 +79,44 @@ IsFilled b = 0 < b.slots → 0 < length b.entries
 abbrev pub LastIsFilled : List Stretch → Type 0
 LastIsFilled blocks = (i : ℕ) → i + 1 ≡ length blocks → IsFilled (block_at blocks i)
 
+-- it keeps fewer slots than a whole block
+abbrev pub IsShort : Stretch → Type 0
+IsShort b = b.slots < 1024
+
+-- it holds a message, or keeps fewer slots than a whole block
+abbrev pub IsSpare : Stretch → Type 0
+IsSpare b = length b.entries ≡ 0 → IsShort b
+
+-- A block can't take so many messages more: it has no slots for them, and would need more than a usual one has, with as many gaps as messages.
+pub record IsTooMuch (more : ℕ) (b : Stretch) : Type 0 where
+  pub some : 0 < length b.entries
+  pub past : 1024 < length b.entries * 2 + more
+  pub wide : b.slots < length b.entries * 2 + more
+
+-- it has slots for so many messages more, with as many gaps as messages
+abbrev pub HasSlots : ℕ → Stretch → Type 0
+HasSlots more b = length b.entries * 2 + more ≤ b.slots
+
+-- There is a last one, and it can take so many.
+pub record LastFits (more : ℕ) (blocks : List Stretch) : Type 0 where
+  pub place : ℕ
+  pub last : place + 1 ≡ length blocks
+  pub fits : IsTooMuch more (block_at blocks place) → ⊥
+
+-- the last one, if there is one, can't take so many
+abbrev pub LastHasTooMuch : ℕ → List Stretch → Type 0
+LastHasTooMuch more blocks = (i : ℕ) → i + 1 ≡ length blocks → IsTooMuch more (block_at blocks i)
+
+-- There is a last one, and it has slots for so many.
+pub record LastHasSlots (more : ℕ) (blocks : List Stretch) : Type 0 where
+  pub place : ℕ
+  pub last : place + 1 ≡ length blocks
+  pub wide : HasSlots more (block_at blocks place)
+
+-- each keeps as many slots as before
+abbrev pub KeepSlots : List Stretch → List Stretch → Type 0
+KeepSlots old new = (i : ℕ) → (block_at new i).slots ≡ (block_at old i).slots
+
 -- how many slots all of them keep
 abbrev pub slots_of : List Stretch → ℕ
 slots_of [] = 0

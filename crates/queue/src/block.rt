@@ -1,10 +1,11 @@
 //! A block: messages in slots by arrival, of which the ready ones are marked.
 
-ghost use Rattle.std.specs.Prelude.{◌+◌, ◌≤◌, ℕ, IfSome};
+ghost use Rattle.std.specs.Prelude.{◌≡◌, ◌+◌, ◌<◌, ◌≤◌, ℕ, IfSome, IfNone};
 
 use crate::signs::Signs;
 use crate::slots::{
-    Slot, append, close_gaps, entry_at, free_at, hold_at, place_held, place_of, stand_in, take_at,
+    Slot, append, close_many_gaps, entry_at, free_at, hold_at, place_held, place_of, stand_in,
+    take_at,
 };
 use model::{Entry, Holder, Mark, Message};
 use std::alloc::{AllocError, Global};
@@ -30,19 +31,24 @@ fn twice(slots: usize) -> usize
 }
 
 /// How many slots are made for so many messages more, behind so many slots of these: so many, or what doubles them. None are
-/// if that leaves no block of the usual size.
+/// if they don't fit in what there is, and that leaves no block of the usual size.
 fn growth(slots: usize, capacity: usize, more: usize) -> Option<usize>
+    requires { slots ≤ capacity }
     ensures enough { IfSome result (λ grown. more ≤ grown) }
-    ensures few { IfSome result (λ grown. (most : ℕ) → 1024 ≤ most → more ≤ most → slots + grown ≤ most) }
+    ensures few { IfSome result (λ grown. (most : ℕ) → 1024 ≤ most → more ≤ most → capacity ≤ most → slots + grown ≤ most) }
+    ensures same { IfSome result (λ grown. slots + more ≤ capacity → grown ≡ more) }
+    ensures some { IfNone result (0 < slots) }
+    ensures past { IfNone result (1024 < slots + more) }
+    ensures wide { IfNone result (capacity < slots + more) }
 {
+    if more <= capacity - slots {
+        return Some(more);
+    }
     if slots == 0 {
         return Some(more.max(twice(capacity)));
     }
     if slots > BLOCK_SLOTS || more > BLOCK_SLOTS - slots {
         return None;
-    }
-    if more <= capacity.saturating_sub(slots) {
-        return Some(more);
     }
     Some(more.max(twice(capacity).saturating_sub(slots)))
 }
@@ -74,11 +80,12 @@ impl Model for Block {
 }
 
 impl Block {
-    ghost use Rattle.std.specs.Prelude.{◌≡◌, ◌+◌, ◌<◌, ◌≤◌, ◌∷◌, ◌++◌, [], ℕ, true, IfOk, OnErr, None, find, filter, not, is_some, option_map};
+    ghost use Rattle.std.specs.Prelude.{◌≡◌, ◌+◌, ◌*◌, ◌<◌, ◌≤◌, ◌∷◌, ◌++◌, [], ℕ, true, false, length};
+    ghost use Rattle.std.specs.Prelude.{IfOk, OnErr, None, find, filter, not, is_some, option_map};
     ghost use Rattle.model.specs.Broker.{is_ready};
     ghost use Rattle.model.specs.Entries.{is_under, is_held_as, held_as, change_first, without_first};
     ghost use Rattle.model.specs.declared.messages.Mark.TheVariants.{Ready};
-    ghost use Rattle.queue.specs.Blocks.{is_in_use, stood_block, IsFilled};
+    ghost use Rattle.queue.specs.Blocks.{is_in_use, stood_block, IsFilled, IsShort, IsTooMuch, HasSlots};
     ghost use Rattle.queue.specs.Line.{requeued};
     ghost use Rattle.queue.specs.Slots.{contents, somes};
 
@@ -112,19 +119,21 @@ impl Block {
         self.signs.places() - self.slots.len()
     }
 
-    /// Makes room for so many messages more, if that leaves this a block of the usual size, and tells whether it does. Closes
-    /// gaps if more than half of the slots are empty, and grows if that is not enough.
+    /// Makes room for so many messages more, if they fit in the slots there are or that leaves this a block of the usual size, and
+    /// tells whether it does. Closes gaps if more than half of the slots are empty, and grows if that is not enough.
     pub(crate) fn reserve(&mut self, more: usize) -> Result<bool, AllocError>
         ensures entries { self.new.entries ≡ self.old.entries }
         ensures kept { self.old.room ≤ self.new.room }
         ensures room { IfOk result (λ fits. fits ≡ true → more ≤ self.new.room) }
+        ensures fits { IfOk result (λ fits. fits ≡ false → IsTooMuch more self.old) }
         ensures full { OnErr result (self.old.room < more) }
+        ensures same { HasSlots more self.old → self.new.slots ≡ self.old.slots }
         ensures slots { (most : ℕ) → 1024 ≤ most → more ≤ most → self.old.slots ≤ most → self.new.slots ≤ most }
     {
         if more <= self.signs.places() - self.slots.len() {
             return Ok(true);
         }
-        close_gaps(&mut self.slots, &mut self.signs, self.live);
+        close_many_gaps(&mut self.slots, &mut self.signs, self.live);
         match growth(self.slots.len(), self.slots.capacity(), more) {
             None => Ok(false),
             Some(grown) => {
@@ -162,7 +171,9 @@ impl Block {
     }
 
     /// Whether this block has all the slots that a block has.
-    pub(crate) fn is_whole(&self) -> bool {
+    pub(crate) fn is_whole(&self) -> bool
+        ensures { result ≡ false → IsShort self.now }
+    {
         self.slots.capacity() >= BLOCK_SLOTS
     }
 

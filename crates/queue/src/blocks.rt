@@ -1,6 +1,6 @@
 //! Blocks of messages, one after another.
 
-ghost use Rattle.std.specs.Prelude.{◌≡◌, ◌+◌, ◌<◌, ◌≤◌, ◌++◌, ◌∷◌, [], ℕ, true, length, map, find, is_some, vec_len, vec_capacity};
+ghost use Rattle.std.specs.Prelude.{◌≡◌, ◌+◌, ◌<◌, ◌≤◌, ◌++◌, ◌∷◌, [], ℕ, true, false, length, map, find, is_some, vec_len, vec_capacity};
 ghost use Rattle.std.specs.Prelude.{option_map, IfSome, IfNone, IfOk, OnOk, OnErr, None};
 ghost use Rattle.model.specs.Broker.{is_ready, body_bytes};
 ghost use Rattle.model.specs.Entries.{is_under, is_held_as, held_as, change_first, without_first};
@@ -10,6 +10,7 @@ ghost use Rattle.queue.specs.Line.{requeued};
 ghost use Rattle.queue.specs.Slots.{num, BitTurned, HavePlaces};
 ghost use Rattle.queue.specs.Blocks.{parts, part_at, part_changed, without_held, joined, last_room, some_pass, size_of, stood_block, AreBlocksSigned};
 ghost use Rattle.queue.specs.Blocks.{AreFilled, AreFilledBut, LastIsFilled, StayFilled, StayFilledFor};
+ghost use Rattle.queue.specs.Blocks.{LastFits, LastHasTooMuch, LastHasSlots, KeepSlots, IsSpare, block_at};
 
 use crate::block::{BLOCK_SLOTS, Block, FIRST_SLOTS};
 use crate::signs::Signs;
@@ -212,6 +213,7 @@ pub(crate) fn give_back_spare(blocks: &mut Vec<Block>, place: usize, room: usize
     ensures len { vec_len blocks.new ≡ vec_len blocks.old }
     ensures capacity { vec_capacity blocks.new ≡ vec_capacity blocks.old }
     ensures filled { StayFilled blocks.old.items blocks.new.items }
+    ensures spare { room ≡ 0 → IsSpare (block_at blocks.new.items place) }
 {
     if room > 0 {
         return;
@@ -247,7 +249,9 @@ fn reserve_last(blocks: &mut Vec<Block>, more: usize) -> Result<bool, AllocError
     ensures room { IfOk result (λ fits. fits ≡ true → more ≤ last_room blocks.new.items) }
     ensures len { vec_len blocks.new ≡ vec_len blocks.old }
     ensures capacity { vec_capacity blocks.new ≡ vec_capacity blocks.old }
+    ensures fits { IfOk result (λ fits. fits ≡ false → LastHasTooMuch more blocks.old.items) }
     ensures full { OnErr result (last_room blocks.old.items < more) }
+    ensures same { LastHasSlots more blocks.old.items → KeepSlots blocks.old.items blocks.new.items }
     ensures filled { StayFilledFor more blocks.old.items blocks.new.items }
 {
     if blocks.is_empty() {
@@ -407,6 +411,8 @@ pub(crate) fn make_room(
     ensures entries { joined (parts blocks.new.items) ≡ joined (parts blocks.old.items) }
     ensures room { OnOk result (more ≤ last_room blocks.new.items) }
     ensures kept { OnErr result (last_room blocks.old.items ≤ last_room blocks.new.items) }
+    ensures few { LastFits more blocks.old.items → vec_len blocks.new ≡ vec_len blocks.old }
+    ensures same { LastHasSlots more blocks.old.items → KeepSlots blocks.old.items blocks.new.items }
     ensures filled { StayFilledFor more blocks.old.items blocks.new.items }
 {
     if more <= room_of(blocks) {

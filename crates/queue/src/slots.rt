@@ -1,6 +1,6 @@
 //! Slots in the order of arrival, and which of them are ready.
 
-ghost use Rattle.std.specs.Prelude.{◌≡◌, ◌+◌, ◌<◌, ◌≤◌, ◌++◌, ◌∷◌, [], ℕ, false, true, length, map, vec_len, vec_capacity, slice_set};
+ghost use Rattle.std.specs.Prelude.{◌≡◌, ◌+◌, ◌*◌, ◌<◌, ◌≤◌, ◌++◌, ◌∷◌, [], ℕ, false, true, length, map, vec_len, vec_capacity, slice_set};
 ghost use Rattle.std.specs.Prelude.{option_map, IfSome, IfNone, Some, None};
 ghost use Rattle.model.specs.Broker.{is_ready};
 ghost use Rattle.model.specs.Entries.{is_held_as, held_as, freed_now};
@@ -169,6 +169,7 @@ pub(crate) fn append(slots: &mut Vec<Slot>, arrival: u64, entry: Entry)
 /// Takes the empty slots out.
 fn drop_empty(slots: &mut Vec<Slot>)
     ensures entries { somes (contents slots.new.items) ≡ somes (contents slots.old.items) }
+    ensures closed { vec_len slots.new ≡ length (somes (contents slots.old.items)) }
     ensures len { vec_len slots.new ≤ vec_len slots.old }
     ensures capacity { vec_capacity slots.new ≡ vec_capacity slots.old }
 {
@@ -205,20 +206,35 @@ fn sign_all(slots: &[Slot], signs: &mut Signs, places: usize)
     }
 }
 
-/// Closes the gaps, where more than half of the slots are empty: then none is empty any more. Each has its bit.
-pub(crate) fn close_gaps(slots: &mut Vec<Slot>, signs: &mut Signs, live: usize)
+/// Closes the gaps: no slot is empty any more. Each has its bit.
+fn close_gaps(slots: &mut Vec<Slot>, signs: &mut Signs)
     requires within { vec_len slots.old ≤ signs.old.places }
     requires signed { AreSigned (contents slots.old.items) signs.old }
     ensures signed { AreSigned (contents slots.new.items) signs.new }
     ensures entries { somes (contents slots.new.items) ≡ somes (contents slots.old.items) }
-    ensures len { vec_len slots.new ≤ vec_len slots.old }
+    ensures closed { vec_len slots.new ≡ length (somes (contents slots.old.items)) }
     ensures capacity { vec_capacity slots.new ≡ vec_capacity slots.old }
     ensures places { signs.new.places ≡ signs.old.places }
 {
     let places = slots.len();
-    if live > places / 2 {
-        return;
-    }
     drop_empty(slots);
     sign_all(slots, signs, places);
+}
+
+/// Closes the gaps if more than half of the slots are empty, so that no more are than aren't.
+pub(crate) fn close_many_gaps(slots: &mut Vec<Slot>, signs: &mut Signs, live: usize)
+    requires within { vec_len slots.old ≤ signs.old.places }
+    requires signed { AreSigned (contents slots.old.items) signs.old }
+    requires live { live ≡ length (somes (contents slots.old.items)) }
+    ensures signed { AreSigned (contents slots.new.items) signs.new }
+    ensures entries { somes (contents slots.new.items) ≡ somes (contents slots.old.items) }
+    ensures len { vec_len slots.new ≤ vec_len slots.old }
+    ensures few { vec_len slots.new ≤ live * 2 }
+    ensures capacity { vec_capacity slots.new ≡ vec_capacity slots.old }
+    ensures places { signs.new.places ≡ signs.old.places }
+{
+    if live > slots.len() / 2 {
+        return;
+    }
+    close_gaps(slots, signs);
 }

@@ -19,9 +19,9 @@ returns-else-from-eq0-clause-kept c =
     let i : ℕ = c.in-Some.from in
     let none : Delivery = record { tag = 0; queue = 0; arrival = 0; by = Get } in
     let o : Delivery = get_or xs (start + i) none in
-    let at : IsTagAt live i c.args.tag = subst (λ (ys : List Delivery). IsTagAt ys i c.args.tag) c.behind.ensures (c.in-Some.ensures.there c.if-from-eq0.false) in
+    let at : IsTagAt live i c.args.span.tag = subst (λ (ys : List Delivery). IsTagAt ys i c.args.span.tag) c.behind.ensures (c.in-Some.ensures.there c.if-from-eq0.false) in
     let next : c.in-Some.to ≡ i + 1 = c.in-Some.ensures.next c.if-from-eq0.false in
-    let rest : waiting (take i live) ++ waiting (drop c.in-Some.to live) ≡ kept tag_of c.args.tag c.args.multiple (waiting live) = rw c.behind.ensures at c.in-Some.ensures.rest in
+    let rest : waiting (take i live) ++ waiting (drop c.in-Some.to live) ≡ kept tag_of c.args.span.tag c.args.span.multiple (waiting live) = rw c.behind.ensures at c.in-Some.ensures.rest in
     ap (λ (ys : List Delivery). waiting (drop start ys)) (c.mark.ensures.items none) ∙ ap waiting (drop_marked xs start i o) ∙ marked_gone live i o at.within
     ∙ ap (λ (n : ℕ). waiting (take i live) ++ waiting (drop n live)) (sym next) ∙ rest
 
@@ -33,6 +33,6 @@ returns-else-from-eq0-clause-order c = λ last order.
     let i : ℕ = c.in-Some.from in
     let none : Delivery = record { tag = 0; queue = 0; arrival = 0; by = Get } in
     let o : Delivery = get_or xs (start + i) none in
-    let at : IsTagAt live i c.args.tag = subst (λ (ys : List Delivery). IsTagAt ys i c.args.tag) c.behind.ensures (c.in-Some.ensures.there c.if-from-eq0.false) in
-    let tagged : o.tag ≡ c.args.tag = ap tag_of (sym (get_or-drop start xs i none)) ∙ at.there none in
-    subst (AreInOrder last) (sym (ap (λ (ys : List Delivery). drop start ys) (c.mark.ensures.items none) ∙ drop_marked xs start i o)) (marked_order live i c.args.tag last o at tagged order)
+    let at : IsTagAt live i c.args.span.tag = subst (λ (ys : List Delivery). IsTagAt ys i c.args.span.tag) c.behind.ensures (c.in-Some.ensures.there c.if-from-eq0.false) in
+    let tagged : o.tag ≡ c.args.span.tag = ap tag_of (sym (get_or-drop start xs i none)) ∙ at.there none in
+    subst (AreInOrder last) (sym (ap (λ (ys : List Delivery). drop start ys) (c.mark.ensures.items none) ∙ drop_marked xs start i o)) (marked_order live i c.args.span.tag last o at tagged order)

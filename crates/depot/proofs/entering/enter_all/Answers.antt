@@ -9,22 +9,22 @@ use Rattle.depot.specs.Turns.{places, outcome, outcomes, notes_of_outcomes, is_r
 use Rattle.depot.proofs.Turning.{within_rest, or_assoc, here_once}
 use Rattle.depot.proofs.entering.enter_all.Goals as goal
 
-pub enter-is_some_refused-requires-clause-within : goal.enter-is_some_refused-requires-clause-within
-enter-is_some_refused-requires-clause-within c =
+pub enter_at-is_some_refused-requires-clause-within : goal.enter_at-is_some_refused-requires-clause-within
+enter_at-is_some_refused-requires-clause-within c =
     let within : All (λ (i : ℕ). i < length c.loop-turn.queues) (places (c.in-Some.turn ∷ c.next.new.self.rest.items))
     = subst (λ (ts : List PlannedTurn). All (λ (i : ℕ). i < length c.loop-turn.queues) (places ts)) c.in-Some.ensures.steps.0 c.loop-turn.invariant.within in
     within 0 0 (omega arith)
 
-pub enter-is_some_refused-requires-clause-room : goal.enter-is_some_refused-requires-clause-room
-enter-is_some_refused-requires-clause-room c =
+pub enter_at-is_some_refused-requires-clause-room : goal.enter_at-is_some_refused-requires-clause-room
+enter_at-is_some_refused-requires-clause-room c =
     let room : IsRoomy c.loop-turn.queues (places (c.in-Some.turn ∷ c.next.new.self.rest.items))
     = subst (λ (ts : List PlannedTurn). IsRoomy c.loop-turn.queues (places ts)) c.in-Some.ensures.steps.0 c.loop-turn.invariant.room in
     let here = room c.in-Some.turn.place in
     let once = here_once c.in-Some.turn.place (places c.next.new.self.rest.items) in
     omega (arith, here, once)
 
-pub enter-is_some_refused-requires-clause-notes : goal.enter-is_some_refused-requires-clause-notes
-enter-is_some_refused-requires-clause-notes c =
+pub enter_at-is_some_refused-requires-clause-notes : goal.enter_at-is_some_refused-requires-clause-notes
+enter_at-is_some_refused-requires-clause-notes c =
     let long = ap length c.in-Some.ensures.steps.0 in
     let len = c.loop-turn.invariant.notes_len in
     let capacity = c.loop-turn.invariant.notes_capacity in
@@ -42,24 +42,24 @@ loop-turn-preserved c =
     let es = entries_of c.loop-turn.queues in
     let long = ap length next in
     let counted = inv.notes_len in
-    let one = c.enter-is_some_refused.ensures.notes_len in
-    let same = c.enter-is_some_refused.ensures.len in
+    let one = c.enter_at-is_some_refused.ensures.notes_len in
+    let same = c.enter_at-is_some_refused.ensures.len in
     let before = inv.len in
     let within : All (λ (i : ℕ). i < length c.loop-turn.queues) (places (t ∷ rest)) = subst (λ (ts : List PlannedTurn). All (λ (i : ℕ). i < length c.loop-turn.queues) (places ts)) next inv.within in
     let room : IsRoomy c.loop-turn.queues (places (t ∷ rest)) = subst (λ (ts : List PlannedTurn). IsRoomy c.loop-turn.queues (places ts)) next inv.room in
-    let moved : entries_of c.enter-is_some_refused.new.queues ≡ all_entered (outcome way declared es t ∷ []) es = c.enter-is_some_refused.ensures.entries in
+    let moved : entries_of c.enter_at-is_some_refused.new.queues ≡ all_entered (outcome way declared es t ∷ []) es = c.enter_at-is_some_refused.ensures.entries in
     record {
       len = same ∙ before;
       within = subst (λ (n : ℕ). All (λ (i : ℕ). i < n) (places rest)) (sym same) (within_rest _ t.place (places rest) within);
-      room = λ k. let had = room k in let less = c.enter-is_some_refused.ensures.spent k in omega (arith, had, less);
+      room = λ k. let had = room k in let less = c.enter_at-is_some_refused.ensures.spent k in omega (arith, had, less);
       spent = λ k.
           let had = inv.spent k in
-          let less = c.enter-is_some_refused.ensures.spent k in
+          let less = c.enter_at-is_some_refused.ensures.spent k in
           let step = ap (λ (ts : List PlannedTurn). times k (places ts)) next in
           omega (arith, had, less, step);
       refused =
-          ap (λ (xs : List (List Entry)). (c.loop-turn.is_some_refused || c.enter-is_some_refused.result) || list_any is_refusal (outcomes way declared rest xs)) moved
-          ∙ ap (λ (b : Bool). (c.loop-turn.is_some_refused || b) || list_any is_refusal (outcomes way declared rest (all_entered (outcome way declared es t ∷ []) es))) c.enter-is_some_refused.ensures.refused
+          ap (λ (xs : List (List Entry)). (c.loop-turn.is_some_refused || c.enter_at-is_some_refused.result) || list_any is_refusal (outcomes way declared rest xs)) moved
+          ∙ ap (λ (b : Bool). (c.loop-turn.is_some_refused || b) || list_any is_refusal (outcomes way declared rest (all_entered (outcome way declared es t ∷ []) es))) c.enter_at-is_some_refused.ensures.refused
           ∙ or_assoc c.loop-turn.is_some_refused (is_refusal (outcome way declared es t)) (list_any is_refusal (outcomes way declared rest (all_entered (outcome way declared es t ∷ []) es)))
           ∙ ap (λ (ts : List PlannedTurn). c.loop-turn.is_some_refused || list_any is_refusal (outcomes way declared ts es)) (sym next)
           ∙ inv.refused;
@@ -68,11 +68,11 @@ loop-turn-preserved c =
           ∙ ap (λ (ts : List PlannedTurn). all_entered (outcomes way declared ts es) es) (sym next)
           ∙ inv.entries;
       notes =
-          ap (λ (xs : List (List Entry)). c.enter-is_some_refused.new.notes.items ++ notes_of_outcomes (outcomes way declared rest xs)) moved
-          ∙ ap (λ (ns : List Note). ns ++ notes_of_outcomes (outcomes way declared rest (all_entered (outcome way declared es t ∷ []) es))) c.enter-is_some_refused.ensures.notes
+          ap (λ (xs : List (List Entry)). c.enter_at-is_some_refused.new.notes.items ++ notes_of_outcomes (outcomes way declared rest xs)) moved
+          ∙ ap (λ (ns : List Note). ns ++ notes_of_outcomes (outcomes way declared rest (all_entered (outcome way declared es t ∷ []) es))) c.enter_at-is_some_refused.ensures.notes
           ∙ append_assoc c.loop-turn.notes.items ((outcome way declared es t).note ∷ []) (notes_of_outcomes (outcomes way declared rest (all_entered (outcome way declared es t ∷ []) es)))
           ∙ ap (λ (ts : List PlannedTurn). c.loop-turn.notes.items ++ notes_of_outcomes (outcomes way declared ts es)) (sym next)
           ∙ inv.notes;
       notes_len = omega arith;
-      notes_capacity = c.enter-is_some_refused.ensures.notes_capacity ∙ inv.notes_capacity;
+      notes_capacity = c.enter_at-is_some_refused.ensures.notes_capacity ∙ inv.notes_capacity;
     }

@@ -3,8 +3,8 @@ use Rattle.depot.specs.Turns.{places}
 use Rattle.depot.proofs.Turning.{place_is, places-length, room_more}
 use Rattle.depot.proofs.entering.make_room.Goals as goal
 
-pub reserve-requires : goal.reserve-requires
-reserve-requires c =
+pub make_room_at-requires : goal.make_room_at-requires
+make_room_at-requires c =
     let all = places-length c.args.turns.now in
     let len = c.loop-turn.invariant.len in
     let before = c.loop-turn-test.true in
@@ -17,8 +17,8 @@ loop-turn-preserved c =
     let before = c.loop-turn-test.true in
     let here = place_is c.args.turns.now c.loop-turn.turn-index c.turn-item.result before c.turn-item.is in
     record {
-      len = c.reserve.ensures.len ∙ c.loop-turn.invariant.len;
-      same = c.reserve.ensures.same ∙ c.loop-turn.invariant.same;
-      kept = λ k. let had = c.loop-turn.invariant.kept k in let more = c.reserve.ensures.kept k in omega (arith, had, more);
-      room = room_more c.loop-turn.queues c.reserve.new.self (places c.args.turns.now) c.args.more c.loop-turn.turn-index _ c.turn-item.result.place (omega arith) here c.in_ok-reserve.ensures.room c.reserve.ensures.kept c.loop-turn.invariant.room;
+      len = c.make_room_at.ensures.len ∙ c.loop-turn.invariant.len;
+      same = c.make_room_at.ensures.same ∙ c.loop-turn.invariant.same;
+      kept = λ k. let had = c.loop-turn.invariant.kept k in let more = c.make_room_at.ensures.kept k in omega (arith, had, more);
+      room = room_more c.loop-turn.queues c.make_room_at.new.queues (places c.args.turns.now) c.args.more c.loop-turn.turn-index _ c.turn-item.result.place (omega arith) here c.in_ok-make_room_at.ensures.room c.make_room_at.ensures.kept c.loop-turn.invariant.room;
     }

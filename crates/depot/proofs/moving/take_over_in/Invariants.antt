@@ -1,6 +1,6 @@
-use Rattle.std.proofs.Common.{◌≡◌, drop, length}
+use Rattle.std.proofs.Common.{◌≡◌, ℕ, drop, length}
 use Rattle.depot.specs.Store.{entries_of}
-use Rattle.depot.specs.Signs.{QueuesAreSigned}
+use Rattle.depot.specs.Signs.{AreSignedBut}
 use Rattle.depot.specs.Moving.{taken}
 use Rattle.depot.proofs.moving.take_over_in.Given as goal
 
@@ -8,7 +8,8 @@ use Rattle.depot.proofs.moving.take_over_in.Given as goal
 abbrev pub invariant-loop-from : goal.invariant-loop-from
 invariant-loop-from l = record {
   whole : taken (drop l.from l.places) (drop l.from (entries_of l.old)) (entries_of l.queues) ≡ taken l.places (entries_of l.initial.old) (entries_of l.initial.queues);
-  signed : QueuesAreSigned (entries_of l.queues) l.signs;
+  signed : (lent : ℕ) → AreSignedBut lent (entries_of l.initial.queues) l.initial.signs → AreSignedBut lent (entries_of l.queues) l.signs;
+  room : length l.signs ≡ length l.initial.signs;
   len : length l.queues ≡ length l.initial.queues;
   old_len : length l.old ≡ length l.initial.old;
 }

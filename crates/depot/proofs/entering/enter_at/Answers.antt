@@ -1,0 +1,38 @@
+use Rattle.std.proofs.Common.{◌∙◌, ◌++◌, ◌∷◌, [], ap, arith}
+use Rattle.queue.specs.Line.{Line}
+use Rattle.depot.specs.Store.{entries_of}
+use Rattle.depot.specs.Turns.{TurnOutcome, is_refusal, no_line}
+use Rattle.depot.proofs.Lending.{lent_entries, outcome_there, entered_there}
+use Rattle.depot.proofs.Turning.{room_write}
+use Rattle.depot.proofs.entering.enter_at.Goals as goal
+
+pub enter-is_refused-requires-clause-room : goal.enter-is_refused-requires-clause-room
+enter-is_refused-requires-clause-room c =
+    let had = c.requires.room in
+    let was = ap (λ (l : Line). l.room) c.queue_mut.ensures.value in
+    omega (arith, had, was)
+
+pub returns-clause-refused : goal.returns-clause-refused
+returns-clause-refused c =
+    let is = lent_entries c.args.queues.now c.args.turn.place c.queue_mut.result.now c.requires.within c.queue_mut.ensures.value in
+    c.enter-is_refused.ensures.refused
+    ∙ ap is_refusal (outcome_there c.args.way c.args.declared.now (entries_of c.args.queues.now) c.args.turn c.index-declared-place.result _ (omega (arith, c.requires.within, c.requires.len)) c.index-declared-place.is is)
+
+pub returns-clause-entries : goal.returns-clause-entries
+returns-clause-entries c =
+    let is = lent_entries c.args.queues.now c.args.turn.place c.queue_mut.result.now c.requires.within c.queue_mut.ensures.value in
+    ap entries_of c.count_coming.ensures
+    ∙ entered_there c.args.way c.args.declared.now c.args.queues.now c.args.turn c.index-declared-place.result _ c.enter-is_refused.new.queue (omega (arith, c.requires.within, c.requires.len)) c.index-declared-place.is is c.enter-is_refused.ensures.entries
+
+pub returns-clause-spent : goal.returns-clause-spent
+returns-clause-spent c = λ k.
+    let was = ap (λ (l : Line). l.room) c.queue_mut.ensures.value in
+    let less = c.enter-is_refused.ensures.room in
+    rw (c.count_coming.ensures) (room_write c.args.queues.now c.args.turn.place k c.enter-is_refused.new.queue no_line 1 (omega (arith, was, less)))
+
+pub returns-clause-notes : goal.returns-clause-notes
+returns-clause-notes c =
+    let is = lent_entries c.args.queues.now c.args.turn.place c.queue_mut.result.now c.requires.within c.queue_mut.ensures.value in
+    c.enter-is_refused.ensures.notes
+    ∙ ap (λ (o : TurnOutcome). c.args.notes.now.items ++ o.note ∷ [])
+    (outcome_there c.args.way c.args.declared.now (entries_of c.args.queues.now) c.args.turn c.index-declared-place.result _ (omega (arith, c.requires.within, c.requires.len)) c.index-declared-place.is is)

@@ -1,0 +1,43 @@
+use Rattle.std.proofs.Common.{◌≡◌, ◌∙◌, ◌++◌, ◌∷◌, [], ℕ, ◌≤◌, List, ap, arith, append_assoc, filter, not}
+use Rattle.model.specs.Entries.{is_held_as}
+use Rattle.model.specs.declared.messages.Entry.{Entry}
+use Rattle.model.specs.declared.notes.Note.{Note}
+use Rattle.model.specs.declared.notes.Way.TheVariants as way
+use Rattle.queue.specs.Line.{Line}
+use Rattle.depot.specs.Store.{entries_of}
+use Rattle.depot.specs.Turns.{outcomes, all_entered, notes_of_outcomes, no_line, room_at}
+use Rattle.depot.specs.Dying.{outcomes_of}
+use Rattle.depot.proofs.Changes.{changed_write}
+use Rattle.depot.proofs.Turning.{room_kept}
+use Rattle.depot.proofs.rejecting.die.Goals as goal
+
+pub enter_all-requires-clause-room : goal.enter_all-requires-clause-room
+enter_all-requires-clause-room c = λ k.
+    let had = c.requires.room k in
+    let was = ap (λ (l : Line). l.room) c.queue_mut.ensures.value in
+    let more = c.remove.ensures.room in
+    let kept = room_kept c.args.queues.now c.args.death.place k c.remove.new.self no_line (omega (arith, was, more)) in
+    omega (arith, had, kept)
+
+pub returns-clause-entries : goal.returns-clause-entries
+returns-clause-entries c =
+    let leaves = λ (es : List Entry). filter (λ (e : Entry). not (is_held_as c.args.death.holder e)) es in
+    let left = changed_write leaves c.args.queues.now c.args.death.place c.remove.new.self no_line c.requires.sound.place (c.remove.ensures.entries ∙ ap (λ (l : Line). leaves l.entries) c.queue_mut.ensures.value) in
+    c.enter_all.ensures.entries ∙ ap (λ (es : List (List Entry)). all_entered (outcomes way.Dead c.args.declared.now c.args.death.turns.items es) es) left
+
+pub returns-clause-spent : goal.returns-clause-spent
+returns-clause-spent c = λ k.
+    let was = ap (λ (l : Line). l.room) c.queue_mut.ensures.value in
+    let more = c.remove.ensures.room in
+    let kept = room_kept c.args.queues.now c.args.death.place k c.remove.new.self no_line (omega (arith, was, more)) in
+    let less = c.enter_all.ensures.spent k in
+    omega (arith, kept, less)
+
+pub returns-clause-notes : goal.returns-clause-notes
+returns-clause-notes c =
+    let leaves = λ (es : List Entry). filter (λ (e : Entry). not (is_held_as c.args.death.holder e)) es in
+    let left = changed_write leaves c.args.queues.now c.args.death.place c.remove.new.self no_line c.requires.sound.place (c.remove.ensures.entries ∙ ap (λ (l : Line). leaves l.entries) c.queue_mut.ensures.value) in
+    c.enter_all.ensures.notes
+    ∙ ap (λ (es : List (List Entry)). c.push_reserved.new.self.items ++ notes_of_outcomes (outcomes way.Dead c.args.declared.now c.args.death.turns.items es)) left
+    ∙ ap (λ (ns : List Note). ns ++ notes_of_outcomes (outcomes_of c.args.declared.now c.args.death (entries_of c.args.queues.now))) c.push_reserved.ensures.items
+    ∙ append_assoc c.args.notes.now.items (c.args.death.note ∷ []) (notes_of_outcomes (outcomes_of c.args.declared.now c.args.death (entries_of c.args.queues.now)))
