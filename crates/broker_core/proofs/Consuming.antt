@@ -1,44 +1,27 @@
 -- Consumers that are made and cancelled, as the model has them.
-use Rattle.std.proofs.Common.{◌≡◌, ◌∙◌, ◌<◌, ℕ, List, [], ◌∷◌, Bool, true, false, cond, Option, Some, None, Result, Ok, Err, length, map, filter, not, refl, sym, ap, subst, if◌then◌else◌}
-use Rattle.std.specs.Prelude.{is_some, nat_le, ◌==◌, ◌||◌}
-use Rattle.std.specs.Str.{bytes_eq}
+use Rattle.std.proofs.Common.{◌≡◌, ◌∙◌, ◌<◌, ℕ, List, [], ◌∷◌, Bool, true, false, Option, Some, None, Err, length, refl, sym, ap, if◌then◌else◌}
+use Rattle.std.specs.Prelude.{is_some, ◌==◌, ◌||◌}
 use Rattle.std.proofs.lemmas.Bool.{leb-false, false≢true}
 use Rattle.model.specs.Words.{Text}
-use Rattle.model.specs.Topology.{Topology}
-use Rattle.model.specs.Broker as seen
-use Rattle.model.specs.Broker.{Broker, Channel, Connection}
-use Rattle.model.specs.Consuming.{next_free, tag_for, is_tagged, is_tag_taken, is_tag_wanting, without_consumer}
-use Rattle.model.specs.Step.{Is, Refusal, Ignored, Of_connection, greatest, or_else, refusal_of_tag, refusal_of_many, refusal_of_numbers, refusal_of_seat, refusal, channel_or_new, with_channel}
+use Rattle.model.specs.Topology.{Topology, queue_names}
+use Rattle.model.specs.Broker.{Channel}
+use Rattle.model.specs.Consuming.{next_free, tag_for, is_tag_wanting, with_consumer, without_consumer}
+use Rattle.model.specs.Step.{Refusal, Of_connection, Consumes, Cancels, greatest, or_else, refusal_in, refusal_of_asking, refusal_of_consume, refusal_of_tag, refusal_of_many, refusal_of_numbers, refusal_of_seat, consume_sends, cancel_sends}
+use Rattle.model.specs.declared.events.Send.{Send}
+use Rattle.model.specs.declared.methods.Cancel.{Cancel}
 use Rattle.model.specs.declared.methods.Consume.{Consume}
-use Rattle.model.specs.declared.methods.Method.{Method}
-use Rattle.channel.specs.Open.{Open, open_in, consumer_in, without_named, SeatsConsumer}
-use Rattle.channel.specs.Seats.{is_named}
-use Rattle.channel.specs.declared.consumers.Consumer.{Consumer}
-use Rattle.channel.specs.declared.consumers.SeatRefusal as why
-use Rattle.channel.specs.declared.consumers.SeatRefusal.TheVariants.{InUse, TooMany, Spent, Memory}
-use Rattle.links.specs.Links.{PutsChannel}
-use Rattle.broker_core.specs.Consumed.{MakesConsumer}
-use Rattle.judging.specs.Judged.{IsQueuePlace, IsIgnored, JudgesOn, refusal_left}
-use Rattle.judging.specs.declared.refusals.Act.{Act}
-use Rattle.judging.specs.declared.refusals.Act.TheVariants as act
-use Rattle.broker_core.specs.State.{Kept, broker_of, topology_kept, names_of}
-use Rattle.broker_core.proofs.Stepping.{put_is}
+use Rattle.model.specs.declared.notes.Note.{Note}
+use Rattle.channel.specs.Open.{Open, open_in, IsConsumerSeated, IsUnseated}
+use Rattle.channel.specs.declared.consumers.SeatRefusal.{SeatRefusal}
+use Rattle.channel.specs.declared.consumers.SeatRefusal.TheVariants.{InUse, TooMany, Spent, Memory as WantsMemory}
+use Rattle.depot.specs.Store.{Store}
+use Rattle.judging.specs.Judged.{IsQueuePlace, IsStoppedBy, stop_of}
+use Rattle.judging.specs.declared.refusals.Stop.{Stop}
+use Rattle.judging.specs.declared.refusals.Stop.TheVariants.{Refused, Memory}
+use Rattle.replies.specs.declared.steps.Step.{Step}
+use Rattle.broker_core.specs.Commands.{Side, Turns, ComesTo, seen, state_of}
+use Rattle.broker_core.proofs.Turning.{does_here}
 use Rattle.laws.proofs.Named.{server_short}
-
--- ---- what is said against a consume
-
-ignored_not : (b : Bool) (code : ℕ) (rest : Option Refusal) → (rest ≡ Some Ignored → ⊥) → or_else (if b then Some (Of_connection code) else None) rest ≡ Some Ignored → ⊥
-ignored_not true code rest none e = cc
-ignored_not false code rest none e = none e
-
-last_not : (b : Bool) (code : ℕ) → (if b then Some (Of_connection code) else None) ≡ Some Ignored → ⊥
-last_not true code e = cc
-last_not false code e = cc
-
--- nothing that its channel says makes it ignored
-pub seat_not_ignored : (ch : Channel) (m : Consume) → refusal_of_seat ch m ≡ Some Ignored → ⊥
-seat_not_ignored ch m = ignored_not (is_tag_taken ch m.consumer_tag) 530 (or_else (refusal_of_many ch) (refusal_of_numbers ch m.consumer_tag))
-    (ignored_not (nat_le 256 (length ch.consumers)) 506 (refusal_of_numbers ch m.consumer_tag) (last_not ((ch.next_number == greatest) || is_tag_wanting ch m.consumer_tag) 541))
 
 -- ---- its tag
 
@@ -59,71 +42,37 @@ tag_short ch m free short = go m.consumer_tag (none_wanting (ch.next_number == g
     go [] left lt = server_short (next_free ch) (leb-false 18446744073709551615 (next_free ch) left)
     go (b ∷ bs) left lt = lt
 
--- ---- what is made
+-- ---- what stands against it
 
--- what the channel says of a consumer is what the broker makes of it
-pub makes_is : (old new : Kept) (c h place : ℕ) (ch made : Open) (m : Consume) (r : Result Text why.SeatRefusal) → IsQueuePlace (topology_kept old) m.queue place → SeatsConsumer ch place m r made
-    → new.store ≡ old.store → PutsChannel old.links c h (Some made) new.links → MakesConsumer (broker_of old) c h (open_in (names_of old) ch) m r (broker_of new)
-makes_is old new c h place ch made m (Ok tag) at seated e put = record {
-  free = seated.free (names_of old);
-  named = seated.named (names_of old);
-  left = subst (λ (x : Channel). Is (with_channel (broker_of old) c h (Some x)) (broker_of new)) (seated.made (names_of old) at.named) (put_is old new c h (Some made) e put);
-}
-makes_is old new c h place ch made m (Err InUse) at seated e put = seated.0 (names_of old)
-makes_is old new c h place ch made m (Err TooMany) at seated e put = seated.0 (names_of old)
-makes_is old new c h place ch made m (Err Spent) at seated e put = seated.0 (names_of old)
-makes_is old new c h place ch made m (Err Memory) at seated e put = tt
+-- where nothing stands against a consume, nothing does against its seat
+pub seat_free : (t : Topology) (ch : Channel) (m : Consume) → refusal_of_consume t ch m ≡ None → refusal_of_seat ch m ≡ None
+seat_free t ch m free = second_none (refusal_of_asking m) (refusal_of_seat ch m) (second_none (refusal_in t m.queue) (or_else (refusal_of_asking m) (refusal_of_seat ch m)) free)
 
--- ---- what is cancelled
+-- what was stopped comes to that
+pub stopped : (A : Type 0) (against : Option Refusal) (Does : Step → Type 0) (stop : Stop) → IsStoppedBy {A = A} against (Err stop) → ComesTo against Does (Err stop)
+stopped A against Does (Refused r) is = is
+stopped A against Does Memory is = is
 
-others : (names : List Text) (tag : Text) (consumers : List Consumer) → map (consumer_in names) (filter (λ (k : Consumer). not (is_named tag k)) consumers) ≡ filter (λ (k : seen.Consumer). not (is_tagged tag k)) (map (consumer_in names) consumers)
-others names tag [] = refl
-others names tag (k ∷ ks) = go (bytes_eq k.tag tag) (others names tag ks)
-  where
-    mine : List Consumer
-    mine = filter (λ (x : Consumer). not (is_named tag x)) ks
+-- and a consumer that was not made, though nothing stood against it, wanted memory
+pub unseated : (t : Topology) (names : List Text) (ch : Open) (m : Consume) (why : SeatRefusal) (Does : Step → Type 0) → refusal_of_consume t (open_in names ch) m ≡ None → IsUnseated ch m why
+    → ComesTo (refusal_of_consume t (open_in names ch) m) Does (Err (stop_of why))
+unseated t names ch m InUse Does free is = absurd (false≢true (ap is_some (sym (seat_free t (open_in names ch) m free) ∙ is names)))
+unseated t names ch m TooMany Does free is = absurd (false≢true (ap is_some (sym (seat_free t (open_in names ch) m free) ∙ is names)))
+unseated t names ch m Spent Does free is = absurd (false≢true (ap is_some (sym (seat_free t (open_in names ch) m free) ∙ is names)))
+unseated t names ch m WantsMemory Does free is = free
 
-    its : List seen.Consumer
-    its = filter (λ (x : seen.Consumer). not (is_tagged tag x)) (map (consumer_in names) ks)
+-- ---- what is done
 
-    go : (v : Bool) → map (consumer_in names) mine ≡ its → map (consumer_in names) (cond (not v) (k ∷ mine) mine) ≡ cond (not v) (consumer_in names k ∷ its) its
-    go true rest = rest
-    go false rest = ap (λ (xs : List seen.Consumer). consumer_in names k ∷ xs) rest
+-- a consumer that was made on the channel, where no queue changed, is a consume
+pub consumed : (c h place : ℕ) (s : Store) (ch made : Open) (m : Consume) (tag : Text) (sends : List Send) (notes : List Note) (old new : Side) → IsQueuePlace s.topology m.queue place → IsConsumerSeated ch place m tag made
+    → sends ≡ consume_sends c h m.no_wait tag → notes ≡ [] → Turns c h (seen s ch) (seen s made) old new → Consumes (state_of s old) c h (seen s ch) m sends notes (state_of s new)
+consumed c h place s ch made m tag sends notes old new at seated sent noted turns =
+    let names = queue_names s.topology.queues in
+    does_here c h s (seen s ch) (seen s made) (with_consumer (seen s ch) m) sends (consume_sends c h m.no_wait (tag_for (seen s ch) m.consumer_tag)) notes old new
+    (sent ∙ ap (consume_sends c h m.no_wait) (seated.named names)) noted (seated.made names at.named) turns
 
--- a channel without the consumers of a tag is seen so
-pub cancelled_seen : (names : List Text) (ch : Open) (tag : Text) (seats : ℕ) → open_in names (without_named ch tag seats) ≡ without_consumer (open_in names ch) tag
-cancelled_seen names ch tag seats = ap (λ (ks : List seen.Consumer). record (open_in names ch) { consumers = ks }) (others names tag ch.given.consumers)
-
-pub cancelled_is : (old new : Kept) (c h : ℕ) (ch : Open) (tag : Text) (seats : ℕ) → new.store ≡ old.store → PutsChannel old.links c h (Some (without_named ch tag seats)) new.links
-    → Is (with_channel (broker_of old) c h (Some (without_consumer (open_in (names_of old) ch) tag))) (broker_of new)
-cancelled_is old new c h ch tag seats e put =
-    subst (λ (x : Channel). Is (with_channel (broker_of old) c h (Some x)) (broker_of new)) (cancelled_seen (names_of old) ch tag seats) (put_is old new c h (Some (without_named ch tag seats)) e put)
-
--- ---- what is left to say of an act
-
--- nothing that is left to say of an act makes it ignored
-left_not_ignored : (ch : Channel) (a : Act) → refusal_left ch a ≡ Some Ignored → ⊥
-left_not_ignored ch (act.Consume place m) e = seat_not_ignored ch m.now e
-left_not_ignored ch act.OpenChannel e = absurd (false≢true (ap is_some e))
-left_not_ignored ch act.Flow e = absurd (false≢true (ap is_some e))
-left_not_ignored ch (act.FindExchange d) e = absurd (false≢true (ap is_some e))
-left_not_ignored ch (act.FindQueue place d) e = absurd (false≢true (ap is_some e))
-left_not_ignored ch (act.Select no_wait) e = absurd (false≢true (ap is_some e))
-left_not_ignored ch (act.Publish p) e = absurd (false≢true (ap is_some e))
-left_not_ignored ch (act.Purge place p) e = absurd (false≢true (ap is_some e))
-left_not_ignored ch (act.Get place g) e = absurd (false≢true (ap is_some e))
-left_not_ignored ch (act.Cancel k) e = absurd (false≢true (ap is_some e))
-left_not_ignored ch (act.Limit q) e = absurd (false≢true (ap is_some e))
-left_not_ignored ch (act.Acknowledge k) e = absurd (false≢true (ap is_some e))
-left_not_ignored ch (act.Reject r) e = absurd (false≢true (ap is_some e))
-left_not_ignored ch (act.Nack n) e = absurd (false≢true (ap is_some e))
-left_not_ignored ch act.Recover e = absurd (false≢true (ap is_some e))
-left_not_ignored ch (act.CloseChannel is_closing) e = absurd (false≢true (ap is_some e))
-left_not_ignored ch act.EndChannel e = absurd (false≢true (ap is_some e))
-left_not_ignored ch act.CloseConnection e = absurd (false≢true (ap is_some e))
-
--- nothing that is ignored is performed
-pub performed_not : (t : Topology) (b : Broker) (c h : ℕ) (m : Method) (a : Act) → JudgesOn t b c h m (Some (Ok a)) → IsIgnored t b c h m (b.connection c) → ⊥
-performed_not t b c h m a (conn, at, judged) is =
-    let ignored : refusal t b conn h m (b.channel c h) ≡ Some Ignored = subst (λ (o : Option Connection). IsIgnored t b c h m o) at is in
-    left_not_ignored (channel_or_new (b.channel c h)) a (sym judged.0 ∙ ignored)
+-- and so is one that is the channel's no more a cancel
+pub cancelled : (c h : ℕ) (s : Store) (ch left : Open) (m : Cancel) (sends : List Send) (notes : List Note) (old new : Side) → sends ≡ cancel_sends c h m.no_wait m.consumer_tag → notes ≡ []
+    → seen s left ≡ without_consumer (seen s ch) m.consumer_tag → Turns c h (seen s ch) (seen s left) old new → Cancels (state_of s old) c h (seen s ch) m sends notes (state_of s new)
+cancelled c h s ch left m sends notes old new sent noted same turns =
+    does_here c h s (seen s ch) (seen s left) (without_consumer (seen s ch) m.consumer_tag) sends (cancel_sends c h m.no_wait m.consumer_tag) notes old new sent noted same turns

@@ -24,7 +24,7 @@ use Rattle.broker_core.specs.Picked.{IsPick, IsPickFrom, TakesAs, TellsConsumer,
 use Rattle.links.specs.Consumers.{TellsOn}
 use Rattle.broker_core.specs.State.{Kept, broker_of, topology_kept, names_of}
 use Rattle.broker_core.specs.declared.picks.Pick.{Pick}
-use Rattle.broker_core.proofs.Giving.{all_in}
+use Rattle.broker_core.proofs.GivenOut.{all_in}
 use Rattle.broker_core.proofs.Stepping.{seen_there}
 use Rattle.broker_core.proofs.Picking.{same_place}
 use Rattle.broker_core.proofs.Placing.{takes_within}

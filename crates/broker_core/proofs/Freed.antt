@@ -21,7 +21,6 @@ use Rattle.model.specs.declared.deliveries.Delivery.{Delivery}
 use Rattle.depot.specs.Store.{Store, entries_named, queue_at, IsStoreWhole}
 use Rattle.links.specs.Links.{Linked, channel_at, channel_of, linked_in, outstanding_on}
 use Rattle.links.specs.Placed.{IsPlaced}
-use Rattle.settling.specs.Settled as settled
 use Rattle.settling.specs.Settled.{returned_one, returned_all}
 use Rattle.settling.proofs.Settlements.{AreNamed, returned_by_names}
 use Rattle.broker_core.specs.Freed.{returned_from, returned_at}

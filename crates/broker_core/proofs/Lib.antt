@@ -3,12 +3,18 @@ mod Declaring
 mod Delivering
 mod Freed
 mod Getting
-mod Giving
+mod GivenOut
 mod Outcomes
 pub mod Picking
 pub mod Placing
+mod Publishing
 mod Purging
+mod Staying
 pub mod Reloading
 mod Settling
+mod Lending
+mod Answering
+mod Commanding
 mod Standing
 pub mod Stepping
+mod Turning

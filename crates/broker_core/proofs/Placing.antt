@@ -1,5 +1,5 @@
 -- What is outstanding, and what consumers take, stays within the queues that are there.
-use Rattle.std.proofs.Common.{◌≡◌, ◌∙◌, ◌&&◌, ◌==◌, ◌<◌, ◌++◌, ◌∷◌, [], ℕ, zero, suc, List, Bool, true, false, Option, Some, None, Result, Ok, Err, length, map, not, inl, inr, refl, sym, ap, subst, arith, if◌then◌else◌}
+use Rattle.std.proofs.Common.{◌≡◌, ◌∙◌, ◌&&◌, ◌==◌, ◌<◌, ◌++◌, ◌∷◌, [], ℕ, zero, suc, List, Bool, true, false, Option, Some, None, length, map, not, inl, inr, refl, sym, ap, subst, arith, if◌then◌else◌}
 use Rattle.std.specs.Prelude.{option_map, is_some}
 use Rattle.std.proofs.lemmas.Bool.{false≢true}
 use Rattle.std.proofs.lemmas.Option.{same_Some}
@@ -14,12 +14,11 @@ use Rattle.model.specs.declared.messages.Taker.{Taker}
 use Rattle.model.specs.declared.methods.Qos.{Qos}
 use Rattle.model.specs.declared.methods.Consume.{Consume}
 use Rattle.channel.specs.Seats.{is_named}
-use Rattle.channel.specs.Open.{Open, open_in, consumer_in, with_qos, given_on, without_named, places_of, IsConsumerSeated, SeatsConsumer}
+use Rattle.channel.specs.Open.{Open, open_in, consumer_in, with_qos, given_on, without_named, places_of, IsConsumerSeated}
 use Rattle.model.specs.Placed.{outstanding_in, AreWithin}
 use Rattle.channel.specs.Deliveries.{with_limit}
 use Rattle.model.specs.declared.deliveries.Delivery.{Delivery}
 use Rattle.channel.specs.declared.consumers.Consumer.{Consumer}
-use Rattle.channel.specs.declared.consumers.SeatRefusal.{SeatRefusal}
 use Rattle.links.specs.Links.{channel_of, seen_in, PutsChannel, OpensLink}
 use Rattle.links.specs.Placed.{TakeWithin, IsPlaced}
 use Rattle.broker_core.specs.State.{ArePlaced}
@@ -51,7 +50,7 @@ pub placed_new : (t : Topology) (ch : Open) → ch.given.outstanding ≡ [] → 
 placed_new t ch e f = record { outstanding = none_within t ch.given.outstanding e; consumers = none_take t ch.given.consumers f }
 
 -- a channel is as it was, for all that is outstanding on it and for all its consumers
-placed_as : (t : Topology) (ch new : Open) → IsPlaced t ch → new.given.outstanding ≡ ch.given.outstanding → new.given.consumers ≡ ch.given.consumers → IsPlaced t new
+pub placed_as : (t : Topology) (ch new : Open) → IsPlaced t ch → new.given.outstanding ≡ ch.given.outstanding → new.given.consumers ≡ ch.given.consumers → IsPlaced t new
 placed_as t ch new placed e f = record { outstanding = subst (AreWithin t) (sym e) placed.outstanding; consumers = subst (TakeWithin t) (sym f) placed.consumers }
 
 -- this is the channel that is there
@@ -140,17 +139,12 @@ place_more n (x ∷ xs) p lt all zero d l = all zero d (omega arith)
 place_more n (x ∷ xs) p lt all (suc k) d l = place_more n xs p lt (λ i e m. all (suc i) e (omega (arith, m))) k d (omega (arith, l))
 
 -- one consumer more, of a queue that is there
-placed_seated : (t : Topology) (old new : Open) (place : ℕ) (m : Consume) (tag : Text) → place < length t.queues → IsConsumerSeated old place m tag new → IsPlaced t old → IsPlaced t new
+pub placed_seated : (t : Topology) (old new : Open) (place : ℕ) (m : Consume) (tag : Text) → place < length t.queues → IsConsumerSeated old place m tag new → IsPlaced t old → IsPlaced t new
 placed_seated t old new place m tag lt seated placed = record {
   outstanding = subst (AreWithin t) (sym seated.outstanding) placed.outstanding;
   consumers = take_at (length t.queues) new.given.consumers
       (subst (All (λ (i : ℕ). i < length t.queues)) (sym seated.places) (place_more (length t.queues) (places_of old.given.consumers) place lt (places_at (length t.queues) old.given.consumers placed.consumers)));
 }
-
--- so it is with one consumer more, or refused
-pub placed_made : (t : Topology) (old new : Open) (place : ℕ) (m : Consume) (r : Result Text SeatRefusal) → place < length t.queues → SeatsConsumer old place m r new → IsPlaced t old → IsPlaced t new
-placed_made t old new place m (Ok tag) lt seated placed = placed_seated t old new place m tag lt seated placed
-placed_made t old new place m (Err why) lt seated placed = subst (IsPlaced t) (sym seated.1) placed
 
 -- without the consumers of a tag
 pub placed_cancelled : (t : Topology) (ch : Open) (tag : Text) (seats : ℕ) → IsPlaced t ch → IsPlaced t (without_named ch tag seats)

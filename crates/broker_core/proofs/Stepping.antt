@@ -1,37 +1,28 @@
 -- What the parts of a step leave, as the model's state.
-use Rattle.std.proofs.Common.{◌≡◌, ◌+◌, ◌++◌, ◌∷◌, [], ℕ, zero, suc, List, Bool, true, false, ◌&&◌, ◌==◌, IsSome, Result, Ok, Err, Option, Some, None, map, length, replicate, refl, sym, ap, subst, ◌∙◌, if◌then◌else◌}
-use Rattle.std.specs.Prelude.{option_map, is_some, IfSome}
+use Rattle.std.proofs.Common.{◌≡◌, ◌∷◌, [], ℕ, zero, suc, List, Bool, true, false, ◌&&◌, ◌==◌, IsSome, Option, Some, None, map, replicate, refl, sym, ap, subst, ◌∙◌, if◌then◌else◌}
+use Rattle.std.specs.Prelude.{option_map}
 use Rattle.std.specs.Str.{bytes_eq}
 use Rattle.model.specs.Words.{Text}
 use Rattle.model.specs.Topology.{Topology, queue_names}
 use Rattle.model.specs.Broker.{Broker, Channel, Connection, listed, with_one, with_row, with_pair}
-use Rattle.model.specs.Sending.{IsAddressed}
 use Rattle.model.specs.Step as step
-use Rattle.model.specs.Step.{Decides, OnConnection, Refusal, Ignored, Is, IsPublish, limited, with_gone, with_freed, with_channel, refusal, refusal_of_large, next_of, confirm_sends, confirm_notes, answer_of, return_of, returned_notes, entry_notes, is_none, is_some_full, channels_up_to}
+use Rattle.model.specs.Step.{Decides, OnConnection, Refusal, Is, limited, with_gone, with_freed, with_channel, refusal, refusal_of_large, channels_up_to}
 use Rattle.model.specs.Entries.{freed, by_channel, by_connection}
 use Rattle.model.specs.declared.messages.Entry.{Entry}
 use Rattle.model.specs.declared.messages.Holder.{Holder}
 use Rattle.model.specs.declared.contents.Content.{Content}
 use Rattle.model.specs.declared.methods.Method.{Method}
-use Rattle.model.specs.declared.methods.Publish.{Publish}
 use Rattle.model.specs.declared.methods.Qos.{Qos}
 use Rattle.model.specs.declared.events.Send.{Send}
 use Rattle.model.specs.declared.notes.Note.{Note}
-use Rattle.model.specs.declared.notes.Note.TheVariants.{Published}
-use Rattle.model.specs.declared.notes.Way.TheVariants as way
 use Rattle.depot.specs.Store.{Store, entries_named}
-use Rattle.depot.specs.Publishing.{Publishes}
-use Rattle.depot.specs.declared.depots.Routed.{Routed}
 use Rattle.channel.specs.Open as opened
 use Rattle.channel.specs.Open.{Open, open_in}
 use Rattle.channel.specs.Deliveries.{with_limit}
 use Rattle.links.specs.Links.{Linked, linked_in, channel_seen, limits_of, connection_at, channel_at, connection_of, channel_of, seen_in, HoldsConnections, PutsChannel, OpensLink}
-use Rattle.replies.specs.Sent.{AreAddressed, return_if, sent_back}
-use Rattle.broker_core.specs.State.{Kept, broker_of, topology_kept, names_of}
-use Rattle.judging.specs.Judged.{refusal_seen, HasChannel, IsIgnored, IsRequeued, is_requeueing, requeues, AsksAct, Judges, JudgesOn, JudgesLarge}
+use Rattle.broker_core.specs.State.{Kept, broker_of, names_of}
+use Rattle.judging.specs.Judged.{refusal_seen, HasChannel, JudgesLarge}
 use Rattle.judging.specs.declared.refusals.Refusal as declared
-use Rattle.judging.specs.declared.refusals.Act as wanted
-use Rattle.judging.specs.declared.refusals.Act.TheVariants as act
 
 -- queues with no entry have none by any name
 pub listed_none : (names : List Text) (n : ℕ) (q : Text) → listed names (replicate n []) q ≡ []
@@ -111,17 +102,7 @@ put_is old new c h ch e l = record {
   channels = seen_put (names_of old) (names_of new) old.links new.links c h ch (ap (λ (s : Store). queue_names s.topology.queues) e) l;
 }
 
--- what is judged by the connection that stands there is judged by the broker's state
-pub judged_on : (kept : Kept) (c h : ℕ) (m : Method) (r : Result wanted.Act declared.Refusal) (l : Linked) → linked_in kept.links c ≡ Some l
-    → Judges (topology_kept kept) (broker_of kept) (channel_seen (names_of kept) l h) m (refusal (topology_kept kept) (broker_of kept) (limits_of l) h m (channel_seen (names_of kept) l h)) r
-    → JudgesOn (topology_kept kept) (broker_of kept) c h m (Some r)
-judged_on kept c h m r l e j = (
-  limits_of l,
-  ap connection_at e,
-  subst (λ (x : Option Linked). Judges (topology_kept kept) (broker_of kept) (option_map (open_in (names_of kept)) (channel_at x h)) m (refusal (topology_kept kept) (broker_of kept) (limits_of l) h m (option_map (open_in (names_of kept)) (channel_at x h))) r) (sym e) j,
-)
-
--- the same of a content that is too large
+-- what is judged of a content that is too large by the connection that stands there is judged by the broker's state
 pub large_judged : (kept : Kept) (c h : ℕ) (r : declared.Refusal) (l : Linked) → linked_in kept.links c ≡ Some l
     → refusal_seen r ≡ refusal_of_large (limits_of l) h (channel_seen (names_of kept) l h) → HasChannel r (channel_seen (names_of kept) l h)
     → JudgesLarge (broker_of kept) c h (Some r)
@@ -135,69 +116,7 @@ large_judged kept c h r l e is has = (
 pub some_same : {A : Type 0} (x y : A) → Some x ≡ Some y → x ≡ y
 some_same x y e = cc
 
--- what is refused where the command is ignored is only ignored
-pub ignored_by : (t : Topology) (b : Broker) (c h : ℕ) (m : Method) (e : declared.Refusal) → JudgesOn t b c h m (Some (Err e)) → IsIgnored t b c h m (b.connection c) → refusal_seen e ≡ Ignored
-ignored_by t b c h m e (conn, at, judged) is =
-    let ignored : refusal t b conn h m (b.channel c h) ≡ Some Ignored = subst (λ (o : Option Connection). IsIgnored t b c h m o) at is in
-    some_same (refusal_seen e) Ignored (sym judged.0 ∙ ignored)
-
--- what goes back of a publish goes back where it is mandatory and routed nowhere
-back_sent : (man none : Bool) (s : Send) → sent_back none (if man then Some s else None) ≡ (if man && none then s ∷ [] else [])
-back_sent true true s = refl
-back_sent true false s = refl
-back_sent false true s = refl
-back_sent false false s = refl
-
--- and that is noted
-back_noted : (man none : Bool) (s : Send) → (none && is_some (if man then Some s else None)) ≡ (man && none)
-back_noted true true s = refl
-back_noted true false s = refl
-back_noted false true s = refl
-back_noted false false s = refl
-
--- a publish of the depot, counted on the channel, sent back and confirmed, is one of the broker
-pub published_is : (old new : Kept) (c h : ℕ) (ch : Open) (p : Publish) (content : Content) (noted : List Note) (routed : Routed)
-    → Publishes old.store c h p content (next_of ch.confirm) noted routed new.store
-    → PutsChannel old.links c h (Some (record ch { confirm = next_of ch.confirm })) new.links
-    → IsPublish (topology_kept old) (broker_of old) c h (open_in (names_of old) ch) p content
-    (sent_back routed.is_none (return_if c h p content) ++ confirm_sends c h (next_of ch.confirm) (answer_of routed.is_some_full))
-    ((noted ++ returned_notes (old.store.published + 1) (routed.is_none && is_some (return_if c h p content))) ++ confirm_notes (old.store.published + 1) (next_of ch.confirm) (answer_of routed.is_some_full)) (broker_of new)
-published_is old new c h ch p content noted routed made put =
-    let n = old.store.published + 1 in
-    let entries = entries_named old.store in
-    let back : Option Send = return_if c h p content in
-    let full = is_some_full old.store.topology entries content made.targets in
-    let none = is_none made.targets in
-    let front : List Note = Published n c h p.exchange p.routing_key (next_of ch.confirm) ∷ entry_notes old.store.topology entries (length content.body) n way.Publish made.targets in
-    record {
-      targets = made.targets;
-      routed = made.picked;
-      noted = ap (λ (z : List Note). (z ++ returned_notes n (routed.is_none && is_some back)) ++ confirm_notes n (next_of ch.confirm) (answer_of routed.is_some_full)) made.notes
-          ∙ ap (λ (f : Bool). (front ++ returned_notes n (routed.is_none && is_some back)) ++ confirm_notes n (next_of ch.confirm) (answer_of f)) made.full
-          ∙ ap (λ (b : Bool). (front ++ returned_notes n (b && is_some back)) ++ confirm_notes n (next_of ch.confirm) (answer_of full)) made.none
-          ∙ ap (λ (b : Bool). (front ++ returned_notes n b) ++ confirm_notes n (next_of ch.confirm) (answer_of full)) (back_noted p.mandatory none (return_of c h p content));
-      sent = ap (λ (f : Bool). sent_back routed.is_none back ++ confirm_sends c h (next_of ch.confirm) (answer_of f)) made.full
-          ∙ ap (λ (b : Bool). sent_back b back ++ confirm_sends c h (next_of ch.confirm) (answer_of full)) made.none
-          ∙ ap (λ (z : List Send). z ++ confirm_sends c h (next_of ch.confirm) (answer_of full)) (back_sent p.mandatory none (return_of c h p content));
-      left = record {
-        counted = made.counted;
-        queues = made.queues;
-        connections = put.connections;
-        channels = seen_put (names_of old) (names_of new) old.links new.links c h (Some (record ch { confirm = next_of ch.confirm })) (ap (λ (t : Topology). queue_names t.queues) made.topology) put;
-      };
-    }
-
--- what goes back has an address where all of it has, and what follows it keeps its own
-pub back_own : (c : ℕ) (none : Bool) (back : Option Send) (more : List Send) → IfSome back (λ s. IsAddressed c s) → AreAddressed c more → AreAddressed c (sent_back none back ++ more)
-back_own c false back more own rest = rest
-back_own c true None more own rest = rest
-back_own c true (Some s) more own rest = (own, rest)
-
 -- a channel that is seen is kept
-pub open_there : (names : List Text) (o : Option Open) → IsSome (option_map (open_in names) o) → (ch : Open) × (o ≡ Some ch)
-open_there names None h = absurd (let e : false ≡ true = h in cc)
-open_there names (Some ch) h = (ch, refl)
-
 pub is_there : (names : List Text) (o : Option Open) → IsSome (option_map (open_in names) o) → IsSome o
 is_there names None h = h
 is_there names (Some ch) h = refl
@@ -236,42 +155,6 @@ limited_is names ch m = chosen m.global
     chosen : (b : Bool) → open_in names (record ch { given = with_limit ch.given m.prefetch_count b }) ≡ (if b then record (open_in names ch) { limit = m.prefetch_count } else record (open_in names ch) { each_limit = m.prefetch_count })
     chosen true = refl
     chosen false = refl
-
--- ---- rejections that requeue
-
--- the act of a rejection that requeues requeues
-pub requeues_by : (t : Topology) (b : Broker) (ch : Option Channel) (m : Method) (a : wanted.Act) → AsksAct t b ch m a → is_requeueing m ≡ true → requeues a ≡ true
-requeues_by t b ch m (act.Reject r) asked is = sym (ap is_requeueing asked.0) ∙ is
-requeues_by t b ch m (act.Nack n) asked is = sym (ap is_requeueing asked.0) ∙ is
-requeues_by t b ch m act.OpenChannel (reserved, e) is = sym (ap is_requeueing e) ∙ is
-requeues_by t b ch m act.Flow asked is = sym (ap is_requeueing asked.0) ∙ is
-requeues_by t b ch m (act.FindExchange d) asked is = sym (ap is_requeueing asked.0) ∙ is
-requeues_by t b ch m (act.FindQueue place d) asked is = sym (ap is_requeueing asked.0) ∙ is
-requeues_by t b ch m (act.Select no_wait) asked is = sym (ap is_requeueing asked.0) ∙ is
-requeues_by t b ch m (act.Publish p) asked is = sym (ap is_requeueing asked.0) ∙ is
-requeues_by t b ch m (act.Purge place p) asked is = sym (ap is_requeueing asked.0) ∙ is
-requeues_by t b ch m (act.Get place g) asked is = sym (ap is_requeueing asked.0) ∙ is
-requeues_by t b ch m (act.Consume place k) asked is = sym (ap is_requeueing asked.0) ∙ is
-requeues_by t b ch m (act.Cancel k) asked is = sym (ap is_requeueing asked.0) ∙ is
-requeues_by t b ch m (act.Limit q) asked is = sym (ap is_requeueing asked.0) ∙ is
-requeues_by t b ch m (act.Acknowledge a) asked is = sym (ap is_requeueing asked.0) ∙ is
-requeues_by t b ch m act.Recover asked is = sym (ap is_requeueing asked.0) ∙ is
-requeues_by t b ch m (act.CloseChannel is_closing) (x, e, there, closing) is = sym (ap is_requeueing e) ∙ is
-requeues_by t b ch m act.EndChannel asked is = sym (ap is_requeueing asked.0) ∙ is
-requeues_by t b ch m act.CloseConnection (x, e) is = sym (ap is_requeueing e) ∙ is
-
--- what is accepted of it is not refused
-pub requeued_not : (t : Topology) (b : Broker) (c h : ℕ) (m : Method) (e : declared.Refusal) → JudgesOn t b c h m (Some (Err e)) → IsRequeued t b c h m (b.connection c) → ⊥
-requeued_not t b c h m e (conn, at, judged) is =
-    let accepted = subst (λ (o : Option Connection). IsRequeued t b c h m o) at is in
-    let none_is_some : None ≡ Some (refusal_seen e) = sym accepted.1 ∙ judged.0 in
-    cc
-
--- and its act requeues
-pub requeued_by : (t : Topology) (b : Broker) (c h : ℕ) (m : Method) (a : wanted.Act) → JudgesOn t b c h m (Some (Ok a)) → IsRequeued t b c h m (b.connection c) → requeues a ≡ true
-requeued_by t b c h m a (conn, at, judged) is =
-    let accepted = subst (λ (o : Option Connection). IsRequeued t b c h m o) at is in
-    requeues_by t b (b.channel c h) m a judged.1 accepted.0
 
 -- a connection that runs is kept
 kept_link : (o : Option Linked) → IsSome (connection_at o) → IsSome o

@@ -1,7 +1,7 @@
 pub mod State
-pub mod Consumed
 pub mod Picked
 pub mod Seats
 pub mod Freed
 pub mod Steps
+pub mod Commands
 pub mod Obstacles

@@ -1,7 +1,6 @@
 -- What a call of the core does, as a step of the model between what is kept before it and after it.
-use Rattle.std.specs.Prelude.{ℕ, List, Bool, Option}
-use Rattle.model.specs.Step.{Decides, Performs, Refusal, Settles}
-use Rattle.model.specs.Deliveries.{Settlement}
+use Rattle.std.specs.Prelude.{ℕ, List, Option}
+use Rattle.model.specs.Step.{Performs}
 use Rattle.model.specs.declared.contents.Content.{Content}
 use Rattle.model.specs.declared.methods.Method.{Method}
 use Rattle.model.specs.declared.events.Send.{Send}
@@ -11,12 +10,3 @@ use Rattle.broker_core.specs.State.{Kept, broker_of, channel_on, topology_kept}
 -- the command is performed on this channel
 abbrev pub PerformsOn : Kept → ℕ → ℕ → Method → Option Content → List Send → List Note → Kept → Type 0
 PerformsOn old c h m content sends notes new = Performs (topology_kept old) (broker_of old) c h (channel_on old c h) m content sends notes (broker_of new)
-
--- the command of this channel is performed, or refused for this
-abbrev pub DecidesOn : Kept → ℕ → ℕ → Method → Option Content → Option Refusal → List Send → List Note → Kept → Type 0
-DecidesOn old c h m content refusal sends notes new = Decides (topology_kept old) (broker_of old) c h m content refusal sends notes (broker_of new)
-
--- what is outstanding on this channel under the tag, or up to it, is settled so, and this is answered
-abbrev pub SettlesOn : Kept → Settlement → ℕ → ℕ → ℕ → Bool → List Send → List Send → List Note → Kept → Type 0
-SettlesOn old how c h tag multiple answer sends notes new =
-    Settles (topology_kept old) how (broker_of old) c h (channel_on old c h) tag multiple answer sends notes (broker_of new)

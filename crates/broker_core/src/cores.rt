@@ -1,25 +1,20 @@
 //! What the broker keeps, and its step, case by case.
 
 mod closing;
-mod consuming;
 mod declaring;
 mod delivering;
-mod getting;
-mod giving;
 mod opening;
-mod publishing;
-mod purging;
 mod reloads;
 mod running;
 mod seating;
-mod settlements;
 mod standing;
 
+use crate::commands::{Done, Left, on_channel, on_none};
 use depot::Depot;
 use exchange_graph::Topology;
-use judging::{Act, Refusal, judge, judge_large};
-use links::Links;
-use model::{Cause, Content, Event, Ids, Method};
+use judging::{Refusal, Stop, judge_large};
+use links::{Links, lent_channels_are_put};
+use model::{ChannelId, Content, Event, Ids, Method};
 use replies::{Step, connection_close, connection_close_ok};
 use std::alloc::{AllocError, Global};
 use std::marker::Model;
@@ -55,17 +50,19 @@ impl Model for Core {
 }
 
 impl Core {
-    ghost use Rattle.std.specs.Prelude.{◌≡◌, [], true, IsSome, IfOk, IsOk, OnErr};
+    ghost use Rattle.std.specs.Prelude.{◌≡◌, [], true, Option, IsSome, IfSome, IfOk, IsOk, OnErr};
     ghost use Rattle.model.specs.Agreement.{IsAgreed};
     ghost use Rattle.model.specs.Arrivals.{IsSaid};
     ghost use Rattle.model.specs.Sending.{AreCarried};
     ghost use Rattle.model.specs.Grammar.{IsMethod};
     ghost use Rattle.model.specs.Step.{Acts, Is, OnConnection, OnLarge};
+    ghost use Rattle.model.specs.declared.contents.Content.{Content as Whole};
     ghost use Rattle.model.specs.declared.methods.Method.{Method as Seen};
-    ghost use Rattle.broker_core.specs.State.{broker_of, channel_on, topology_kept, nothing};
-    ghost use Rattle.broker_core.specs.Steps.{DecidesOn};
-    ghost use Rattle.judging.specs.Judged.{requeues, refusal_left, IsAsked, IsRequeued, IsIgnored, IsLargeIgnored, WantsNoMemory};
-    ghost use Rattle.judging.specs.Judged.{JudgesOn, JudgesLarge, AsksAct, CanAct};
+    ghost use Rattle.broker_core.specs.State.{broker_of, topology_kept, nothing};
+    ghost use Rattle.broker_core.specs.Steps.{PerformsOn};
+    ghost use Rattle.broker_core.specs.Commands.{AnswersOn, IsAddressedBy, UnlessPerformed, WantsNone};
+    ghost use Rattle.broker_core.specs.Commands.{AsksLeft, CanFinish};
+    ghost use Rattle.judging.specs.Judged.{is_requeueing, IsAsked, IsRequeued, IsIgnored, IsLargeIgnored, WantsNoMemory, JudgesLarge};
     ghost use Rattle.replies.specs.Sent.{AreAddressed, connection_of_event};
 
     /// The broker of this topology: its queues are empty, and no connection runs.
@@ -79,18 +76,36 @@ impl Core {
         })
     }
 
-    /// What is decided of a command, or none where its connection doesn't run.
-    fn judge_command<'a>(
-        &self,
-        connection: u64,
-        channel: u16,
+    /// What becomes of a command whose connection runs: that, and its channel, are found once. What a command does on its channel
+    /// alone is done then; what else it asks for is told.
+    fn decide<'a>(
+        &mut self,
+        alloc: Global,
+        id: ChannelId,
         method: &'a Method,
-    ) -> Option<Result<Act<'a>, Refusal>>
-        ensures { JudgesOn (topology_kept self.now) (broker_of self.now) connection channel method.now result }
+        content: &Option<Content>,
+    ) -> Option<Result<Done<'a>, Stop>>
+        requires { IsAgreed (broker_of self.old) }
+        ensures answers { AnswersOn self.old id.connection id.number method.now content.now result self.new }
+        ensures addressed { IsMethod method.now → AreCarried (broker_of self.old) → IfSome result (IsAddressedBy id.connection) }
+        ensures topology { topology_kept self.new ≡ topology_kept self.old }
+        ensures kept { IfSome result (λ r. UnlessPerformed r (self.new ≡ self.old)) }
+        ensures quiet { is_requeueing method.now ≡ true → IfSome result WantsNone }
     {
-        match self.links.get(connection) {
-            None => None,
-            Some(link) => Some(judge(&self.depot, link, channel, method)),
+        lent_channels_are_put();
+        let link = self.links.link_mut(id.connection)?;
+        let channel_max = link.channel_max();
+        match link.channel_mut(id.number) {
+            Some(channel) => Some(on_channel(
+                alloc,
+                id,
+                channel_max,
+                channel,
+                &mut self.depot,
+                method,
+                content,
+            )),
+            None => Some(on_none(channel_max, id.number, method)),
         }
     }
 
@@ -104,108 +119,62 @@ impl Core {
         }
     }
 
-    /// What a command that is not refused asks for is done, or refused where its channel has still something against it.
-    fn act(
-        &mut self,
-        alloc: Global,
-        connection: u64,
-        channel: u16,
-        act: Act<'_>,
-        content: &Option<Content>,
-    ) -> Result<Step, AllocError>
+    /// What is left to be done of a command that is not refused is done.
+    fn finish(&mut self, alloc: Global, id: ChannelId, left: Left<'_>) -> Result<Step, AllocError>
         requires agreed { IsAgreed (broker_of self.old) }
-        requires runs { IsSome ((broker_of self.old).connection connection) }
-        requires can { CanAct (topology_kept self.old) (broker_of self.old) ((broker_of self.old).channel connection channel) act }
-        ensures ok { IfOk result (λ s. (m : Seen)
-            → AsksAct (topology_kept self.old) (broker_of self.old) ((broker_of self.old).channel connection channel) m act.entry
-            → DecidesOn self.old connection channel m content.now
-            (refusal_left (channel_on self.old connection channel) act.entry) s.sends.items s.notes.items self.new) }
+        requires runs { IsSome ((broker_of self.old).connection id.connection) }
+        requires can { CanFinish (topology_kept self.old) ((broker_of self.old).channel id.connection id.number) left }
+        ensures ok { IfOk result (λ s. (m : Seen) (content : Option Whole)
+            → AsksLeft (topology_kept self.old) ((broker_of self.old).channel id.connection id.number) m left.entry
+            → PerformsOn self.old id.connection id.number m content s.sends.items s.notes.items self.new) }
         ensures addressed { IfOk result (λ s. (m : Seen)
-            → AsksAct (topology_kept self.old) (broker_of self.old) ((broker_of self.old).channel connection channel) m act.entry
-            → IsMethod m → AreCarried (broker_of self.old) → AreAddressed connection s.sends.items) }
+            → AsksLeft (topology_kept self.old) ((broker_of self.old).channel id.connection id.number) m left.entry
+            → IsMethod m → AreCarried (broker_of self.old) → AreAddressed id.connection s.sends.items) }
         ensures topology { topology_kept self.new ≡ topology_kept self.old }
         ensures err { OnErr result (self.new ≡ self.old) }
-        ensures quiet { requeues act.entry ≡ true → IsOk result }
     {
-        match act {
-            Act::OpenChannel => self.open_channel(alloc, connection, channel),
-            Act::Flow => self.flow(alloc, connection, channel),
-            Act::FindExchange(declare) => {
-                self.find_exchange(alloc, connection, channel, declare.no_wait)
-            }
-            Act::FindQueue(place, declare) => {
-                self.find_queue(alloc, connection, channel, place, declare)
-            }
-            Act::Select(no_wait) => self.select(alloc, connection, channel, no_wait),
-            Act::Publish(publish) => self.publish_content(
-                alloc, connection, channel, publish, content,
-            ),
-            Act::Purge(place, purge) => self.purge(alloc, connection, channel, place, purge),
-            Act::Get(place, get) => self.get(alloc, connection, channel, place, get),
-            Act::Consume(place, consume) => {
-                self.consume(alloc, connection, channel, place, consume)
-            }
-            Act::Cancel(cancel) => self.cancel(alloc, connection, channel, cancel),
-            Act::Limit(qos) => self.limit(alloc, connection, channel, qos),
-            Act::Acknowledge(ack) => self.leave(
-                alloc,
-                connection,
-                channel,
-                ack.delivery_tag,
-                ack.multiple,
-                Cause::Acked,
-            ),
-            Act::Reject(reject) => self.reject(
-                alloc,
-                connection,
-                channel,
-                reject.delivery_tag,
-                false,
-                reject.requeue,
-            ),
-            Act::Nack(nack) => self.reject(
-                alloc,
-                connection,
-                channel,
-                nack.delivery_tag,
-                nack.multiple,
-                nack.requeue,
-            ),
-            Act::Recover => self.recover(alloc, connection, channel),
-            Act::CloseChannel(is_closing) => self.answer_close(
-                alloc, connection, channel, is_closing,
-            ),
-            Act::EndChannel => Ok(self.end_channel(alloc, connection, channel)),
-            Act::CloseConnection => {
+        let ChannelId { connection, number } = id;
+        match left {
+            Left::OpenChannel => self.open_channel(alloc, connection, number),
+            Left::AnswerClose => self.answer_close(alloc, connection, number),
+            Left::AnswerClosing => self.answer_closing(alloc, connection, number),
+            Left::EndChannel => Ok(self.end_channel(alloc, connection, number)),
+            Left::CloseConnection => {
                 self.close_connection(alloc, connection, connection_close_ok(connection))
+            }
+            Left::FindQueue(place, declare) => {
+                self.find_queue(alloc, connection, number, place, declare)
             }
         }
     }
 
     /// A command: nothing where its connection doesn't run, else it is refused or performed.
-    fn perform(
+    fn command(
         &mut self,
         alloc: Global,
-        connection: u64,
-        channel: u16,
+        id: ChannelId,
         method: &Method,
         content: &Option<Content>,
     ) -> Result<Step, AllocError>
         requires { IsAgreed (broker_of self.old) }
-        ensures ok { IfOk result (λ s. OnConnection (topology_kept self.old) (broker_of self.old) connection channel
-            method.now content.now s.sends.items s.notes.items (broker_of self.new) ((broker_of self.old).connection connection)) }
-        ensures requeued { IsRequeued (topology_kept self.old) (broker_of self.old) connection channel method.now
-            ((broker_of self.old).connection connection) → IsOk result }
-        ensures ignored { IsIgnored (topology_kept self.old) (broker_of self.old) connection channel method.now
-            ((broker_of self.old).connection connection) → IsOk result }
-        ensures addressed { IfOk result (λ s. IsMethod method.now → AreCarried (broker_of self.old) → AreAddressed connection s.sends.items) }
+        ensures ok { IfOk result (λ s. OnConnection (topology_kept self.old) (broker_of self.old) id.connection id.number
+            method.now content.now s.sends.items s.notes.items (broker_of self.new) ((broker_of self.old).connection id.connection)) }
+        ensures requeued { IsRequeued (topology_kept self.old) (broker_of self.old) id.connection id.number method.now
+            ((broker_of self.old).connection id.connection) → IsOk result }
+        ensures ignored { IsIgnored (topology_kept self.old) (broker_of self.old) id.connection id.number method.now
+            ((broker_of self.old).connection id.connection) → IsOk result }
+        ensures addressed { IfOk result (λ s. IsMethod method.now → AreCarried (broker_of self.old) → AreAddressed id.connection s.sends.items) }
         ensures topology { topology_kept self.new ≡ topology_kept self.old }
         ensures err { OnErr result (self.new ≡ self.old) }
     {
-        match self.judge_command(connection, channel, method) {
+        match self.decide(alloc, id, method, content) {
             None => Ok(Step::nothing(alloc)),
-            Some(Err(refusal)) => self.refuse(alloc, connection, channel, method.ids(), refusal),
-            Some(Ok(act)) => self.act(alloc, connection, channel, act, content),
+            Some(Ok(Done::Performed(step))) => Ok(step),
+            Some(Ok(Done::Left(left))) => self.finish(alloc, id, left),
+            Some(Err(Stop::Refused(refusal))) => {
+                self.refuse(alloc, id.connection, id.number, method.ids(), refusal)
+            }
+            Some(Err(Stop::Memory)) => Err(AllocError),
         }
     }
 
@@ -257,7 +226,13 @@ impl Core {
                 channel,
                 method,
                 content,
-            } => self.perform(alloc, *connection, *channel, method, content),
+            } => {
+                let id = ChannelId {
+                    connection: *connection,
+                    number: *channel,
+                };
+                self.command(alloc, id, method, content)
+            }
             Event::TooLarge {
                 connection,
                 channel,

@@ -4,8 +4,10 @@
 //! (`Kept`), and `broker_of` reads the model's state from it.
 #![tactic(auto)]
 
+mod commands;
 mod cores;
 mod freeing;
+mod giving;
 mod picks;
 
 pub use cores::Core;

@@ -1,6 +1,6 @@
 -- What is decided of a command, from the first test that holds.
-use Rattle.std.proofs.Common.{◌≡◌, ◌≢◌, ◌<◌, ℕ, zero, suc, List, [], ◌∷◌, length, get_or, inl, inr, Bool, true, false, ◌||◌, ◌&&◌, not, Option, Some, None, Result, arith, refl, subst, sym, ap, ◌∙◌, nat_eq, nat_lt, if◌then◌else◌}
-use Rattle.std.specs.Prelude.{◌==◌, is_some}
+use Rattle.std.proofs.Common.{◌≡◌, ◌≢◌, ◌<◌, ℕ, zero, suc, List, [], ◌∷◌, length, get_or, inl, inr, Bool, true, false, Option, Some, None, arith, refl, sym, ap, ◌∙◌, nat_eq, nat_lt, if◌then◌else◌}
+use Rattle.std.specs.Prelude.{is_some}
 use Rattle.std.specs.Str.{bytes_eq}
 use Rattle.std.proofs.lemmas.Bool.Decides.{nat_tests}
 use Rattle.std.proofs.lemmas.Slice.Eq.{bytes_eq-Decides}
@@ -8,64 +8,44 @@ use Rattle.model.specs.Words.{Text}
 use Rattle.model.specs.Topology.{Topology, queue_names, IsIn}
 use Rattle.model.specs.declared.topologies.DeclaredQueue.{DeclaredQueue}
 use Rattle.model.specs.Broker.{Broker, Channel, Connection, queue_named}
-use Rattle.model.specs.Step.{Refusal, Of_connection, refusal_on, greatest, is_spent, or_else, refusal_to, refusal_in, refusal_of_tags, refusal_of_get, refusal_of_count, refusal_of_publish, refusal_of_asking, refusal_of_seat, refusal_of_consume, is_awaiting, is_of_connection, refusal, refusal_while_closing, refusal_on_zero, refusal_of}
+use Rattle.model.specs.Step.{Refusal, Of_connection, refusal_on, or_else, refusal_to, refusal_of_count, refusal_of_publish, is_awaiting, is_of_connection, refusal, refusal_while_closing, refusal_on_zero}
 use Rattle.model.specs.declared.methods.Method.{Method}
 use Rattle.model.specs.declared.methods.Publish.{Publish}
-use Rattle.model.specs.declared.methods.Get.{Get}
-use Rattle.model.specs.declared.methods.Consume.{Consume}
-use Rattle.model.specs.declared.messages.Entry.{Entry}
-use Rattle.model.specs.Deliveries.{first_ready}
-use Rattle.model.specs.Prefetch.{has_tag_left}
-use Rattle.judging.specs.Judged.{Judges, HasChannel}
-use Rattle.judging.specs.declared.refusals.Refusal as declared
-use Rattle.judging.specs.declared.refusals.Refusal.TheVariants as refused
-use Rattle.judging.specs.declared.refusals.Act as wanted
+use Rattle.judging.specs.Judged.{refusal_of_number}
 
-pub closing_judged : (t : Topology) (b : Broker) (conn : Connection) (h : ℕ) (m : Method) (r : Result wanted.Act declared.Refusal) (ch : Option Channel)
-    → is_awaiting ch ≡ true → ((k : Channel) → k.is_closing ≡ true → Judges t b (Some k) m (refusal_while_closing m) r)
-    → Judges t b ch m (refusal t b conn h m ch) r
-closing_judged t b conn h m r None e f = absurd (let g : false ≡ true = e in cc)
-closing_judged t b conn h m r (Some k) e f =
-    let same : refusal t b conn h m (Some k) ≡ refusal_while_closing m = rw e refl in
-    subst (λ (x : Option Refusal). Judges t b (Some k) m x r) (sym same) (f k e)
+-- on a channel that awaits close-ok only the method counts
+pub closing_is : (t : Topology) (b : Broker) (conn : Connection) (h : ℕ) (m : Method) (k : Channel) → k.is_closing ≡ true → refusal t b conn h m (Some k) ≡ refusal_while_closing m
+closing_is t b conn h m k e = rw e refl
 
-pub zero_judged : (t : Topology) (b : Broker) (conn : Connection) (h : ℕ) (m : Method) (r : Result wanted.Act declared.Refusal) (ch : Option Channel)
-    → is_awaiting ch ≡ false → h ≡ 0 → Judges t b ch m (refusal_on_zero m) r
-    → Judges t b ch m (refusal t b conn h m ch) r
-zero_judged t b conn h m r ch e z f = rw (e, z) f
+-- and on channel 0
+pub zero_is : (t : Topology) (b : Broker) (conn : Connection) (h : ℕ) (m : Method) (ch : Option Channel) → is_awaiting ch ≡ false → h ≡ 0 → refusal t b conn h m ch ≡ refusal_on_zero m
+zero_is t b conn h m ch e z = rw (e, z) refl
 
-pub open_judged : (t : Topology) (b : Broker) (conn : Connection) (h : ℕ) (m : Method) (r : Result wanted.Act declared.Refusal) (k : Channel)
-    → k.is_closing ≡ false → h ≢ 0 → is_of_connection m ≡ false → (conn.channel_max < h → ⊥) → Judges t b (Some k) m (refusal_of t b k m) r
-    → Judges t b (Some k) m (refusal t b conn h m (Some k)) r
-open_judged t b conn h m r k e z n l f =
+-- elsewhere the number of the channel is looked at, and then the channel
+pub number_is : (t : Topology) (b : Broker) (conn : Connection) (max h : ℕ) (m : Method) (ch : Option Channel) → is_awaiting ch ≡ false → h ≢ 0 → conn.channel_max ≡ max
+    → refusal t b conn h m ch ≡ or_else (refusal_of_number max h m) (refusal_on t b ch m)
+number_is t b conn max h m ch e n same =
     let zero : nat_eq h 0 ≡ false = grind (arith, nat_tests) in
-    let within : nat_lt conn.channel_max h ≡ false = grind (arith, nat_tests) in
-    let same : refusal t b conn h m (Some k) ≡ refusal_of t b k m = rw (e, zero, n, within) refl in
-    subst (λ (x : Option Refusal). Judges t b (Some k) m x r) (sym same) f
+    rw (e, zero, same) (chosen (is_of_connection m) (nat_lt max h))
+  where
+    chosen : (v w : Bool) → (if v then Some (Of_connection 503) else if w then Some (Of_connection 504) else refusal_on t b ch m) ≡ or_else (if v then Some (Of_connection 503) else if w then Some (Of_connection 504) else None) (refusal_on t b ch m)
+    chosen true w = refl
+    chosen false true = refl
+    chosen false false = refl
 
--- the same of a channel that is not open
-pub absent_judged : (t : Topology) (b : Broker) (conn : Connection) (h : ℕ) (m : Method) (r : Result wanted.Act declared.Refusal)
-    → h ≢ 0 → is_of_connection m ≡ false → (conn.channel_max < h → ⊥) → Judges t b None m (refusal_on t b None m) r
-    → Judges t b None m (refusal t b conn h m None) r
-absent_judged t b conn h m r z n l f =
-    let zero : nat_eq h 0 ≡ false = grind (arith, nat_tests) in
-    let within : nat_lt conn.channel_max h ≡ false = grind (arith, nat_tests) in
-    let same : refusal t b conn h m None ≡ refusal_on t b None m = rw (zero, n, within) refl in
-    subst (λ (x : Option Refusal). Judges t b None m x r) (sym same) f
+-- so what stands against the number stands against the method
+pub number_refused : (t : Topology) (b : Broker) (conn : Connection) (max h : ℕ) (m : Method) (ch : Option Channel) (r : Refusal) → is_awaiting ch ≡ false → h ≢ 0 → conn.channel_max ≡ max
+    → refusal_of_number max h m ≡ Some r → refusal t b conn h m ch ≡ Some r
+number_refused t b conn max h m ch r e n same is = number_is t b conn max h m ch e n same ∙ ap (λ (x : Option Refusal). or_else x (refusal_on t b ch m)) is
 
--- any refusal can be made on an open channel
-pub has_open : (r : declared.Refusal) (ch : Channel) → HasChannel r (Some ch)
-has_open refused.Ignored ch = tt
-has_open (refused.Channel code) ch = refl
-has_open (refused.Connection code) ch = tt
+-- and where nothing does it is what stands against it on the channel
+pub number_passed : (t : Topology) (b : Broker) (conn : Connection) (max h : ℕ) (m : Method) (ch : Option Channel) → is_awaiting ch ≡ false → h ≢ 0 → conn.channel_max ≡ max
+    → refusal_of_number max h m ≡ None → refusal t b conn h m ch ≡ refusal_on t b ch m
+number_passed t b conn max h m ch e n same is = number_is t b conn max h m ch e n same ∙ ap (λ (x : Option Refusal). or_else x (refusal_on t b ch m)) is
 
 -- what is not immediate is refused for its exchange, then for its counters
-pub publish_judged : (t : Topology) (b : Broker) (ch : Channel) (p : Publish) (spent : Bool) → p.immediate ≡ false → refusal_to t p.exchange ≡ None
-    → spent ≡ ((b.published == greatest) || is_spent ch.confirm) → refusal_of_publish t b ch p ≡ (if spent then Some (Of_connection 541) else None)
-publish_judged t b ch p spent flag to e =
-    ap (λ (x : Bool). if x then Some (Of_connection 540) else or_else (refusal_to t p.exchange) (refusal_of_count b ch)) flag
-    ∙ ap (λ (r : Option Refusal). or_else r (refusal_of_count b ch)) to
-    ∙ ap (λ (x : Bool). if x then Some (Of_connection 541) else None) (sym e)
+pub publish_is : (t : Topology) (b : Broker) (ch : Channel) (p : Publish) → p.immediate ≡ false → refusal_of_publish t b ch p ≡ or_else (refusal_to t p.exchange) (refusal_of_count b ch)
+publish_is t b ch p flag = ap (λ (x : Bool). if x then Some (Of_connection 540) else or_else (refusal_to t p.exchange) (refusal_of_count b ch)) flag
 
 -- a queue that stands at a place is found by its name
 pub queue_there : (qs : List DeclaredQueue) (i : ℕ) (name : Text) → i < length qs → get_or (queue_names qs) i [] ≡ name → is_some (queue_named qs name) ≡ true
@@ -89,29 +69,3 @@ queue_absent (q ∷ qs) name none = chosen (bytes_eq q.name name) refl (queue_ab
     chosen : (b : Bool) → bytes_eq q.name name ≡ b → is_some (queue_named qs name) ≡ false → is_some (if b then Some q else queue_named qs name) ≡ false
     chosen true is rest = absurd (none (inl (sym ((bytes_eq-Decides q.name name).0 is))))
     chosen false is rest = rest
-
--- a get from a queue that is there is refused where a message is ready and no tag is left for it
-pub get_judged : (t : Topology) (b : Broker) (ch : Channel) (m : Get) (entries : List Entry) (lacks : Bool) → refusal_in t m.queue ≡ None → b.queue m.queue ≡ entries
-    → lacks ≡ (is_some (first_ready entries) && not (has_tag_left ch.next_tag)) → refusal_of_get t b ch m ≡ (if lacks then Some (Of_connection 541) else None)
-get_judged t b ch m entries lacks there at e =
-    ap (λ (r : Option Refusal). or_else r (refusal_of_tags ch (first_ready (b.queue m.queue)))) there
-    ∙ ap (λ (es : List Entry). refusal_of_tags ch (first_ready es)) at
-    ∙ tags (first_ready entries) (has_tag_left ch.next_tag) refl
-    ∙ ap (λ (x : Bool). if x then Some (Of_connection 541) else None) (sym e)
-  where
-    tags : (o : Option Entry) (v : Bool) → has_tag_left ch.next_tag ≡ v → refusal_of_tags ch o ≡ (if is_some o && not v then Some (Of_connection 541) else None)
-    tags None v f = refl
-    tags (Some x) true f = ap (λ (y : Bool). if y then None else Some (Of_connection 541)) f
-    tags (Some x) false f = ap (λ (y : Bool). if y then None else Some (Of_connection 541)) f
-
--- of a queue that is there it is what the consume asks for, and then what its channel says
-pub consume_judged : (t : Topology) (ch : Channel) (m : Consume) (more : Bool) → refusal_in t m.queue ≡ None → more ≡ (m.exclusive || m.no_local || not (bytes_eq m.arguments []))
-    → refusal_of_consume t ch m ≡ (if more then Some (Of_connection 540) else refusal_of_seat ch m)
-consume_judged t ch m more there e =
-    ap (λ (r : Option Refusal). or_else r (or_else (refusal_of_asking m) (refusal_of_seat ch m))) there
-    ∙ ap (λ (b : Bool). or_else (if b then Some (Of_connection 540) else None) (refusal_of_seat ch m)) (sym e)
-    ∙ chosen more
-  where
-    chosen : (b : Bool) → or_else (if b then Some (Of_connection 540) else None) (refusal_of_seat ch m) ≡ (if b then Some (Of_connection 540) else refusal_of_seat ch m)
-    chosen true = refl
-    chosen false = refl

@@ -1,3 +1,4 @@
 mod Exchanges
-mod Judging
+pub mod Judging
 mod Settling
+mod Consuming

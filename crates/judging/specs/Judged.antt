@@ -1,22 +1,21 @@
 -- What is decided of a command.
-use Rattle.std.specs.Prelude.{◌≡◌, ◌<◌, ◌⊎◌, Bool, true, false, length, ℕ, Option, Some, None, Result, Ok, Err, IsSome}
+use Rattle.std.specs.Prelude.{◌≡◌, ◌<◌, ◌⊎◌, Bool, true, false, length, ℕ, Option, Some, None, Result, Ok, Err, IsSome, if◌then◌else◌, nat_lt}
 use Rattle.model.specs.Words.{Text}
 use Rattle.model.specs.Topology.{Topology}
 use Rattle.model.specs.Broker.{Broker, Channel, Connection}
 use Rattle.model.specs.Step as step
-use Rattle.model.specs.Step.{Of_channel, Of_connection, refusal, refusal_of, refusal_of_large, refusal_of_publish, refusal_of_get}
-use Rattle.model.specs.Step.{refusal_of_seat, refusal_of_settling, channel_or_new}
-use Rattle.model.specs.declared.methods.Close.{Close}
+use Rattle.model.specs.Step.{Of_channel, Of_connection, refusal, refusal_of_large, is_of_connection}
 use Rattle.model.specs.declared.methods.Method.{Method}
 use Rattle.model.specs.declared.methods.Method.TheVariants as method
 use Rattle.model.specs.declared.events.Event.{Event}
 use Rattle.model.specs.declared.events.Event.TheVariants as event
+use Rattle.channel.specs.declared.consumers.SeatRefusal.{SeatRefusal}
+use Rattle.channel.specs.declared.consumers.SeatRefusal.TheVariants as unseated
 use Rattle.exchange_graph.specs.Marks.{queue_name}
-use Rattle.depot.specs.Store.{Store, entries_named}
 use Rattle.judging.specs.declared.refusals.Refusal.{Refusal}
 use Rattle.judging.specs.declared.refusals.Refusal.TheVariants as refused
-use Rattle.judging.specs.declared.refusals.Act.{Act}
-use Rattle.judging.specs.declared.refusals.Act.TheVariants as act
+use Rattle.judging.specs.declared.refusals.Stop.{Stop}
+use Rattle.judging.specs.declared.refusals.Stop.TheVariants.{Refused, Memory}
 
 -- a refusal of the code, as one of the model
 abbrev pub refusal_seen : Refusal → step.Refusal
@@ -24,10 +23,23 @@ refusal_seen refused.Ignored = step.Ignored
 refusal_seen (refused.Channel code) = Of_channel code
 refusal_seen (refused.Connection code) = Of_connection code
 
--- a refusal, if there is one
-abbrev pub seen_if : Option Refusal → Option step.Refusal
-seen_if None = None
-seen_if (Some r) = Some (refusal_seen r)
+-- why something is refused, if it is
+abbrev pub refused_by : {A : Type 0} → Result A Refusal → Option step.Refusal
+refused_by (Ok x) = None
+refused_by (Err r) = Some (refusal_seen r)
+
+-- why a consume is not performed, where its consumer was not made for this
+abbrev pub stop_of : SeatRefusal → Stop
+stop_of unseated.InUse = Refused (refused.Connection 530)
+stop_of unseated.TooMany = Refused (refused.Connection 506)
+stop_of unseated.Spent = Refused (refused.Connection 541)
+stop_of unseated.Memory = Memory
+
+-- nothing stands against it where it is done, and this does where it is refused; memory is wanting only where nothing does
+abbrev pub IsStoppedBy : {A : Type 0} → Option step.Refusal → Result A Stop → Type 0
+IsStoppedBy against (Ok x) = against ≡ None
+IsStoppedBy against (Err (Refused r)) = against ≡ Some (refusal_seen r)
+IsStoppedBy against (Err Memory) = against ≡ None
 
 -- a channel that a refusal closes is there
 abbrev pub HasChannel : Refusal → Option Channel → Type 0
@@ -45,17 +57,34 @@ abbrev pub IsLargeIgnored : Broker → ℕ → ℕ → Option Connection → Typ
 IsLargeIgnored b c h None = Unit {0}
 IsLargeIgnored b c h (Some conn) = refusal_of_large conn h (b.channel c h) ≡ step.Ignored
 
+-- what stands against a method for the number of its channel, which is not 0, where this is the greatest number that was agreed on
+abbrev pub refusal_of_number : ℕ → ℕ → Method → Option step.Refusal
+refusal_of_number max h m = if is_of_connection m then Some (Of_connection 503) else if nat_lt max h then Some (Of_connection 504) else None
+
+-- a method that an open channel takes, and that may be refused for what it asks
+abbrev pub is_taken : Method → Bool
+is_taken (method.ChannelFlow active) = true
+is_taken (method.ChannelClose m) = true
+is_taken (method.ExchangeDeclare m) = true
+is_taken (method.QueueDeclare m) = true
+is_taken (method.QueuePurge m) = true
+is_taken (method.BasicQos m) = true
+is_taken (method.BasicConsume m) = true
+is_taken (method.BasicCancel m) = true
+is_taken (method.BasicPublish m) = true
+is_taken (method.BasicGet m) = true
+is_taken (method.BasicAck m) = true
+is_taken (method.BasicReject m) = true
+is_taken (method.BasicNack m) = true
+is_taken (method.BasicRecover requeue) = true
+is_taken (method.ConfirmSelect no_wait) = true
+is_taken _ = false
+
 -- a rejection that requeues
 abbrev pub is_requeueing : Method → Bool
 is_requeueing (method.BasicReject m) = m.requeue
 is_requeueing (method.BasicNack m) = m.requeue
 is_requeueing _ = false
-
--- the act is such a rejection
-abbrev pub requeues : Act → Bool
-requeues (act.Reject r) = r.now.requeue
-requeues (act.Nack n) = n.now.requeue
-requeues _ = false
 
 -- a rejection that requeues, and nothing stands against it
 abbrev pub IsRequeued : Topology → Broker → ℕ → ℕ → Method → Option Connection → Type 0
@@ -85,62 +114,7 @@ pub record IsQueuePlace (t : Topology) (name : Text) (place : ℕ) : Type 0 wher
   pub within : place < length t.queues
   pub named : queue_name t place ≡ name
 
--- The state has the queues of this depot, and its count of publishes.
-pub record HasStore (b : Broker) (s : Store) : Type 0 where
-  pub counted : b.published ≡ s.published
-  pub queues : (q : Text) → b.queue q ≡ entries_named s q
-
--- the method asks for this act on the channel, which is there where it needs to be
-abbrev pub AsksAct : Topology → Broker → Option Channel → Method → Act → Type 0
-AsksAct t b ch m act.OpenChannel = (reserved : Text) × (m ≡ method.ChannelOpen reserved)
-AsksAct t b ch m act.Flow = (m ≡ method.ChannelFlow true) × IsSome ch
-AsksAct t b ch m (act.FindExchange d) = (m ≡ method.ExchangeDeclare d.now) × IsSome ch
-AsksAct t b ch m (act.FindQueue place d) = (m ≡ method.QueueDeclare d.now) × IsSome ch × IsQueuePlace t d.now.queue place
-AsksAct t b ch m (act.Select no_wait) = (m ≡ method.ConfirmSelect no_wait) × IsSome ch
-AsksAct t b ch m (act.Publish p) = (m ≡ method.BasicPublish p.now) × IsSome ch × (refusal_of_publish t b (channel_or_new ch) p.now ≡ None)
-AsksAct t b ch m (act.Purge place p) = (m ≡ method.QueuePurge p.now) × IsSome ch × IsQueuePlace t p.now.queue place
-AsksAct t b ch m (act.Get place g) =
-    (m ≡ method.BasicGet g.now) × IsSome ch × IsQueuePlace t g.now.queue place × (refusal_of_get t b (channel_or_new ch) g.now ≡ None)
-AsksAct t b ch m (act.Consume place k) = (m ≡ method.BasicConsume k.now) × IsSome ch × IsQueuePlace t k.now.queue place
-AsksAct t b ch m (act.Cancel k) = (m ≡ method.BasicCancel k.now) × IsSome ch
-AsksAct t b ch m (act.Limit q) = (m ≡ method.BasicQos q.now) × IsSome ch
-AsksAct t b ch m (act.Acknowledge a) =
-    (m ≡ method.BasicAck a.now) × IsSome ch × (refusal_of_settling (channel_or_new ch) a.now.delivery_tag a.now.multiple ≡ None)
-AsksAct t b ch m (act.Reject r) = (m ≡ method.BasicReject r.now) × IsSome ch × (refusal_of_settling (channel_or_new ch) r.now.delivery_tag false ≡ None)
-AsksAct t b ch m (act.Nack n) = (m ≡ method.BasicNack n.now) × IsSome ch × (refusal_of_settling (channel_or_new ch) n.now.delivery_tag n.now.multiple ≡ None)
-AsksAct t b ch m act.Recover = (m ≡ method.BasicRecover true) × IsSome ch
-AsksAct t b ch m (act.CloseChannel is_closing) = (x : Close) × (m ≡ method.ChannelClose x) × IsSome ch × ((channel_or_new ch).is_closing ≡ is_closing)
-AsksAct t b ch m act.EndChannel = (m ≡ method.ChannelCloseOk) × IsSome ch
-AsksAct t b ch m act.CloseConnection = (x : Close) × (m ≡ method.ConnectionClose x)
-
--- the act can be done: some method asks for it
-abbrev pub CanAct : Topology → Broker → Option Channel → Act → Type 0
-CanAct t b ch asked = (m : Method) × AsksAct t b ch m asked
-
--- what is still to be said against an act on a channel of this record: of one consumer more the channel decides
-abbrev pub refusal_left : Channel → Act → Option step.Refusal
-refusal_left ch (act.Consume place m) = refusal_of_seat ch m.now
-refusal_left ch _ = None
-
--- Either the method is refused as the model says, or it asks for this act, and nothing is said against it but what is left to say.
-abbrev pub Judges : Topology → Broker → Option Channel → Method → Option step.Refusal → Result Act Refusal → Type 0
-Judges t b ch m r (Ok asked) = (r ≡ refusal_left (channel_or_new ch) asked) × AsksAct t b ch m asked
-Judges t b ch m r (Err e) = (r ≡ Some (refusal_seen e)) × HasChannel e ch
-
--- The same of a method on a channel of this record, which is open.
-abbrev pub JudgesOpen : Topology → Broker → Channel → Method → Result Act Refusal → Type 0
-JudgesOpen t b ch m result = Judges t b (Some ch) m (refusal_of t b ch m) result
-
--- The same on a connection that runs, on a channel of this number.
-abbrev pub JudgesThere : Topology → Broker → Connection → ℕ → Option Channel → Method → Result Act Refusal → Type 0
-JudgesThere t b conn h ch m result = Judges t b ch m (refusal t b conn h m ch) result
-
--- The same of a command on a connection, which is silent where that doesn't run.
-abbrev pub JudgesOn : Topology → Broker → ℕ → ℕ → Method → Option (Result Act Refusal) → Type 0
-JudgesOn t b c h m None = b.connection c ≡ None
-JudgesOn t b c h m (Some r) = (conn : Connection) × (b.connection c ≡ Some conn) × Judges t b (b.channel c h) m (refusal t b conn h m (b.channel c h)) r
-
--- The same of a publish whose content is too large: it is refused as the model says.
+-- A publish whose content is too large is refused as the model says, and nothing is said where its connection doesn't run.
 abbrev pub JudgesLarge : Broker → ℕ → ℕ → Option Refusal → Type 0
 JudgesLarge b c h None = b.connection c ≡ None
 JudgesLarge b c h (Some r) =

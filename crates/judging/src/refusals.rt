@@ -1,38 +1,34 @@
-//! What is decided of a command before anything is done: whether it is refused, and else what it asks for.
+//! What stands against a command, leaf by leaf: what it asks for is done beside.
 //!
 //! Source: AMQP 0-9-1, section 1.1, "reply-code", and the rules of its XML.
 
-ghost use Rattle.std.specs.Prelude.{◌≡◌, ◌<◌, ◌==◌, ◌||◌, ◌&&◌, not, List, Some, None, true, false, Option, IsSome, is_some, length, option_map};
+ghost use Rattle.std.specs.Prelude.{◌≡◌, List, Some, true, false, Option, IsSome, IfOk, OnOk, option_map};
 ghost use Rattle.std.specs.Option.{option_copied};
 ghost use Rattle.model.specs.Words.{Text as Name};
 ghost use Rattle.model.specs.Broker.{Broker};
 ghost use Rattle.model.specs.Broker.{Channel as Seen};
-ghost use Rattle.model.specs.Topology.{Topology as Handed, queue_names};
+ghost use Rattle.model.specs.Topology.{Topology as Handed};
 ghost use Rattle.model.specs.Step as said;
-ghost use Rattle.model.specs.Step.{greatest};
 ghost use Rattle.model.specs.Prefetch.{has_tag_left};
-ghost use Rattle.model.specs.Deliveries.{first_ready};
-ghost use Rattle.depot.specs.Store.{queue_at};
-ghost use Rattle.model.specs.declared.methods.Method.TheVariants.{BasicPublish, QueuePurge, BasicQos, BasicGet};
-ghost use Rattle.judging.specs.Judged.{refusal_seen, seen_if, HasChannel, HasStore, Judges, JudgesOpen, JudgesThere};
+ghost use Rattle.model.specs.declared.messages.Entry.{Entry};
+ghost use Rattle.judging.specs.Judged.{refusal_seen, refused_by, refusal_of_number, is_taken, HasChannel, IsQueuePlace};
 ghost use Rattle.channel.specs.Open.{open_in};
 ghost use Rattle.links.specs.Links.{limits_of, channel_seen};
 
 mod consumers;
 mod declares;
+mod publishes;
 mod settlements;
 
-use crate::refusals::consumers::judge_consume;
-use crate::refusals::declares::{judge_exchange_declare, judge_flow, judge_queue_declare};
-use crate::refusals::settlements::{judge_ack, judge_nack, judge_recover, judge_reject};
-use channel::Channel;
-use depot::Depot;
-use kept_routes::{Access, Router};
+pub use crate::refusals::consumers::check_consume;
+pub use crate::refusals::declares::{check_exchange, check_flow, check_queue_declare};
+pub use crate::refusals::publishes::check_publish;
+pub use crate::refusals::settlements::{check_recover, check_settling};
+use channel::{Channel, SeatRefusal};
+use exchange_graph::Topology;
 use links::Link;
-use model::{
-    Ack, Cancel, Consume, ExchangeDeclare, Get, Method, Nack, Publish, Purge, Qos, QueueDeclare,
-    Reject,
-};
+use model::{Method, Qos, Text};
+use std::alloc::AllocError;
 
 /// Why a command is not performed.
 #[derive(Clone, Copy, Drop)]
@@ -45,213 +41,77 @@ pub enum Refusal {
     Connection(u16),
 }
 
-/// What a command that is not refused asks for.
+/// Why a command was not performed.
 #[derive(Clone, Copy, Drop)]
-pub enum Act<'a> {
-    /// The channel is opened.
-    OpenChannel,
-    /// What is given out on the channel flows on.
-    Flow,
-    /// The exchange is there, which is answered where an answer is wanted.
-    FindExchange(&'a ExchangeDeclare),
-    /// The queue at this place is there, which is answered where an answer is wanted.
-    FindQueue(usize, &'a QueueDeclare),
-    /// Publishes are to be confirmed; an answer is not wanted where this is true.
-    Select(bool),
-    Publish(&'a Publish),
-    /// The queue at this place is purged.
-    Purge(usize, &'a Purge),
-    /// The first ready message of the queue at this place is given out.
-    Get(usize, &'a Get),
-    /// A consumer of the queue at this place is made, if the channel can have one more.
-    Consume(usize, &'a Consume),
-    /// The consumer of this tag is the channel's no more.
-    Cancel(&'a Cancel),
-    /// The channel is limited as this qos says.
-    Limit(&'a Qos),
-    /// What the tag settles was taken, and leaves its queues.
-    Acknowledge(&'a Ack),
-    /// What the tag settles was not taken.
-    Reject(&'a Reject),
-    Nack(&'a Nack),
-    /// All that is outstanding on the channel is requeued.
-    Recover,
-    /// The client closes the channel; true where the server has closed it too and awaits close-ok.
-    CloseChannel(bool),
-    /// The client agrees to the server's close of the channel.
-    EndChannel,
-    /// The client closes the connection.
-    CloseConnection,
+pub enum Stop {
+    /// This stands against it.
+    Refused(Refusal),
+    /// Memory was wanting.
+    Memory,
 }
 
-/// Clients may publish to no internal exchange, and to none that is not there.
-fn refusal_to(router: &Router, publish: &Publish) -> Option<Refusal>
-    ensures { seen_if result ≡ said.refusal_to router.now publish.now.exchange }
-{
-    match router.access(&publish.exchange, &publish.routing_key) {
-        Access::Open => None,
-        Access::Internal => Some(Refusal::Channel(403)),
-        Access::Absent => Some(Refusal::Channel(404)),
+impl From<Refusal> for Stop {
+    ghost use Rattle.std.specs.Prelude.{◌≡◌};
+    ghost use Rattle.judging.specs.declared.refusals.Stop.TheVariants.{Refused};
+
+    ghost from_gives = { λ refusal stop. stop ≡ Refused refusal };
+
+    fn from(refusal: Refusal) -> Stop {
+        Stop::Refused(refusal)
     }
 }
 
-/// Whether a counter of publishes can't rise any more.
-fn is_spent(published: u64, channel: &Channel) -> bool
-    ensures { result ≡ ((published == greatest) || said.is_spent channel.now.confirm) }
-{
-    published == u64::MAX || channel.confirm() == Some(u64::MAX)
-}
+impl From<AllocError> for Stop {
+    ghost use Rattle.std.specs.Prelude.{◌≡◌};
+    ghost use Rattle.judging.specs.declared.refusals.Stop.TheVariants.{Memory};
 
-/// A publish is refused where it asks for `immediate`, which is not implemented, then for its exchange, then for its counters.
-fn refusal_of_publish(
-    router: &Router,
-    published: u64,
-    channel: &Channel,
-    publish: &Publish,
-) -> Option<Refusal>
-    ensures { (b : Broker) (names : List Name) → b.published ≡ published
-        → seen_if result ≡ said.refusal_of_publish router.now b (open_in names channel.now) publish.now }
-{
-    if publish.immediate {
-        return Some(Refusal::Connection(540));
-    }
-    if let Some(refusal) = refusal_to(router, publish) {
-        return Some(refusal);
-    }
-    if is_spent(published, channel) {
-        Some(Refusal::Connection(541))
-    } else {
-        None
+    ghost from_gives = { λ _ stop. stop ≡ Memory };
+
+    fn from(_: AllocError) -> Stop {
+        Stop::Memory
     }
 }
 
-/// A method on a channel that awaits close-ok: all is ignored but a close and close-ok.
-fn judge_while_closing(method: &Method) -> Result<Act<'_>, Refusal>
-    ensures { (t : Handed) (b : Broker) (ch : Seen) → ch.is_closing ≡ true → Judges t b (Some ch) method.now (said.refusal_while_closing method.now) result }
-{
-    match method {
-        Method::ChannelClose(_) => Ok(Act::CloseChannel(true)),
-        Method::ChannelCloseOk => Ok(Act::EndChannel),
-        _ => Err(Refusal::Ignored),
+impl From<SeatRefusal> for Stop {
+    ghost use Rattle.std.specs.Prelude.{◌≡◌};
+    ghost use Rattle.judging.specs.Judged.{stop_of};
+
+    ghost from_gives = { λ refusal stop. stop ≡ stop_of refusal };
+
+    fn from(refusal: SeatRefusal) -> Stop {
+        match refusal {
+            SeatRefusal::InUse => Stop::Refused(Refusal::Connection(530)),
+            SeatRefusal::TooMany => Stop::Refused(Refusal::Connection(506)),
+            SeatRefusal::Spent => Stop::Refused(Refusal::Connection(541)),
+            SeatRefusal::Memory => Stop::Memory,
+        }
     }
 }
 
-/// A method on channel 0.
-fn judge_on_zero(method: &Method) -> Result<Act<'_>, Refusal>
-    ensures { (t : Handed) (b : Broker) (ch : Option Seen) → Judges t b ch method.now (said.refusal_on_zero method.now) result }
-{
-    match method {
-        Method::ConnectionClose(_) => Ok(Act::CloseConnection),
-        _ => Err(Refusal::Connection(503)),
-    }
-}
-
-/// A method on a channel that is not open: it can only be opened.
-fn judge_on_closed(method: &Method) -> Result<Act<'_>, Refusal>
-    ensures { (t : Handed) (b : Broker) → Judges t b None method.now (said.refusal_on t b None method.now) result }
-{
-    match method {
-        Method::ChannelOpen { .. } => Ok(Act::OpenChannel),
-        _ => Err(Refusal::Connection(504)),
-    }
-}
-
-/// A publish on an open channel.
-fn judge_publish<'a>(
-    router: &Router,
-    published: u64,
-    channel: &Channel,
-    publish: &'a Publish,
-) -> Result<Act<'a>, Refusal>
-    ensures { (b : Broker) (names : List Name) → b.published ≡ published
-        → JudgesOpen router.now b (open_in names channel.now) (BasicPublish publish.now) result }
-{
-    match refusal_of_publish(router, published, channel, publish) {
-        None => Ok(Act::Publish(publish)),
-        Some(refusal) => Err(refusal),
-    }
-}
-
-/// A purge on an open channel. The queue must be there.
-fn judge_purge<'a>(router: &Router, purge: &'a Purge) -> Result<Act<'a>, Refusal>
-    ensures { (b : Broker) (ch : Seen) → JudgesOpen router.now b ch (QueuePurge purge.now) result }
-{
-    match router.topology().queue_at(purge.queue.as_bytes()) {
-        Some(place) => Ok(Act::Purge(place, purge)),
-        None => Err(Refusal::Channel(404)),
-    }
-}
-
-/// Whether the queue at this place has a message that can be given out, and no delivery tag is left for it.
-fn lacks_tag(depot: &Depot, channel: &Channel, place: usize) -> bool
-    requires { place < length depot.now.topology.queues }
-    ensures { result ≡ (is_some (first_ready (queue_at depot.now place)) && not (has_tag_left channel.now.given.next_tag)) }
-{
-    depot.first_ready(place).is_some() && !channel.has_tag_left()
-}
-
-/// A get on an open channel. The queue must be there, and a delivery tag left for its message.
-fn judge_get<'a>(depot: &Depot, channel: &Channel, get: &'a Get) -> Result<Act<'a>, Refusal>
-    ensures { (b : Broker) (names : List Name) → HasStore b depot.now → JudgesOpen depot.now.topology b (open_in names channel.now) (BasicGet get.now) result }
-{
-    let place = match depot.topology().queue_at(get.queue.as_bytes()) {
-        Some(place) => place,
-        None => return Err(Refusal::Channel(404)),
-    };
-    depot.is_named(place);
-    if lacks_tag(depot, channel, place) {
-        Err(Refusal::Connection(541))
-    } else {
-        Ok(Act::Get(place, get))
-    }
-}
-
-/// A qos on an open channel. A limit by the size of messages is not implemented.
-fn judge_qos(qos: &Qos) -> Result<Act<'_>, Refusal>
-    ensures { (t : Handed) (b : Broker) (ch : Seen) → JudgesOpen t b ch (BasicQos qos.now) result }
+/// A limit by the size of messages is not implemented.
+pub fn check_qos(qos: &Qos) -> Result<(), Refusal>
+    ensures { refused_by result ≡ said.refusal_of_qos qos.now }
 {
     if qos.prefetch_size == 0 {
-        Ok(Act::Limit(qos))
+        Ok(())
     } else {
         Err(Refusal::Connection(540))
     }
 }
 
-/// A method on an open channel. One that is not built yet is not implemented.
-fn judge_on_open<'a>(
-    depot: &Depot,
-    channel: &Channel,
-    method: &'a Method,
-) -> Result<Act<'a>, Refusal>
-    requires { channel.now.is_closing ≡ false }
-    ensures { (b : Broker) → HasStore b depot.now
-        → JudgesOpen depot.now.topology b (open_in (queue_names depot.now.topology.queues) channel.now) method.now result }
+/// What stands against a method that no open channel takes. One that is not built yet is not implemented.
+pub fn refusal_of_other(method: &Method) -> Refusal
+    requires { is_taken method.now ≡ false }
+    ensures { (t : Handed) (b : Broker) (ch : Seen) → said.refusal_of t b ch method.now ≡ Some (refusal_seen result) }
 {
     match method {
-        Method::ConfirmSelect { no_wait } => Ok(Act::Select(*no_wait)),
-        Method::BasicPublish(publish) => {
-            judge_publish(depot.router(), depot.published(), channel, publish)
-        }
-        Method::QueuePurge(purge) => judge_purge(depot.router(), purge),
-        Method::BasicGet(get) => judge_get(depot, channel, get),
-        Method::BasicConsume(consume) => judge_consume(depot.topology(), consume),
-        Method::BasicCancel(cancel) => Ok(Act::Cancel(cancel)),
-        Method::BasicQos(qos) => judge_qos(qos),
-        Method::BasicAck(ack) => judge_ack(channel, ack),
-        Method::BasicReject(reject) => judge_reject(channel, reject),
-        Method::BasicNack(nack) => judge_nack(channel, nack),
-        Method::BasicRecover { requeue } => judge_recover(*requeue),
-        Method::ChannelOpen { .. } => Err(Refusal::Connection(504)),
-        Method::ChannelFlow { active } => judge_flow(*active),
-        Method::ExchangeDeclare(declare) => judge_exchange_declare(depot.topology(), declare),
-        Method::QueueDeclare(declare) => judge_queue_declare(depot.topology(), declare),
+        Method::ChannelOpen { .. } => Refusal::Connection(504),
         Method::ExchangeDelete
         | Method::ExchangeBind
         | Method::ExchangeUnbind
         | Method::QueueBind
         | Method::QueueDelete
-        | Method::QueueUnbind => Err(Refusal::Channel(403)),
-        Method::ChannelClose(_) => Ok(Act::CloseChannel(false)),
+        | Method::QueueUnbind => Refusal::Channel(403),
         Method::ChannelCloseOk
         | Method::ChannelOpenOk { .. }
         | Method::ChannelFlowOk { .. }
@@ -266,8 +126,8 @@ fn judge_on_open<'a>(
         | Method::BasicGetOk(_)
         | Method::BasicGetEmpty { .. }
         | Method::BasicRecoverOk
-        | Method::ConfirmSelectOk => Err(Refusal::Connection(503)),
-        _ => Err(Refusal::Connection(540)),
+        | Method::ConfirmSelectOk => Refusal::Connection(503),
+        _ => Refusal::Connection(540),
     }
 }
 
@@ -278,30 +138,40 @@ fn is_of_connection(method: &Method) -> bool
     method.ids().class == 10
 }
 
-/// A method on a channel that awaits nothing, of a connection that runs: on channel 0 only a close of the connection is
-/// known, and elsewhere no method of its class; a channel that is not open can only be opened.
-fn judge_on_number<'a>(
-    depot: &Depot,
-    link: &Link,
-    number: u16,
-    method: &'a Method,
-) -> Result<Act<'a>, Refusal>
-    requires { (names : List Name) → said.is_awaiting (channel_seen names link.now number) ≡ false }
-    ensures { (b : Broker) → HasStore b depot.now → JudgesThere depot.now.topology b (limits_of link.now) number
-        (channel_seen (queue_names depot.now.topology.queues) link.now number) method.now result }
+/// Elsewhere than on channel 0 no method of the connection class is known, and no channel has a number greater than this, which
+/// was agreed on.
+pub fn check_number(channel_max: u16, number: u16, method: &Method) -> Result<(), Refusal>
+    ensures { refused_by result ≡ refusal_of_number channel_max number method.now }
 {
-    if number == 0 {
-        return judge_on_zero(method);
-    }
     if is_of_connection(method) {
         return Err(Refusal::Connection(503));
     }
-    if number > link.channel_max() {
+    if number > channel_max {
         return Err(Refusal::Connection(504));
     }
-    match link.channel(number) {
-        None => judge_on_closed(method),
-        Some(channel) => judge_on_open(depot, channel, method),
+    Ok(())
+}
+
+/// The place of the queue of this name, which must be there.
+pub fn check_queue(topology: &Topology, name: &Text) -> Result<usize, Refusal>
+    ensures place { IfOk result (IsQueuePlace topology.now name.now) }
+    ensures refusal { refused_by result ≡ said.refusal_in topology.now name.now }
+{
+    match topology.queue_at(name.as_bytes()) {
+        Some(place) => Ok(place),
+        None => Err(Refusal::Channel(404)),
+    }
+}
+
+/// A delivery tag must be left where a message is given out.
+pub fn check_tag(channel: &Channel) -> Result<(), Refusal>
+    ensures left { OnOk result (has_tag_left channel.now.given.next_tag ≡ true) }
+    ensures refusal { (names : List Name) (e : Entry) → refused_by result ≡ said.refusal_of_tags (open_in names channel.now) (Some e) }
+{
+    if channel.has_tag_left() {
+        Ok(())
+    } else {
+        Err(Refusal::Connection(541))
     }
 }
 
@@ -312,23 +182,6 @@ fn is_awaiting(channel: Option<&Channel>) -> bool
     match channel {
         None => false,
         Some(channel) => channel.is_closing(),
-    }
-}
-
-/// A method of a connection that runs.
-pub fn judge<'a>(
-    depot: &Depot,
-    link: &Link,
-    number: u16,
-    method: &'a Method,
-) -> Result<Act<'a>, Refusal>
-    ensures { (b : Broker) → HasStore b depot.now → JudgesThere depot.now.topology b (limits_of link.now) number
-        (channel_seen (queue_names depot.now.topology.queues) link.now number) method.now result }
-{
-    if is_awaiting(link.channel(number)) {
-        judge_while_closing(method)
-    } else {
-        judge_on_number(depot, link, number, method)
     }
 }
 

@@ -10,7 +10,7 @@ use settling::put_back;
 use std::alloc::{AllocError, Global};
 
 impl Core {
-    ghost use Rattle.std.specs.Prelude.{◌≡◌, ◌∷◌, [], None, Some, IsSome, IfOk, IsOk, OnErr, option_map};
+    ghost use Rattle.std.specs.Prelude.{◌≡◌, ◌∷◌, [], None, Some, true, false, IsSome, IfOk, IsOk, OnErr, option_map};
     ghost use Rattle.model.specs.Agreement.{IsAgreed};
     ghost use Rattle.model.specs.Grammar.{ids};
     ghost use Rattle.model.specs.Sending.{IsAddressed};
@@ -83,17 +83,16 @@ impl Core {
         Ok(step)
     }
 
-    /// The client's close of a channel is answered. One that awaits close-ok goes on waiting for it; any other is gone.
+    /// The client's close of a channel is answered, and the channel is gone.
     pub(crate) fn answer_close(
         &mut self,
         alloc: Global,
         connection: u64,
         channel: u16,
-        is_closing: bool,
     ) -> Result<Step, AllocError>
         requires agreed { IsAgreed (broker_of self.old) }
         requires there { IsSome ((broker_of self.old).channel connection channel) }
-        requires closing { (channel_on self.old connection channel).is_closing ≡ is_closing }
+        requires closing { (channel_on self.old connection channel).is_closing ≡ false }
         ensures ok { IfOk result (λ s. Does s.sends.items s.notes.items (broker_of self.new) (reply connection channel ChannelCloseOk ∷ [])
             (after_close (broker_of self.old) connection channel (channel_on self.old connection channel))) }
         ensures addressed { IfOk result (λ s. AreAddressed connection s.sends.items) }
@@ -101,10 +100,23 @@ impl Core {
         ensures err { OnErr result (self.new ≡ self.old) }
     {
         let step = Step::sending(alloc, channel_close_ok(connection, channel))?;
-        if !is_closing {
-            self.clear(connection, channel, None);
-        }
+        self.clear(connection, channel, None);
         Ok(step)
+    }
+
+    /// The client's close of a channel that awaits close-ok is answered. The channel goes on waiting for it.
+    pub(crate) fn answer_closing(
+        &self,
+        alloc: Global,
+        connection: u64,
+        channel: u16,
+    ) -> Result<Step, AllocError>
+        requires { (channel_on self.now connection channel).is_closing ≡ true }
+        ensures ok { IfOk result (λ s. Does s.sends.items s.notes.items (broker_of self.now) (reply connection channel ChannelCloseOk ∷ [])
+            (after_close (broker_of self.now) connection channel (channel_on self.now connection channel))) }
+        ensures addressed { IfOk result (λ s. AreAddressed connection s.sends.items) }
+    {
+        Step::sending(alloc, channel_close_ok(connection, channel))
     }
 
     /// The client agrees to the close of the channel, which is gone.

@@ -1,37 +1,18 @@
-//! What a client may ask of what is declared. Source: AMQP 0-9-1, exchange.declare and queue.declare, "passive".
+//! What a client may ask of a queue that is declared. Source: AMQP 0-9-1, queue.declare, "passive".
 
 use crate::cores::Core;
 use model::QueueDeclare;
-use replies::{Step, answer_queue_declare, exchange_ok};
+use replies::{Step, answer_queue_declare};
 use std::alloc::{AllocError, Global};
 
 impl Core {
-    ghost use Rattle.std.specs.Prelude.{◌≡◌, IfOk};
-    ghost use Rattle.model.specs.Step.{Does, Finds, declare_sends};
-    ghost use Rattle.model.specs.declared.methods.Method.TheVariants.{ExchangeDeclareOk, QueueDeclare as DeclaresQueue};
+    ghost use Rattle.std.specs.Prelude.{IfOk};
+    ghost use Rattle.model.specs.Step.{Finds};
+    ghost use Rattle.model.specs.declared.methods.Method.TheVariants.{QueueDeclare as DeclaresQueue};
     ghost use Rattle.model.specs.Grammar.{IsMethod};
     ghost use Rattle.broker_core.specs.State.{broker_of, topology_kept};
     ghost use Rattle.judging.specs.Judged.{IsQueuePlace};
     ghost use Rattle.replies.specs.Sent.{AreAddressed};
-
-    /// The exchange is there, and that is answered where an answer is wanted.
-    pub(crate) fn find_exchange(
-        &self,
-        alloc: Global,
-        connection: u64,
-        channel: u16,
-        no_wait: bool,
-    ) -> Result<Step, AllocError>
-        ensures ok { IfOk result (λ s. Does s.sends.items s.notes.items
-            (broker_of self.now) (declare_sends connection channel no_wait ExchangeDeclareOk) (broker_of self.now)) }
-        ensures addressed { IfOk result (λ s. AreAddressed connection s.sends.items) }
-    {
-        if no_wait {
-            Ok(Step::nothing(alloc))
-        } else {
-            Step::sending(alloc, exchange_ok(connection, channel))
-        }
-    }
 
     /// The queue at this place is there, and that is answered where an answer is wanted: by the numbers of its ready messages
     /// and of its consumers, on all channels together.

@@ -8,10 +8,12 @@ ghost use Rattle.exchange_graph.specs.Marks.{queue_name};
 ghost use Rattle.replies.specs.Sent.{AreAddressed};
 
 use crate::cores::Core;
+use crate::giving::give_out;
 use crate::picks::Pick;
 use channel::Consumer;
 use depot::{Depot, places_are_named};
-use model::{Entry, Taker, Text};
+use links::lent_channels_are_put;
+use model::{ChannelId, Entry, Taker, Text};
 use replies::{Step, deliver, giving};
 use std::alloc::{AllocError, Global};
 
@@ -41,12 +43,14 @@ fn delivery(
 }
 
 impl Core {
-    ghost use Rattle.std.specs.Prelude.{◌≡◌, true, false, IfOk, OnErr, option_map};
+    ghost use Rattle.std.specs.Prelude.{◌≡◌, ◌<◌, true, false, IsSome, IfOk, OnOk, OnErr, length, option_map};
     ghost use Rattle.model.specs.Agreement.{IsAgreed};
     ghost use Rattle.model.specs.Naming.{AreNamed};
     ghost use Rattle.model.specs.Sending.{AreCarried};
-    ghost use Rattle.model.specs.Step.{IsDelivery};
-    ghost use Rattle.broker_core.specs.State.{broker_of, topology_kept};
+    ghost use Rattle.model.specs.Prefetch.{has_tag_left};
+    ghost use Rattle.model.specs.Deliveries.{after_delivery, first_ready};
+    ghost use Rattle.model.specs.Step.{Is, IsDelivery};
+    ghost use Rattle.broker_core.specs.State.{broker_of, channel_on, topology_kept};
     ghost use Rattle.broker_core.specs.Picked.{IsPick, IsPickFrom, IsNextPicked, TakesAs, TellsConsumer, CannotTake};
     ghost use Rattle.channel.specs.declared.consumers.Consumer.{Consumer as One};
 
@@ -113,6 +117,33 @@ impl Core {
         self.taker(pick).is_some()
     }
 
+    /// The first ready message of the queue at this place is given out on a channel that is open, under its next delivery tag. It
+    /// leaves the queue where it needs no acknowledgement.
+    fn give_out(
+        &mut self,
+        id: ChannelId,
+        place: usize,
+        by: Taker,
+        no_ack: bool,
+    ) -> Result<(), AllocError>
+        requires agreed { IsAgreed (broker_of self.old) }
+        requires within { place < length (topology_kept self.old).queues }
+        requires there { IsSome ((broker_of self.old).channel id.connection id.number) }
+        requires left { has_tag_left (channel_on self.old id.connection id.number).next_tag ≡ true }
+        requires ready { IsSome (first_ready ((broker_of self.old).queue (queue_name (topology_kept self.old) place))) }
+        ensures given { OnOk result (Is (after_delivery (broker_of self.old) id.connection id.number
+            (channel_on self.old id.connection id.number) no_ack (queue_name (topology_kept self.old) place) by) (broker_of self.new)) }
+        ensures topology { topology_kept self.new ≡ topology_kept self.old }
+        ensures err { OnErr result (self.new ≡ self.old) }
+    {
+        lent_channels_are_put();
+        self.depot.is_named(place);
+        match self.links.channel_mut(id.connection, id.number) {
+            Some(channel) => give_out(id, channel, &mut self.depot, place, by, no_ack),
+            None => unreachable!(),
+        }
+    }
+
     /// The delivery to the consumer of these numbers that can be made: the first ready message of its queue goes to it, and
     /// leaves the queue where it needs no acknowledgement. All that takes memory is made before the first change.
     pub fn deliver(&mut self, alloc: Global, pick: Pick) -> Result<Step, AllocError>
@@ -136,14 +167,11 @@ impl Core {
         let tag = self.links.next_tag(pick.connection, pick.channel);
         let queue = name_at(&self.depot, place);
         let step = delivery(alloc, pick, tag, consumer, queue, entry)?;
-        self.give_out(
-            pick.connection,
-            pick.channel,
-            place,
-            tag,
-            Taker::Consumer(pick.number),
-            no_ack,
-        )?;
+        let id = ChannelId {
+            connection: pick.connection,
+            number: pick.channel,
+        };
+        self.give_out(id, place, Taker::Consumer(pick.number), no_ack)?;
         Ok(step)
     }
 }

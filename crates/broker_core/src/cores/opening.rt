@@ -1,15 +1,15 @@
-//! Channels that a client opens, and their flow. Source: AMQP 0-9-1, channel.open and channel.flow.
+//! Channels that a client opens. Source: AMQP 0-9-1, channel.open.
 
 use crate::cores::Core;
 use channel::Channel;
-use replies::{Step, flow_ok, open_ok};
+use replies::{Step, open_ok};
 use std::alloc::{AllocError, Global};
 
 impl Core {
-    ghost use Rattle.std.specs.Prelude.{◌≡◌, ◌∷◌, [], true, Some, IsSome, IfOk, OnErr};
+    ghost use Rattle.std.specs.Prelude.{◌≡◌, ◌∷◌, [], Some, IsSome, IfOk, OnErr};
     ghost use Rattle.model.specs.Broker.{new_channel};
     ghost use Rattle.model.specs.Step.{Does, with_channel, reply};
-    ghost use Rattle.model.specs.declared.methods.Method.TheVariants.{ChannelOpenOk, ChannelFlowOk};
+    ghost use Rattle.model.specs.declared.methods.Method.TheVariants.{ChannelOpenOk};
     ghost use Rattle.broker_core.specs.State.{broker_of, topology_kept};
     ghost use Rattle.replies.specs.Sent.{AreAddressed};
 
@@ -31,19 +31,5 @@ impl Core {
         self.links
             .open_channel(connection, channel, Channel::new(alloc))?;
         Ok(step)
-    }
-
-    /// The flow of what is given out on the channel goes on as before, and that is answered.
-    pub(crate) fn flow(
-        &self,
-        alloc: Global,
-        connection: u64,
-        channel: u16,
-    ) -> Result<Step, AllocError>
-        ensures ok { IfOk result (λ s. Does s.sends.items s.notes.items (broker_of self.now) (reply connection channel (ChannelFlowOk true) ∷ [])
-            (broker_of self.now)) }
-        ensures addressed { IfOk result (λ s. AreAddressed connection s.sends.items) }
-    {
-        Step::sending(alloc, flow_ok(connection, channel))
     }
 }

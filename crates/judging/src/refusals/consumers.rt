@@ -1,14 +1,14 @@
-//! What is decided of a consume before its channel is asked. Source: AMQP 0-9-1, basic.consume.
+//! What is decided of a consume. Source: AMQP 0-9-1, basic.consume.
 
-ghost use Rattle.std.specs.Prelude.{◌≡◌, ◌||◌, [], not, Some};
+ghost use Rattle.std.specs.Prelude.{◌≡◌, ◌||◌, [], List, not, IfOk};
 ghost use Rattle.std.specs.Str.{bytes_eq};
-ghost use Rattle.model.specs.Broker.{Broker};
-ghost use Rattle.model.specs.Broker.{Channel as Seen};
+ghost use Rattle.model.specs.Words.{Text as Name};
 ghost use Rattle.model.specs.Step as said;
-ghost use Rattle.model.specs.declared.methods.Method.TheVariants.{BasicConsume};
-ghost use Rattle.judging.specs.Judged.{JudgesOpen};
+ghost use Rattle.channel.specs.Open.{open_in};
+ghost use Rattle.judging.specs.Judged.{refused_by, IsStoppedBy, IsQueuePlace};
 
-use crate::refusals::{Act, Refusal};
+use crate::refusals::{Refusal, Stop, check_queue};
+use channel::Channel;
 use exchange_graph::Topology;
 use model::Consume;
 
@@ -20,21 +20,39 @@ fn asks_more(consume: &Consume) -> bool
     consume.exclusive || consume.no_local || consume.arguments.len() > 0
 }
 
-/// A consume on an open channel. The queue must be there. Whether the channel can have one consumer more is decided by the
-/// channel, as it is made.
-pub(crate) fn judge_consume<'a>(
-    topology: &Topology,
-    consume: &'a Consume,
-) -> Result<Act<'a>, Refusal>
-    ensures { (b : Broker) (ch : Seen) → JudgesOpen topology.now b ch (BasicConsume consume.now) result }
+/// What a consume may ask for.
+fn check_asking(consume: &Consume) -> Result<(), Refusal>
+    ensures { refused_by result ≡ said.refusal_of_asking consume.now }
 {
-    let place = match topology.queue_at(consume.queue.as_bytes()) {
-        Some(place) => place,
-        None => return Err(Refusal::Channel(404)),
-    };
     if asks_more(consume) {
         Err(Refusal::Connection(540))
     } else {
-        Ok(Act::Consume(place, consume))
+        Ok(())
     }
+}
+
+/// Whether the channel can have one consumer more.
+fn check_seat(channel: &Channel, consume: &Consume) -> Result<(), Stop>
+    ensures { (names : List Name) → IsStoppedBy (said.refusal_of_seat (open_in names channel.now) consume.now) result }
+{
+    match channel.refusal(consume) {
+        Some(refusal) => Err(Stop::from(refusal)),
+        None => Ok(()),
+    }
+}
+
+/// A consume: the queue must be there, nothing may be asked for that is not implemented, and the channel must be able to have one
+/// consumer more. Tells the place of the queue.
+pub fn check_consume(
+    topology: &Topology,
+    channel: &Channel,
+    consume: &Consume,
+) -> Result<usize, Stop>
+    ensures place { IfOk result (IsQueuePlace topology.now consume.now.queue) }
+    ensures refusal { (names : List Name) → IsStoppedBy (said.refusal_of_consume topology.now (open_in names channel.now) consume.now) result }
+{
+    let place = check_queue(topology, &consume.queue)?;
+    check_asking(consume)?;
+    check_seat(channel, consume)?;
+    Ok(place)
 }

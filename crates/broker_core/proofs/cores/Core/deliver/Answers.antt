@@ -1,17 +1,14 @@
-use Rattle.std.proofs.Common.{◌≡◌, ◌∙◌, ap, sym, subst, ℕ, None, Option, Some}
-use Rattle.std.specs.Prelude.{option_map, is_some, find}
+use Rattle.std.proofs.Common.{◌≡◌, ◌∙◌, ap, sym, subst, Option, Some}
+use Rattle.std.specs.Prelude.{option_map, is_some}
 use Rattle.std.proofs.lemmas.Bool.{false≢true}
 use Rattle.model.specs.Deliveries.{first_ready}
-use Rattle.model.specs.Entries.{is_held_as}
 use Rattle.model.specs.Step.{channel_or_new}
 use Rattle.model.specs.declared.messages.Entry.{Entry}
-use Rattle.model.specs.declared.messages.Taker.TheVariants as taker
 use Rattle.exchange_graph.specs.Marks.{queue_name}
 use Rattle.channel.specs.Open.{Open, open_in}
 use Rattle.links.specs.Links.{channel_of}
 use Rattle.broker_core.specs.State.{Kept, broker_of, topology_kept, names_of}
 use Rattle.broker_core.proofs.Stepping.{kept_there, kept_one}
-use Rattle.broker_core.proofs.Giving.{next_free}
 use Rattle.broker_core.proofs.Getting.{first_carried}
 use Rattle.broker_core.proofs.Delivering.{ready_for, none_picked, delivered, takes_short}
 use Rattle.broker_core.proofs.cores.Core.deliver.Goals as goal
@@ -26,20 +23,6 @@ unreachable-requires-in_default-first_ready c =
     subst (λ (k : Kept). first_ready ((broker_of k).queue (queue_name (topology_kept k) place)) ≡ option_map (λ e. e.now) c.first_ready.result) c.self.view_is
     (ap first_ready c.is_named.ensures.entries_are ∙ sym c.first_ready.ensures) in
     false≢true (ap is_some (sym (ap (option_map (λ e. e.now)) c.in_default-first_ready.is)) ∙ ap is_some (sym same ∙ ready_for c.args.self.now c.args.pick c.in-Some.consumer.now c.in-Some.ensures c.requires.picked))
-
-pub give_out-requires-clause-free : goal.give_out-requires-clause-free
-give_out-requires-clause-free c = λ q.
-    let connection = c.args.pick.connection in
-    let number = c.args.pick.channel in
-    let old : Kept = record { store = c.self.inside.depot; links = c.self.inside.links } in
-    let now : Kept = c.args.self.now in
-    let there = kept_one (channel_of old.links connection number) (kept_there old now connection number c.self.view_is (ap is_some c.in-Some.ensures.taker.there)) in
-    let tagged : c.next_tag-tag.result ≡ (channel_or_new ((broker_of old).channel connection number)).next_tag =
-    c.next_tag-tag.ensures there.0 there.1 ∙ ap (λ (o : Option Open). (channel_or_new (option_map (open_in (names_of old)) o)).next_tag) (sym there.1) in
-    let own : c.next_tag-tag.result ≡ (channel_or_new ((broker_of now).channel connection number)).next_tag =
-    subst (λ (k : Kept). c.next_tag-tag.result ≡ (channel_or_new ((broker_of k).channel connection number)).next_tag) c.self.view_is tagged in
-    subst (λ (t : ℕ). find (is_held_as (record { connection = connection; channel = number; tag = t; by = taker.Consumer c.args.pick.number })) ((broker_of now).queue q) ≡ None) (sym own)
-    (next_free (broker_of now) c.requires.agreed connection number (taker.Consumer c.args.pick.number) q)
 
 pub returns-clause-ok : goal.returns-clause-ok
 returns-clause-ok c =
@@ -59,7 +42,7 @@ returns-clause-ok c =
     subst (λ (k : Kept). c.next_tag-tag.result ≡ (channel_or_new ((broker_of k).channel connection number)).next_tag) c.self.view_is tagged in
     let named : c.name_at-queue.result.now ≡ queue_name (topology_kept now) place = c.name_at-queue.ensures ∙ ap (λ (k : Kept). queue_name (topology_kept k) place) c.self.view_is in
     delivered now (broker_of c.give_out.new.self) c.args.pick c.in-Some.consumer.now e c.next_tag-tag.result c.name_at-queue.result.now c.in_ok-step.step.sends.items c.in_ok-step.step.notes.items
-    c.in-Some.ensures found own named c.in_ok-step.ensures.sends c.in_ok-step.ensures.notes c.in_ok-give_out.ensures.left
+    c.in-Some.ensures found own named c.in_ok-step.ensures.sends c.in_ok-step.ensures.notes c.in_ok-give_out.ensures.given
 
 pub returns-clause-addressed : goal.returns-clause-addressed
 returns-clause-addressed c = λ carried named.
@@ -69,4 +52,4 @@ returns-clause-addressed c = λ carried named.
     let found : first_ready ((broker_of now).queue (queue_name (topology_kept now) place)) ≡ Some e =
     subst (λ (k : Kept). first_ready ((broker_of k).queue (queue_name (topology_kept k) place)) ≡ Some e) c.self.view_is
     (ap first_ready c.is_named.ensures.entries_are ∙ sym c.first_ready.ensures ∙ ap (option_map (λ e. e.now)) c.in-Some-first_ready.is) in
-    c.in_ok-step.ensures.addressed (takes_short now c.args.pick c.in-Some.consumer.now c.in-Some.ensures named) (first_carried (broker_of now) (queue_name (topology_kept now) place) e carried found)
+    c.in_ok-step.ensures.addressed (takes_short now c.args.pick c.in-Some.consumer.now c.in-Some.ensures named) (first_carried ((broker_of now).queue (queue_name (topology_kept now) place)) e (carried (queue_name (topology_kept now) place)) found)
