@@ -2,11 +2,12 @@
 use Rattle.std.proofs.Common.{Some, None, ◌+◌, ◌≡◌, ◌∙◌, ◌<◌, ℕ, zero, suc, List, [], ◌∷◌, ◌++◌, Bool, true, false, cond, length, get_or, filter, inl, inr, refl, sym, ap, subst, arith, if◌then◌else◌}
 use Rattle.std.specs.Prelude.{is_some, ◌==◌, ◌&&◌}
 use Rattle.std.specs.List.{position_from}
-use Rattle.std.proofs.lemmas.Bool.{eq-eqb, false≢true}
+use Rattle.std.proofs.lemmas.Bool.{eqb-true, eq-eqb, false≢true}
 use Rattle.model.specs.Topology.{IsIn}
 use Rattle.broker.specs.Roster.{is_consumer, is_seat_of}
 use Rattle.broker.specs.declared.roster.seats.Seat.{Seat}
 use Rattle.broker_core.specs.declared.picks.Pick.{Pick}
+use Rattle.broker.proofs.Waking.{both}
 
 -- what passes a test stays
 pub stays : {X : Type 0} (test : X → Bool) (p : X) (seats : List X) → IsIn p seats → test p ≡ true → IsIn p (filter test seats)
@@ -63,6 +64,15 @@ one_consumer p = go (p.connection == p.connection) (p.channel == p.channel) (p.n
     go true true false a b c = absurd (false≢true c)
     go true false w a b c = absurd (false≢true b)
     go false v w a b c = absurd (false≢true a)
+
+pub same_consumer : (p q : Pick) → is_consumer p q ≡ true → p ≡ q
+same_consumer p q e =
+    let parts = both (p.connection == q.connection) ((p.channel == q.channel) && (p.number == q.number)) e in
+    let rest = both (p.channel == q.channel) (p.number == q.number) parts.1 in
+    ap (λ (c : ℕ). one c p.channel p.number) (eqb-true p.connection q.connection parts.0) ∙ ap (λ (h : ℕ). one q.connection h p.number) (eqb-true p.channel q.channel rest.0) ∙ ap (one q.connection q.channel) (eqb-true p.number q.number rest.1)
+  where
+    one : ℕ → ℕ → ℕ → Pick
+    one c h n = record { connection = c; channel = h; number = n }
 
 -- no seat of the consumer is there where none is found
 pub not_found : (p : Pick) (seats : List Seat) (n : ℕ) → position_from (is_seat_of p) n seats ≡ None → (s : Seat) → IsIn s seats → s.pick ≡ p → ⊥

@@ -1,19 +1,18 @@
--- A seat is made, and those of consumers that are gone may go: who is there has at most one more before it.
-use Rattle.std.proofs.Common.{◌≡◌, ◌∙◌, ◌<◌, ◌≤◌, ◌+◌, ◌++◌, ◌⊎◌, ℕ, zero, suc, List, [], ◌∷◌, Bool, true, false, if◌then◌else◌, cond, length, take, drop, filter, min, inl, inr, refl, sym, ap, subst, arith}
+-- A seat is made, and those of consumers that are gone may go: those who are there are gone round as before.
+use Rattle.std.proofs.Common.{◌≡◌, ◌∙◌, ◌<◌, ◌≤◌, ◌+◌, ◌++◌, ◌⊎◌, ℕ, zero, suc, List, [], ◌∷◌, Bool, true, false, cond, length, take, drop, filter, min, inl, inr, refl, sym, ap, subst, arith}
 use Rattle.std.specs.Prelude.{count_by}
-use Rattle.std.proofs.lemmas.Bool.{false≢true}
-use Rattle.std.proofs.lemmas.Bool.Decides.{leb_tells}
-use Rattle.std.proofs.lemmas.List.{drop-append-le, take-append-le, drop_all, take_all, drop_min, take_min, length-append, append_assoc, append-nil}
+use Rattle.std.proofs.lemmas.List.{drop_min, take_min, length-append}
 use Rattle.std.proofs.lemmas.List.Elements.{filter-append}
 use Rattle.laws.proofs.Counts.{count-append, count-cons, count-cons_yes}
 use Rattle.broker_core.specs.State.{Kept}
 use Rattle.broker_core.specs.Seats.{has_consumer}
 use Rattle.broker_core.specs.declared.picks.Pick.{Pick}
 use Rattle.broker.specs.declared.roster.seats.Seat.{Seat}
-use Rattle.broker.specs.Lines.{turned, standing}
-use Rattle.broker.specs.Roster.{picks, is_consumer, has_its_consumer}
-use Rattle.broker.proofs.Nearer.{same_consumer}
+use Rattle.broker.specs.Lines.{turned, standing, AreDistinct}
+use Rattle.broker.specs.Roster.{Seats, picks, order, is_consumer, has_its_consumer, KeepsThose, KeepsLine, LetsIn}
+use Rattle.broker.proofs.Among.{one_consumer, same_consumer}
 use Rattle.broker.proofs.Picks.{picks_length, picks_swept, picks_end}
+use Rattle.broker.proofs.Standing.{one_more, distinct_turned, filter_twice, filter_end}
 
 -- ---- a sweep
 
@@ -50,70 +49,30 @@ count_picks kept (suc n) [] = refl
 count_picks kept (suc n) (s ∷ seats) =
     count-cons (has_its_consumer kept) s (take n seats) ∙ ap (λ (k : ℕ). cond (has_consumer kept s.pick) 1 0 + k) (count_picks kept n seats) ∙ sym (count-cons (has_consumer kept) s.pick (take n (picks seats)))
 
--- whoever is there has no more before it where others go
-standing_filter : (kept : Kept) (p : Pick) (xs : List Pick) → has_consumer kept p ≡ true → standing (is_consumer p) (filter (has_consumer kept) xs) ≤ standing (is_consumer p) xs
-standing_filter kept p [] has = omega arith
-standing_filter kept p (x ∷ xs) has = go (has_consumer kept x) (is_consumer p x) refl refl (standing_filter kept p xs has)
-  where
-    go : (u v : Bool) → has_consumer kept x ≡ u → is_consumer p x ≡ v → standing (is_consumer p) (filter (has_consumer kept) xs) ≤ standing (is_consumer p) xs
-        → standing (is_consumer p) (cond u (x ∷ filter (has_consumer kept) xs) (filter (has_consumer kept) xs)) ≤ (if v then 0 else 1 + standing (is_consumer p) xs)
-    go true v a b le = subst (λ (w : Bool). (if w then 0 else 1 + standing (is_consumer p) (filter (has_consumer kept) xs)) ≤ (if v then 0 else 1 + standing (is_consumer p) xs)) (sym b) (by v)
-      where
-        by : (w : Bool) → (if w then 0 else 1 + standing (is_consumer p) (filter (has_consumer kept) xs)) ≤ (if w then 0 else 1 + standing (is_consumer p) xs)
-        by true = omega arith
-        by false = omega (arith, le)
-    go false true a b le = absurd (false≢true (sym a ∙ ap (has_consumer kept) (sym (same_consumer p x b)) ∙ has))
-    go false false a b le = omega (arith, le)
-
-pub later_swept : (kept : Kept) (old new : List Seat) (next before now : ℕ) (p : Pick) → new ≡ filter (has_its_consumer kept) old → before ≡ min next (length old) → now ≡ count_by (has_its_consumer kept) (take before old) → has_consumer kept p ≡ true
-    → standing (is_consumer p) (turned now (picks new)) ≤ standing (is_consumer p) (turned next (picks old))
-later_swept kept old new next before now p is first count has =
-    subst (λ (n : ℕ). n ≤ standing (is_consumer p) (turned next (picks old))) (sym (ap (standing (is_consumer p)) swept)) (standing_filter kept p (turned next (picks old)) has)
+-- those who are there are gone round as before
+pub order_swept : (kept : Kept) (old new : List Seat) (next before now : ℕ) → new ≡ filter (has_its_consumer kept) old → before ≡ min next (length old) → now ≡ count_by (has_its_consumer kept) (take before old)
+    → turned now (picks new) ≡ filter (has_consumer kept) (turned next (picks old))
+order_swept kept old new next before now is first count =
+    ap (λ (n : ℕ). turned n (picks new)) (count ∙ count_picks kept before old) ∙ ap (turned (count_by (has_consumer kept) (take before (picks old)))) (ap picks is ∙ picks_swept kept old)
+    ∙ turned_filter (has_consumer kept) before (picks old) ∙ ap (filter (has_consumer kept)) from_end
   where
     from_end : turned before (picks old) ≡ turned next (picks old)
     from_end = subst (λ (n : ℕ). turned n (picks old) ≡ turned next (picks old)) (sym (first ∙ ap (min next) (sym (picks_length old)))) (cc (drop_min next (picks old), take_min next (picks old)))
 
-    swept : turned now (picks new) ≡ filter (has_consumer kept) (turned next (picks old))
-    swept =
-        ap (λ (n : ℕ). turned n (picks new)) (count ∙ count_picks kept before old) ∙ ap (turned (count_by (has_consumer kept) (take before (picks old)))) (ap picks is ∙ picks_swept kept old)
-        ∙ turned_filter (has_consumer kept) before (picks old) ∙ ap (filter (has_consumer kept)) from_end
+pub those_swept : (kept : Kept) (old new : List Seat) (next before now : ℕ) → new ≡ filter (has_its_consumer kept) old → before ≡ min next (length old) → now ≡ count_by (has_its_consumer kept) (take before old)
+    → KeepsThose kept (turned next (picks old)) (turned now (picks new))
+those_swept kept old new next before now is first count test there = ap (filter test) (order_swept kept old new next before now is first count) ∙ filter_twice test (has_consumer kept) (turned next (picks old)) there
 
 -- ---- one more at the end
 
-standing_more : (p q : Pick) (front back : List Pick) → standing (is_consumer p) (front ++ q ∷ back) ≤ standing (is_consumer p) (front ++ back) + 1
-standing_more p q [] back = go (is_consumer p q)
-  where
-    go : (v : Bool) → (if v then 0 else 1 + standing (is_consumer p) back) ≤ standing (is_consumer p) back + 1
-    go true = omega arith
-    go false = omega arith
-standing_more p q (x ∷ front) back = go (is_consumer p x) (standing_more p q front back)
-  where
-    go : (v : Bool) → standing (is_consumer p) (front ++ q ∷ back) ≤ standing (is_consumer p) (front ++ back) + 1
-        → (if v then 0 else 1 + standing (is_consumer p) (front ++ q ∷ back)) ≤ (if v then 0 else 1 + standing (is_consumer p) (front ++ back)) + 1
-    go true le = omega arith
-    go false le = omega (arith, le)
+pub others_end : (seats : List Seat) (s : Seat) (next : ℕ) (test : Pick → Bool) → test s.pick ≡ false → filter test (turned next (picks (seats ++ s ∷ []))) ≡ filter test (turned next (picks seats))
+others_end seats s next test none = ap (λ (ps : List Pick). filter test (turned next ps)) (picks_end seats s) ∙ filter_end test s.pick next (picks seats) none
 
-pub later_end : (p : Pick) (seats : List Seat) (s : Seat) (next : ℕ) → standing (is_consumer p) (turned next (picks (seats ++ s ∷ []))) ≤ standing (is_consumer p) (turned next (picks seats)) + 1
-later_end p seats s next =
-    subst (λ (ps : List Pick). standing (is_consumer p) (turned next ps) ≤ standing (is_consumer p) (turned next (picks seats)) + 1) (sym (picks_end seats s))
-    (elim (leb_tells next (length (picks seats))) [ inl a ↦ middle a.1 | inr a ↦ end a.1 ])
-  where
-    xs : List Pick
-    xs = picks seats
-
-    middle : next ≤ length xs → standing (is_consumer p) (turned next (xs ++ s.pick ∷ [])) ≤ standing (is_consumer p) (turned next xs) + 1
-    middle le =
-        let same : turned next (xs ++ s.pick ∷ []) ≡ drop next xs ++ s.pick ∷ take next xs =
-        cc (drop-append-le next xs (s.pick ∷ []) le, take-append-le next xs (s.pick ∷ []) le, append_assoc (drop next xs) (s.pick ∷ []) (take next xs)) in
-        subst (λ (ps : List Pick). standing (is_consumer p) ps ≤ standing (is_consumer p) (turned next xs) + 1) (sym same) (standing_more p s.pick (drop next xs) (take next xs))
-
-    end : length xs < next → standing (is_consumer p) (turned next (xs ++ s.pick ∷ [])) ≤ standing (is_consumer p) (turned next xs) + 1
-    end lt =
-        let long = length-append xs (s.pick ∷ []) in
-        let more : turned next (xs ++ s.pick ∷ []) ≡ xs ++ s.pick ∷ [] = cc (drop_all next (xs ++ s.pick ∷ []) (omega (arith, long, lt)), take_all next (xs ++ s.pick ∷ []) (omega (arith, long, lt))) in
-        let same : turned next xs ≡ xs ++ [] = cc (drop_all next xs (omega (arith, lt)), take_all next xs (omega (arith, lt)), append-nil xs) in
-        subst (λ (ps : List Pick). standing (is_consumer p) ps ≤ standing (is_consumer p) (turned next xs) + 1) (sym more)
-        (subst (λ (ps : List Pick). standing (is_consumer p) (xs ++ s.pick ∷ []) ≤ standing (is_consumer p) ps + 1) (sym same) (standing_more p s.pick xs []))
+-- where no two are one, and those who were there are gone round as before, this one comes in
+pub lets_in : (kept : Kept) (p : Pick) (old new : Seats) → AreDistinct (picks new.seats) → KeepsLine kept old new → LetsIn kept p old new
+lets_in kept p old new apart keeps before after stand more q its =
+    subst (λ (ps : List Pick). standing (is_consumer q) (filter after (order new)) ≤ standing (is_consumer q) ps + 1) (keeps before stand)
+    (one_more (is_consumer q) q (one_consumer q) (same_consumer q) p after before (order new) more (distinct_turned new.next (picks new.seats) apart) its)
 
 -- ---- how many there are
 

@@ -13,5 +13,8 @@ mod Present
 mod Reloading
 mod Seated
 mod Sleeping
+mod Standing
+mod Takers
+mod Turning
 mod Waits
 mod Waking

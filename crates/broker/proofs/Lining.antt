@@ -3,7 +3,7 @@ use Rattle.std.proofs.Common.{◌≡◌, ◌∙◌, ◌<◌, ◌≤◌, ◌+◌,
 use Rattle.std.specs.Prelude.{nat_lt}
 use Rattle.std.proofs.lemmas.Bool.{ltb-true, lt-ltb, false≢true}
 use Rattle.std.proofs.lemmas.Bool.Decides.{leb_tells}
-use Rattle.std.proofs.lemmas.List.{take_at, drop_at, take_min, drop_min, take-append-drop, length-append, length-take, length-drop, append_assoc, take_all, drop_all}
+use Rattle.std.proofs.lemmas.List.{take_at, drop_at, take-append-drop, length-append, length-take, length-drop, append_assoc, take_all, drop_all}
 use Rattle.model.specs.Topology.{IsIn}
 use Rattle.broker.specs.Lines.{turned, ahead, IsPassed, AreDistinct}
 

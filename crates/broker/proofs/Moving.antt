@@ -12,7 +12,7 @@ use Rattle.channel.specs.Moving.{place_now}
 use Rattle.broker_core.specs.declared.picks.Pick.{Pick}
 use Rattle.broker.specs.declared.roster.seats.Seat.{Seat}
 use Rattle.broker.specs.Roster.{Seats, Lists, Listing, ring_of, ring_at, awake_seat, asleep_seat, listed_on, IsAwake, IsListed, HasList, QueuesAreMarked}
-use Rattle.broker.specs.Moving.{all_awake, StandsIn, AllRoused, ArePlacesApart, emptied, all_emptied, ListsAreEmptied}
+use Rattle.broker.specs.Moving.{all_awake, StandsIn, AllRoused, IsMoved, ArePlacesApart, emptied, all_emptied, ListsAreEmptied}
 use Rattle.broker.proofs.Among.{place_in}
 use Rattle.broker.proofs.Sleeping.{apart}
 
@@ -62,19 +62,19 @@ marked_moved rings old new place r lt len stay here m = record {
 
 -- one ring more stands at its new place
 pub one_moved : (places : List ℕ) (olds mid new : List Seats) (from : ℕ) → from < length places → ArePlacesApart places (length mid)
-    → ((i : ℕ) → i < from → place_now places i < length mid → AllRoused (ring_at olds i) (ring_at mid (place_now places i)))
-    → (place_now places from < length mid → AllRoused (ring_at olds from) (ring_at new (place_now places from)))
+    → ((i : ℕ) → i < from → place_now places i < length mid → IsMoved (ring_at olds i) (ring_at mid (place_now places i)))
+    → (place_now places from < length mid → IsMoved (ring_at olds from) (ring_at new (place_now places from)))
     → ((i : ℕ) → (i ≡ place_now places from → ⊥) → ring_at new i ≡ ring_at mid i)
-    → (i : ℕ) → i < from + 1 → place_now places i < length mid → AllRoused (ring_at olds i) (ring_at new (place_now places i))
+    → (i : ℕ) → i < from + 1 → place_now places i < length mid → IsMoved (ring_at olds i) (ring_at new (place_now places i))
 one_moved places olds mid new from lt apart before here others i le there = elim (leb_tells (i + 1) from) [
   | inl a ↦
       let less = a.1 in
       let far : place_now places i ≡ place_now places from → ⊥ = λ same. let one = apart i from (omega (arith, less, lt)) lt there same in omega (arith, one, less) in
-      subst (AllRoused (ring_at olds i)) (sym (others (place_now places i) far)) (before i (omega (arith, less)) there)
+      subst (IsMoved (ring_at olds i)) (sym (others (place_now places i) far)) (before i (omega (arith, less)) there)
   | inr a ↦
       let more = a.1 in
       let same : i ≡ from = omega (arith, le, more) in
-      subst (λ (n : ℕ). AllRoused (ring_at olds n) (ring_at new (place_now places n))) (sym same) (here (subst (λ (n : ℕ). place_now places n < length mid) same there))
+      subst (λ (n : ℕ). IsMoved (ring_at olds n) (ring_at new (place_now places n))) (sym same) (here (subst (λ (n : ℕ). place_now places n < length mid) same there))
 ]
 
 -- ---- lists

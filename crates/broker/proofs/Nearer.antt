@@ -1,42 +1,31 @@
 -- Whoever could be told and is not is nearer to its turn.
-use Rattle.std.proofs.Common.{◌≡◌, ◌∙◌, ◌<◌, ◌≤◌, ◌+◌, ◌*◌, ◌⊎◌, ◌++◌, ℕ, zero, suc, List, [], ◌∷◌, Bool, true, false, if◌then◌else◌, length, take, drop, get_or, map, inl, inr, refl, sym, ap, subst, arith}
-use Rattle.std.specs.Prelude.{◌==◌, ◌&&◌}
+use Rattle.std.proofs.Common.{◌≡◌, ◌∙◌, ◌<◌, ◌≤◌, ◌+◌, ◌*◌, ◌⊎◌, ◌++◌, ℕ, suc, List, [], ◌∷◌, Bool, true, false, Option, Some, if◌then◌else◌, cond, length, filter, take, drop, inl, inr, refl, sym, ap, subst, arith}
+use Rattle.std.specs.Prelude.{◌==◌}
 use Rattle.std.proofs.lemmas.Bool.{eqb-true, false≢true}
-use Rattle.std.proofs.lemmas.List.{take-append-drop, length-append}
+use Rattle.std.proofs.lemmas.List.{take-append-drop}
+use Rattle.std.proofs.lemmas.List.Elements.{filter-append}
 use Rattle.std.proofs.Math.Nat.{mul-le-mul_right}
 use Rattle.model.specs.Topology.{IsIn}
 use Rattle.model.specs.Broker.{Broker}
-use Rattle.broker_core.specs.State.{Kept, broker_of}
+use Rattle.exchange_graph.specs.Marks.{queue_name}
+use Rattle.broker_core.specs.State.{Kept, broker_of, topology_kept}
 use Rattle.broker_core.specs.Picked.{IsPickFrom}
 use Rattle.broker_core.specs.declared.picks.Pick.{Pick}
 use Rattle.broker.specs.declared.roster.seats.Seat.{Seat}
 use Rattle.broker.specs.Lines.{turned, ahead, standing, IsPassed}
-use Rattle.broker.specs.Roster.{Seats, Rings, Lists, ring_at, picks, order, awake_seat, asleep_seat, is_consumer, before, IsSeatedIn, IsSeated, GoesLast, PicksFirst}
-use Rattle.broker.proofs.Among.{one_consumer}
-use Rattle.broker.proofs.Lining.{in_either, in_place, ahead_nearer, ahead_last}
+use Rattle.broker.specs.Roster.{Seats, Rings, Lists, ring_at, picks, order, line_of, takes_from, awake_seat, asleep_seat, is_consumer, IsSeatedIn, GoesLast, PicksFirst}
+use Rattle.broker.specs.Turns.{WithTurn, with_turn}
+use Rattle.broker.specs.Waiting.{line_at, standing_at, before, IsToldInTurn}
+use Rattle.broker.proofs.Among.{one_consumer, same_consumer, stays}
+use Rattle.broker.proofs.Lining.{in_either, in_place, filter_in, ahead_nearer, ahead_last}
 use Rattle.broker.proofs.Picks.{picks_length, picks_at}
+use Rattle.broker.proofs.Present.{has_picked}
+use Rattle.broker.proofs.Seated.{Holds}
 use Rattle.broker.proofs.Sleeping.{apart}
-use Rattle.broker.proofs.Waking.{both}
+use Rattle.broker.proofs.Standing.{in_left, in_right}
+use Rattle.broker.proofs.Takers.{has_takes, line_is}
 
 -- ---- who stands in a line
-
-pub same_consumer : (p q : Pick) → is_consumer p q ≡ true → p ≡ q
-same_consumer p q e =
-    let parts = both (p.connection == q.connection) ((p.channel == q.channel) && (p.number == q.number)) e in
-    let rest = both (p.channel == q.channel) (p.number == q.number) parts.1 in
-    ap (λ (c : ℕ). one c p.channel p.number) (eqb-true p.connection q.connection parts.0) ∙ ap (λ (h : ℕ). one q.connection h p.number) (eqb-true p.channel q.channel rest.0) ∙ ap (one q.connection q.channel) (eqb-true p.number q.number rest.1)
-  where
-    one : ℕ → ℕ → ℕ → Pick
-    one c h n = record { connection = c; channel = h; number = n }
-
-in_left : {X : Type 0} (y : X) (xs ys : List X) → IsIn y xs → IsIn y (xs ++ ys)
-in_left y [] ys i = absurd i
-in_left y (x ∷ xs) ys (inl s) = inl s
-in_left y (x ∷ xs) ys (inr i) = inr (in_left y xs ys i)
-
-in_right : {X : Type 0} (y : X) (xs ys : List X) → IsIn y ys → IsIn y (xs ++ ys)
-in_right y [] ys i = i
-in_right y (x ∷ xs) ys i = inr (in_right y xs ys i)
 
 -- whoever is in a list is in it from any place on
 pub in_turned : {X : Type 0} (y : X) (xs : List X) (next : ℕ) → IsIn y xs → IsIn y (turned next xs)
@@ -87,7 +76,24 @@ standing_before p (x ∷ back) more i = go (is_consumer p x) refl i (standing_be
     go false e (inl s) rest = absurd (false≢true (sym e ∙ ap (is_consumer p) (sym s) ∙ one_consumer p))
     go false e (inr j) rest = ap (λ (n : ℕ). 1 + n) (rest j)
 
--- ---- whoever is not told
+-- one who stands behind those in front, and not in front, is nearer where those in front, and the one behind them, go last
+told_last : (p q : Pick) (front back : List Pick) → (IsIn p front → ⊥) → (p ≡ q → ⊥) → IsIn p (front ++ q ∷ back) → standing (is_consumer p) (back ++ front ++ q ∷ []) < standing (is_consumer p) (front ++ q ∷ back)
+told_last p q front back none far i = less
+  where
+    behind : IsIn p front ⊎ IsIn p (q ∷ back) → IsIn p back
+    behind (inl j) = absurd (none j)
+    behind (inr (inl s)) = absurd (far s)
+    behind (inr (inr j)) = j
+
+    there : IsIn p back
+    there = behind (in_either p front (q ∷ back) i)
+
+    less : standing (is_consumer p) (back ++ front ++ q ∷ []) < standing (is_consumer p) (front ++ q ∷ back)
+    less =
+        let was = standing_behind p q front back none far in
+        let now = standing_before p (back ++ front) (q ∷ []) (in_left p back front there) in
+        let only = standing_before p back front there in
+        omega (arith, was, now, only)
 
 pub less_each : (a b n x y : ℕ) → a < b → x < n → a * n + x < b * n + y
 less_each a b n x y lt less = let more = mul-le-mul_right {m = suc a} {n = b} n lt in omega (arith, more, less)
@@ -95,57 +101,83 @@ less_each a b n x y lt less = let more = mul-le-mul_right {m = suc a} {n = b} n 
 less_on : (m x y : ℕ) → x < y → m + x < m + y
 less_on m x y lt = omega (arith, lt)
 
-module _ (kept : Kept) (old new : Rings) (q : Pick) (len : length new.rings ≡ length old.rings) (t : PicksFirst kept old new q) where
-  -- in the ring from which one was told
-  nearer_here : (p : Pick) → IsSeated (broker_of kept) old t.queue p → IsPickFrom kept t.queue p → (p ≡ q → ⊥) → before new t.queue p < before old t.queue p
-  nearer_here p seated pick far = less
+-- ---- whoever is not told
+
+-- a consumer that is told from the queue at this place, of those who take from it
+module _ (kept : Kept) (lists : Lists) (place : ℕ) (r s : Seats) (q : Pick) (test : Pick → Bool) (goes : GoesLast kept lists place r s q) (own : test q ≡ true) where
+  line_was : filter test (order r) ≡ filter test goes.front ++ q ∷ filter test goes.back
+  line_was = ap (filter test) goes.was ∙ filter-append test goes.front (q ∷ goes.back) ∙ ap (λ (v : Bool). filter test goes.front ++ cond v (q ∷ filter test goes.back) (filter test goes.back)) own
+
+  line_now : filter test (order s) ≡ filter test goes.back ++ filter test goes.front ++ q ∷ []
+  line_now =
+      ap (filter test) goes.now ∙ filter-append test (goes.back ++ goes.front) (q ∷ []) ∙ ap (λ (ps : List Pick). ps ++ filter test (q ∷ [])) (filter-append test goes.back goes.front)
+      ∙ ap (λ (v : Bool). (filter test goes.back ++ filter test goes.front) ++ cond v (q ∷ []) []) own
+
+  pub nearer_here : (p : Pick) → IsSeatedIn (broker_of kept) lists place r p → IsPickFrom kept place p → test p ≡ true → (p ≡ q → ⊥)
+      → standing (is_consumer p) (filter test (order s)) < standing (is_consumer p) (filter test (order r))
+  nearer_here p seated pick its far =
+      subst (λ (ps : List Pick). standing (is_consumer p) ps < standing (is_consumer p) (filter test (order r))) (sym line_now)
+      (subst (λ (ps : List Pick). standing (is_consumer p) (filter test goes.back ++ filter test goes.front ++ q ∷ []) < standing (is_consumer p) ps) (sym line_was)
+      (told_last p q (filter test goes.front) (filter test goes.back) (λ i. goes.passed p (filter_in test p goes.front i) seated pick) far
+      (subst (IsIn p) line_was (stays test p (order r) (in_order (broker_of kept) lists place r p seated) its))))
+
+module _ (kept : Kept) (old new : Rings) (x : Option Pick) (q : Pick) (held : Holds kept old) (len : length new.rings ≡ length old.rings) (t : PicksFirst kept old new q) where
+  abbrev pub was : WithTurn
+  was = with_turn kept old x
+
+  abbrev pub now : WithTurn
+  now = with_turn kept new (Some q)
+
+  abbrev n : ℕ
+  n = length (topology_kept kept).queues
+
+  line_in : (r : Rings) (y : Option Pick) (place : ℕ) → length r.rings ≡ n → place < n → line_at (with_turn kept r y) place ≡ line_of (broker_of kept) (queue_name (topology_kept kept) place) (ring_at r.rings place)
+  line_in r y place long lt = line_is kept r.rings place long lt
+
+  -- from the queue from which one was told
+  of_this : (p : Pick) → IsPickFrom kept t.queue p → (p ≡ q → ⊥) → standing_at now t.queue p * n + ahead n new.next t.queue < standing_at was t.queue p * n + ahead n old.next t.queue
+  of_this p pick far =
+      let lt = pick.within in
+      let long = len ∙ held.rings_for in
+      let test = takes_from (broker_of kept) (queue_name (topology_kept kept) t.queue) in
+      let its = has_takes (topology_kept kept) (broker_of kept) t.queue p (has_picked kept t.queue p pick) in
+      let own = has_takes (topology_kept kept) (broker_of kept) t.queue q (has_picked kept t.queue q t.could) in
+      let less = nearer_here kept old.lists t.queue (ring_at old.rings t.queue) (ring_at new.rings t.queue) q test t.told.ring own p (held.seated t.queue p (has_picked kept t.queue p pick)) pick its far in
+      let last = subst (λ (k : ℕ). ahead n k t.queue < n) (sym t.next) (ahead_last n t.queue lt) in
+      less_each (standing_at now t.queue p) (standing_at was t.queue p) n (ahead n new.next t.queue) (ahead n old.next t.queue)
+      (subst (λ (ps : List Pick). standing (is_consumer p) ps < standing_at was t.queue p) (sym (line_in new (Some q) t.queue long lt))
+      (subst (λ (ps : List Pick). standing (is_consumer p) (line_of (broker_of kept) (queue_name (topology_kept kept) t.queue) (ring_at new.rings t.queue)) < standing (is_consumer p) ps) (sym (line_in old x t.queue held.rings_for lt)) less))
+      last
+
+  -- and from each other
+  of_other : (place : ℕ) (p : Pick) → (place ≡ t.queue → ⊥) → IsPickFrom kept place p → standing_at now place p * n + ahead n new.next place < standing_at was place p * n + ahead n old.next place
+  of_other place p far pick =
+      let long = held.rings_for in
+      let lt = pick.within in
+      let within = t.within in
+      let same : line_at now place ≡ line_at was place =
+      line_in new (Some q) place (len ∙ long) lt ∙ ap (filter (takes_from (broker_of kept) (queue_name (topology_kept kept) place))) (t.told.others place far) ∙ sym (line_in old x place long lt) in
+      let passed : IsPassed n old.next t.queue place → ⊥ =
+      λ p'. t.passed place p (subst (λ (k : ℕ). IsPassed k old.next t.queue place) (sym long) p') (held.seated place p (has_picked kept place p pick)) pick in
+      let less = ahead_nearer n old.next t.queue place (omega (arith, within, long)) lt far passed in
+      subst (λ (ps : List Pick). standing (is_consumer p) ps * n + ahead n new.next place < standing_at was place p * n + ahead n old.next place) (sym same)
+      (subst (λ (k : ℕ). standing_at was place p * n + ahead n k place < standing_at was place p * n + ahead n old.next place) (sym t.next)
+      (less_on (standing_at was place p * n) (ahead n (t.queue + 1) place) (ahead n old.next place) less))
+
+  nearer : (place : ℕ) (p : Pick) → IsPickFrom kept place p → (p ≡ q → ⊥) → standing_at now place p * n + ahead n new.next place < standing_at was place p * n + ahead n old.next place
+  nearer place p pick far = go (place == t.queue) refl
     where
-      ring : GoesLast kept old.lists t.queue (ring_at old.rings t.queue) (ring_at new.rings t.queue) q
-      ring = t.told.ring
-
-      not_front : IsIn p ring.front → ⊥
-      not_front i = ring.passed p i seated pick
-
-      behind : IsIn p ring.front ⊎ IsIn p (q ∷ ring.back) → IsIn p ring.back
-      behind (inl i) = absurd (not_front i)
-      behind (inr (inl s)) = absurd (far s)
-      behind (inr (inr i)) = i
-
-      there : IsIn p ring.back
-      there = behind (in_either p ring.front (q ∷ ring.back) (subst (IsIn p) ring.was (in_order (broker_of kept) old.lists t.queue (ring_at old.rings t.queue) p seated)))
-
-      was : standing (is_consumer p) (order (ring_at old.rings t.queue)) ≡ length ring.front + 1 + standing (is_consumer p) ring.back
-      was = ap (standing (is_consumer p)) ring.was ∙ standing_behind p q ring.front ring.back not_front far
-
-      now : standing (is_consumer p) (order (ring_at new.rings t.queue)) ≡ standing (is_consumer p) ring.back
-      now =
-          ap (standing (is_consumer p)) ring.now ∙ standing_before p (ring.back ++ ring.front) (q ∷ []) (in_left p ring.back ring.front there)
-          ∙ standing_before p ring.back ring.front there
-
-      last : ahead (length new.rings) new.next t.queue < length old.rings
-      last = subst (λ (n : ℕ). ahead n new.next t.queue < length old.rings) (sym len) (subst (λ (n : ℕ). ahead (length old.rings) n t.queue < length old.rings) (sym t.next) (ahead_last (length old.rings) t.queue t.within))
-
-      less : before new t.queue p < before old t.queue p
-      less =
-          subst (λ (n : ℕ). standing (is_consumer p) (order (ring_at new.rings t.queue)) * n + ahead (length new.rings) new.next t.queue < before old t.queue p) (sym len)
-          (less_each (standing (is_consumer p) (order (ring_at new.rings t.queue))) (standing (is_consumer p) (order (ring_at old.rings t.queue))) (length old.rings) (ahead (length new.rings) new.next t.queue)
-          (ahead (length old.rings) old.next t.queue) (omega (arith, was, now)) last)
-
-  -- and in each other
-  nearer_there : (place : ℕ) (p : Pick) → (place ≡ t.queue → ⊥) → place < length old.rings → IsSeated (broker_of kept) old place p → IsPickFrom kept place p → before new place p < before old place p
-  nearer_there place p far lt seated pick =
-      let less = ahead_nearer (length old.rings) old.next t.queue place t.within lt far (λ passed. t.passed place p passed seated pick) in
-      subst (λ (ps : List Pick). standing (is_consumer p) ps * length new.rings + ahead (length new.rings) new.next place < before old place p) (sym (t.told.others place far))
-      (subst (λ (n : ℕ). standing (is_consumer p) (order (ring_at old.rings place)) * n + ahead n new.next place < before old place p) (sym len)
-      (subst (λ (n : ℕ). standing (is_consumer p) (order (ring_at old.rings place)) * length old.rings + ahead (length old.rings) n place < before old place p) (sym t.next)
-      (less_on (standing (is_consumer p) (order (ring_at old.rings place)) * length old.rings) (ahead (length old.rings) (t.queue + 1) place) (ahead (length old.rings) old.next place) less)))
-
-  pub all_nearer : (place : ℕ) (p : Pick) → place < length old.rings → IsSeated (broker_of kept) old place p → IsPickFrom kept place p → (p ≡ q → ⊥) → before new place p < before old place p
-  all_nearer place p lt seated pick far = go (place == t.queue) refl
-    where
-      go : (v : Bool) → (place == t.queue) ≡ v → before new place p < before old place p
+      go : (v : Bool) → (place == t.queue) ≡ v → standing_at now place p * n + ahead n new.next place < standing_at was place p * n + ahead n old.next place
       go true f =
           let same = eqb-true place t.queue f in
-          subst (λ (n : ℕ). before new n p < before old n p) (sym same)
-          (nearer_here p (subst (λ (n : ℕ). IsSeated (broker_of kept) old n p) same seated) (subst (λ (n : ℕ). IsPickFrom kept n p) same pick) far)
-      go false f = nearer_there place p (apart place t.queue f) lt seated pick
+          subst (λ (k : ℕ). standing_at now k p * n + ahead n new.next k < standing_at was k p * n + ahead n old.next k) (sym same) (of_this p (subst (λ (k : ℕ). IsPickFrom kept k p) same pick) far)
+      go false f = of_other place p (apart place t.queue f) pick
+
+  pub in_turn : IsToldInTurn was (Some q) now
+  in_turn place p pick = go (is_consumer p q) refl
+    where
+      go : (v : Bool) → is_consumer p q ≡ v → (Some q ≡ Some p) ⊎ (before now place p ≤ before was place p)
+      go true e = inl (ap Some (sym (same_consumer p q e)))
+      go false e =
+          let less = nearer place p pick (λ s. false≢true (sym e ∙ ap (is_consumer p) (sym s) ∙ one_consumer p)) in
+          inr (subst (λ (v : Bool). standing_at now place p * n + ahead n new.next place + (if v then 0 else 1) ≤ before was place p) (sym e) (omega (arith, less)))

@@ -1,19 +1,18 @@
 -- Rings and queues are gone round.
-use Rattle.std.proofs.Common.{◌≡◌, ◌∙◌, ◌<◌, ◌≤◌, ◌+◌, ◌++◌, ℕ, List, [], ◌∷◌, Bool, true, false, length, get_or, set, min, inl, inr, refl, sym, ap, subst, arith}
+use Rattle.std.proofs.Common.{◌≡◌, ◌∙◌, ◌<◌, ◌≤◌, ◌+◌, ◌++◌, ℕ, List, [], ◌∷◌, Bool, true, false, length, filter, get_or, set, min, inl, inr, refl, sym, ap, subst, arith}
 use Rattle.std.specs.Prelude.{◌==◌}
 use Rattle.std.proofs.lemmas.Bool.{eqb-true, eq-eqb}
-use Rattle.model.specs.Topology.{IsIn}
 use Rattle.broker_core.specs.State.{Kept, broker_of}
 use Rattle.broker_core.specs.Picked.{IsPickFrom}
 use Rattle.broker_core.specs.declared.picks.Pick.{Pick}
 use Rattle.broker.specs.declared.roster.seats.Seat.{Seat}
-use Rattle.broker.specs.Lines.{turned, standing, IsPassed, AreDistinct}
-use Rattle.broker.specs.Roster.{Seats, Rings, Lists, ring_at, rings_of, picks, order, awake_seat, IsAwakeAt, IsSeatedIn, NoneAwake, NoneAwakePassed, NoneBetween, NonePassed, GoesLast, SameOrders, PicksFrom, KeepsSeats, IsOneLater, AreOneLater, GoesOn, StaysAt, Wakens, AllWaken, is_consumer}
+use Rattle.broker.specs.Lines.{turned, IsPassed, AreDistinct}
+use Rattle.broker.specs.Roster.{Seats, Rings, Lists, ring_at, picks, order, awake_seat, IsSeatedIn, NoneAwake, NoneAwakePassed, NoneBetween, NonePassed, GoesLast, SameOrders, PicksFrom, KeepsSeats, KeepsLine, KeepLines, GoesOn, StaysAt, Wakens, AllWaken}
 use Rattle.broker.proofs.Lining.{Rounds, rounds, passed_on, passed_round, passed_least, distinct_place}
 use Rattle.broker.proofs.Marked.{set_here, set_there, was_here}
 use Rattle.broker.proofs.Picks.{picks_length, picks_at}
 use Rattle.broker.proofs.Present.{picked_kept}
-use Rattle.broker.proofs.Sleeping.{apart, cannot_pick}
+use Rattle.broker.proofs.Sleeping.{cannot_pick}
 
 -- ---- one ring
 
@@ -120,13 +119,10 @@ order_woken old new w = ap (λ (n : ℕ). turned n (picks new.seats)) w.next ∙
 pub goes_on : (old new : Rings) → AllWaken old.rings new.rings → length new.rings ≡ length old.rings → new.next ≡ old.next → GoesOn old new
 goes_on old new w len next = record { len = len; same = λ at. order_woken (ring_at old.rings at) (ring_at new.rings at) (w at); next = next }
 
--- one who comes is late by one
-pub later_same : (kept : Kept) (old new : Seats) → order new ≡ order old → IsOneLater kept (order old) (order new)
-later_same kept old new same p has = subst (λ (ps : List Pick). standing (is_consumer p) ps ≤ standing (is_consumer p) (order old) + 1) (sym same) (omega arith)
-
-pub later_set : (kept : Kept) (rings : List Seats) (queue : ℕ) (r : Seats) → queue < length rings → IsOneLater kept (order (ring_at rings queue)) (order r) → AreOneLater kept rings (set rings queue r)
-later_set kept rings queue r lt later place = go (place == queue) refl
+-- one ring changes, in which those who are there are gone round as before
+pub lines_set : (kept : Kept) (rings : List Seats) (queue : ℕ) (r : Seats) → queue < length rings → KeepsLine kept (ring_at rings queue) r → KeepLines kept rings (set rings queue r)
+lines_set kept rings queue r lt keeps place = go (place == queue) refl
   where
-    go : (v : Bool) → (place == queue) ≡ v → IsOneLater kept (order (ring_at rings place)) (order (ring_at (set rings queue r) place))
-    go true f = subst (λ (x : Seats). IsOneLater kept (order x) (order (ring_at (set rings queue r) place))) (sym (was_here rings queue r lt place f)) (subst (λ (x : Seats). IsOneLater kept (order (ring_at rings queue)) (order x)) (sym (set_here rings queue r lt place f)) later)
-    go false f = later_same kept (ring_at rings place) (ring_at (set rings queue r) place) (ap order (set_there rings queue r lt place f))
+    go : (v : Bool) → (place == queue) ≡ v → KeepsLine kept (ring_at rings place) (ring_at (set rings queue r) place)
+    go true f = subst (λ (x : Seats). KeepsLine kept x (ring_at (set rings queue r) place)) (sym (was_here rings queue r lt place f)) (subst (λ (x : Seats). KeepsLine kept (ring_at rings queue) x) (sym (set_here rings queue r lt place f)) keeps)
+    go false f = λ test stand. ap (λ (x : Seats). filter test (order x)) (set_there rings queue r lt place f)

@@ -1,16 +1,30 @@
 -- What both outcomes of a call give.
-use Rattle.std.proofs.Common.{Option, Some, None, Result, Ok, Err}
-use Rattle.std.specs.Prelude.{IfOk, IfSome, OnOk, OnErr}
+use Rattle.std.proofs.Common.{◌≡◌, Option, Some, None, Result, Ok, Err, subst}
+use Rattle.std.specs.Prelude.{IfSome, OnOk, OnErr}
 
 -- what follows from success and from failure follows
 pub either_way : {A E : Type 0} {X Y Z : Type 0} (r : Result A E) → OnOk r X → OnErr r Y → (X → Z) → (Y → Z) → Z
 either_way (Ok x) ok err f g = f ok
 either_way (Err e) ok err f g = g err
 
+-- what holds holds where it fails
+pub on_err : {A E : Type 0} {X : Type 0} (r : Result A E) → X → OnErr r X
+on_err (Ok x) holds = tt
+on_err (Err e) holds = holds
+
+-- what follows from success follows where it succeeds
+pub on_ok : {A E : Type 0} {X Y : Type 0} (r : Result A E) → (X → Y) → OnOk r X → OnOk r Y
+on_ok (Ok x) f ok = f ok
+on_ok (Err e) f ok = ok
+
 -- what follows of whatever is there follows
 pub if_some : {A : Type 0} (o : Option A) (P Q : A → Type 0) → ((x : A) → P x → Q x) → IfSome o P → IfSome o Q
 if_some None P Q f p = p
 if_some (Some x) P Q f p = f x p
+
+-- what is there is as it is told
+pub told_some : {A : Type 0} (o : Option A) (x : A) (P : A → Type 0) → o ≡ Some x → IfSome o P → P x
+told_some o x P is p = subst (λ (z : Option _). IfSome z P) is p
 
 -- what follows of it from two facts follows
 pub if_both : {A : Type 0} (o : Option A) (P Q R : A → Type 0) → ((x : A) → P x → Q x → R x) → IfSome o P → IfSome o Q → IfSome o R

@@ -35,14 +35,17 @@ has_kept kept place p has =
     ∙ found_by (names_of kept) channel.kept.given.consumers has.consumer p.number (subst (λ (x : Channel). IsIn has.consumer x.consumers) (sym channel.same) has.was.2) has.numbered
 
 -- so is one to which a delivery can be made
-pub picked_kept : (kept : Kept) (place : ℕ) (p : Pick) → IsPickFrom kept place p → has_consumer kept p ≡ true
-picked_kept kept place p from =
+pub has_picked : (kept : Kept) (place : ℕ) (p : Pick) → IsPickFrom kept place p → HasConsumer (topology_kept kept) (broker_of kept) place p
+has_picked kept place p from =
     let made = from.pick.0 in
     let was : WasConsumer (broker_of kept) p.connection made.number made.consumer = (made.channel, made.taker.there, made.taker.its) in
-    has_kept kept place p (record {
+    record {
       consumer = made.consumer;
       was = subst (λ (h : ℕ). WasConsumer (broker_of kept) p.connection h made.consumer) from.pick.1 was;
       numbered = from.pick.2;
       within = from.within;
       named = from.named;
-    })
+    }
+
+pub picked_kept : (kept : Kept) (place : ℕ) (p : Pick) → IsPickFrom kept place p → has_consumer kept p ≡ true
+picked_kept kept place p from = has_kept kept place p (has_picked kept place p from)

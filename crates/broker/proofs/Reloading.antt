@@ -1,6 +1,7 @@
 -- Another topology is in force: what every broker keeps.
-use Rattle.std.proofs.Common.{◌≡◌, ◌∙◌, ◌<◌, ℕ, List, [], length, get_or, inl, inr, refl, sym, ap, subst, arith}
+use Rattle.std.proofs.Common.{◌≡◌, ◌∙◌, ◌<◌, ℕ, List, [], Bool, Option, None, length, filter, get_or, inl, inr, refl, sym, ap, subst, arith}
 use Rattle.std.specs.Prelude.{count_by}
+use Rattle.std.proofs.Math.Path.{fun_ext}
 use Rattle.model.specs.Words.{Text}
 use Rattle.model.specs.Topology.{IsIn, AreApart}
 use Rattle.model.specs.Broker as seen
@@ -23,9 +24,13 @@ use Rattle.broker_core.specs.declared.picks.Pick.{Pick}
 use Rattle.broker_core.proofs.Placing.{takes_within}
 use Rattle.broker_core.proofs.Reloading.{in_mapped, seen_of, one_place}
 use Rattle.broker_core.proofs.Stepping.{seen_there}
-use Rattle.broker.specs.Roster.{Rings, Lists, Seats, ring_at, IsAwake, IsSeatedIn, HasConsumer, AllHaveSeats, IsServing}
+use Rattle.exchange_graph.specs.Marks.{queue_name}
+use Rattle.broker.specs.Roster.{Rings, Lists, Seats, ring_at, order, has_taker, takes_from, IsAwake, IsSeatedIn, HasConsumer, AllHaveSeats, IsServing}
 use Rattle.broker.specs.Moving.{StandsIn, ArePlacesApart, RingsAreMoved, ListsAreEmptied}
-use Rattle.broker.proofs.Seated.{serves, running_still}
+use Rattle.broker.specs.Turns.{with_turn}
+use Rattle.broker.specs.Waiting.{line_at, LinesMove}
+use Rattle.broker.proofs.Seated.{Holds, serves, running_still}
+use Rattle.broker.proofs.Takers.{line_is}
 
 -- ---- what is held and what is outstanding
 
@@ -121,10 +126,39 @@ module _ (old new : Kept) (places : List ℕ) (after : IsStoreWhole new.store) (
       let within = has.within in
       let now = was.now in
       inl (subst (λ (n : ℕ). IsAwake (ring_at left.rings n) p) was.now
-      (rings was.from was.within (omega (arith, within, now, len)) p (stands (broker_of old) before.lists was.from (ring_at before.rings was.from) p (seated was.from p was.has))))
+      ((rings was.from was.within (omega (arith, within, now, len))).roused p (stands (broker_of old) before.lists was.from (ring_at before.rings was.from) p (seated was.from p was.has))))
 
   pub serves_moved : (before left : Rings) → IsServing old before → RingsAreMoved places before.rings left.rings → ListsAreEmptied before.lists left.lists → length left.rings ≡ length (topology_kept new).queues → IsServing new left
   serves_moved before left serving rings lists len =
       serves new left
       (record { agreed = agreed_stood (broker_of old) (broker_of new) stood serving.agreed; rings_for = len; seated = seated_moved before left serving.seated rings len })
       (running_still (broker_of old) (broker_of new) before.lists left.lists (λ d none. sym (stood.connections d) ∙ none) lists.made serving.running)
+
+  -- whoever takes from a queue takes from it still
+  takes_still : (q : Text) → takes_from (broker_of new) q ≡ takes_from (broker_of old) q
+  takes_still q = fun_ext (λ p. ap (has_taker q p.number) (stood.channels p.connection p.channel))
+
+  -- so each queue that is there still has its line
+  pub lines_moved : (before left : Rings) (x : Option Pick) → Holds old before → RingsAreMoved places before.rings left.rings → length left.rings ≡ length (topology_kept new).queues → left.next ≡ 0
+      → LinesMove (with_turn old before x) (with_turn new left None)
+  lines_moved before left x held rings len next = record { next = next; lines = lines }
+    where
+      lines : (from to : ℕ) → from < length (topology_kept old).queues → to < length (topology_kept new).queues → queue_name (topology_kept old) from ≡ queue_name (topology_kept new) to
+          → line_at (with_turn new left None) to ≡ line_at (with_turn old before x) from
+      lines from to lt within named =
+          let long = names-length (topology_kept old).queues in
+          let more = names-length (topology_kept new).queues in
+          let size = moved.len in
+          let stands_at : get_or places from 0 ≡ to =
+          elim (moved.each from (omega (arith, lt, long))) [
+            | stays inside is ↦ one_place (names_of new) (get_or places from 0) to after.formed.queues_apart inside (omega (arith, within, more)) (is ∙ named)
+            | goes gone behind ↦ absurd (gone (subst (λ (q : Text). IsIn q (names_of new)) (sym named) (is_in (names_of new) to (omega (arith, within, more)))))
+          ] in
+          let now : place_now places from ≡ to = same_default places from from 0 (omega (arith, lt, long, size)) ∙ stands_at in
+          let ring = rings from (omega (arith, lt, long, size)) (omega (arith, now, within, len)) in
+          let same : order (ring_at left.rings to) ≡ order (ring_at before.rings from) = subst (λ (n : ℕ). order (ring_at left.rings n) ≡ order (ring_at before.rings from)) now ring.same in
+          line_is new left.rings to len within
+          ∙ ap (λ (q : Text). filter (takes_from (broker_of new) q) (order (ring_at left.rings to))) (sym named)
+          ∙ ap (λ (test : Pick → Bool). filter test (order (ring_at left.rings to))) (takes_still (queue_name (topology_kept old) from))
+          ∙ ap (filter (takes_from (broker_of old) (queue_name (topology_kept old) from))) same
+          ∙ sym (line_is old before.rings from held.rings_for lt)

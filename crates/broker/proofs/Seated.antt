@@ -1,5 +1,5 @@
 -- Seats of consumers: among others, after a sweep, and at each event.
-use Rattle.std.proofs.Common.{◌≡◌, ◌∙◌, ◌<◌, ℕ, List, [], ◌∷◌, ◌++◌, Bool, true, false, Option, Some, None, length, inl, inr, ◌⊎◌, refl, sym, ap, subst, if◌then◌else◌}
+use Rattle.std.proofs.Common.{◌≡◌, ◌∙◌, ℕ, List, [], ◌∷◌, ◌++◌, Bool, true, false, Option, Some, None, length, inl, inr, ◌⊎◌, refl, sym, ap, subst, if◌then◌else◌}
 use Rattle.std.specs.Prelude.{option_map, is_some, ◌==◌, ◌&&◌, IfSome}
 use Rattle.std.proofs.lemmas.Bool.{eqb-true, eq-eqb, false≢true}
 use Rattle.std.proofs.lemmas.Option.{same_Some}
@@ -22,7 +22,6 @@ use Rattle.model.specs.declared.notes.Note.{Note}
 use Rattle.laws.specs.Consumers.{WasConsumer, IsMadeBy, ConsumersAreMade}
 use Rattle.channel.specs.Open.{Open, open_in}
 use Rattle.links.specs.Links.{Linked, linked_in, channel_in, channel_at, connection_at, limits_of}
-use Rattle.exchange_graph.specs.Marks.{queue_name}
 use Rattle.broker_core.specs.State.{Kept, broker_of, topology_kept, names_of}
 use Rattle.judging.specs.Judged.{IsIgnored}
 use Rattle.broker.specs.Roster.{Rings, Lists, ring_at, wakes, HasConsumer, AllHaveSeats, IsServing, AllRun, HasNoList, MakesNoList, IsSeated, IsAwake, KeepsSeats, KeepsAll}
@@ -50,30 +49,15 @@ seat_for c h k = record { connection = c; channel = h; number = k.number }
 abbrev pub AreWoken : Topology → Broker → Event → Rings → Type 0
 AreWoken t b e rings = (place : ℕ) (p : Pick) → wakes e p ≡ true → HasConsumer t b place p → IsAwake (ring_at rings.rings place) p
 
--- each consumer has its seat after an event where the one that the event makes has
-seated_after : ConsumersAreMade → (t : Topology) (old new : Broker) (e : Event) (sends : List Send) (notes : List Note) (rings : Rings) → Acts t old e sends notes new → AreWoken t old e rings → AllHaveSeats t old rings
-    → ((c h : ℕ) (k : seen.Consumer) → IsMadeBy old e c h k → WasConsumer new c h k → (place : ℕ) → place < length t.queues → queue_name t place ≡ k.queue → HasConsumer t old place (seat_for c h k) ⊎ IsAwake (ring_at rings.rings place) (seat_for c h k))
-    → AllHaveSeats t new rings
-seated_after law t old new e sends notes rings acts woken seated makes place p has = go (law t old new e sends notes acts p.connection p.channel has.consumer has.was)
+-- whoever had its seat has it after an event
+seated_then : (t : Topology) (old new : Broker) (e : Event) (sends : List Send) (notes : List Note) (rings : Rings) → Acts t old e sends notes new → AreWoken t old e rings → AllHaveSeats t old rings
+    → (place : ℕ) (p : Pick) → HasConsumer t old place p → IsSeated new rings place p
+seated_then t old new e sends notes rings acts woken seated place p was = on (wakes e p) refl (seated place p was)
   where
-    still : HasConsumer t old place p → IsSeated new rings place p
-    still was = on (wakes e p) refl (seated place p was)
-      where
-        on : (v : Bool) → wakes e p ≡ v → IsSeated old rings place p → IsSeated new rings place p
-        on true f i = inl (woken place p f was)
-        on false f (inl awake) = inl awake
-        on false f (inr s) = inr (record { asleep = s.asleep; cannot = cannot_still t old new e sends notes p acts f s.cannot; listed = s.listed })
-
-    made_there : HasConsumer t old place p ⊎ IsAwake (ring_at rings.rings place) p → IsSeated new rings place p
-    made_there (inl was) = still was
-    made_there (inr up) = inl up
-
-    go : WasConsumer old p.connection p.channel has.consumer ⊎ IsMadeBy old e p.connection p.channel has.consumer → IsSeated new rings place p
-    go (inl before) = still (record { consumer = has.consumer; was = before; numbered = has.numbered; within = has.within; named = has.named })
-    go (inr made) =
-        made_there
-        (subst (λ (n : ℕ). HasConsumer t old place (record { connection = p.connection; channel = p.channel; number = n }) ⊎ IsAwake (ring_at rings.rings place) (record { connection = p.connection; channel = p.channel; number = n })) has.numbered
-        (makes p.connection p.channel has.consumer made has.was place has.within has.named))
+    on : (v : Bool) → wakes e p ≡ v → IsSeated old rings place p → IsSeated new rings place p
+    on true f i = inl (woken place p f was)
+    on false f (inl awake) = inl awake
+    on false f (inr s) = inr (record { asleep = s.asleep; cannot = cannot_still t old new e sends notes p acts f s.cannot; listed = s.listed })
 
 -- an event is a command
 abbrev pub is_command : Event → Bool
@@ -81,9 +65,16 @@ is_command (Command c h m content) = true
 is_command e = false
 
 -- no other makes a consumer
+pub was_there : ConsumersAreMade → (t : Topology) (old new : Broker) (e : Event) (sends : List Send) (notes : List Note) → Acts t old e sends notes new → is_command e ≡ false → (place : ℕ) (p : Pick) → HasConsumer t new place p → HasConsumer t old place p
+was_there law t old new e sends notes acts none place p has = go (law t old new e sends notes acts p.connection p.channel has.consumer has.was)
+  where
+    go : WasConsumer old p.connection p.channel has.consumer ⊎ IsMadeBy old e p.connection p.channel has.consumer → HasConsumer t old place p
+    go (inl was) = record { consumer = has.consumer; was = was; numbered = has.numbered; within = has.within; named = has.named }
+    go (inr made) = absurd (false≢true (sym none ∙ ap is_command made.2))
+
 pub seated_still : ConsumersAreMade → (t : Topology) (old new : Broker) (e : Event) (sends : List Send) (notes : List Note) (rings : Rings) → Acts t old e sends notes new → AreWoken t old e rings → is_command e ≡ false → AllHaveSeats t old rings → AllHaveSeats t new rings
-seated_still law t old new e sends notes rings acts woken none seated =
-    seated_after law t old new e sends notes rings acts woken seated (λ c h k made was place within named. absurd (false≢true (sym none ∙ ap is_command made.2)))
+seated_still law t old new e sends notes rings acts woken none seated place p has =
+    seated_then t old new e sends notes rings acts woken seated place p (was_there law t old new e sends notes acts none place p has)
 
 -- ---- consumes
 
@@ -182,38 +173,65 @@ module _ (t : Topology) (old new : Broker) (c h : ℕ) (m : Consume) (content : 
   came None p = same_there (p.left.channels c h)
   came (Some conn) p = decided (refusal t old conn h (BasicConsume m) (old.channel c h)) p
 
--- a consumer that an event makes has its seat where the event's seat is there
-pub seated_next : ConsumersAreMade → (t : Topology) (kept : Kept) (new : Broker) (e : Event) (sends : List Send) (notes : List Note) (rings : Rings) → Acts t (broker_of kept) e sends notes new → AreWoken t (broker_of kept) e rings → AllHaveSeats t (broker_of kept) rings
-    → IfSome (seat_of kept e) (λ p. (place : ℕ) → IsConsumed t e place → IsAwake (ring_at rings.rings place) p) → AllHaveSeats t new rings
-seated_next law t kept new e sends notes rings acts woken seated next = seated_after law t b new e sends notes rings acts woken seated made
+-- a consumer that is there after an event was there, or the event is the consume from its queue, whose seat it has
+pub came_there : ConsumersAreMade → (t : Topology) (kept : Kept) (new : Broker) (e : Event) (sends : List Send) (notes : List Note) → Acts t (broker_of kept) e sends notes new
+    → (place : ℕ) (p : Pick) → HasConsumer t new place p → HasConsumer t (broker_of kept) place p ⊎ (IsConsumed t e place × (seat_of kept e ≡ Some p))
+came_there law t kept new e sends notes acts place p has = go (law t b new e sends notes acts c h k has.was)
   where
     b : Broker
     b = broker_of kept
 
-    made : (c h : ℕ) (k : seen.Consumer) → IsMadeBy b e c h k → WasConsumer new c h k → (place : ℕ) → place < length t.queues → queue_name t place ≡ k.queue → HasConsumer t b place (seat_for c h k) ⊎ IsAwake (ring_at rings.rings place) (seat_for c h k)
-    made c h k (m, content, is, numbered) was place within named = on (came t b new c h m content sends notes k (b.connection c) same was)
+    c : ℕ
+    c = p.connection
+
+    h : ℕ
+    h = p.channel
+
+    k : seen.Consumer
+    k = has.consumer
+
+    Came_here : Type 0
+    Came_here = HasConsumer t b place p ⊎ (IsConsumed t e place × (seat_of kept e ≡ Some p))
+
+    before : WasConsumer b c h k → Came_here
+    before was = inl (record { consumer = k; was = was; numbered = has.numbered; within = has.within; named = has.named })
+
+    made : IsMadeBy b e c h k → Came_here
+    made (m, content, is, numbered) = on (came t b new c h m content sends notes k (b.connection c) same has.was)
       where
         same : OnConnection t b c h (BasicConsume m) content sends notes new (b.connection c)
         same = subst (λ (x : Event). Acts t b x sends notes new) is acts
 
-        before : WasConsumer b c h k → HasConsumer t b place (seat_for c h k) ⊎ IsAwake (ring_at rings.rings place) (seat_for c h k)
-        before there = inl (record { consumer = k; was = there; numbered = refl; within = within; named = named })
+        its : seat_for c h k ≡ p
+        its = ap (λ (n : ℕ). record { connection = c; channel = h; number = n }) has.numbered
 
         here : k.queue ≡ m.queue → IsConsumed t e place
-        here queue = record { within = within; named = ap consumed is ∙ ap (λ (q : Text). Some q) (sym queue ∙ sym named) }
+        here queue = record { within = has.within; named = ap consumed is ∙ ap (λ (q : Text). Some q) (sym queue ∙ sym has.named) }
 
-        go : k.queue ≡ m.queue → (o : Option Pick) → next_seat c h (linked_in kept.links c) ≡ o → IfSome o (λ p. (at : ℕ) → IsConsumed t e at → IsAwake (ring_at rings.rings at) p)
-            → HasConsumer t b place (seat_for c h k) ⊎ IsAwake (ring_at rings.rings place) (seat_for c h k)
-        go queue None f i =
+        next : k.queue ≡ m.queue → (o : Option Pick) → next_seat c h (linked_in kept.links c) ≡ o → Came_here
+        next queue None f =
             let stays = ignored_stays t b c h (BasicConsume m) content sends notes new (b.connection c) (no_seat t kept c h m f) same in
-            before (was.0, sym (stays.channels c h) ∙ was.1, was.2)
-        go queue (Some p) f i =
-            inr (subst (λ (q : Pick). IsAwake (ring_at rings.rings place) q) (next_number_is (names_of kept) c h (linked_in kept.links c) p f ∙ ap (λ (n : ℕ). record { connection = c; channel = h; number = n }) (sym numbered))
-            (i place (here queue)))
+            before (has.was.0, sym (stays.channels c h) ∙ has.was.1, has.was.2)
+        next queue (Some q) f =
+            let one = next_number_is (names_of kept) c h (linked_in kept.links c) q f ∙ ap (λ (n : ℕ). record { connection = c; channel = h; number = n }) (sym numbered) ∙ its in
+            inr (here queue, ap (seat_of kept) is ∙ f ∙ ap Some one)
 
-        on : WasConsumer b c h k ⊎ (k.queue ≡ m.queue) → HasConsumer t b place (seat_for c h k) ⊎ IsAwake (ring_at rings.rings place) (seat_for c h k)
+        on : WasConsumer b c h k ⊎ (k.queue ≡ m.queue) → Came_here
         on (inl there) = before there
-        on (inr queue) = go queue (next_seat c h (linked_in kept.links c)) refl (subst (λ (x : Event). IfSome (seat_of kept x) (λ p. (at : ℕ) → IsConsumed t e at → IsAwake (ring_at rings.rings at) p)) is next)
+        on (inr queue) = next queue (next_seat c h (linked_in kept.links c)) refl
+
+    go : WasConsumer b c h k ⊎ IsMadeBy b e c h k → Came_here
+    go (inl was) = before was
+    go (inr m) = made m
+
+-- and has its seat where the event's seat is there
+pub seated_next : ConsumersAreMade → (t : Topology) (kept : Kept) (new : Broker) (e : Event) (sends : List Send) (notes : List Note) (rings : Rings) → Acts t (broker_of kept) e sends notes new → AreWoken t (broker_of kept) e rings → AllHaveSeats t (broker_of kept) rings
+    → IfSome (seat_of kept e) (λ p. (place : ℕ) → IsConsumed t e place → IsAwake (ring_at rings.rings place) p) → AllHaveSeats t new rings
+seated_next law t kept new e sends notes rings acts woken seated next place p has = go (came_there law t kept new e sends notes acts place p has)
+  where
+    go : HasConsumer t (broker_of kept) place p ⊎ (IsConsumed t e place × (seat_of kept e ≡ Some p)) → IsSeated new rings place p
+    go (inl was) = seated_then t (broker_of kept) new e sends notes rings acts woken seated place p was
+    go (inr (here, is)) = inl (subst (λ (o : Option Pick). IfSome o (λ q. (at : ℕ) → IsConsumed t e at → IsAwake (ring_at rings.rings at) q)) is next place here)
 
 -- ---- what every broker keeps
 

@@ -1,64 +1,115 @@
--- Nobody waits for ever while others are told.
-use Rattle.std.proofs.Common.{◌≡◌, ◌∙◌, ◌<◌, ◌≤◌, ◌+◌, ◌*◌, ◌++◌, ℕ, List, [], ◌∷◌, Bool, true, false, if◌then◌else◌, length, take, drop, inl, inr, refl, sym, ap, subst, arith}
+-- Nobody waits for ever while others are served.
+use Rattle.std.proofs.Common.{◌≡◌, ◌∙◌, ◌<◌, ◌≤◌, ◌+◌, ◌*◌, ◌⊎◌, ℕ, List, [], ◌∷◌, Bool, true, false, Option, Some, None, if◌then◌else◌, length, inl, inr, refl, sym, ap, arith}
 use Rattle.std.proofs.lemmas.Bool.{false≢true}
-use Rattle.std.proofs.lemmas.List.{length-append, take-append-drop}
+use Rattle.std.proofs.lemmas.Option.{same_Some}
 use Rattle.std.proofs.Math.Nat.{mul-le-mul_right}
-use Rattle.model.specs.Topology.{IsIn}
+use Rattle.model.specs.Topology.{Topology, IsIn}
+use Rattle.broker_core.specs.State as core
 use Rattle.broker_core.specs.State.{Kept}
-use Rattle.broker_core.specs.Seats.{has_consumer}
 use Rattle.broker_core.specs.declared.picks.Pick.{Pick}
-use Rattle.broker.specs.Lines.{turned, ahead, standing}
-use Rattle.broker.specs.Roster.{Seats, Rings, ring_at, picks, order, is_consumer, before, ComesIn, GoesOn}
-use Rattle.broker.specs.Waiting.{Waits, Stands, IsTold, NobodyWaits}
-use Rattle.broker.specs.Waiting.Waits.{begins, passed, stays, seated}
-use Rattle.broker.proofs.Among.{one_consumer}
+use Rattle.broker.specs.Lines.{ahead, standing}
+use Rattle.broker.specs.Roster.{is_consumer}
+use Rattle.broker.specs.Turns.{WithTurn, topology_kept}
+use Rattle.broker.specs.Waiting.{line_at, queues, standing_at, owed, before, TakesAt, NoneIsLater, IsToldInTurn, ServesInTurn, Waits, Stands, IsServedSoon, NobodyWaits, ServesSoon}
+use Rattle.broker.specs.Waiting.Waits.{begins, passed, other, stays, beside, comes}
+use Rattle.broker.proofs.Among.{one_consumer, same_consumer}
 use Rattle.broker.proofs.Lining.{ahead_within}
-use Rattle.broker.proofs.Nearer.{all_nearer, less_each}
-use Rattle.broker.proofs.Picks.{picks_length}
+use Rattle.broker.proofs.Nearer.{less_each}
 
--- where all goes round as before nobody is nearer or further
-before_same : (old new : Rings) (place : ℕ) (p : Pick) → GoesOn old new → before new place p ≡ before old place p
-before_same old new place p on =
-    subst (λ (ps : List Pick). before new place p ≡ standing (is_consumer p) ps * length old.rings + ahead (length old.rings) old.next place) (on.same place)
-    (subst (λ (n : ℕ). before new place p ≡ standing (is_consumer p) (order (ring_at new.rings place)) * n + ahead n old.next place) on.len
-    (subst (λ (n : ℕ). before new place p ≡ standing (is_consumer p) (order (ring_at new.rings place)) * length new.rings + ahead (length new.rings) n place) on.next refl))
+-- ---- one thing that is done
 
-more_each : (a b n x : ℕ) → a ≤ b + 1 → a * n + x ≤ b * n + x + n
-more_each a b n x le = let more = mul-le-mul_right {m = a} {n = b + 1} n le in omega (arith, more)
+-- so many deliveries may come before one's own: where so many stand before it, of so many queues
+abbrev ahead_of : ℕ → ℕ → ℕ → ℕ → ℕ → ℕ
+ahead_of s n next place more = s * n + ahead n next place + more
 
--- a seat that is made lets in one of each queue at most
-before_later : (kept : Kept) (old new : Rings) (place : ℕ) (p : Pick) → ComesIn kept old new → has_consumer kept p ≡ true → before new place p ≤ before old place p + length old.rings
-before_later kept old new place p comes has =
-    subst (λ (n : ℕ). standing (is_consumer p) (order (ring_at new.rings place)) * n + ahead n new.next place ≤ before old place p + length old.rings) (sym comes.len)
-    (subst (λ (n : ℕ). standing (is_consumer p) (order (ring_at new.rings place)) * length old.rings + ahead (length old.rings) n place ≤ before old place p + length old.rings) (sym comes.next)
-    (more_each (standing (is_consumer p) (order (ring_at new.rings place))) (standing (is_consumer p) (order (ring_at old.rings place))) (length old.rings) (ahead (length old.rings) old.next place) (comes.later place p has)))
+module _ (old new : WithTurn) (place : ℕ) (p : Pick) (topology : topology_kept new ≡ topology_kept old) (next : new.next ≡ old.next) where
+  -- what is before it is told by who stands before it, and who was told
+  before_then : before new place p ≡ ahead_of (standing_at new place p) (queues old) old.next place (owed new.turn p)
+  before_then =
+      ap (λ (t : Topology). ahead_of (standing_at new place p) (length t.queues) new.next place (owed new.turn p)) topology
+      ∙ ap (λ (k : ℕ). ahead_of (standing_at new place p) (queues old) k place (owed new.turn p)) next
 
-one_round : (made n : ℕ) → (made + 1) * n ≡ made * n + n
-one_round made n = omega arith
+  before_some : (more : ℕ) → standing_at new place p ≤ standing_at old place p + more → before new place p + owed old.turn p ≤ before old place p + more * queues old + owed new.turn p
+  before_some more le =
+      let each = mul-le-mul_right {m = standing_at new place p} {n = standing_at old place p + more} (queues old) le in
+      let now = before_then in
+      let parts : (standing_at old place p + more) * queues old ≡ standing_at old place p * queues old + more * queues old = omega arith in
+      omega (arith, each, now, parts)
 
--- How far it is from its turn after so many were told, and so many seats made:
-record Nears (place : ℕ) (p : Pick) (start : Rings) (told made : ℕ) (now : Rings) : Type 0 where
-  len : length now.rings ≡ length start.rings
-  near : told + before now place p ≤ before start place p + made * length start.rings
+-- where the same was told
+same_owed : (old new : WithTurn) (p : Pick) → new.turn ≡ old.turn → owed new.turn p ≡ owed old.turn p
+same_owed old new p same = ap (λ (o : Option Pick). owed o p) same
 
-nears : (place : ℕ) (p : Pick) (start : Rings) (told made : ℕ) (now : Rings) → place < length start.rings → Waits place p start told made now → Nears place p start told made now
-nears place p start _ _ _ lt begins = record { len = refl; near = omega arith }
-nears place p start _ _ _ lt (passed {told} {made} {old} {new} kept w over) =
-    let n = nears place p start told made old lt w in
-    let long = n.len in
+abbrev owed_if : Bool → ℕ
+owed_if v = if v then 0 else 1
+
+-- one delivery is owed to another
+owed_one : (p told : Pick) (o : Option Pick) → o ≡ Some told → (p ≡ told → ⊥) → owed o p ≡ 1
+owed_one p told o is far = ap (λ (z : Option Pick). owed z p) is ∙ go (is_consumer p told) refl
+  where
+    go : (v : Bool) → is_consumer p told ≡ v → owed_if v ≡ 1
+    go true e = absurd (far (same_consumer p told e))
+    go false e = refl
+
+-- ---- one thing after another
+
+-- How far it is from its turn after so many deliveries to others, and so many consumes:
+record Nears (place : ℕ) (p : Pick) (start : WithTurn) (served came : ℕ) (now : WithTurn) : Type 0 where
+  topology : topology_kept now ≡ topology_kept start
+  near : served + before now place p ≤ before start place p + came * queues start
+
+one_round : (came n : ℕ) → (came + 1) * n ≡ came * n + n
+one_round came n = omega arith
+
+no_round : (n : ℕ) → 0 * n ≡ 0
+no_round n = omega arith
+
+same_queues : (a b : WithTurn) → topology_kept a ≡ topology_kept b → queues a ≡ queues b
+same_queues a b same = ap (λ (t : Topology). length t.queues) same
+
+nears : (place : ℕ) (p : Pick) (start : WithTurn) (served came : ℕ) (now : WithTurn) → Waits place p start served came now → Nears place p start served came now
+nears place p start _ _ _ begins = record { topology = refl; near = omega arith }
+nears place p start _ _ _ (passed {served} {came} {old} {new} w over) =
+    let n = nears place p start served came old w in
     let near = n.near in
-    let less = all_nearer kept old new over.told over.len over.first place p (omega (arith, lt, long)) over.seated over.could over.other in
-    record { len = over.len ∙ n.len; near = omega (arith, near, less) }
-nears place p start _ _ _ lt (stays {told} {made} {old} {new} w on) =
-    let n = nears place p start told made old lt w in
-    record { len = on.len ∙ n.len; near = subst (λ (k : ℕ). told + k ≤ before start place p + made * length start.rings) (sym (before_same old new place p on)) n.near }
-nears place p start _ _ _ lt (seated {told} {made} {old} {new} kept w comes has) =
-    let n = nears place p start told made old lt w in
-    let long = n.len in
+    record {
+      topology = ap core.topology_kept over.kept ∙ n.topology;
+      near = elim (over.turns place p over.could) [
+        | inl told ↦ absurd (over.other told)
+        | inr le ↦ omega (arith, near, le)
+      ];
+    }
+nears place p start _ _ _ (other {served} {came} {old} {new} w done) =
+    let n = nears place p start served came old w in
     let near = n.near in
-    let more = before_later kept old new place p comes has in
-    let round = one_round made (length start.rings) in
-    record { len = comes.len ∙ n.len; near = omega (arith, near, more, round, long) }
+    let le = before_some old new place p done.topology done.later.next 0 (let less = done.later.lines place p done.still in omega (arith, less)) in
+    let one = owed_one p done.told old.turn done.owed done.other in
+    let none = ap (λ (o : Option Pick). owed o p) done.over in
+    let zero_rounds = no_round (queues old) in
+    record { topology = done.topology ∙ n.topology; near = omega (arith, near, le, one, none, zero_rounds) }
+nears place p start _ _ _ (stays {served} {came} {old} {new} w left later) =
+    let n = nears place p start served came old w in
+    let near = n.near in
+    let le = before_some old new place p left.topology later.next 0 (let less = later.lines place p left.still in omega (arith, less)) in
+    let same = same_owed old new p left.turn in
+    let zero_rounds = no_round (queues old) in
+    record { topology = left.topology ∙ n.topology; near = omega (arith, near, le, same, zero_rounds) }
+nears place p start _ _ _ (beside {served} {came} {old} {new} e w left one none) =
+    let n = nears place p start served came old w in
+    let near = n.near in
+    let le = before_some old new place p left.topology one.next 0 (let less = one.lines place p none left.still in omega (arith, less)) in
+    let same = same_owed old new p left.turn in
+    let zero_rounds = no_round (queues old) in
+    record { topology = left.topology ∙ n.topology; near = omega (arith, near, le, same, zero_rounds) }
+nears place p start _ _ _ (comes {served} {came} {old} {new} e w left one) =
+    let n = nears place p start served came old w in
+    let near = n.near in
+    let le = before_some old new place p left.topology one.next 1 (one.one place p left.still) in
+    let same = same_owed old new p left.turn in
+    let round = one_round came (queues start) in
+    let long = same_queues old start n.topology in
+    let once : 1 * queues old ≡ queues old = omega arith in
+    record { topology = left.topology ∙ n.topology; near = omega (arith, near, le, same, round, long, once) }
 
 -- ---- the bound
 
@@ -71,28 +122,62 @@ standing_in p (x ∷ xs) i = go (is_consumer p x) refl i (standing_in p xs)
     go false e (inl s) rest = absurd (false≢true (sym e ∙ ap (is_consumer p) (sym s) ∙ one_consumer p))
     go false e (inr j) rest = let less = rest j in omega (arith, less)
 
-turned_length : {X : Type 0} (n : ℕ) (xs : List X) → length (turned n xs) ≡ length xs
-turned_length n xs =
-    let one = length-append (drop n xs) (take n xs) in
-    let two = length-append (take n xs) (drop n xs) in
-    let whole : length (take n xs ++ drop n xs) ≡ length xs = ap (λ (ys : List _). length ys) (take-append-drop n xs) in
-    omega (arith, one, two, whole)
-
-bounded : (place : ℕ) (p : Pick) (start : Rings) → place < length start.rings → IsIn p (order (ring_at start.rings place)) → before start place p < length (ring_at start.rings place).seats * length start.rings
-bounded place p start lt i =
-    let r : Seats = ring_at start.rings place in
-    let less = standing_in p (order r) i in
-    let long = turned_length r.next (picks r.seats) in
-    let many = picks_length r.seats in
-    let within = ahead_within (length start.rings) start.next place lt in
-    let most = less_each (standing (is_consumer p) (order r)) (length r.seats) (length start.rings) (ahead (length start.rings) start.next place) 0 (omega (arith, less, long, many)) within in
+bounded : (place : ℕ) (p : Pick) (start : WithTurn) → Stands start place p → before start place p < length (line_at start place) * queues start + owed start.turn p
+bounded place p start st =
+    let less = standing_in p (line_at start place) st.among in
+    let within = ahead_within (queues start) start.next place st.within in
+    let most = less_each (standing_at start place p) (length (line_at start place)) (queues start) (ahead (queues start) start.next place) 0 less within in
     omega (arith, most)
 
-fewer : (place : ℕ) (p : Pick) (start now : Rings) (told made : ℕ) → Stands start place p → Waits place p start told made now → IsTold start place told made
-fewer place p start now told made st w =
-    let near = (nears place p start told made now st.within w).near in
-    let less = bounded place p start st.within st.among in
-    omega (arith, near, less)
+rounds_of : (a b n : ℕ) → (a + b) * n ≡ a * n + b * n
+rounds_of a b n = omega arith
+
+fewer : (place : ℕ) (p : Pick) (start now : WithTurn) (served came : ℕ) → Stands start place p → Waits place p start served came now → IsServedSoon start place p served came
+fewer place p start now served came st w =
+    let near = (nears place p start served came now w).near in
+    let less = bounded place p start st in
+    let parts = rounds_of (length (line_at start place)) came (queues start) in
+    omega (arith, near, less, parts)
 
 pub nobody_waits : NobodyWaits
-nobody_waits = record { nearer = λ place p start now told made st w. (nears place p start told made now st.within w).near; fewer = fewer }
+nobody_waits = record { nearer = λ place p start now served came w. (nears place p start served came now w).near; fewer = fewer }
+
+-- whoever waits while another is served that was told
+pub serves_soon : (b : WithTurn) (told : Pick) → ServesSoon b told
+serves_soon b told place p start served came st w is far =
+    let near = (nears place p start served came b w).near in
+    let less = bounded place p start st in
+    let parts = rounds_of (length (line_at start place)) came (queues start) in
+    let one = owed_one p told b.turn is far in
+    omega (arith, near, less, parts, one)
+
+-- ---- a pick and what follows
+
+pub same_later : (b : WithTurn) → NoneIsLater b b
+same_later b = record { next = refl; took = λ place p takes. takes; lines = λ place p takes. omega arith }
+
+pub later_then : (old mid new : WithTurn) → NoneIsLater old mid → NoneIsLater mid new → NoneIsLater old new
+later_then old mid new first last = record {
+  next = last.next ∙ first.next;
+  took = λ place p takes. first.took place p (last.took place p takes);
+  lines = λ place p takes.
+      let one = first.lines place p (last.took place p takes) in
+      let two = last.lines place p takes in
+      omega (arith, one, two);
+}
+
+pub serves_in_turn : (old mid new : WithTurn) (told : Pick) → IsToldInTurn old (Some told) mid → mid.turn ≡ Some told → NoneIsLater mid new → topology_kept new ≡ topology_kept mid → new.turn ≡ None → ServesInTurn old new told
+serves_in_turn old mid new told turns turn later topology over = record { over = over; nearer = λ place p could takes. nearer place p takes (turns place p could) }
+  where
+    nearer : (place : ℕ) (p : Pick) → TakesAt new place p → (Some told ≡ Some p) ⊎ (before mid place p ≤ before old place p) → (told ≡ p) ⊎ (before new place p < before old place p)
+    nearer place p takes (inl same) = inl (same_Some told p same)
+    nearer place p takes (inr le) = go (is_consumer p told) refl
+      where
+        go : (v : Bool) → is_consumer p told ≡ v → (told ≡ p) ⊎ (before new place p < before old place p)
+        go true e = inl (sym (same_consumer p told e))
+        go false e =
+            let less = before_some mid new place p topology later.next 0 (let lines = later.lines place p takes in omega (arith, lines)) in
+            let one = owed_one p told mid.turn turn (λ same. false≢true (sym e ∙ ap (is_consumer p) (sym same) ∙ one_consumer p)) in
+            let none = ap (λ (o : Option Pick). owed o p) over in
+            let zero_rounds = no_round (queues mid) in
+            inr (omega (arith, le, less, one, none, zero_rounds))

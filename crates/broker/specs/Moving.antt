@@ -3,7 +3,7 @@ use Rattle.std.specs.Prelude.{◌≡◌, ◌<◌, ◌⊎◌, ℕ, List, [], map,
 use Rattle.channel.specs.Moving.{place_now}
 use Rattle.broker_core.specs.declared.picks.Pick.{Pick}
 use Rattle.broker.specs.declared.roster.seats.Seat.{Seat}
-use Rattle.broker.specs.Roster.{Seats, Lists, Listing, ring_at, awake_seat, IsAwake, IsAsleep, IsListed, HasList, MakesNoList}
+use Rattle.broker.specs.Roster.{Seats, Lists, Listing, ring_at, order, awake_seat, IsAwake, IsAsleep, IsListed, HasList, MakesNoList}
 
 -- ---- rings
 
@@ -19,14 +19,19 @@ StandsIn r p = IsAwake r p ⊎ IsAsleep r p
 abbrev pub AllRoused : Seats → Seats → Type 0
 AllRoused old new = (p : Pick) → StandsIn old p → IsAwake new p
 
+-- Each seat of the one ring stands in the other, awake, and that is gone round as the one was.
+pub record IsMoved (old new : Seats) : Type 0 where
+  pub roused : AllRoused old new
+  pub same : order new ≡ order old
+
 -- no two entries of the table are one of so many places
 abbrev pub ArePlacesApart : List ℕ → ℕ → Type 0
 ArePlacesApart places count = (i j : ℕ) → i < length places → j < length places → place_now places i < count → place_now places i ≡ place_now places j → i ≡ j
 
--- each ring's seats stand, awake, in the ring at the place that the table has for it, where that is there
+-- each ring stands, all awake, at the place that the table has for it, where that is there
 abbrev pub RingsAreMoved : List ℕ → List Seats → List Seats → Type 0
 RingsAreMoved places old new = (from : ℕ) → from < length places → place_now places from < length new
-    → AllRoused (ring_at old from) (ring_at new (place_now places from))
+    → IsMoved (ring_at old from) (ring_at new (place_now places from))
 
 -- ---- lists
 

@@ -1,9 +1,12 @@
 -- The consumers of all channels by their numbers, over which deliveries go round, and which of them are passed over (own).
 use Rattle.std.specs.Prelude.{◌≡◌, ◌==◌, ◌&&◌, ◌<◌, ◌≤◌, ◌*◌, ◌+◌, ◌⊎◌, ◌++◌, ℕ, List, []}
-use Rattle.std.specs.Prelude.{◌∷◌, map, Bool, true, false, Option, Some, None, length, slice_index_or, nat_eq, count_by, IfSome}
+use Rattle.std.specs.Prelude.{◌∷◌, map, filter, Bool, true, false, Option, Some, None, length, slice_index_or, nat_eq, count_by, IfSome}
+use Rattle.std.specs.List.{list_any}
 use Rattle.std.specs.Map.{lookup}
+use Rattle.std.specs.Str.{bytes_eq}
+use Rattle.model.specs.Words.{Text}
 use Rattle.model.specs.Topology.{Topology, IsIn}
-use Rattle.model.specs.Broker.{Consumer, Broker}
+use Rattle.model.specs.Broker.{Consumer, Channel, Broker}
 use Rattle.model.specs.Agreement.{IsAgreed}
 use Rattle.model.specs.declared.events.Event.{Event}
 use Rattle.model.specs.declared.events.Event.TheVariants.{Command, Resume}
@@ -18,7 +21,7 @@ use Rattle.broker_core.specs.Picked.{IsPickFrom, CannotTake}
 use Rattle.broker_core.specs.Seats.{has_consumer, seat_of, IsConsumed}
 use Rattle.broker_core.specs.declared.picks.Pick.{Pick}
 use Rattle.broker.specs.declared.roster.seats.Seat.{Seat}
-use Rattle.broker.specs.Lines.{turned, ahead, standing, IsPassed}
+use Rattle.broker.specs.Lines.{turned, standing, IsPassed}
 
 -- ---- seats
 
@@ -70,6 +73,29 @@ order r = turned r.next (picks r.seats)
 -- two consumers are one
 abbrev pub is_consumer : Pick → Pick → Bool
 is_consumer p q = (p.connection == q.connection) && ((p.channel == q.channel) && (p.number == q.number))
+
+-- the consumer has this number, and takes from this queue
+abbrev pub is_numbered_of : Text → ℕ → Consumer → Bool
+is_numbered_of queue n k = (k.number == n) && bytes_eq k.queue queue
+
+-- one of a channel's consumers is so, if the channel is there
+abbrev pub has_taker : Text → ℕ → Option Channel → Bool
+has_taker queue n None = false
+has_taker queue n (Some ch) = list_any (is_numbered_of queue n) ch.consumers
+
+-- the consumer of these numbers is there, and takes from this queue
+abbrev pub takes_from : Broker → Text → Pick → Bool
+takes_from b queue p = has_taker queue p.number (b.channel p.connection p.channel)
+
+-- the consumers of this queue, in the order of its ring
+abbrev pub line_of : Broker → Text → Seats → List Pick
+line_of b queue r = filter (takes_from b queue) (order r)
+
+-- those of each of these queues, whose rings are these
+abbrev pub lines_of : Broker → List Text → List Seats → List (List Pick)
+lines_of b [] rings = []
+lines_of b (queue ∷ queues) [] = []
+lines_of b (queue ∷ queues) (r ∷ rings) = line_of b queue r ∷ lines_of b queues rings
 
 -- the seat is this consumer's
 abbrev pub is_seat_of : Pick → Seat → Bool
@@ -245,33 +271,42 @@ pub record PicksFrom (kept : Kept) (lists : Lists) (old new : List Seats) (queue
 -- The consumer is told: from none of the queues that are passed a delivery can be made, and picks go on from behind its own from then on.
 pub record PicksFirst (kept : Kept) (old new : Rings) (p : Pick) : Type 0 where
   pub queue : ℕ
+  pub could : IsPickFrom kept queue p
   pub within : queue < length old.rings
   pub passed : NonePassed kept old old.next queue
   pub told : PicksFrom kept old.lists old.rings new.rings queue p
   pub next : new.next ≡ queue + 1
 
--- how many deliveries may come before the one to this consumer from the queue at this place:
--- one of each queue for each that is before it in its ring, and one of each queue before its own
-abbrev pub before : Rings → ℕ → Pick → ℕ
-before r place p = standing (is_consumer p) (order (ring_at r.rings place)) * length r.rings + ahead (length r.rings) r.next place
+-- whoever passes this test is there, and stands in the line
+abbrev pub AllStandIn : Kept → (Pick → Bool) → List Pick → Type 0
+AllStandIn kept test line = (p : Pick) → test p ≡ true → (has_consumer kept p ≡ true) × IsIn p line
 
--- whoever is there has no more before it in the one line than in the other
-abbrev pub IsNoLater : Kept → List Pick → List Pick → Type 0
-IsNoLater kept old new = (p : Pick) → has_consumer kept p ≡ true → standing (is_consumer p) new ≤ standing (is_consumer p) old
+-- those who are there are gone round as before
+abbrev pub KeepsThose : Kept → List Pick → List Pick → Type 0
+KeepsThose kept old new = (test : Pick → Bool) → ((p : Pick) → test p ≡ true → has_consumer kept p ≡ true) → filter test new ≡ filter test old
 
--- or at most one more
-abbrev pub IsOneLater : Kept → List Pick → List Pick → Type 0
-IsOneLater kept old new = (p : Pick) → has_consumer kept p ≡ true → standing (is_consumer p) new ≤ standing (is_consumer p) old + 1
+-- but for this one
+abbrev pub KeepsOthers : Kept → Pick → List Pick → List Pick → Type 0
+KeepsOthers kept other old new = (test : Pick → Bool) → ((p : Pick) → test p ≡ true → has_consumer kept p ≡ true) → test other ≡ false
+    → filter test new ≡ filter test old
+
+-- those who are there and have seats in the ring are gone round as before
+abbrev pub KeepsLine : Kept → Seats → Seats → Type 0
+KeepsLine kept old new = (test : Pick → Bool) → AllStandIn kept test (order old) → filter test (order new) ≡ filter test (order old)
 
 -- in each ring
-abbrev pub AreOneLater : Kept → List Seats → List Seats → Type 0
-AreOneLater kept old new = (place : ℕ) → IsOneLater kept (order (ring_at old place)) (order (ring_at new place))
+abbrev pub KeepLines : Kept → List Seats → List Seats → Type 0
+KeepLines kept old new = (place : ℕ) → KeepsLine kept (ring_at old place) (ring_at new place)
 
--- A seat is made, and else all go round as before.
-pub record ComesIn (kept : Kept) (old new : Rings) : Type 0 where
-  pub len : length new.rings ≡ length old.rings
-  pub later : AreOneLater kept old.rings new.rings
-  pub next : new.next ≡ old.next
+-- and where this one joins them, each has at most one more before it
+abbrev pub LetsIn : Kept → Pick → Seats → Seats → Type 0
+LetsIn kept p old new = (before after : Pick → Bool) → AllStandIn kept before (order old) → ((q : Pick) → after q ≡ true → (before q ≡ true) ⊎ (q ≡ p))
+    → (q : Pick) → after q ≡ true → standing (is_consumer q) (filter after (order new)) ≤ standing (is_consumer q) (filter before (order old)) + 1
+
+-- so it is in the ring of the queue from which this event is to make a consumer
+abbrev pub LetsNextIn : Kept → Event → List Seats → List Seats → Type 0
+LetsNextIn kept e old new = (place : ℕ) (p : Pick) → IsConsumed (topology_kept kept) e place → seat_of kept e ≡ Some p
+    → LetsIn kept p (ring_at old place) (ring_at new place)
 
 -- The rings are gone round as before, and so are the queues.
 pub record GoesOn (old new : Rings) : Type 0 where
@@ -287,11 +322,6 @@ pub data IsBounded (kept : Kept) (old new : Seats) : Type 0 where
   had_room : length new.seats ≤ old.room → IsBounded kept old new
   -- all but one are of consumers that are there
   all_there : length new.seats ≤ count_by (has_its_consumer kept) new.seats + 1 → IsBounded kept old new
-
--- Whoever has a seat, and could be told in place of this consumer, is nearer to its turn.
-abbrev pub AllNearer : Kept → Rings → Rings → Pick → Type 0
-AllNearer kept old new told =
-    (place : ℕ) (p : Pick) → IsSeated (broker_of kept) old place p → IsPickFrom kept place p → (p ≡ told → ⊥) → before new place p < before old place p
 
 -- ---- what stays
 

@@ -1,15 +1,25 @@
--- A broker as its callers have it: what is kept, and whose turn it is (own).
-use Rattle.std.specs.Prelude.{ℕ, Option}
+-- A broker as its callers have it: what is kept, and whose turn comes when (own).
+use Rattle.std.specs.Prelude.{ℕ, List, Option}
 use Rattle.model.specs.Topology.{Topology}
 use Rattle.model.specs.Broker.{Broker}
 use Rattle.broker_core.specs.State as core
-use Rattle.broker_core.specs.State.{Kept}
+use Rattle.broker_core.specs.State.{Kept, names_of}
 use Rattle.broker_core.specs.declared.picks.Pick.{Pick}
+use Rattle.broker.specs.Roster.{Rings, lines_of}
 
--- What is kept, and the consumer that was told last, until something is delivered.
+-- What is kept, and who is served when.
 pub record WithTurn : Type 0 where
   pub kept : Kept
+  -- the consumer that was told last, until something is delivered
   pub turn : Option Pick
+  -- the consumers of each queue in the order of the file, and each queue's in the order in which their turns come
+  pub lines : List (List Pick)
+  -- the place from which the queues are gone round
+  pub next : ℕ
+
+-- what is kept is served by these rings
+abbrev pub with_turn : Kept → Rings → Option Pick → WithTurn
+with_turn kept r turn = record { kept = kept; turn = turn; lines = lines_of (core.broker_of kept) (names_of kept) r.rings; next = r.next }
 
 -- the topology that the broker runs
 abbrev pub topology_kept : WithTurn → Topology

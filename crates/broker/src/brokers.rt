@@ -33,11 +33,11 @@ impl Drop for Broker {
 
 impl Model for Broker {
     ghost use Rattle.broker.specs.Roster.{IsServing};
-    ghost use Rattle.broker.specs.Turns.{WithTurn};
+    ghost use Rattle.broker.specs.Turns.{WithTurn, with_turn};
 
     ghost Value = { WithTurn };
 
-    ghost view = { λ b. record { kept = b.core; turn = b.turn } };
+    ghost view = { λ b. with_turn b.core b.roster b.turn };
 
     ghost invariant = { λ b. IsServing b.core b.roster };
 }
@@ -58,6 +58,7 @@ impl Broker {
     ghost use Rattle.broker_core.specs.Picked.{IsPick};
     ghost use Rattle.broker_core.specs.declared.picks.Pick.{Pick as Consumer};
     ghost use Rattle.broker.specs.Turns.{broker_of, topology_kept};
+    ghost use Rattle.broker.specs.Waiting.{AllStand, NoneIsLater, OneComesIn, IsToldInTurn, LinesMove, ServesSoon};
     ghost use Rattle.replies.specs.Sent.{AreAddressed, connection_of_event};
 
     /// The broker of this topology: its queues are empty, and no connection runs.
@@ -76,14 +77,16 @@ impl Broker {
     }
 
     /// One event: what it sends, what it notes, and the state after it. Where the event's method has a spelling, each send
-    /// is for the event's own connection, by a method with a spelling. Where memory is wanting, nothing has changed; an opening,
-    /// a loss, a pause and its end, a command that is ignored, and a rejection that requeues want none.
+    /// is for the event's own connection, by a method with a spelling. Nobody's turn is further off, but for one consumer more before
+    /// it where the event is a consume from its queue. Where memory is wanting, nothing has changed; an opening, a loss, a pause and
+    /// its end, a command that is ignored, and a rejection that requeues want none.
     pub fn step(&mut self, alloc: Global, event: &Event) -> Result<Step, AllocError>
         requires asked { IsAsked event.now }
         ensures ok { IfOk result (λ s. Acts (topology_kept self.old) (broker_of self.old) event.now s.sends.items s.notes.items (broker_of self.new)) }
         ensures addressed { IfOk result (λ s. IsSaid event.now → AreCarried (broker_of self.old) → AreAddressed (connection_of_event event.now) s.sends.items) }
         ensures topology { topology_kept self.new ≡ topology_kept self.old }
         ensures turn { self.new.turn ≡ self.old.turn }
+        ensures later { OnOk result (OneComesIn event.now self.old self.new) }
         ensures err { OnErr result (self.new ≡ self.old) }
         ensures quiet { WantsNoMemory (topology_kept self.old) (broker_of self.old) event.now → IsOk result }
     {
@@ -103,10 +106,13 @@ impl Broker {
 
     /// A delivery that can be made, if there is any: whose turn it is from now on. As long as nothing is delivered, and a delivery
     /// can be made to it, the same is told again. Else queues that have something ready are gone round, from the one behind that
-    /// from which was told last, and so are the consumers of a queue. Memory that is wanting only leaves seats awake.
+    /// from which was told last, and so are the consumers of a queue: whoever could be told is told, or its turn is no further off.
+    /// Memory that is wanting only leaves seats awake.
     pub fn pick(&mut self) -> Option<Pick>
         ensures kept { self.new.kept ≡ self.old.kept }
         ensures turn { self.new.turn ≡ result }
+        ensures stand { AllStand self.old }
+        ensures in_turn { IsToldInTurn self.old result self.new }
         ensures again { (p : Consumer) → self.old.turn ≡ Some p → IsPick (broker_of self.old) p → result ≡ Some p }
         ensures some { IfSome result (λ p. IsPick (broker_of self.old) p) }
         ensures none { result ≡ None → (c : ℕ) → CanDeliver (broker_of self.old) c → ⊥ }
@@ -121,6 +127,7 @@ impl Broker {
     fn find(&mut self) -> Option<Pick>
         ensures kept { self.new.kept ≡ self.old.kept }
         ensures turn { self.new.turn ≡ result }
+        ensures in_turn { IsToldInTurn self.old result self.new }
         ensures some { IfSome result (λ p. IsPick (broker_of self.old) p) }
         ensures none { result ≡ None → (c : ℕ) → CanDeliver (broker_of self.old) c → ⊥ }
     {
@@ -129,6 +136,7 @@ impl Broker {
     }
 
     /// The delivery that was picked is made: the first ready message of the consumer's queue goes to it, and its turn is over.
+    /// Whoever waits meanwhile is passed over by few deliveries only, this one among them.
     /// Where each message can be given out and consumers are named, the send is for the consumer's own connection, by a method
     /// with a spelling. Where memory is wanting, nothing has changed: it is the turn of the same consumer still.
     pub fn pump(&mut self, alloc: Global, pick: Pick) -> Result<Step, AllocError>
@@ -138,6 +146,8 @@ impl Broker {
         ensures addressed { IfOk result (λ s. AreCarried (broker_of self.old)
             → AreNamed (topology_kept self.old) (broker_of self.old) → AreAddressed pick.connection s.sends.items) }
         ensures over { OnOk result (self.new.turn ≡ None) }
+        ensures later { OnOk result (NoneIsLater self.old self.new) }
+        ensures soon { OnOk result (ServesSoon self.old pick) }
         ensures topology { topology_kept self.new ≡ topology_kept self.old }
         ensures err { OnErr result (self.new ≡ self.old) }
     {
@@ -161,6 +171,7 @@ impl Broker {
             (event_is.Running connection channel_max channels) [] [] (broker_of self.new)) }
         ensures topology { topology_kept self.new ≡ topology_kept self.old }
         ensures turn { self.new.turn ≡ self.old.turn }
+        ensures later { OnOk result (NoneIsLater self.old self.new) }
         ensures err { OnErr result (self.new ≡ self.old) }
     {
         brokers_stay_agreed();
@@ -173,6 +184,7 @@ impl Broker {
         ensures acts { Acts (topology_kept self.old) (broker_of self.old) (event_is.Lose connection) [] [] (broker_of self.new) }
         ensures topology { topology_kept self.new ≡ topology_kept self.old }
         ensures turn { self.new.turn ≡ self.old.turn }
+        ensures later { NoneIsLater self.old self.new }
     {
         brokers_stay_agreed();
         consumers_are_made();
@@ -185,6 +197,7 @@ impl Broker {
         ensures acts { Acts (topology_kept self.old) (broker_of self.old) (event_is.Pause connection) [] [] (broker_of self.new) }
         ensures topology { topology_kept self.new ≡ topology_kept self.old }
         ensures turn { self.new.turn ≡ self.old.turn }
+        ensures later { NoneIsLater self.old self.new }
     {
         brokers_stay_agreed();
         consumers_are_made();
@@ -196,6 +209,7 @@ impl Broker {
         ensures acts { Acts (topology_kept self.old) (broker_of self.old) (event_is.Resume connection) [] [] (broker_of self.new) }
         ensures topology { topology_kept self.new ≡ topology_kept self.old }
         ensures turn { self.new.turn ≡ self.old.turn }
+        ensures later { NoneIsLater self.old self.new }
     {
         brokers_stay_agreed();
         consumers_are_made();
@@ -219,13 +233,14 @@ impl Broker {
     }
 
     /// This topology is in force from now on, where no queue in use is gone: each message stands in the queue of its name, is
-    /// marked, and is else as it was, and so are connections and channels. Nobody has the turn. Where memory is wanting, nothing
-    /// has changed.
+    /// marked, and is else as it was, and so are connections and channels. Nobody has the turn; each queue's consumers are gone round
+    /// as before, and the queues from the first. Where memory is wanting, nothing has changed.
     pub fn reload(&mut self, alloc: Global, topology: Topology) -> Result<(), AllocError>
         requires { NoneIsStranded (topology_kept self.old) topology (broker_of self.old) }
         ensures topology { OnOk result (topology_kept self.new ≡ topology) }
         ensures stood { OnOk result (Is (with_all_stood (broker_of self.old)) (broker_of self.new)) }
         ensures turn { OnOk result (self.new.turn ≡ None) }
+        ensures lines { OnOk result (LinesMove self.old self.new) }
         ensures err { OnErr result (self.new ≡ self.old) }
     {
         let empty = Roster::new(alloc, topology.queues().len())?;

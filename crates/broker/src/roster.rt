@@ -84,13 +84,14 @@ impl Roster {
     ghost use Rattle.broker_core.specs.Picked.{IsPickFrom};
     ghost use Rattle.broker_core.specs.Seats.{seat_of};
     ghost use Rattle.broker.specs.Roster.{wakes, IsAt, IsSeated, SeatsNext, HasNoList, MakesNoList, ListsRunning};
-    ghost use Rattle.broker.specs.Roster.{KeepsSeats, KeepsAll, AllWaken, WakesSeat, PicksFirst, AllNearer, ComesIn, GoesOn};
+    ghost use Rattle.broker.specs.Roster.{KeepsSeats, KeepsAll, KeepLines, LetsNextIn, AllWaken, WakesSeat, PicksFirst, GoesOn};
     ghost use Rattle.broker.specs.Moving.{ArePlacesApart, RingsAreMoved, ListsAreEmptied};
 
     /// No seat, for so many queues.
     pub fn new(alloc: Global, queues: usize) -> Result<Roster, AllocError>
         ensures rings { IfOk result (λ r. length r.rings ≡ queues) }
         ensures lists { IfOk result (λ r. r.lists ≡ []) }
+        ensures next { IfOk result (λ r. r.next ≡ 0) }
     {
         Ok(Roster {
             seating: Seating::new(alloc, queues)?,
@@ -108,7 +109,9 @@ impl Roster {
         ensures running { ListsRunning (broker_of core.now) self.old.lists self.new.lists }
         ensures len { length self.new.rings ≡ length self.old.rings }
         ensures quiet { seat_of core.now event.now ≡ None → IsOk result }
-        ensures comes { ComesIn core.now self.old self.new }
+        ensures next { self.new.next ≡ self.old.next }
+        ensures lines { KeepLines core.now self.old.rings self.new.rings }
+        ensures comes { OnOk result (LetsNextIn core.now event.now self.old.rings self.new.rings) }
     {
         let Some(consumer) = core.seat_of(event) else {
             return Ok(());
@@ -192,6 +195,7 @@ impl Roster {
         requires apart { ArePlacesApart places.now (length self.old.rings) }
         ensures moved { RingsAreMoved places.now old.rings self.new.rings }
         ensures lists { ListsAreEmptied old.lists self.new.lists }
+        ensures next { self.new.next ≡ self.old.next }
         ensures len { length self.new.rings ≡ length self.old.rings }
     {
         let Roster {
@@ -214,7 +218,6 @@ impl Roster {
         ensures some { IfSome result (λ p. (place : ℕ) × IsPickFrom core.now place p) }
         ensures none { result ≡ None → (place : ℕ) (p : Consumer) → IsSeated (broker_of core.now) self.old place p → IsPickFrom core.now place p → ⊥ }
         ensures told { IfSome result (λ p. PicksFirst core.now self.old self.new p) }
-        ensures nearer { IfSome result (λ p. AllNearer core.now self.old self.new p) }
         ensures on { result ≡ None → GoesOn self.old self.new }
     {
         let found = self.seating.pick(core, &mut self.desks, self.next)?;

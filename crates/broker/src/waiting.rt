@@ -1,9 +1,9 @@
-//! Nobody waits for ever while others are told.
+//! Nobody waits for ever while others are served.
 
 ghost use Rattle.broker.specs.Waiting.{NobodyWaits};
 
-/// Nobody is passed over more often than there are seats in its ring, times the queues, and once for each queue with each seat
-/// that is made meanwhile.
+/// Nobody is passed over by more deliveries than there are consumers in its line, times the queues, and one of each queue with each
+/// consumer that comes in meanwhile.
 pub fn nobody_waits()
     ensures { NobodyWaits }
 {}

@@ -199,15 +199,15 @@ pumped_engine (Err x) notes old new c e st made ok err = not_pumped_engine old n
 -- ---- where the broker picked first, which leaves it as it was but for the turn
 
 -- whose turn it is matters to nothing that an engine keeps
-turned_engine : (old : Parts) (turn : Option Pick) → IsEngine old → IsEngine (record old { broker = record old.broker { turn = turn } })
-turned_engine old turn e = record { hold = e.hold; formed = e.formed; links = e.links; consistent = e.consistent; named = e.named }
+turned_engine : (old : Parts) (b : WithTurn) → IsEngine old → IsEngine (record old { broker = record b { kept = old.broker.kept } })
+turned_engine old b e = record { hold = e.hold; formed = e.formed; links = e.links; consistent = e.consistent; named = e.named }
 
--- the same with this kept, and the turn of b
+-- the same with this kept, and the turns of b
 abbrev with_kept : Parts → WithTurn → Kept → Parts
-with_kept old b kept = record old { broker = record { kept = kept; turn = b.turn } }
+with_kept old b kept = record old { broker = record b { kept = kept } }
 
 pub picked_engine : (old : Parts) (b : WithTurn) → b.kept ≡ old.broker.kept → IsEngine old → IsEngine (record old { broker = b })
-picked_engine old b same e = subst (λ (k : Kept). IsEngine (with_kept old b k)) (sym same) (turned_engine old b.turn e)
+picked_engine old b same e = subst (λ (k : Kept). IsEngine (with_kept old b k)) (sym same) (turned_engine old b e)
 
 pub picked_pumps : (old new : Parts) (b : WithTurn) (c : ℕ) (notes : List Note) → IsEngine old → b.kept ≡ old.broker.kept → Stays (record old { broker = b }) new
     → LinksPumped (topology_kept b) (broker_of b) c old.links notes (broker_of new.broker) new.links → IsPump (world_of old) c notes (world_of new)

@@ -15,7 +15,7 @@ ghost use Rattle.broker_core.specs.declared.picks.Pick.{Pick as Consumer};
 ghost use Rattle.broker.specs.declared.roster.seats.Seat.{Seat as Taken};
 ghost use Rattle.broker.specs.Lines.{turned, AreDistinct};
 ghost use Rattle.broker.specs.Roster.{ring_of, picks, is_consumer, is_seat_of, has_its_consumer, IsAwakeAt, IsAwake, IsAsleep, StaysAt};
-ghost use Rattle.broker.specs.Roster.{KeepsIn, KeepsRing, IsNoLater, IsOneLater, NoneAwake, NoneAwakePassed, ListsMore, Dozes, Wakens};
+ghost use Rattle.broker.specs.Roster.{KeepsIn, KeepsRing, KeepsThose, KeepsOthers, NoneAwake, NoneAwakePassed, ListsMore, Dozes, Wakens};
 ghost use Rattle.broker.specs.Moving.{all_awake};
 
 use crate::roster::desk::{Desks, Listed, list_seat};
@@ -143,7 +143,7 @@ fn make_room(
     ensures kept { KeepsRing core.now (ring_of seats.old.items awake.old) (ring_of seats.new.items awake.new) }
     ensures fewer { (p : Consumer) → IsIn p (picks seats.new.items) → IsIn p (picks seats.old.items) }
     ensures apart { AreDistinct (picks seats.old.items) → AreDistinct (picks seats.new.items) }
-    ensures later { IsNoLater core.now (turned next.old (picks seats.old.items)) (turned next.new (picks seats.new.items)) }
+    ensures line { KeepsThose core.now (turned next.old (picks seats.old.items)) (turned next.new (picks seats.new.items)) }
     ensures bounded { (length seats.new.items < vec_capacity seats.old) ⊎ (length seats.new.items ≤ count_by (has_its_consumer core.now) seats.new.items) }
 {
     if seats.len() < seats.capacity() {
@@ -170,7 +170,7 @@ fn add_seat(
     requires absent { IsIn consumer (picks seats.old.items) → ⊥ }
     ensures marks { length seats.new.items ≤ length awake.new * 64 }
     ensures apart { AreDistinct (picks seats.old.items) → AreDistinct (picks seats.new.items) }
-    ensures later { IsOneLater core.now (turned next.old (picks seats.old.items)) (turned next.new (picks seats.new.items)) }
+    ensures line { KeepsOthers core.now consumer (turned next.old (picks seats.old.items)) (turned next.new (picks seats.new.items)) }
     ensures bounded { (length seats.new.items ≤ vec_capacity seats.old) ⊎ (length seats.new.items ≤ count_by (has_its_consumer core.now) seats.new.items + 1) }
     ensures seated { OnOk result (IsAwake (ring_of seats.new.items awake.new) consumer) }
     ensures kept { KeepsRing core.now (ring_of seats.old.items awake.old) (ring_of seats.new.items awake.new) }
@@ -353,7 +353,7 @@ impl Ring {
     ghost use Rattle.marks.specs.Places.{bit_of};
     ghost use Rattle.broker_core.specs.declared.picks.Pick.{Pick as Consumer};
     ghost use Rattle.broker_core.specs.Picked.{IsPickFrom};
-    ghost use Rattle.broker.specs.Roster.{order, IsAwake, IsAsleep, KeepsIn, KeepsRing, NoneSeated, GoesLast, IsOneLater, IsBounded, ListsMore, Wakens};
+    ghost use Rattle.broker.specs.Roster.{order, IsAwake, IsAsleep, KeepsIn, KeepsRing, NoneSeated, GoesLast, KeepsLine, LetsIn, IsBounded, ListsMore, Wakens};
     ghost use Rattle.broker.specs.Moving.{AllRoused};
 
     /// No seat. It takes no memory.
@@ -372,7 +372,8 @@ impl Ring {
     pub fn seat(&mut self, core: &Core, consumer: Pick) -> Result<(), AllocError>
         ensures seated { OnOk result (IsAwake self.new consumer) }
         ensures kept { KeepsRing core.now self.old self.new }
-        ensures later { IsOneLater core.now (order self.old) (order self.new) }
+        ensures line { KeepsLine core.now self.old self.new }
+        ensures comes { OnOk result (LetsIn core.now consumer self.old self.new) }
         ensures bounded { IsBounded core.now self.old self.new }
     {
         if wake_seat(&mut self.seats, &mut self.awake, consumer, 0) {

@@ -8,9 +8,9 @@ ghost use Rattle.std.specs.Prelude.{◌≡◌, ◌<◌, ◌≤◌, ◌*◌, [], 
 ghost use Rattle.marks.specs.Places.{bit_of};
 ghost use Rattle.broker_core.specs.State.{topology_kept};
 ghost use Rattle.broker_core.specs.Picked.{IsPickFrom};
-ghost use Rattle.broker.specs.Roster.{ring_at, rings_of, IsAwake, IsAsleep, QueuesAreMarked, IsNextMarked, KeepRings, AreOneLater};
+ghost use Rattle.broker.specs.Roster.{ring_at, rings_of, IsAwake, IsAsleep, QueuesAreMarked, IsNextMarked, KeepRings, KeepLines, LetsIn};
 ghost use Rattle.broker.specs.Roster.{IsBounded, KeepsSeats, ListsMore, AllWaken, NoneSeated, NoneBetween, NonePassed, PicksFrom, SameOrders};
-ghost use Rattle.broker.specs.Moving.{AllRoused, ArePlacesApart, RingsAreMoved};
+ghost use Rattle.broker.specs.Moving.{IsMoved, ArePlacesApart, RingsAreMoved};
 ghost use Rattle.broker_core.specs.declared.picks.Pick.{Pick as Consumer};
 
 use crate::roster::desk::Desks;
@@ -62,7 +62,8 @@ fn seat_at(
     requires marked { QueuesAreMarked rings.old awake.old }
     ensures seated { OnOk result (IsAwake (ring_at rings.new queue) consumer) }
     ensures kept { KeepRings core.now rings.old rings.new }
-    ensures later { AreOneLater core.now rings.old rings.new }
+    ensures lines { KeepLines core.now rings.old rings.new }
+    ensures comes { OnOk result (LetsIn core.now consumer (ring_at rings.old queue) (ring_at rings.new queue)) }
     ensures bounded { IsBounded core.now (ring_at rings.old queue) (ring_at rings.new queue) }
     ensures marked { QueuesAreMarked rings.new awake.new }
 {
@@ -217,7 +218,7 @@ fn mark_ring(awake: &mut SeatMarks, ring: &Ring, place: usize)
 fn take_ring(rings: &mut [Ring], awake: &mut SeatMarks, place: usize, ring: &mut Ring)
     requires within { place < length rings.old }
     requires marked { QueuesAreMarked rings.old awake.old }
-    ensures roused { AllRoused ring.old (ring_at rings.new place) }
+    ensures moved { IsMoved ring.old (ring_at rings.new place) }
     ensures others { (i : ℕ) → (i ≡ place → ⊥) → ring_at rings.new i ≡ ring_at rings.old i }
     ensures marked { QueuesAreMarked rings.new awake.new }
 {
@@ -229,7 +230,7 @@ fn take_ring(rings: &mut [Ring], awake: &mut SeatMarks, place: usize, ring: &mut
 /// The same, where the place is there.
 fn move_ring(rings: &mut [Ring], awake: &mut SeatMarks, place: usize, ring: &mut Ring)
     requires { QueuesAreMarked rings.old awake.old }
-    ensures roused { place < length rings.old → AllRoused ring.old (ring_at rings.new place) }
+    ensures moved { place < length rings.old → IsMoved ring.old (ring_at rings.new place) }
     ensures others { (i : ℕ) → (i ≡ place → ⊥) → ring_at rings.new i ≡ ring_at rings.old i }
     ensures marked { QueuesAreMarked rings.new awake.new }
 {
@@ -280,7 +281,7 @@ impl Seating {
     ghost use Rattle.std.specs.Prelude.{◌≡◌, ◌<◌, ◌+◌, ◌^◌, ℕ, None, IfSome, IfOk, OnOk, length};
     ghost use Rattle.broker_core.specs.State.{topology_kept};
     ghost use Rattle.broker_core.specs.Picked.{IsPickFrom};
-    ghost use Rattle.broker.specs.Roster.{ring_at, rings_of, IsAwake, IsAsleep, KeepRings, AreOneLater, IsBounded};
+    ghost use Rattle.broker.specs.Roster.{ring_at, rings_of, IsAwake, IsAsleep, KeepRings, KeepLines, LetsIn, IsBounded};
     ghost use Rattle.broker.specs.Roster.{KeepsSeats, ListsMore, AllWaken, NoneBetween, NonePassed, PicksFrom, SameOrders};
     ghost use Rattle.broker.specs.Moving.{ArePlacesApart, RingsAreMoved};
 
@@ -299,7 +300,8 @@ impl Seating {
         requires { queue < length self.old }
         ensures seated { OnOk result (IsAwake (ring_at self.new queue) consumer) }
         ensures kept { KeepRings core.now self.old self.new }
-        ensures later { AreOneLater core.now self.old self.new }
+        ensures lines { KeepLines core.now self.old self.new }
+        ensures comes { OnOk result (LetsIn core.now consumer (ring_at self.old queue) (ring_at self.new queue)) }
         ensures bounded { IsBounded core.now (ring_at self.old queue) (ring_at self.new queue) }
         ensures len { length self.new ≡ length self.old }
     {

@@ -1,14 +1,16 @@
 use Rattle.std.proofs.Common.{ℕ, refl, sym, subst}
 use Rattle.model.specs.Consuming.{CanDeliver}
-use Rattle.broker.specs.Roster.{Rings, HasConsumer}
+use Rattle.broker.specs.Roster.{Rings, HasConsumer, PicksFirst}
 use Rattle.broker.specs.Turns as seen
-use Rattle.broker.specs.Turns.{WithTurn}
+use Rattle.broker.specs.Turns.{WithTurn, with_turn}
 use Rattle.broker_core.specs.State.{Kept, broker_of, topology_kept}
 use Rattle.broker_core.specs.declared.picks.Pick.{Pick}
 use Rattle.broker_core.specs.Picked.{IsPick, IsPickFrom}
 use Rattle.broker_core.proofs.Picking.{pick_from}
-use Rattle.broker.proofs.Outcomes.{if_some}
+use Rattle.broker.proofs.Outcomes.{if_some, told_some}
 use Rattle.broker.proofs.Seated.{holds, serves, serves_kept, running_still}
+use Rattle.broker.specs.Waiting.{IsToldInTurn}
+use Rattle.broker.proofs.Turning.{told_in_turn}
 use Rattle.broker.proofs.brokers.Broker.find.Goals as goal
 
 pub returns-clause-none : goal.returns-clause-none
@@ -31,3 +33,12 @@ invariant_of-self c =
     serves kept after
     (serves_kept kept before after c.pick-self-inside.ensures.kept c.pick-self-inside.ensures.len (holds kept before c.self.invariant))
     (running_still (broker_of kept) (broker_of kept) before.lists after.lists (λ d none. none) c.pick-self-inside.ensures.no_list c.self.invariant.running)
+
+pub returns-clause-in_turn : goal.returns-clause-in_turn
+returns-clause-in_turn c =
+    let kept : Kept = c.self.inside.core in
+    let before : Rings = c.self.inside.roster in
+    let after : Rings = c.pick-self-inside.new.self in
+    subst (λ (b : WithTurn). IsToldInTurn b c.pick-self-inside.result (with_turn kept after c.pick-self-inside.result)) c.self.view_is
+    (told_in_turn kept before after c.self.inside.turn c.pick-self-inside.result (holds kept before c.self.invariant) c.pick-self-inside.ensures.len
+    (λ p is. told_some c.pick-self-inside.result p (PicksFirst kept before after) is c.pick-self-inside.ensures.told) c.pick-self-inside.ensures.none)

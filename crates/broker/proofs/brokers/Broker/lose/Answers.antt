@@ -1,9 +1,12 @@
-use Rattle.std.proofs.Common.{[], refl}
+use Rattle.std.proofs.Common.{[], refl, subst}
 use Rattle.model.specs.declared.events.Event.TheVariants.{Lose}
 use Rattle.broker_core.specs.State.{Kept, broker_of, topology_kept}
 use Rattle.broker.specs.Roster.{Rings}
 use Rattle.broker.proofs.Ending.{others_run}
-use Rattle.broker.proofs.Seated.{holds, serves, serves_asleep, serves_kept, running_but}
+use Rattle.broker.proofs.Seated.{holds, was_there, serves, serves_asleep, serves_kept, running_but}
+use Rattle.broker.specs.Turns.{WithTurn, with_turn}
+use Rattle.broker.specs.Waiting.{NoneIsLater}
+use Rattle.broker.proofs.Turning.{none_later}
 use Rattle.broker.proofs.brokers.Broker.lose.Goals as goal
 
 pub invariant_of-self : goal.invariant_of-self
@@ -16,3 +19,13 @@ invariant_of-self c =
     (serves_kept new before after c.forget.ensures.kept c.forget.ensures.len
     (serves_asleep c.brokers_stay_agreed.ensures.acts c.consumers_are_made.ensures (topology_kept old) old new (Lose c.args.connection) [] [] before c.lose.ensures.acts (λ p. refl) refl refl c.lose.ensures.topology (holds old before c.self.invariant)))
     (running_but (broker_of old) (broker_of new) before.lists after.lists c.args.connection (others_run (topology_kept old) (broker_of old) (broker_of new) [] [] (Lose c.args.connection) c.lose.ensures.acts) c.forget.ensures.gone c.forget.ensures.none c.self.invariant.running)
+
+pub returns-clause-later : goal.returns-clause-later
+returns-clause-later c =
+    let old : Kept = c.self.inside.core in
+    let new : Kept = c.lose.new.self in
+    let before : Rings = c.self.inside.roster in
+    let after : Rings = c.forget.new.self in
+    subst (λ (b : WithTurn). NoneIsLater b (with_turn new after c.self.inside.turn)) c.self.view_is
+    (none_later old new before after c.self.inside.turn c.self.inside.turn c.lose.ensures.topology (holds old before c.self.invariant) c.forget.ensures.len c.forget.ensures.on.same c.forget.ensures.on.next
+    (was_there c.consumers_are_made.ensures (topology_kept old) (broker_of old) (broker_of new) (Lose c.args.connection) [] [] c.lose.ensures.acts refl))

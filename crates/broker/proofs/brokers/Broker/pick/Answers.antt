@@ -1,6 +1,9 @@
 use Rattle.std.proofs.Common.{◌∙◌, refl, sym, ap, subst}
 use Rattle.broker_core.specs.Picked.{IsPick}
 use Rattle.broker.specs.Turns.{WithTurn, broker_of}
+use Rattle.broker.specs.Waiting.{AllStand}
+use Rattle.broker.proofs.Seated.{holds}
+use Rattle.broker.proofs.Turning.{all_stand}
 use Rattle.broker.proofs.brokers.Broker.pick.Goals as goal
 
 pub returns-in-Some-clause-some : goal.returns-in-Some-clause-some
@@ -9,3 +12,11 @@ returns-in-Some-clause-some c = subst (λ (b : WithTurn). IsPick (broker_of b) c
 pub returns-in-None-clause-again : goal.returns-in-None-clause-again
 returns-in-None-clause-again c = λ p is pick.
     absurd (c.in-None.ensures.none refl p (ap (λ (b : WithTurn). b.turn) c.self.view_is ∙ is) (subst (λ (b : WithTurn). IsPick (broker_of b) p) (sym c.self.view_is) pick))
+
+pub returns-in-Some-clause-stand : goal.returns-in-Some-clause-stand
+returns-in-Some-clause-stand c =
+    subst AllStand c.self.view_is (all_stand c.self.inside.core c.self.inside.roster c.self.inside.turn (holds c.self.inside.core c.self.inside.roster c.self.invariant))
+
+pub returns-in-None-clause-stand : goal.returns-in-None-clause-stand
+returns-in-None-clause-stand c =
+    subst AllStand c.self.view_is (all_stand c.self.inside.core c.self.inside.roster c.self.inside.turn (holds c.self.inside.core c.self.inside.roster c.self.invariant))

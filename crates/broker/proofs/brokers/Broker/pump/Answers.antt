@@ -1,12 +1,15 @@
-use Rattle.std.proofs.Common.{refl, sym, subst}
+use Rattle.std.proofs.Common.{None, refl, sym, subst}
 use Rattle.model.specs.declared.events.Event.TheVariants.{Deliver}
 use Rattle.broker_core.specs.Picked.{IsPick}
 use Rattle.broker.specs.Roster.{Rings, IsServing}
 use Rattle.broker.specs.Turns as seen
-use Rattle.broker.specs.Turns.{WithTurn}
+use Rattle.broker.specs.Turns.{WithTurn, with_turn}
 use Rattle.broker_core.specs.State.{Kept, broker_of, topology_kept}
 use Rattle.broker.proofs.Ending.{delivery_runs}
-use Rattle.broker.proofs.Seated.{holds, serves, serves_asleep, running_still}
+use Rattle.broker.proofs.Seated.{holds, was_there, serves, serves_asleep, running_still}
+use Rattle.broker.specs.Waiting.{NoneIsLater}
+use Rattle.broker.proofs.Turning.{none_later}
+use Rattle.broker.proofs.Waits.{serves_soon}
 use Rattle.broker.proofs.brokers.Broker.pump.Goals as goal
 
 pub deliver-requires-clause-picked : goal.deliver-requires-clause-picked
@@ -29,3 +32,15 @@ invariant_of-self-2 c =
 
 pub returns-clause-addressed : goal.returns-clause-addressed
 returns-clause-addressed c = rw (← c.self.view_is) c.in_ok-step.ensures.addressed
+
+pub returns-clause-later : goal.returns-clause-later
+returns-clause-later c =
+    let old : Kept = c.self.inside.core in
+    let new : Kept = c.deliver.new.self in
+    let rings : Rings = c.self.inside.roster in
+    subst (λ (b : WithTurn). NoneIsLater b (with_turn new rings None)) c.self.view_is
+    (none_later old new rings rings c.self.inside.turn None c.deliver.ensures.topology (holds old rings c.self.invariant) refl (λ at. refl) refl
+    (was_there c.consumers_are_made.ensures (topology_kept old) (broker_of old) (broker_of new) (Deliver c.args.pick.connection) _ _ c.in_ok-step.ensures.ok refl))
+
+pub returns-clause-soon : goal.returns-clause-soon
+returns-clause-soon c = serves_soon c.args.self.now c.args.pick

@@ -1,4 +1,4 @@
-use Rattle.std.proofs.Common.{◌≡◌, ◌∙◌, ℕ, List, length, sym, ap, subst}
+use Rattle.std.proofs.Common.{◌≡◌, ◌∙◌, ℕ, List, None, length, sym, ap, subst}
 use Rattle.model.specs.Topology.{Topology, queue_names}
 use Rattle.model.specs.Reloading.{NoneIsStranded}
 use Rattle.depot.specs.Moving.{AreMoved}
@@ -7,8 +7,10 @@ use Rattle.broker_core.specs.State.{Kept, topology_kept, names_of}
 use Rattle.broker.specs.Roster.{Rings}
 use Rattle.broker.specs.Moving.{ArePlacesApart, RingsAreMoved, ListsAreEmptied}
 use Rattle.broker.specs.Turns as seen
-use Rattle.broker.specs.Turns.{WithTurn}
-use Rattle.broker.proofs.Reloading.{places_apart, serves_moved}
+use Rattle.broker.specs.Turns.{WithTurn, with_turn}
+use Rattle.broker.specs.Waiting.{LinesMove}
+use Rattle.broker.proofs.Seated.{holds}
+use Rattle.broker.proofs.Reloading.{places_apart, serves_moved, lines_moved}
 use Rattle.broker.proofs.brokers.Broker.reload.Goals as goal
 
 pub reload-requires-clause-kept : goal.reload-requires-clause-kept
@@ -37,3 +39,19 @@ invariant_of-self-2 c =
     (subst (λ (r : Rings). RingsAreMoved places r.rings left.rings) c.replace-old.ensures.value (subst (λ (ps : List ℕ). RingsAreMoved ps c.replace-old.result.rings left.rings) c.deref.ensures.value c.take_over.ensures.moved))
     (subst (λ (r : Rings). ListsAreEmptied r.lists left.lists) c.replace-old.ensures.value c.take_over.ensures.lists)
     (c.take_over.ensures.len ∙ count ∙ ap (λ (x : Topology). length x.queues) (sym is))
+
+pub returns-clause-lines : goal.returns-clause-lines
+returns-clause-lines c =
+    let old : Kept = c.self.inside.core in
+    let new : Kept = c.reload.new.self in
+    let before : Rings = c.self.inside.roster in
+    let left : Rings = c.take_over.new.self in
+    let places = c.in_ok-places.places.items in
+    let is : topology_kept new ≡ c.args.topology = c.in_ok-places.ensures.topology in
+    let count : length c.replace-old.new.dest.rings ≡ length c.args.topology.queues = ap (λ (r : Rings). length r.rings) c.replace-old.ensures.after ∙ c.in_ok-empty.ensures.rings ∙ ap length c.queues.ensures in
+    subst (λ (b : WithTurn). LinesMove b (with_turn new left None)) c.self.view_is
+    (lines_moved old new places c.is_kept-2.ensures.whole c.is_kept.ensures.placed (subst (λ (x : Topology). AreMoved (names_of old) (queue_names x.queues) places) (sym is) c.in_ok-places.ensures.moved) c.in_ok-places.ensures.stood
+    before left c.self.inside.turn (holds old before c.self.invariant)
+    (subst (λ (r : Rings). RingsAreMoved places r.rings left.rings) c.replace-old.ensures.value (subst (λ (ps : List ℕ). RingsAreMoved ps c.replace-old.result.rings left.rings) c.deref.ensures.value c.take_over.ensures.moved))
+    (c.take_over.ensures.len ∙ count ∙ ap (λ (x : Topology). length x.queues) (sym is))
+    (c.take_over.ensures.next ∙ ap (λ (r : Rings). r.next) c.replace-old.ensures.after ∙ c.in_ok-empty.ensures.next))

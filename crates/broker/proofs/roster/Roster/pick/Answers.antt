@@ -1,7 +1,6 @@
-use Rattle.std.proofs.Common.{◌∙◌, ◌+◌, length, refl, sym, ap, subst, arith}
+use Rattle.std.proofs.Common.{◌+◌, length, refl, sym, ap, subst, arith}
 use Rattle.broker_core.specs.State.{broker_of}
 use Rattle.broker.specs.Roster.{Rings, IsSeated, PicksFirst, GoesOn}
-use Rattle.broker.proofs.Nearer.{all_nearer}
 use Rattle.broker.proofs.roster.Roster.pick.Goals as goal
 
 pub returns-in_err-found-clause-none : goal.returns-in_err-found-clause-none
@@ -22,19 +21,12 @@ returns-clause-told c =
     subst (λ (r : Rings). PicksFirst c.args.core.now r new c.in_ok-found.found.pick) c.self.view_is
     (record {
       queue = c.in_ok-found.found.queue;
+      could = c.in_ok-found.ensures.some;
       within = let lt = c.in_ok-found.ensures.within in let len = c.pick.ensures.len in omega (arith, lt, len);
       passed = c.in_ok-found.ensures.passed;
       told = c.in_ok-found.ensures.told;
       next = refl;
     })
-
-pub returns-clause-nearer : goal.returns-clause-nearer
-returns-clause-nearer c = λ place p seated pick far.
-    let long = ap (λ (r : Rings). length r.rings) c.self.view_is in
-    let lt = pick.within in
-    let len = c.requires in
-    let new : Rings = record { rings = c.pick.new.self; lists = c.pick.new.desks.entries; next = c.in_ok-found.found.queue + 1 } in
-    all_nearer c.args.core.now c.args.self.now new c.in_ok-found.found.pick (c.pick.ensures.len ∙ long) (returns-clause-told c) place p (omega (arith, lt, len, long)) seated pick far
 
 pub returns-clause-kept : goal.returns-clause-kept
 returns-clause-kept c = λ place p i has. c.in_ok-found.ensures.kept place p (subst (λ (r : Rings). IsSeated (broker_of c.args.core.now) r place p) (sym c.self.view_is) i) has

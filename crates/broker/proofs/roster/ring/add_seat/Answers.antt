@@ -1,10 +1,10 @@
-use Rattle.std.proofs.Common.{◌≤◌, ◌+◌, ◌⊎◌, List, [], ◌∷◌, length, count_by, sym, subst, arith}
+use Rattle.std.proofs.Common.{◌∙◌, ◌≤◌, ◌+◌, ◌⊎◌, List, [], ◌∷◌, length, filter, count_by, sym, ap, subst}
 use Rattle.std.specs.Prelude.{vec_capacity}
 use Rattle.broker_core.specs.State.{broker_of}
 use Rattle.broker.specs.declared.roster.seats.Seat.{Seat}
-use Rattle.broker.specs.Lines.{turned, standing, AreDistinct}
-use Rattle.broker.specs.Roster.{ring_of, picks, is_consumer, has_its_consumer, awake_seat, IsSeatedIn}
-use Rattle.broker.proofs.Later.{later_end, bounded_end}
+use Rattle.broker.specs.Lines.{turned, AreDistinct}
+use Rattle.broker.specs.Roster.{ring_of, picks, has_its_consumer, awake_seat, IsSeatedIn}
+use Rattle.broker.proofs.Later.{others_end, bounded_end}
 use Rattle.broker.proofs.Picks.{apart_end}
 use Rattle.broker.proofs.Sleeping.{pushed}
 use Rattle.broker.proofs.roster.ring.add_seat.Goals as goal
@@ -19,12 +19,10 @@ returns-clause-apart c = λ apart.
     subst (λ (xs : List Seat). AreDistinct (picks xs)) (sym c.push_reserved.ensures.items)
     (apart_end c.make_room.new.seats.items (awake_seat c.args.consumer) (c.make_room.ensures.apart apart) (λ i. c.requires.absent (c.make_room.ensures.fewer c.args.consumer i)))
 
-pub returns-clause-later : goal.returns-clause-later
-returns-clause-later c = λ p has.
-    let more = later_end p c.make_room.new.seats.items (awake_seat c.args.consumer) c.make_room.new.next in
-    let less = c.make_room.ensures.later p has in
-    subst (λ (xs : List Seat). standing (is_consumer p) (turned c.make_room.new.next (picks xs)) ≤ standing (is_consumer p) (turned c.args.next.now (picks c.args.seats.now.items)) + 1) (sym c.push_reserved.ensures.items)
-    (omega (arith, more, less))
+pub returns-clause-line : goal.returns-clause-line
+returns-clause-line c = λ test there none.
+    ap (λ (xs : List Seat). filter test (turned c.make_room.new.next (picks xs))) c.push_reserved.ensures.items
+    ∙ others_end c.make_room.new.seats.items (awake_seat c.args.consumer) c.make_room.new.next test none ∙ c.make_room.ensures.line test there
 
 pub returns-clause-bounded : goal.returns-clause-bounded
 returns-clause-bounded c =

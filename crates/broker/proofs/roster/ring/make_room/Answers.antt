@@ -1,7 +1,7 @@
 use Rattle.std.proofs.Common.{◌∙◌, List, length, take, count_by, inl, inr, ap, arith}
 use Rattle.broker.specs.declared.roster.seats.Seat.{Seat}
 use Rattle.broker.specs.Roster.{ring_of, has_its_consumer}
-use Rattle.broker.proofs.Later.{later_swept, all_stay}
+use Rattle.broker.proofs.Later.{those_swept, all_stay}
 use Rattle.broker.proofs.Picks.{fewer_swept, apart_swept}
 use Rattle.broker.proofs.Sleeping.{swept}
 use Rattle.broker.proofs.roster.ring.make_room.Goals as goal
@@ -31,17 +31,17 @@ returns-clause-apart c = apart_swept c.args.core.now c.args.seats.now.items c.re
 pub returns-then-len-capacity-clause-bounded : goal.returns-then-len-capacity-clause-bounded
 returns-then-len-capacity-clause-bounded c = inl (let less = c.if-len-capacity.true in omega (arith, less))
 
-pub returns-in_err-grow-clause-later : goal.returns-in_err-grow-clause-later
-returns-in_err-grow-clause-later c = λ p has.
+pub returns-in_err-grow-clause-line : goal.returns-in_err-grow-clause-line
+returns-in_err-grow-clause-line c =
     let least = c.min-before.ensures in
-    later_swept c.args.core.now c.args.seats.now.items c.sweep.new.seats.items c.args.next.now c.min-before.result c.staying.result p c.sweep.ensures.seats (omega (arith, least))
-    (c.staying.ensures ∙ ap (λ (xs : List Seat). count_by (has_its_consumer c.args.core.now) xs) (c.split_at.ensures.front ∙ ap (λ (xs : List Seat). take c.min-before.result xs) c.deref.ensures.value)) has
+    those_swept c.args.core.now c.args.seats.now.items c.sweep.new.seats.items c.args.next.now c.min-before.result c.staying.result c.sweep.ensures.seats (omega (arith, least))
+    (c.staying.ensures ∙ ap (λ (xs : List Seat). count_by (has_its_consumer c.args.core.now) xs) (c.split_at.ensures.front ∙ ap (λ (xs : List Seat). take c.min-before.result xs) c.deref.ensures.value))
 
-pub returns-clause-later : goal.returns-clause-later
-returns-clause-later c = λ p has.
+pub returns-clause-line : goal.returns-clause-line
+returns-clause-line c =
     let least = c.min-before.ensures in
-    later_swept c.args.core.now c.args.seats.now.items c.reserve.new.self.items c.args.next.now c.min-before.result c.staying.result p (c.reserve.ensures.items ∙ c.sweep.ensures.seats) (omega (arith, least))
-    (c.staying.ensures ∙ ap (λ (xs : List Seat). count_by (has_its_consumer c.args.core.now) xs) (c.split_at.ensures.front ∙ ap (λ (xs : List Seat). take c.min-before.result xs) c.deref.ensures.value)) has
+    those_swept c.args.core.now c.args.seats.now.items c.reserve.new.self.items c.args.next.now c.min-before.result c.staying.result (c.reserve.ensures.items ∙ c.sweep.ensures.seats) (omega (arith, least))
+    (c.staying.ensures ∙ ap (λ (xs : List Seat). count_by (has_its_consumer c.args.core.now) xs) (c.split_at.ensures.front ∙ ap (λ (xs : List Seat). take c.min-before.result xs) c.deref.ensures.value))
 
 pub returns-in_err-grow-clause-bounded : goal.returns-in_err-grow-clause-bounded
 returns-in_err-grow-clause-bounded c = inr (all_stay c.args.core.now c.args.seats.now.items c.sweep.new.seats.items c.sweep.ensures.seats)

@@ -2,8 +2,8 @@ use Rattle.std.proofs.Common.{◌≡◌, ◌∙◌, ◌<◌, ℕ, [], length, ge
 use Rattle.std.proofs.lemmas.List.{get_or-set_other}
 use Rattle.channel.specs.Moving.{place_now}
 use Rattle.links.proofs.Setting.{same_default}
-use Rattle.broker.specs.Roster.{Seats, ring_at, IsAwake}
-use Rattle.broker.specs.Moving.{StandsIn, AllRoused, ArePlacesApart}
+use Rattle.broker.specs.Roster.{Seats, ring_at}
+use Rattle.broker.specs.Moving.{IsMoved, ArePlacesApart}
 use Rattle.broker.proofs.Moving.{one_moved}
 use Rattle.broker.proofs.roster.seating.move_rings.Goals as goal
 
@@ -23,9 +23,9 @@ loop-from-preserved c =
     let same_len = c.requires.len in
     let now : get_or places from 0 ≡ place_now places from = same_default places from 0 from lt in
     let ring : ring_at olds from ≡ get_or old from one = sym (c.loop-from.invariant.behind from (omega arith)) ∙ same_default old from none one (omega (arith, lt, old_len, same_len)) in
-    let here : place_now places from < length mid → AllRoused (ring_at olds from) (ring_at new (place_now places from)) =
-    λ there p stands.
-    subst (λ (n : ℕ). IsAwake (ring_at new n) p) now (c.move_ring.ensures.roused (omega (arith, now, there)) p (subst (λ (r : Seats). StandsIn r p) ring stands)) in
+    let here : place_now places from < length mid → IsMoved (ring_at olds from) (ring_at new (place_now places from)) =
+    λ there.
+    subst (λ (n : ℕ). IsMoved (ring_at olds from) (ring_at new n)) now (subst (λ (r : Seats). IsMoved r (ring_at new (get_or places from 0))) (sym ring) (c.move_ring.ensures.moved (omega (arith, now, there)))) in
     record {
       behind = λ i le. get_or-set_other old from i c.move_ring.new.ring none (λ same. omega (arith, same, le)) ∙ c.loop-from.invariant.behind i (omega (arith, le));
       moved = λ i le there.

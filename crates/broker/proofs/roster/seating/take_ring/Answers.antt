@@ -1,12 +1,14 @@
 use Rattle.std.proofs.Common.{◌∙◌, [], sym, subst}
 use Rattle.std.proofs.lemmas.List.{get_or-set_same}
 use Rattle.broker.specs.Roster.{Seats, IsAwake}
+use Rattle.broker.specs.Moving.{IsMoved}
 use Rattle.broker.proofs.Moving.{marked_moved}
 use Rattle.broker.proofs.roster.seating.take_ring.Goals as goal
 
-pub returns-clause-roused : goal.returns-clause-roused
-returns-clause-roused c = λ p stands.
-    subst (λ (r : Seats). IsAwake r p) (sym (get_or-set_same c.args.rings.now c.args.place c.swap.new.x (record { seats = []; marks = []; next = 0; room = 0 }) c.requires.within ∙ c.swap.ensures.x_after)) (c.wake_all.ensures.roused p stands)
+pub returns-clause-moved : goal.returns-clause-moved
+returns-clause-moved c =
+    subst (IsMoved c.args.ring.now) (sym (get_or-set_same c.args.rings.now c.args.place c.swap.new.x (record { seats = []; marks = []; next = 0; room = 0 }) c.requires.within ∙ c.swap.ensures.x_after))
+    (record { roused = c.wake_all.ensures.roused; same = c.wake_all.ensures.same })
 
 pub returns-clause-marked : goal.returns-clause-marked
 returns-clause-marked c =

@@ -1,0 +1,152 @@
+-- Those of a line who pass a test, and how many of them stand before one.
+use Rattle.std.proofs.Common.{◌≡◌, ◌∙◌, ◌≤◌, ◌+◌, ◌++◌, ◌⊎◌, ℕ, zero, suc, List, [], ◌∷◌, Bool, true, false, if◌then◌else◌, cond, take, drop, filter, inl, inr, refl, sym, ap, subst, arith}
+use Rattle.std.proofs.lemmas.Bool.{false≢true}
+use Rattle.std.proofs.lemmas.List.{take-append-drop, append-nil}
+use Rattle.std.proofs.lemmas.List.Elements.{filter-append}
+use Rattle.model.specs.Topology.{IsIn}
+use Rattle.broker.specs.Lines.{turned, standing, AreDistinct}
+use Rattle.broker.proofs.Lining.{in_either}
+
+-- ---- how many stand before one
+
+module _ {X : Type 0} (is : X → Bool) (p : X) (own : is p ≡ true) (only : (x : X) → is x ≡ true → p ≡ x) where
+  -- where fewer pass
+  pub fewer : (f g : X → Bool) (xs : List X) → ((x : X) → IsIn x xs → f x ≡ true → g x ≡ true) → f p ≡ true → standing is (filter f xs) ≤ standing is (filter g xs)
+  fewer f g [] sub its = omega arith
+  fewer f g (x ∷ xs) sub its = go (f x) (g x) (is x) refl refl refl (fewer f g xs (λ y i. sub y (inr i)) its)
+    where
+      go : (u v w : Bool) → f x ≡ u → g x ≡ v → is x ≡ w → standing is (filter f xs) ≤ standing is (filter g xs)
+          → standing is (cond u (x ∷ filter f xs) (filter f xs)) ≤ standing is (cond v (x ∷ filter g xs) (filter g xs))
+      go true true w a b e le = subst (λ (z : Bool). (if z then 0 else 1 + standing is (filter f xs)) ≤ (if z then 0 else 1 + standing is (filter g xs))) (sym e) (by w)
+        where
+          by : (z : Bool) → (if z then 0 else 1 + standing is (filter f xs)) ≤ (if z then 0 else 1 + standing is (filter g xs))
+          by true = omega arith
+          by false = omega (arith, le)
+      go true false w a b e le = absurd (false≢true (sym b ∙ sub x (inl refl) a))
+      go false true true a b e le = absurd (false≢true (sym a ∙ ap f (sym (only x e)) ∙ its))
+      go false true false a b e le = subst (λ (z : Bool). standing is (filter f xs) ≤ (if z then 0 else 1 + standing is (filter g xs))) (sym e) (omega (arith, le))
+      go false false w a b e le = le
+
+  -- where one passes beside, and no two are one
+  pub one_more : (q : X) (f g : X → Bool) (xs : List X) → ((x : X) → f x ≡ true → (g x ≡ true) ⊎ (x ≡ q)) → AreDistinct xs → f p ≡ true → standing is (filter f xs) ≤ standing is (filter g xs) + 1
+  one_more q f g [] sub apart its = omega arith
+  one_more q f g (x ∷ xs) sub apart its = go (f x) (g x) (is x) refl refl refl (one_more q f g xs sub apart.1 its)
+    where
+      -- behind the one who passes beside
+      rest : g x ≡ false → f x ≡ true → standing is (filter f xs) ≤ standing is (filter g xs)
+      rest b a = fewer f g xs (λ y i e. of y i (sub y e)) its
+        where
+          here : (g x ≡ true) ⊎ (x ≡ q) → x ≡ q
+          here (inl e) = absurd (false≢true (sym b ∙ e))
+          here (inr e) = e
+
+          of : (y : X) → IsIn y xs → (g y ≡ true) ⊎ (y ≡ q) → g y ≡ true
+          of y i (inl e) = e
+          of y i (inr e) = absurd (apart.0 (subst (λ (z : X). IsIn z xs) (e ∙ sym (here (sub x a))) i))
+
+      go : (u v w : Bool) → f x ≡ u → g x ≡ v → is x ≡ w → standing is (filter f xs) ≤ standing is (filter g xs) + 1
+          → standing is (cond u (x ∷ filter f xs) (filter f xs)) ≤ standing is (cond v (x ∷ filter g xs) (filter g xs)) + 1
+      go true true w a b e le = subst (λ (z : Bool). (if z then 0 else 1 + standing is (filter f xs)) ≤ (if z then 0 else 1 + standing is (filter g xs)) + 1) (sym e) (by w)
+        where
+          by : (z : Bool) → (if z then 0 else 1 + standing is (filter f xs)) ≤ (if z then 0 else 1 + standing is (filter g xs)) + 1
+          by true = omega arith
+          by false = omega (arith, le)
+      go true false w a b e le = subst (λ (z : Bool). (if z then 0 else 1 + standing is (filter f xs)) ≤ standing is (filter g xs) + 1) (sym e) (by w)
+        where
+          by : (z : Bool) → (if z then 0 else 1 + standing is (filter f xs)) ≤ standing is (filter g xs) + 1
+          by true = omega arith
+          by false = let less = rest b a in omega (arith, less)
+      go false true true a b e le = absurd (false≢true (sym a ∙ ap f (sym (only x e)) ∙ its))
+      go false true false a b e le = subst (λ (z : Bool). standing is (filter f xs) ≤ (if z then 0 else 1 + standing is (filter g xs)) + 1) (sym e) (omega (arith, le))
+      go false false w a b e le = le
+
+-- ---- no two are one
+
+pub in_left : {X : Type 0} (y : X) (xs ys : List X) → IsIn y xs → IsIn y (xs ++ ys)
+in_left y [] ys i = absurd i
+in_left y (x ∷ xs) ys (inl s) = inl s
+in_left y (x ∷ xs) ys (inr i) = inr (in_left y xs ys i)
+
+pub in_right : {X : Type 0} (y : X) (xs ys : List X) → IsIn y ys → IsIn y (xs ++ ys)
+in_right y [] ys i = i
+in_right y (x ∷ xs) ys i = inr (in_right y xs ys i)
+
+in_parts : {X : Type 0} (y : X) (xs ys : List X) → IsIn y (xs ++ ys) → IsIn y (ys ++ xs)
+in_parts y xs ys i = elim (in_either y xs ys i) [ inl j ↦ in_right y ys xs j | inr j ↦ in_left y ys xs j ]
+
+-- one that is nowhere in a list may stand anywhere in it
+distinct_among : {X : Type 0} (x : X) (ys xs : List X) → (IsIn x (ys ++ xs) → ⊥) → AreDistinct (ys ++ xs) → AreDistinct (ys ++ x ∷ xs)
+distinct_among x [] xs none d = (none, d)
+distinct_among x (y ∷ ys) xs none d = ((λ i. other (in_parts y ys (x ∷ xs) i)), distinct_among x ys xs (λ i. none (inr i)) d.1)
+  where
+    other : IsIn y (x ∷ xs ++ ys) → ⊥
+    other (inl s) = none (inl (sym s))
+    other (inr i) = d.0 (in_parts y xs ys i)
+
+distinct_parts : {X : Type 0} (xs ys : List X) → AreDistinct (xs ++ ys) → AreDistinct (ys ++ xs)
+distinct_parts [] ys d = subst AreDistinct (sym (append-nil ys)) d
+distinct_parts (x ∷ xs) ys d = distinct_among x ys xs (λ i. d.0 (in_parts x ys xs i)) (distinct_parts xs ys d.1)
+
+pub distinct_turned : {X : Type 0} (n : ℕ) (xs : List X) → AreDistinct xs → AreDistinct (turned n xs)
+distinct_turned n xs d = distinct_parts (take n xs) (drop n xs) (subst AreDistinct (sym (take-append-drop n xs)) d)
+
+-- ---- those who pass
+
+pub passes : {X : Type 0} (test : X → Bool) (y : X) (xs : List X) → IsIn y (filter test xs) → test y ≡ true
+passes test y [] i = absurd i
+passes test y (x ∷ xs) i = go (test x) refl i (passes test y xs)
+  where
+    go : (v : Bool) → test x ≡ v → IsIn y (cond v (x ∷ filter test xs) (filter test xs)) → (IsIn y (filter test xs) → test y ≡ true) → test y ≡ true
+    go true e (inl s) rest = ap test s ∙ e
+    go true e (inr j) rest = rest j
+    go false e j rest = rest j
+
+-- of those who pass a weaker test
+pub filter_twice : {X : Type 0} (f g : X → Bool) (xs : List X) → ((x : X) → f x ≡ true → g x ≡ true) → filter f (filter g xs) ≡ filter f xs
+filter_twice f g [] sub = refl
+filter_twice f g (x ∷ xs) sub = go (g x) (f x) refl refl (filter_twice f g xs sub)
+  where
+    go : (u v : Bool) → g x ≡ u → f x ≡ v → filter f (filter g xs) ≡ filter f xs → filter f (cond u (x ∷ filter g xs) (filter g xs)) ≡ cond v (x ∷ filter f xs) (filter f xs)
+    go true v a b more = subst (λ (w : Bool). cond w (x ∷ filter f (filter g xs)) (filter f (filter g xs)) ≡ cond v (x ∷ filter f xs) (filter f xs)) (sym b) (ap (λ (ys : List _). cond v (x ∷ ys) ys) more)
+    go false true a b more = absurd (false≢true (sym a ∙ sub x b))
+    go false false a b more = more
+
+-- one more at the end who doesn't pass
+module _ {X : Type 0} (test : X → Bool) (q : X) (none : test q ≡ false) where
+  filter_one : filter test (q ∷ []) ≡ []
+  filter_one = subst (λ (v : Bool). cond v (q ∷ []) [] ≡ []) (sym none) refl
+
+  drop_end : (n : ℕ) (xs : List X) → filter test (drop n (xs ++ q ∷ [])) ≡ filter test (drop n xs)
+  drop_end zero xs = filter-append test xs (q ∷ []) ∙ ap (λ (ys : List X). filter test xs ++ ys) filter_one ∙ append-nil (filter test xs)
+  drop_end (suc zero) [] = refl
+  drop_end (suc (suc n)) [] = refl
+  drop_end (suc n) (x ∷ xs) = drop_end n xs
+
+  take_end : (n : ℕ) (xs : List X) → filter test (take n (xs ++ q ∷ [])) ≡ filter test (take n xs)
+  take_end zero xs = refl
+  take_end (suc zero) [] = filter_one
+  take_end (suc (suc n)) [] = filter_one
+  take_end (suc n) (x ∷ xs) = go (test x) (take_end n xs)
+    where
+      go : (v : Bool) → filter test (take n (xs ++ q ∷ [])) ≡ filter test (take n xs) → cond v (x ∷ filter test (take n (xs ++ q ∷ []))) (filter test (take n (xs ++ q ∷ []))) ≡ cond v (x ∷ filter test (take n xs)) (filter test (take n xs))
+      go v e = ap (λ (ys : List X). cond v (x ∷ ys) ys) e
+
+  filter_end_of : (n : ℕ) (xs : List X) → filter test (turned n (xs ++ q ∷ [])) ≡ filter test (turned n xs)
+  filter_end_of n xs =
+      filter-append test (drop n (xs ++ q ∷ [])) (take n (xs ++ q ∷ [])) ∙ ap (λ (ys : List X). ys ++ filter test (take n (xs ++ q ∷ []))) (drop_end n xs)
+      ∙ ap (λ (ys : List X). filter test (drop n xs) ++ ys) (take_end n xs) ∙ sym (filter-append test (drop n xs) (take n xs))
+
+pub filter_end : {X : Type 0} (test : X → Bool) (q : X) (n : ℕ) (xs : List X) → test q ≡ false → filter test (turned n (xs ++ q ∷ [])) ≡ filter test (turned n xs)
+filter_end test q n xs none = filter_end_of test q none n xs
+
+-- one who doesn't stand there doesn't pass, where all who pass do
+pub not_in : {X : Type 0} (test : X → Bool) (y : X) (xs : List X) → (test y ≡ true → IsIn y xs) → (IsIn y xs → ⊥) → test y ≡ false
+not_in test y xs stands absent = go (test y) refl
+  where
+    go : (v : Bool) → test y ≡ v → test y ≡ false
+    go true e = absurd (absent (stands e))
+    go false e = e
+
+-- whoever is in a list from any place on is in it
+pub from_turned : {X : Type 0} (y : X) (xs : List X) (n : ℕ) → IsIn y (turned n xs) → IsIn y xs
+from_turned y xs n i = subst (IsIn y) (take-append-drop n xs) (in_parts y (drop n xs) (take n xs) i)

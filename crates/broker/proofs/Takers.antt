@@ -1,0 +1,99 @@
+-- Who takes from a queue, and stands in its line.
+use Rattle.std.proofs.Common.{◌≡◌, ◌∙◌, ◌<◌, ℕ, zero, suc, List, [], ◌∷◌, Bool, true, false, Option, Some, None, length, get_or, inl, inr, refl, sym, ap, arith}
+use Rattle.std.specs.Prelude.{◌==◌, ◌&&◌, ◌||◌}
+use Rattle.std.specs.List.{list_any}
+use Rattle.std.specs.Str.{bytes_eq}
+use Rattle.std.proofs.lemmas.Bool.{eqb-true, eq-eqb, false≢true}
+use Rattle.std.proofs.lemmas.Slice.Eq.{bytes_eq-Decides}
+use Rattle.model.specs.Words.{Text}
+use Rattle.model.specs.Topology.{Topology, IsIn}
+use Rattle.model.specs.Broker.{Consumer, Channel, Broker}
+use Rattle.depot.proofs.Naming.{names-length}
+use Rattle.exchange_graph.specs.Marks.{queue_name}
+use Rattle.broker_core.specs.State.{Kept, broker_of, topology_kept, names_of}
+use Rattle.broker_core.specs.declared.picks.Pick.{Pick}
+use Rattle.broker.specs.Roster.{Seats, ring_at, is_numbered_of, has_taker, takes_from, line_of, lines_of, HasConsumer}
+use Rattle.broker.proofs.Waking.{both}
+
+-- ---- by its numbers
+
+-- A consumer of this number that takes from this queue.
+record IsOne (queue : Text) (n : ℕ) (ks : List Consumer) : Type 0 where
+  one : Consumer
+  among : IsIn one ks
+  numbered : one.number ≡ n
+  named : one.queue ≡ queue
+
+any_one : (queue : Text) (n : ℕ) (ks : List Consumer) → list_any (is_numbered_of queue n) ks ≡ true → IsOne queue n ks
+any_one queue n [] e = absurd (false≢true e)
+any_one queue n (k ∷ ks) e = go (is_numbered_of queue n k) refl e (any_one queue n ks)
+  where
+    go : (v : Bool) → is_numbered_of queue n k ≡ v → (v || list_any (is_numbered_of queue n) ks) ≡ true → (list_any (is_numbered_of queue n) ks ≡ true → IsOne queue n ks) → IsOne queue n (k ∷ ks)
+    go true is f rest =
+        let parts = both (k.number == n) (bytes_eq k.queue queue) is in
+        record { one = k; among = inl refl; numbered = eqb-true k.number n parts.0; named = (bytes_eq-Decides k.queue queue).0 parts.1 }
+    go false is f rest = let r = rest f in record { one = r.one; among = inr r.among; numbered = r.numbered; named = r.named }
+
+one_any : (queue : Text) (n : ℕ) (ks : List Consumer) (x : Consumer) → IsIn x ks → x.number ≡ n → x.queue ≡ queue → list_any (is_numbered_of queue n) ks ≡ true
+one_any queue n [] x i e f = absurd i
+one_any queue n (k ∷ ks) x (inl s) e f =
+    go (k.number == n) (bytes_eq k.queue queue) (eq-eqb k.number n (ap (λ (z : Consumer). z.number) (sym s) ∙ e)) ((bytes_eq-Decides k.queue queue).1 (ap (λ (z : Consumer). z.queue) (sym s) ∙ f))
+  where
+    go : (u v : Bool) → u ≡ true → v ≡ true → ((u && v) || list_any (is_numbered_of queue n) ks) ≡ true
+    go true true a b = refl
+    go true false a b = absurd (false≢true b)
+    go false v a b = absurd (false≢true a)
+one_any queue n (k ∷ ks) x (inr i) e f = go (is_numbered_of queue n k) (one_any queue n ks x i e f)
+  where
+    go : (v : Bool) → list_any (is_numbered_of queue n) ks ≡ true → (v || list_any (is_numbered_of queue n) ks) ≡ true
+    go true more = refl
+    go false more = more
+
+pub has_takes : (t : Topology) (b : Broker) (place : ℕ) (p : Pick) → HasConsumer t b place p → takes_from b (queue_name t place) p ≡ true
+has_takes t b place p has =
+    ap (has_taker (queue_name t place) p.number) has.was.1 ∙ one_any (queue_name t place) p.number has.was.0.consumers has.consumer has.was.2 has.numbered (sym has.named)
+
+pub takes_has : (t : Topology) (b : Broker) (place : ℕ) (p : Pick) → place < length t.queues → takes_from b (queue_name t place) p ≡ true → HasConsumer t b place p
+takes_has t b place p lt takes = go (b.channel p.connection p.channel) refl takes
+  where
+    go : (o : Option Channel) → b.channel p.connection p.channel ≡ o → has_taker (queue_name t place) p.number o ≡ true → HasConsumer t b place p
+    go None is e = absurd (false≢true e)
+    go (Some ch) is e =
+        let x = any_one (queue_name t place) p.number ch.consumers e in
+        record { consumer = x.one; was = (ch, is, x.among); numbered = x.numbered; within = lt; named = sym x.named }
+
+-- ---- the lines of queues
+
+lines_at : (b : Broker) (names : List Text) (rings : List Seats) (place : ℕ) → length rings ≡ length names → place < length names → get_or (lines_of b names rings) place [] ≡ line_of b (get_or names place []) (ring_at rings place)
+lines_at b [] rings place long lt = absurd (omega (arith, lt))
+lines_at b (q ∷ qs) [] place long lt = absurd (omega (arith, long))
+lines_at b (q ∷ qs) (r ∷ rs) zero long lt = refl
+lines_at b (q ∷ qs) (r ∷ rs) (suc place) long lt = lines_at b qs rs place (omega (arith, long)) (omega (arith, lt))
+
+pub line_is : (kept : Kept) (rings : List Seats) (place : ℕ) → length rings ≡ length (topology_kept kept).queues → place < length (topology_kept kept).queues
+    → get_or (lines_of (broker_of kept) (names_of kept) rings) place [] ≡ line_of (broker_of kept) (queue_name (topology_kept kept) place) (ring_at rings place)
+line_is kept rings place long lt =
+    let more = names-length (topology_kept kept).queues in
+    lines_at (broker_of kept) (names_of kept) rings place (omega (arith, long, more)) (omega (arith, lt, more))
+
+-- whoever stands in a line stands in that of a queue
+in_lines : (b : Broker) (names : List Text) (rings : List Seats) (place : ℕ) (p : Pick) → IsIn p (get_or (lines_of b names rings) place []) → place < length names
+in_lines b [] rings place p i = absurd i
+in_lines b (q ∷ qs) [] place p i = absurd i
+in_lines b (q ∷ qs) (r ∷ rs) zero p i = omega arith
+in_lines b (q ∷ qs) (r ∷ rs) (suc place) p i = let lt = in_lines b qs rs place p i in omega (arith, lt)
+
+pub in_line_of : (kept : Kept) (rings : List Seats) (place : ℕ) (p : Pick) → IsIn p (get_or (lines_of (broker_of kept) (names_of kept) rings) place []) → place < length (topology_kept kept).queues
+in_line_of kept rings place p i =
+    let lt = in_lines (broker_of kept) (names_of kept) rings place p i in
+    let more = names-length (topology_kept kept).queues in
+    omega (arith, lt, more)
+
+pub lines_same : (b : Broker) (names : List Text) (old new : List Seats) → length new ≡ length old
+    → ((place : ℕ) → place < length names → line_of b (get_or names place []) (ring_at new place) ≡ line_of b (get_or names place []) (ring_at old place)) → lines_of b names new ≡ lines_of b names old
+lines_same b [] old new long same = refl
+lines_same b (q ∷ qs) [] [] long same = refl
+lines_same b (q ∷ qs) [] (s ∷ ss) long same = absurd (omega (arith, long))
+lines_same b (q ∷ qs) (r ∷ rs) [] long same = absurd (omega (arith, long))
+lines_same b (q ∷ qs) (r ∷ rs) (s ∷ ss) long same =
+    cc (same zero (omega arith), lines_same b qs rs ss (omega (arith, long)) (λ place lt. same (suc place) (omega (arith, lt))))
