@@ -1,0 +1,102 @@
+#!/usr/bin/env python3
+"""Checks the paths of docs/inside/ARCHITECTURE.md: each call in their lists is where the list says, and the call before it makes it. Proves nothing.
+
+A path is a part "## The path of .." with a numbered list. An item begins with its call, `crate::module::Type::function`, as many of modules and
+types as tell it apart; what is said of it follows a colon, and may name further calls. A list has at most 20 items below its first.
+"""
+
+import glob
+import os
+import re
+import sys
+
+PAGE = "docs/inside/ARCHITECTURE.md"
+MOST = 20
+CALL = re.compile(r"`([a-z_0-9]+(?:::[A-Za-z_0-9]+)+)`")
+ITEM = re.compile(r"^(\d+)\. (.*)$")
+
+
+def paths_of(text):
+    """Each path of the page by its heading, with its items, each in one line."""
+    found, items = {}, None
+    for line in text.splitlines():
+        if line.startswith("#"):
+            items = found.setdefault(line.lstrip("# "), []) if line.startswith("## The path of ") else None
+        elif items is not None and ITEM.match(line):
+            items.append(ITEM.match(line).group(2))
+        elif items and line.startswith("   "):
+            items[-1] += " " + line.strip()
+        elif items is not None and not line.strip() and items:
+            items = None
+    return found
+
+
+def files_of(root, crate, modules):
+    """The files of a crate, or of these modules in it."""
+    base = os.path.join(root, "crates", crate, "src")
+    if not modules:
+        return sorted(glob.glob(os.path.join(base, "**/*.rt"), recursive=True))
+    path = os.path.join(base, *modules)
+    return [it for it in (path + ".rt",) if os.path.isfile(it)]
+
+
+def body_of(lines, place):
+    """The body of the function that begins at this line."""
+    indent = lines[place][: len(lines[place]) - len(lines[place].lstrip())]
+    ends = next((at for at in range(place + 1, len(lines)) if lines[at].startswith(indent + "}")), len(lines))
+    return "\n".join(lines[place + 1 : ends])
+
+
+def bodies(root, call):
+    """The bodies of the functions that a call may name."""
+    crate, *middle, function = call.split("::")
+    modules = [it for it in middle if it[0].islower()]
+    types = [it for it in middle if it[0].isupper()]
+    found = []
+    for path in files_of(root, crate, modules):
+        with open(path, encoding="utf-8") as file:
+            lines = file.read().splitlines()
+        owner = None
+        for place, line in enumerate(lines):
+            named = re.match(r"impl(?:<[^>]*>)? (?:\w+(?:<[^>]*>)? for )?(\w+)", line)
+            owner = named.group(1) if named else None if line.startswith("}") else owner
+            if re.match(rf"\s*(?:pub(?:\([a-z]+\))? )?fn {function}\b", line) and (not types or owner == types[-1]):
+                found.append(body_of(lines, place))
+    return found
+
+
+def wrong_in(root, name, items):
+    """What is wrong with a path."""
+    if len(items) - 1 > MOST:
+        yield f"{name}: {len(items) - 1} items below the first, and not {MOST} at most"
+    before = []
+    for number, item in enumerate(items, 1):
+        head, _, rest = item.partition(": ")
+        calls = CALL.findall(head)
+        if not calls:
+            yield f"{name}, {number}: it names no call: {head[:60]}"
+        here = []
+        for call in calls:
+            here += bodies(root, call)
+            function = call.split("::")[-1]
+            if before and not any(re.search(rf"\b{function}\b\s*(?:::<[^>]*>)?\(", it) for it in before):
+                yield f"{name}, {number}: the item before doesn't call `{call}`"
+        for call in [*calls, *CALL.findall(rest)]:
+            if not bodies(root, call):
+                yield f"{name}, {number}: `{call}` is not there"
+        before = here
+
+
+def main(words):
+    root = words[1] if len(words) > 1 else "."
+    with open(os.path.join(root, PAGE), encoding="utf-8") as file:
+        paths = paths_of(file.read())
+    wrong = [it for name, items in paths.items() for it in wrong_in(root, name, items)]
+    if not paths:
+        wrong.append(f"{PAGE} has no path")
+    print("\n".join(wrong), end="\n" if wrong else "")
+    return 1 if wrong else 0
+
+
+if __name__ == "__main__":
+    sys.exit(main(sys.argv))
