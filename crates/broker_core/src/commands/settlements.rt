@@ -30,8 +30,7 @@ pub(crate) fn ack(
     ack: &Ack,
 ) -> Result<Step, Stop>
     requires { CanCommand id.connection id.number depot.old channel.old }
-    ensures commands { (content : Option Content)
-        → Commands id.connection id.number depot.old channel.old (BasicAck ack.now) content result depot.new channel.new }
+    ensures commands { (content : Option Content) → Commands id.connection id.number depot.old channel.old (BasicAck ack.now) content result depot.new channel.new }
     ensures addressed { IfOk result (λ s. AreAddressed id.connection s.sends.items) }
     ensures topology { depot.new.topology ≡ depot.old.topology }
     ensures placed { IsPlaced depot.old.topology channel.new }
@@ -103,8 +102,7 @@ pub(crate) fn nack(
     nack: &Nack,
 ) -> Result<Step, Stop>
     requires { CanCommand id.connection id.number depot.old channel.old }
-    ensures commands { (content : Option Content)
-        → Commands id.connection id.number depot.old channel.old (BasicNack nack.now) content result depot.new channel.new }
+    ensures commands { (content : Option Content) → Commands id.connection id.number depot.old channel.old (BasicNack nack.now) content result depot.new channel.new }
     ensures addressed { IfOk result (λ s. AreAddressed id.connection s.sends.items) }
     ensures topology { depot.new.topology ≡ depot.old.topology }
     ensures placed { IsPlaced depot.old.topology channel.new }
@@ -127,8 +125,7 @@ pub(crate) fn reject(
     reject: &Reject,
 ) -> Result<Step, Stop>
     requires { CanCommand id.connection id.number depot.old channel.old }
-    ensures commands { (content : Option Content)
-        → Commands id.connection id.number depot.old channel.old (BasicReject reject.now) content result depot.new channel.new }
+    ensures commands { (content : Option Content) → Commands id.connection id.number depot.old channel.old (BasicReject reject.now) content result depot.new channel.new }
     ensures addressed { IfOk result (λ s. AreAddressed id.connection s.sends.items) }
     ensures topology { depot.new.topology ≡ depot.old.topology }
     ensures placed { IsPlaced depot.old.topology channel.new }
@@ -152,8 +149,7 @@ pub(crate) fn recover(
     is_requeue: bool,
 ) -> Result<Step, Stop>
     requires { CanCommand id.connection id.number depot.old channel.old }
-    ensures commands { (content : Option Content)
-        → Commands id.connection id.number depot.old channel.old (BasicRecover is_requeue) content result depot.new channel.new }
+    ensures commands { (content : Option Content) → Commands id.connection id.number depot.old channel.old (BasicRecover is_requeue) content result depot.new channel.new }
     ensures addressed { IfOk result (λ s. AreAddressed id.connection s.sends.items) }
     ensures topology { depot.new.topology ≡ depot.old.topology }
     ensures placed { IsPlaced depot.old.topology channel.new }
