@@ -1,14 +1,14 @@
 -- What is outstanding on a channel or on the channels of a connection, put back one by one, is all that was held there.
-use Rattle.std.proofs.Common.{◌≡◌, ◌∙◌, ◌+◌, ◌<◌, ◌==◌, ℕ, zero, suc, List, [], ◌∷◌, length, get_or, drop, map, Bool, true, false, cond, Option, Some, None, inl, inr, refl, sym, ap, subst, arith}
+use Rattle.std.proofs.Common.{◌≡◌, ◌∙◌, ◌+◌, ◌<◌, ◌≤◌, ◌==◌, ℕ, zero, suc, List, [], ◌∷◌, length, get_or, drop, map, Bool, true, false, cond, Option, Some, None, inl, inr, refl, sym, ap, subst, arith}
 use Rattle.std.specs.Prelude.{count_by, is_some, option_map}
 use Rattle.std.proofs.lemmas.Bool.{and_from, and_parts, eqb-true, eq-eqb, false≢true}
-use Rattle.std.proofs.lemmas.List.{at_drop_more, length-set}
+use Rattle.std.proofs.lemmas.List.{drop_all, drop_more}
 use Rattle.model.specs.Words.{Text}
 use Rattle.model.specs.Topology.{Topology, IsIn, queue_names}
 use Rattle.model.specs.Broker as seen
 use Rattle.model.specs.Agreement.{IsAgreed}
 use Rattle.model.specs.Entries.{by_channel, by_connection, is_held_as, is_under, freed, freed_now}
-use Rattle.model.specs.Deliveries.{holder_of, with_returned, AreReturned}
+use Rattle.model.specs.Deliveries.{Returns, holder_of, with_returned, AreReturned}
 use Rattle.model.specs.declared.messages.Entry.{Entry}
 use Rattle.model.specs.declared.messages.Holder.{Holder}
 use Rattle.model.specs.declared.messages.Mark.{Mark}
@@ -16,17 +16,15 @@ use Rattle.model.specs.declared.messages.Mark.TheVariants.{Ready, Held}
 use Rattle.laws.proofs.Leaving.{at_queue}
 use Rattle.laws.proofs.Agreement.{IsClear, counted_in, in_freed, returned_clear, returned_shrinks}
 use Rattle.channel.specs.Open.{Open, open_in}
-use Rattle.model.specs.Placed.{holder_of_delivery, outstanding_in, AreWithin}
+use Rattle.model.specs.Placed.{outstanding_in, AreWithin}
 use Rattle.model.specs.declared.deliveries.Delivery.{Delivery}
-use Rattle.depot.specs.Store.{Store, entries_named, queue_at, IsStoreWhole}
+use Rattle.depot.specs.Store.{Store, entries_named}
 use Rattle.links.specs.Links.{Linked, channel_at, channel_of, linked_in, outstanding_on}
 use Rattle.links.specs.Placed.{IsPlaced}
-use Rattle.settling.specs.Settled.{returned_one, returned_all}
-use Rattle.settling.proofs.Settlements.{AreNamed, returned_by_names}
-use Rattle.broker_core.specs.Freed.{returned_from, returned_at}
+use Rattle.depot.specs.Settled.{AreSettledBy}
+use Rattle.broker_core.specs.Freed.{AreReturnedFrom, AreReturnedAt}
 use Rattle.broker_core.specs.State.{Kept, ArePlaced, broker_of, topology_kept, names_of}
 use Rattle.broker_core.proofs.Placing.{none_within}
-use Rattle.broker_core.proofs.Settling.{returned_topology, returned_published}
 use Rattle.broker_core.proofs.Stepping.{IsFreed, some_same}
 
 -- ---- one queue
@@ -119,11 +117,6 @@ pub record IsOnChannel (n : ℕ) (names : List Text) (slots : List (Option Open)
 abbrev pub AreOnChannels : ℕ → ℕ → List Text → List (Option Open) → (Text → List Entry) → Type 0
 AreOnChannels c n names slots queues = (q : Text) (e : Entry) (holder : Holder) → IsIn e (queues q) → e.mark ≡ Held holder → by_connection c holder ≡ true → IsOnChannel n names slots q holder
 
-returned_whole : (c h : ℕ) (os : List Delivery) (s : Store) → IsStoreWhole s → IsStoreWhole (returned_all c h s os)
-returned_whole c h [] s whole = whole
-returned_whole c h (o ∷ os) s whole =
-    returned_whole c h os (returned_one c h s o) (record { formed = whole.formed; len = length-set s.queues o.queue (map (freed (is_under (holder_of_delivery c h o))) (queue_at s o.queue)) ∙ whole.len })
-
 -- those of the first channel are among its own
 first_found : (c n : ℕ) (names : List Text) (slot : Option Open) (slots : List (Option Open)) (queues : Text → List Entry) → AreOnChannels c n names (slot ∷ slots) queues
     → AreFound c n (map (outstanding_in names) (outstanding_on slot)) queues
@@ -149,24 +142,19 @@ rest_found c n names slot slots queues mid found here q e holder i is own =
         absurd (false≢true (sym other ∙ and_from (holder.connection == c) (holder.channel == n) own (eq-eqb holder.channel n same)))
     later (suc k) number among other = record { place = k; number = omega (arith, number); among = among }
 
-pub connection_freed : AreNamed → (c n : ℕ) (names : List Text) (slots : List (Option Open)) (s : Store) → queue_names s.topology.queues ≡ names → IsStoreWhole s → ((k : ℕ) → AreWithin s.topology (outstanding_on (get_or slots k None)))
-    → AreOnChannels c n names slots (entries_named s) → (q : Text) → entries_named (returned_from c n s slots) q ≡ map (freed (by_connection c)) (entries_named s q)
-connection_freed are c n names [] s same whole within found q = sym (all_stay (by_connection c) (entries_named s q) (λ e holder i is. not_true (by_connection c holder) (λ own. (found q e holder i is own).among.there)))
-connection_freed are c n names (slot ∷ slots) s same whole within found q =
-    connection_freed are c (n + 1) names slots mid (ap (λ (t : Topology). queue_names t.queues) stays ∙ same) (returned_whole c n (outstanding_on slot) s whole)
-    (λ k. subst (λ (t : Topology). AreWithin t (outstanding_on (get_or slots k None))) (sym stays) (within (suc k))) (rest_found c n names slot slots (entries_named s) (entries_named mid) found here) q
+pub connection_freed : (c n : ℕ) (names : List Text) (slots : List (Option Open)) (s new : Store) → queue_names s.topology.queues ≡ names → AreReturnedFrom c n s slots new
+    → AreOnChannels c n names slots (entries_named s) → (q : Text) → entries_named new q ≡ map (freed (by_connection c)) (entries_named s q)
+connection_freed c n names [] s new same made found q =
+    ap (λ (x : Store). entries_named x q) made
+    ∙ sym (all_stay (by_connection c) (entries_named s q) (λ e holder i is. not_true (by_connection c holder) (λ own. (found q e holder i is own).among.there)))
+connection_freed c n names (slot ∷ slots) s new same (mid, first, rest) found q =
+    connection_freed c (n + 1) names slots mid new (ap (λ (t : Topology). queue_names t.queues) first.topology ∙ same) rest (rest_found c n names slot slots (entries_named s) (entries_named mid) found here) q
     ∙ ap (map (freed (by_connection c))) (here q)
     ∙ all_through (by_channel c n) (by_connection c) (λ g own. (and_parts (g.connection == c) (g.channel == n) own).0) (entries_named s q)
   where
-    mid : Store
-    mid = returned_all c n s (outstanding_on slot)
-
-    stays : mid.topology ≡ s.topology
-    stays = returned_topology c n (outstanding_on slot) s
-
     here : (q : Text) → entries_named mid q ≡ map (freed (by_channel c n)) (entries_named s q)
     here = channel_freed c n (map (outstanding_in names) (outstanding_on slot)) (entries_named s) (entries_named mid) (first_found c n names slot slots (entries_named s) found)
-        (subst (λ (ns : List Text). AreReturned c n (map (outstanding_in ns) (outstanding_on slot)) (entries_named s) (entries_named mid)) same (returned_by_names are c n (outstanding_on slot) s whole (within zero)))
+        (subst (λ (ns : List Text). AreReturned c n (map (outstanding_in ns) (outstanding_on slot)) (entries_named s) (entries_named mid)) same first.settled.1)
 
 -- ---- a broker that agrees with itself
 
@@ -208,26 +196,24 @@ within_at kept c l at placed h = subst (λ (x : Option Linked). AreWithin (topol
 pub held_within : (kept : Kept) (c h : ℕ) (os : List Delivery) → ArePlaced kept → os ≡ outstanding_on (channel_of kept.links c h) → AreWithin (topology_kept kept) os
 held_within kept c h os placed held = subst (AreWithin (topology_kept kept)) (sym held) (within_on (topology_kept kept) (channel_of kept.links c h) (placed c h))
 
-from_topology : (c h : ℕ) (slots : List (Option Open)) (s : Store) → (returned_from c h s slots).topology ≡ s.topology
-from_topology c h [] s = refl
-from_topology c h (o ∷ os) s = from_topology c (h + 1) os (returned_all c h s (outstanding_on o)) ∙ returned_topology c h (outstanding_on o) s
+from_topology : (c h : ℕ) (slots : List (Option Open)) (s new : Store) → AreReturnedFrom c h s slots new → new.topology ≡ s.topology
+from_topology c h [] s new made = ap (λ (x : Store). x.topology) made
+from_topology c h (o ∷ os) s new (mid, first, rest) = from_topology c (h + 1) os mid new rest ∙ first.topology
 
-from_published : (c h : ℕ) (slots : List (Option Open)) (s : Store) → (returned_from c h s slots).published ≡ s.published
-from_published c h [] s = refl
-from_published c h (o ∷ os) s = from_published c (h + 1) os (returned_all c h s (outstanding_on o)) ∙ returned_published c h (outstanding_on o) s
+from_published : (c h : ℕ) (slots : List (Option Open)) (s new : Store) → AreReturnedFrom c h s slots new → new.published ≡ s.published
+from_published c h [] s new made = ap (λ (x : Store). x.published) made
+from_published c h (o ∷ os) s new (mid, first, rest) = from_published c (h + 1) os mid new rest ∙ first.counted
 
 -- what is outstanding on a channel is put back
-pub channel_is_freed : AreNamed → (old kept : Kept) (c h : ℕ) (os : List Delivery) (new : Store) → old ≡ kept → IsStoreWhole old.store → ArePlaced old → IsAgreed (broker_of kept) → os ≡ outstanding_on (channel_of old.links c h)
-    → new ≡ returned_all c h old.store os → IsFreed (by_channel c h) old.store new
-channel_is_freed are old kept c h os new e whole placed agreed held made =
+pub channel_is_freed : (old kept : Kept) (c h : ℕ) (os : List Delivery) (new : Store) → old ≡ kept → IsAgreed (broker_of kept) → os ≡ outstanding_on (channel_of old.links c h) → AreSettledBy Returns old.store c h os [] [] new
+    → IsFreed (by_channel c h) old.store new
+channel_is_freed old kept c h os new e agreed held made =
     let agrees : IsAgreed (broker_of old) = subst (λ (k : Kept). IsAgreed (broker_of k)) (sym e) agreed in
     let found : AreFound c h (map (outstanding_in (names_of old)) os) (entries_named old.store) = subst (λ (ds : List Delivery). AreFound c h (map (outstanding_in (names_of old)) ds) (entries_named old.store)) (sym held) (found_on_channel old c h agrees) in
-    let within = held_within old c h os placed held in
     record {
-      topology = ap (λ (s : Store). s.topology) made ∙ returned_topology c h os old.store;
-      published = ap (λ (s : Store). s.published) made ∙ returned_published c h os old.store;
-      queues = λ q. ap (λ (s : Store). entries_named s q) made
-          ∙ channel_freed c h (map (outstanding_in (names_of old)) os) (entries_named old.store) (entries_named (returned_all c h old.store os)) found (returned_by_names are c h os old.store whole within) q;
+      topology = made.topology;
+      published = made.counted;
+      queues = channel_freed c h (map (outstanding_in (names_of old)) os) (entries_named old.store) (entries_named new) found made.settled.1;
     }
 
 -- where no connection of a number is there, nothing is held by it
@@ -239,26 +225,23 @@ none_held kept c none agreed = record {
 }
 
 -- what is outstanding on the channels of a connection is put back
-link_is_freed : AreNamed → (kept : Kept) (c : ℕ) (l : Option Linked) (new : Store) → IsStoreWhole kept.store → ArePlaced kept → IsAgreed (broker_of kept) → l ≡ linked_in kept.links c → new ≡ returned_at c kept.store l
-    → IsFreed (by_connection c) kept.store new
-link_is_freed are kept c None new whole placed agreed at made = subst (IsFreed (by_connection c) kept.store) (sym made) (none_held kept c (sym at) agreed)
-link_is_freed are kept c (Some l) new whole placed agreed at made = record {
-  topology = ap (λ (s : Store). s.topology) made ∙ from_topology c 0 l.channels kept.store;
-  published = ap (λ (s : Store). s.published) made ∙ from_published c 0 l.channels kept.store;
-  queues = λ q. ap (λ (s : Store). entries_named s q) made
-      ∙ connection_freed are c 0 (names_of kept) l.channels kept.store refl whole (within_at kept c (Some l) at placed)
-      (λ r e holder i is own. record { place = holder.channel; number = omega arith; among = found_on_link kept c (Some l) (sym at) agreed r e holder i is own }) q;
+link_is_freed : (kept : Kept) (c : ℕ) (l : Option Linked) (new : Store) → IsAgreed (broker_of kept) → l ≡ linked_in kept.links c → AreReturnedAt c kept.store l new → IsFreed (by_connection c) kept.store new
+link_is_freed kept c None new agreed at made = subst (IsFreed (by_connection c) kept.store) (sym made) (none_held kept c (sym at) agreed)
+link_is_freed kept c (Some l) new agreed at made = record {
+  topology = from_topology c 0 l.channels kept.store new made;
+  published = from_published c 0 l.channels kept.store new made;
+  queues = connection_freed c 0 (names_of kept) l.channels kept.store new refl made
+      (λ r e holder i is own. record { place = holder.channel; number = omega arith; among = found_on_link kept c (Some l) (sym at) agreed r e holder i is own });
 }
 
-pub connection_is_freed : AreNamed → (old kept : Kept) (c : ℕ) (l : Option Linked) (new : Store) → old ≡ kept → IsStoreWhole old.store → ArePlaced old → IsAgreed (broker_of kept) → l ≡ linked_in old.links c → new ≡ returned_at c old.store l
-    → IsFreed (by_connection c) old.store new
-connection_is_freed are old kept c l new e whole placed agreed = link_is_freed are old c l new whole placed (subst (λ (k : Kept). IsAgreed (broker_of k)) (sym e) agreed)
+pub connection_is_freed : (old kept : Kept) (c : ℕ) (l : Option Linked) (new : Store) → old ≡ kept → IsAgreed (broker_of kept) → l ≡ linked_in old.links c → AreReturnedAt c old.store l new → IsFreed (by_connection c) old.store new
+connection_is_freed old kept c l new e agreed = link_is_freed old c l new (subst (λ (k : Kept). IsAgreed (broker_of k)) (sym e) agreed)
 
 -- ---- a loop over the channels of a connection
 
-pub put_back_next : (c p : ℕ) (channels : List (Option Open)) (s new all : Store) → p < length channels → new ≡ returned_all c p s (outstanding_on (get_or channels p None))
-    → returned_from c p s (drop p channels) ≡ all → returned_from c (p + 1) new (drop (p + 1) channels) ≡ all
-put_back_next c p channels s new all lt made done =
-    ap (λ (z : Store). returned_from c (p + 1) z (drop (p + 1) channels)) made
-    ∙ sym (at_drop_more (returned_from c p s) channels p None lt)
-    ∙ done
+pub requeue_next : (c p : ℕ) (channels : List (Option Open)) (s new last : Store) → p < length channels → AreSettledBy Returns s c p (outstanding_on (get_or channels p None)) [] [] new
+    → AreReturnedFrom c (p + 1) new (drop (p + 1) channels) last → AreReturnedFrom c p s (drop p channels) last
+requeue_next c p channels s new last lt made rest = subst (λ (os : List (Option Open)). AreReturnedFrom c p s os last) (sym (drop_more channels p None lt)) (new, made, rest)
+
+pub requeue_ends : (c p : ℕ) (channels : List (Option Open)) (s : Store) → length channels ≤ p → AreReturnedFrom c p s (drop p channels) s
+requeue_ends c p channels s past = subst (λ (os : List (Option Open)). AreReturnedFrom c p s os s) (sym (drop_all p channels past)) refl

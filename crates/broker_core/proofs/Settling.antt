@@ -1,5 +1,5 @@
 -- What a settlement leaves of a channel and of the queues.
-use Rattle.std.proofs.Common.{◌≡◌, ℕ, List, [], ◌∷◌, Bool, refl, sym, ap, subst, ◌∙◌, map, arith, Some}
+use Rattle.std.proofs.Common.{◌≡◌, ℕ, List, [], ◌++◌, Bool, refl, sym, ap, subst, ◌∙◌, map, arith, Some}
 use Rattle.std.specs.Prelude.{option_map}
 use Rattle.std.proofs.Math.ListN as numbered
 use Rattle.std.proofs.lemmas.List.{length-map}
@@ -9,42 +9,30 @@ use Rattle.model.specs.Broker as seen_as
 use Rattle.model.specs.Broker.{Channel, with_pair}
 use Rattle.model.specs.Settling.{Rises, settled, kept}
 use Rattle.model.specs.Step as step
-use Rattle.model.specs.Step.{Settles}
-use Rattle.model.specs.Deliveries.{Settlement, Leaves, Rejects, Returns, AreLeft, AreReturned, AreSettled}
+use Rattle.model.specs.Deliveries.{Settlement, AreSettled}
 use Rattle.model.specs.declared.events.Send.{Send}
-use Rattle.model.specs.declared.notes.Cause.{Cause}
 use Rattle.model.specs.declared.notes.Note.{Note}
 use Rattle.channel.specs.Outstanding.{tag_of}
 use Rattle.channel.specs.Open.{Open, open_in, without_settled}
+use Rattle.channel.specs.Spans.{settled_by, IsSpan}
+use Rattle.channel.specs.declared.spans.Span.{Span}
 use Rattle.model.specs.Placed.{outstanding_in, AreWithin}
 use Rattle.model.specs.declared.deliveries.Delivery.{Delivery}
-use Rattle.depot.specs.Store.{Store, entries_named, IsStoreWhole}
+use Rattle.depot.specs.Store.{Store, entries_named}
+use Rattle.depot.specs.Settled.{AreSettledBy}
 use Rattle.links.specs.Placed.{IsPlaced}
-use Rattle.settling.specs.Settled.{IsRejection, leaving_notes, without_one, without_all, returned_one, returned_all}
-use Rattle.settling.proofs.Settlements.{AreNamed, settled_seen, kept_seen, gone_within, gone_rises, kept_within, left_by_names, returned_by_names}
-use Rattle.broker_core.specs.State.{Kept, topology_kept}
+use Rattle.judging.proofs.Settled.{settled_seen, kept_seen, gone_within, gone_rises, kept_within}
 use Rattle.broker_core.specs.Commands.{CanCommand, SettlesHere, seen}
 
--- ---- what stays
+-- ---- the span of a tag
 
-pub without_topology : (c h : ℕ) (os : List Delivery) (s : Store) → (without_all c h s os).topology ≡ s.topology
-without_topology c h [] s = refl
-without_topology c h (o ∷ os) s = without_topology c h os (without_one c h s o)
+-- what its span lends is what the tag settles
+pub lent_settled : (span : Span) (tag : ℕ) (multiple : Bool) (ds gone : List Delivery) → IsSpan span tag multiple ds → gone ≡ settled_by span ds → settled tag_of tag multiple ds ≡ Some gone
+lent_settled span tag multiple ds gone is lent = is.settles ∙ ap Some (sym lent)
 
-without_published : (c h : ℕ) (os : List Delivery) (s : Store) → (without_all c h s os).published ≡ s.published
-without_published c h [] s = refl
-without_published c h (o ∷ os) s = without_published c h os (without_one c h s o)
-
-pub returned_topology : (c h : ℕ) (os : List Delivery) (s : Store) → (returned_all c h s os).topology ≡ s.topology
-returned_topology c h [] s = refl
-returned_topology c h (o ∷ os) s = returned_topology c h os (returned_one c h s o)
-
-pub returned_published : (c h : ℕ) (os : List Delivery) (s : Store) → (returned_all c h s os).published ≡ s.published
-returned_published c h [] s = refl
-returned_published c h (o ∷ os) s = returned_published c h os (returned_one c h s o)
-
-pub topology_returned : (c h : ℕ) (os : List Delivery) (old new : Kept) → new.store ≡ returned_all c h old.store os → topology_kept new ≡ topology_kept old
-topology_returned c h os old new e = ap (λ (s : Store). s.topology) e ∙ returned_topology c h os old.store
+-- and what forgets the span forgets what the tag settles
+pub forgotten : (span : Span) (tag room : ℕ) (multiple : Bool) (ch ch' : Open) → IsSpan span tag multiple ch.given.outstanding → ch' ≡ without_settled ch span.tag span.multiple room → ch' ≡ without_settled ch tag multiple room
+forgotten span tag room multiple ch ch' is e = e ∙ ap (λ (t : ℕ). without_settled ch t span.multiple room) is.tagged ∙ ap (λ (m : Bool). without_settled ch tag m room) is.is_multiple
 
 -- ---- the channel
 
@@ -82,47 +70,18 @@ without_seen tag room multiple s s' ch ch' same e =
 -- ---- settlements
 
 -- what is settled in the queues, and then forgotten on the channel, is settled
-settles : (how : Settlement) (c h tag room : ℕ) (multiple : Bool) (s s' : Store) (ch ch' : Open) (gone : List Delivery) (sends : List Send) (notes : List Note)
-    → settled tag_of tag multiple ch.given.outstanding ≡ Some gone → s'.topology ≡ s.topology → s'.published ≡ s.published → ch' ≡ without_settled ch tag multiple room
-    → AreSettled s.topology how c h (map (outstanding_in (queue_names s.topology.queues)) gone) (entries_named s) notes (entries_named s')
-    → SettlesHere how c h s ch tag multiple sends sends notes s' ch'
-settles how c h tag room multiple s s' ch ch' gone sends notes all same counted e are old new turns =
+pub settles : (how : Settlement) (c h tag room : ℕ) (multiple : Bool) (s s' : Store) (ch ch' : Open) (gone : List Delivery) (wanted sends : List Send) (before notes : List Note)
+    → settled tag_of tag multiple ch.given.outstanding ≡ Some gone → sends ≡ wanted → before ≡ [] → AreSettledBy how s c h gone before notes s' → ch' ≡ without_settled ch tag multiple room
+    → SettlesHere how c h s ch tag multiple wanted sends notes s' ch'
+settles how c h tag room multiple s s' ch ch' gone wanted sends before notes all sent none are e old new turns =
     let names = queue_names s.topology.queues in
+    let noted : notes ≡ are.noted = are.appended ∙ ap (λ (ns : List Note). ns ++ are.noted) none in
     record {
       gone = map (outstanding_in names) gone;
       settled_are = settled_seen names tag multiple ch.given.outstanding ∙ ap (option_map (map (outstanding_in names))) all;
-      queues = are;
-      sent = refl;
-      counted = counted;
+      queues = subst (λ (ns : List Note). AreSettled s.topology how c h (map (outstanding_in names) gone) (entries_named s) ns (entries_named s')) (sym noted) are.settled;
+      sent = sent;
+      counted = are.counted;
       connections = turns.connections;
-      channels = λ d k. turns.channels d k ∙ ap (λ (x : Channel). with_pair old.channel c h (Some x) d k) (without_seen tag room multiple s s' ch ch' same e);
+      channels = λ d k. turns.channels d k ∙ ap (λ (x : Channel). with_pair old.channel c h (Some x) d k) (without_seen tag room multiple s s' ch ch' are.topology e);
     }
-
-pub left_is : AreNamed → (cause : Cause) (c h tag room : ℕ) (multiple : Bool) (s s' : Store) (ch ch' : Open) (gone : List Delivery) → IsStoreWhole s → CanCommand c h s ch
-    → settled tag_of tag multiple ch.given.outstanding ≡ Some gone → s' ≡ without_all c h s gone → ch' ≡ without_settled ch tag multiple room
-    → SettlesHere (Leaves cause) c h s ch tag multiple [] [] (leaving_notes cause c h s gone) s' ch'
-left_is are cause c h tag room multiple s s' ch ch' gone whole can all made e =
-    let names = queue_names s.topology.queues in
-    settles (Leaves cause) c h tag room multiple s s' ch ch' gone [] (leaving_notes cause c h s gone) all
-    (ap (λ (x : Store). x.topology) made ∙ without_topology c h gone s)
-    (ap (λ (x : Store). x.published) made ∙ without_published c h gone s) e
-    (subst (λ (x : Store). AreLeft cause c h (map (outstanding_in names) gone) (entries_named s) (leaving_notes cause c h s gone) (entries_named x)) (sym made)
-    (left_by_names are cause c h gone s whole can.agreed.apart (all_rise c h tag multiple s ch gone can all) (all_within c h tag multiple s ch gone can all)))
-
-pub returned_is : AreNamed → (c h tag room : ℕ) (multiple : Bool) (s s' : Store) (ch ch' : Open) (gone : List Delivery) (sends : List Send) → IsStoreWhole s → CanCommand c h s ch
-    → settled tag_of tag multiple ch.given.outstanding ≡ Some gone → s' ≡ returned_all c h s gone → ch' ≡ without_settled ch tag multiple room
-    → SettlesHere Returns c h s ch tag multiple sends sends [] s' ch'
-returned_is are c h tag room multiple s s' ch ch' gone sends whole can all made e =
-    let names = queue_names s.topology.queues in
-    settles Returns c h tag room multiple s s' ch ch' gone sends [] all
-    (ap (λ (x : Store). x.topology) made ∙ returned_topology c h gone s)
-    (ap (λ (x : Store). x.published) made ∙ returned_published c h gone s) e (
-      refl,
-      subst (λ (x : Store). AreReturned c h (map (outstanding_in names) gone) (entries_named s) (entries_named x)) (sym made)
-          (returned_by_names are c h gone s whole (all_within c h tag multiple s ch gone can all)),
-    )
-
-pub rejected_is : (c h tag room : ℕ) (multiple : Bool) (s s' : Store) (ch ch' : Open) (gone : List Delivery) (notes : List Note)
-    → settled tag_of tag multiple ch.given.outstanding ≡ Some gone → IsRejection s c h gone notes s' → ch' ≡ without_settled ch tag multiple room
-    → SettlesHere Rejects c h s ch tag multiple [] [] notes s' ch'
-rejected_is c h tag room multiple s s' ch ch' gone notes all is e = settles Rejects c h tag room multiple s s' ch ch' gone [] notes all is.topology is.counted e is.rejected

@@ -1,5 +1,5 @@
 -- What a reload looks at is what the broker has.
-use Rattle.std.proofs.Common.{◌≡◌, ◌∙◌, ℕ, List, [], get_or, Option, Some, Result, sym, ap, subst, arith}
+use Rattle.std.proofs.Common.{◌≡◌, ◌∙◌, ◌<◌, length, ℕ, List, [], get_or, Option, Some, Result, sym, ap, subst, arith}
 use Rattle.std.specs.Prelude.{IfOk, OnErr, option_map, slice_get, Decides}
 use Rattle.std.proofs.lemmas.Option.{slice_get_within, get_or_from_slice_get}
 use Rattle.std.proofs.lemmas.Result.{IfOk-weaker}
@@ -10,7 +10,7 @@ use Rattle.model.specs.Broker as seen
 use Rattle.model.specs.Broker.{Broker}
 use Rattle.model.specs.declared.obstacles.Obstacle.{Obstacle}
 use Rattle.channel.specs.Open.{open_in, consumer_in}
-use Rattle.depot.specs.Store.{entries_named, queue_at, IsStoreWhole}
+use Rattle.depot.specs.Store.{Store, entries_named, queue_at, IsStoreWhole, IsQueueNamed}
 use Rattle.depot.proofs.Naming.{names-length}
 use Rattle.links.specs.Links.{channel_of}
 use Rattle.links.specs.Counting.{is_consumed, HasTaker}
@@ -18,7 +18,6 @@ use Rattle.reloading.specs.Obstacles.{JudgesReload}
 use Rattle.reloading.specs.Standing.{IsConsumed, IsStanding}
 use Rattle.reloading.specs.Wanting.{MayWant}
 use Rattle.reloading.proofs.Wanting.{on_err_too}
-use Rattle.settling.proofs.Settlements.{AreNamed}
 use Rattle.broker_core.specs.Obstacles.{TellsObstacle}
 use Rattle.broker_core.specs.State.{Kept, ArePlaced, broker_of, topology_kept, names_of}
 use Rattle.broker_core.proofs.Placing.{takes_within}
@@ -60,6 +59,10 @@ module _ (kept : Kept) (place : ℕ) (q : Text) (at : slice_get (names_of kept) 
         among = one.among;
         takes = one_place names one.one.queue place apart (omega (arith, within, long)) (slice_get_within names place q at) (ap (λ (k : seen.Consumer). k.queue) one.is ∙ c.takes ∙ sym is_named);
       }
+
+-- what stands at a place of the file stands under its name
+abbrev pub AreNamed : Type 0
+AreNamed = (s : Store) (place : ℕ) → IsStoreWhole s → place < length s.topology.queues → IsQueueNamed s place
 
 pub standing : AreNamed → (kept : Kept) → IsStoreWhole kept.store → ArePlaced kept → ((place : ℕ) → Decides (is_consumed kept.links place) (HasTaker kept.links place))
     → IsStanding (topology_kept kept) (λ place. queue_at kept.store place) (λ place. is_consumed kept.links place) (broker_of kept)

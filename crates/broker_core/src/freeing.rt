@@ -1,35 +1,33 @@
-//! What a connection held, found in what is outstanding on its channels and put back: no queue is searched for it.
+//! What a connection held, found in what is outstanding on its channels and requeued: no queue is searched for it.
 
 ghost use Rattle.std.specs.Prelude.{◌≡◌, ℕ};
 ghost use Rattle.std.specs.Option.{option_copied};
 ghost use Rattle.links.specs.Links.{channel_at, channel_in, outstanding_on};
 ghost use Rattle.model.specs.Placed.{AreWithin};
-ghost use Rattle.broker_core.specs.Freed.{returned_from, returned_at};
+ghost use Rattle.broker_core.specs.Freed.{AreReturnedFrom, AreReturnedAt};
 
 use depot::Depot;
 use links::Link;
 use model::ChannelId;
-use settling::put_back;
 
 /// What is outstanding on the channels of this connection is ready again, channel by channel, each message in its place and
 /// marked redelivered. It takes no memory.
-fn put_back_channels(depot: &mut Depot, connection: u64, link: &Link)
+fn requeue_channels(depot: &mut Depot, connection: u64, link: &Link)
     requires { (h : ℕ) → AreWithin depot.old.topology (outstanding_on (channel_in link.now h)) }
-    ensures { depot.new ≡ returned_from connection 0 depot.old link.now.channels }
+    ensures { AreReturnedFrom connection 0 depot.old link.now.channels depot.new }
 {
     for place in 0..link.places() {
         let number = place as u16;
-        let channel = ChannelId { connection, number };
-        put_back(depot, channel, link.outstanding(number));
+        depot.requeue(ChannelId { connection, number }, link.outstanding(number));
     }
 }
 
 /// The same, where the connection runs.
-pub(crate) fn put_back_all(depot: &mut Depot, connection: u64, link: Option<&Link>)
+pub(crate) fn requeue_all(depot: &mut Depot, connection: u64, link: Option<&Link>)
     requires { (h : ℕ) → AreWithin depot.old.topology (outstanding_on (channel_at (option_copied link) h)) }
-    ensures { depot.new ≡ returned_at connection depot.old (option_copied link.entry) }
+    ensures { AreReturnedAt connection depot.old (option_copied link.entry) depot.new }
 {
     if let Some(link) = link {
-        put_back_channels(depot, connection, link);
+        requeue_channels(depot, connection, link);
     }
 }

@@ -10,3 +10,5 @@ pub mod Waiting
 pub mod Planned
 pub mod Rejected
 pub mod Alone
+pub mod Settled
+pub mod Purged

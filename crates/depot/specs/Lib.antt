@@ -3,6 +3,7 @@ pub mod Signs
 pub mod Lends
 pub mod Turns
 pub mod Publishing
-pub mod Rejecting
 pub mod Dying
+pub mod Settled
+pub mod Purging
 pub mod Moving

@@ -2,3 +2,4 @@ mod Exchanges
 pub mod Judging
 mod Settling
 mod Consuming
+pub mod Settled

@@ -11,7 +11,7 @@ use Rattle.channel.specs.Outstanding.{tag_of}
 use Rattle.channel.specs.Open.{Open, open_in}
 use Rattle.model.specs.Placed.{outstanding_in}
 use Rattle.model.specs.declared.deliveries.Delivery.{Delivery}
-use Rattle.settling.proofs.Settlements.{settled_seen}
+use Rattle.judging.proofs.Settled.{settled_seen}
 
 -- a tag that settles something is accepted
 pub accepted : (names : List Text) (ch : Open) (tag : ℕ) (multiple : Bool) (gone : List Delivery) → settled tag_of tag multiple ch.given.outstanding ≡ Some gone → refusal_of_settling (open_in names ch) tag multiple ≡ None

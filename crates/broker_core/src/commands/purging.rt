@@ -11,7 +11,6 @@ use depot::Depot;
 use judging::{Stop, check_queue};
 use model::{ChannelId, Purge};
 use replies::{Step, answer_purge};
-use settling::{copies, note_purged};
 use std::alloc::Global;
 
 /// The ready messages of a queue leave it, in the order in which they arrived. That is noted of each of them, and their count is
@@ -22,7 +21,8 @@ pub(crate) fn purge(
     depot: &mut Depot,
     purge: &Purge,
 ) -> Result<Step, Stop>
-    ensures commands { (ch : Open) (content : Option Content) → Commands id.connection id.number depot.old ch (QueuePurge purge.now) content result depot.new ch }
+    ensures commands { (ch : Open) (content : Option Content)
+        → Commands id.connection id.number depot.old ch (QueuePurge purge.now) content result depot.new ch }
     ensures addressed { IfOk result (λ s. AreAddressed id.connection s.sends.items) }
     ensures topology { depot.new.topology ≡ depot.old.topology }
     ensures err { OnErr result (depot.new ≡ depot.old) }
@@ -30,12 +30,7 @@ pub(crate) fn purge(
     let place = check_queue(depot.topology(), &purge.queue)?;
     let count = depot.ready_at(place);
     let mut step = answer_purge(alloc, id.connection, id.number, purge.no_wait, count)?;
-    let names = copies(alloc, &purge.queue, count)?;
-    let mut numbers = Vec::new(alloc);
-    numbers.reserve_exact(count)?;
-    step.notes.reserve_exact(count)?;
     depot.is_named(place);
-    depot.purge(place, &mut numbers);
-    note_purged(names, &numbers, &mut step.notes);
+    depot.purge(alloc, place, &mut step.notes)?;
     Ok(step)
 }

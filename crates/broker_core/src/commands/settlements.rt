@@ -13,11 +13,10 @@ ghost use Rattle.replies.specs.Sent.{AreAddressed};
 ghost use Rattle.broker_core.specs.Commands.{CanCommand, Commands, ComesTo, SettlesHere, WantsNone, seen};
 
 use channel::Channel;
-use depot::{Depot, places_are_named};
+use depot::Depot;
 use judging::{Refusal, Stop, check_recover, check_settling};
-use model::{Ack, Cause, ChannelId, Nack, Reject};
+use model::{Ack, ChannelId, Nack, Reject};
 use replies::{Step, recover_ok};
-use settling::{notes_of, put_back, take_out};
 use std::alloc::Global;
 
 /// What this tag settles was taken: it leaves its queues, and is no longer outstanding. All that takes memory is made before the
@@ -30,19 +29,18 @@ pub(crate) fn ack(
     ack: &Ack,
 ) -> Result<Step, Stop>
     requires { CanCommand id.connection id.number depot.old channel.old }
-    ensures commands { (content : Option Content) → Commands id.connection id.number depot.old channel.old (BasicAck ack.now) content result depot.new channel.new }
+    ensures commands { (content : Option Content)
+        → Commands id.connection id.number depot.old channel.old (BasicAck ack.now) content result depot.new channel.new }
     ensures addressed { IfOk result (λ s. AreAddressed id.connection s.sends.items) }
     ensures topology { depot.new.topology ≡ depot.old.topology }
     ensures placed { IsPlaced depot.old.topology channel.new }
     ensures err { OnErr result ((depot.new ≡ depot.old) × (channel.new ≡ channel.old)) }
 {
-    let gone = check_settling(channel, ack.delivery_tag, ack.multiple)?;
-    let notes = notes_of(alloc, depot, id, gone, Cause::Acked)?;
-    depot.is_whole();
-    places_are_named();
-    take_out(depot, id, gone);
-    channel.forget(ack.delivery_tag, ack.multiple);
-    Ok(Step::noting(alloc, notes))
+    let span = check_settling(channel, ack.delivery_tag, ack.multiple)?;
+    let mut step = Step::nothing(alloc);
+    depot.ack(alloc, id, channel.at(span), &mut step.notes)?;
+    channel.forget_span(span);
+    Ok(step)
 }
 
 /// What this tag settles is ready again, each message in its place, and is no longer outstanding. It takes no memory.
@@ -61,11 +59,9 @@ fn requeue(
     ensures placed { IsPlaced depot.old.topology channel.new }
     ensures err { OnErr result ((depot.new ≡ depot.old) × (channel.new ≡ channel.old)) }
 {
-    let gone = check_settling(channel, tag, multiple)?;
-    depot.is_whole();
-    places_are_named();
-    put_back(depot, id, gone);
-    channel.forget(tag, multiple);
+    let span = check_settling(channel, tag, multiple)?;
+    depot.requeue(id, channel.at(span));
+    channel.forget_span(span);
     Ok(())
 }
 
@@ -87,10 +83,11 @@ fn discard(
     ensures placed { IsPlaced depot.old.topology channel.new }
     ensures err { OnErr result ((depot.new ≡ depot.old) × (channel.new ≡ channel.old)) }
 {
-    let gone = check_settling(channel, tag, multiple)?;
-    let notes = settling::reject(alloc, depot, id, gone)?;
-    channel.forget(tag, multiple);
-    Ok(Step::noting(alloc, notes))
+    let span = check_settling(channel, tag, multiple)?;
+    let mut step = Step::nothing(alloc);
+    depot.reject(alloc, id, channel.at(span), &mut step.notes)?;
+    channel.forget_span(span);
+    Ok(step)
 }
 
 /// What this tag settles was not taken: it is ready again if it is to be requeued, which takes no memory, or leaves its queues.
@@ -102,7 +99,8 @@ pub(crate) fn nack(
     nack: &Nack,
 ) -> Result<Step, Stop>
     requires { CanCommand id.connection id.number depot.old channel.old }
-    ensures commands { (content : Option Content) → Commands id.connection id.number depot.old channel.old (BasicNack nack.now) content result depot.new channel.new }
+    ensures commands { (content : Option Content)
+        → Commands id.connection id.number depot.old channel.old (BasicNack nack.now) content result depot.new channel.new }
     ensures addressed { IfOk result (λ s. AreAddressed id.connection s.sends.items) }
     ensures topology { depot.new.topology ≡ depot.old.topology }
     ensures placed { IsPlaced depot.old.topology channel.new }
@@ -125,7 +123,8 @@ pub(crate) fn reject(
     reject: &Reject,
 ) -> Result<Step, Stop>
     requires { CanCommand id.connection id.number depot.old channel.old }
-    ensures commands { (content : Option Content) → Commands id.connection id.number depot.old channel.old (BasicReject reject.now) content result depot.new channel.new }
+    ensures commands { (content : Option Content)
+        → Commands id.connection id.number depot.old channel.old (BasicReject reject.now) content result depot.new channel.new }
     ensures addressed { IfOk result (λ s. AreAddressed id.connection s.sends.items) }
     ensures topology { depot.new.topology ≡ depot.old.topology }
     ensures placed { IsPlaced depot.old.topology channel.new }
@@ -149,7 +148,8 @@ pub(crate) fn recover(
     is_requeue: bool,
 ) -> Result<Step, Stop>
     requires { CanCommand id.connection id.number depot.old channel.old }
-    ensures commands { (content : Option Content) → Commands id.connection id.number depot.old channel.old (BasicRecover is_requeue) content result depot.new channel.new }
+    ensures commands { (content : Option Content)
+        → Commands id.connection id.number depot.old channel.old (BasicRecover is_requeue) content result depot.new channel.new }
     ensures addressed { IfOk result (λ s. AreAddressed id.connection s.sends.items) }
     ensures topology { depot.new.topology ≡ depot.old.topology }
     ensures placed { IsPlaced depot.old.topology channel.new }

@@ -2,11 +2,9 @@
 
 use crate::cores::Core;
 use channel::Channel;
-use depot::places_are_named;
 use judging::Refusal;
 use model::{ChannelId, Ids, Send};
 use replies::{Step, channel_close, channel_close_ok, connection_close};
-use settling::put_back;
 use std::alloc::{AllocError, Global};
 
 impl Core {
@@ -54,10 +52,8 @@ impl Core {
             (by_channel connection number)) (broker_of self.new) }
         ensures topology { topology_kept self.new ≡ topology_kept self.old }
     {
-        self.depot.is_whole();
-        places_are_named();
         let held = self.links.outstanding(connection, number);
-        put_back(&mut self.depot, ChannelId { connection, number }, held);
+        self.depot.requeue(ChannelId { connection, number }, held);
         self.links.put(connection, number, channel);
     }
 

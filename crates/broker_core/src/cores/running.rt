@@ -1,8 +1,7 @@
 //! Connections that run, and their pauses.
 
 use crate::cores::Core;
-use crate::freeing::put_back_all;
-use depot::places_are_named;
+use crate::freeing::requeue_all;
 use std::alloc::{AllocError, Global};
 
 impl Core {
@@ -27,10 +26,8 @@ impl Core {
         ensures topology { topology_kept self.new ≡ topology_kept self.old }
         ensures err { OnErr result (self.new ≡ self.old) }
     {
-        self.depot.is_whole();
-        places_are_named();
         let before = self.links.open(alloc, connection, channel_max, channels)?;
-        put_back_all(&mut self.depot, connection, before.as_ref());
+        requeue_all(&mut self.depot, connection, before.as_ref());
         Ok(())
     }
 
@@ -40,9 +37,7 @@ impl Core {
         ensures gone { Is (with_gone (broker_of self.old) connection) (broker_of self.new) }
         ensures topology { topology_kept self.new ≡ topology_kept self.old }
     {
-        self.depot.is_whole();
-        places_are_named();
-        put_back_all(&mut self.depot, connection, self.links.get(connection));
+        requeue_all(&mut self.depot, connection, self.links.get(connection));
         self.links.remove(connection);
     }
 

@@ -1,29 +1,33 @@
 //! A depot.
 
+ghost use Rattle.std.specs.Prelude.{◌≡◌, ◌<◌, length};
+
 use crate::parts::{Stated, publish};
 use crate::room::Room;
 use crate::thrifty::HOLDER;
 use depot::Depot;
-use model::ChannelId;
+use model::{ChannelId, Delivery};
 use scenario_parts::{Unmet, expect, expect_number, value_of};
 use std::alloc::Global;
+
+/// The channel on which it is published, and which holds the message.
+const CHANNEL: ChannelId = ChannelId {
+    connection: 1,
+    number: 1,
+};
 
 /// A depot, in whose queue `audit` one message is ready.
 fn filled_depot(alloc: Global) -> Result<Depot, Unmet> {
     let stated = Stated::with(alloc, b"{\"guarantees\":[]}")?;
     let mut depot = value_of("Depot::new", Depot::new(alloc, stated.topology))?;
     let (publish, content) = publish();
-    let channel = ChannelId {
-        connection: 1,
-        number: 1,
-    };
     let mut notes = Vec::new(alloc);
     if depot.published() > 0 {
         return Err(Unmet::Claim("a new depot has no publish"));
     }
     value_of(
         "Depot::publish",
-        depot.publish(alloc, channel, &publish, &content, None, None, &mut notes),
+        depot.publish(alloc, CHANNEL, &publish, &content, None, None, &mut notes),
     )?;
     Ok(depot)
 }
@@ -36,6 +40,20 @@ fn expect_told(depot: &Depot) -> Result<(), Unmet> {
     expect("there is no such queue", depot.ready(b"absent").is_none())
 }
 
+/// The message of this queue that is held is ready again.
+fn requeue(depot: &mut Depot, place: usize, arrival: u64)
+    requires { place < length depot.old.topology.queues }
+    ensures { depot.new.topology ≡ depot.old.topology }
+{
+    let given = Delivery {
+        tag: HOLDER.tag,
+        queue: place,
+        arrival,
+        by: HOLDER.by,
+    };
+    depot.requeue(CHANNEL, &[given]);
+}
+
 /// The one message is held, made ready again and taken.
 fn expect_taken(depot: &mut Depot) -> Result<(), Unmet> {
     let Some(place) = depot.topology().queue_at(b"audit") else {
@@ -46,10 +64,8 @@ fn expect_taken(depot: &mut Depot) -> Result<(), Unmet> {
         return Err(Unmet::Claim("nobody holds a message"));
     }
     let arrival = value_of("Depot::hold", depot.hold(place, HOLDER).ok_or(()))?;
-    expect(
-        "it is made ready again",
-        depot.release(place, &HOLDER, arrival),
-    )?;
+    requeue(depot, place, arrival);
+    expect_number("it is made ready again", depot.ready_at(place) as u64, 1)?;
     expect("it is taken", depot.take_first(place).is_some())
 }
 

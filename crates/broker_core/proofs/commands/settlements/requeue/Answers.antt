@@ -1,19 +1,32 @@
-use Rattle.std.proofs.Common.{◌∙◌, ap}
+use Rattle.std.proofs.Common.{[], refl}
 use Rattle.model.specs.Placed.{waiting}
-use Rattle.depot.specs.Store.{Store}
-use Rattle.broker_core.proofs.Settling.{all_within, returned_is, stays_placed, returned_topology}
+use Rattle.model.specs.Deliveries.{Returns}
+use Rattle.broker_core.proofs.Settling.{lent_settled, forgotten, all_within, settles, stays_placed}
 use Rattle.broker_core.proofs.commands.settlements.requeue.Goals as goal
 
-pub put_back-requires : goal.put_back-requires
-put_back-requires c = all_within c.args.id.connection c.args.id.number c.args.tag c.args.multiple c.args.depot.now c.args.channel.now (waiting c.in_ok-gone.gone.now) c.requires c.in_ok-gone.ensures.settled
+pub requeue-requires : goal.requeue-requires
+requeue-requires c =
+    let ch = c.args.channel.now in
+    let gone = waiting c.at.result.now in
+    all_within c.args.id.connection c.args.id.number c.args.tag c.args.multiple c.args.depot.now ch gone c.requires
+    (lent_settled c.in_ok-span.span c.args.tag c.args.multiple ch.given.outstanding gone c.in_ok-span.ensures.span c.at.ensures)
 
 pub returns-clause-settles : goal.returns-clause-settles
 returns-clause-settles c = λ sends.
-    returned_is c.places_are_named.ensures c.args.id.connection c.args.id.number c.args.tag c.forget.new.self.given.room c.args.multiple
-    c.args.depot.now c.put_back.new.depot c.args.channel.now c.forget.new.self (waiting c.in_ok-gone.gone.now) sends c.is_whole.ensures c.requires c.in_ok-gone.ensures.settled c.put_back.ensures c.forget.ensures
+    let ch = c.args.channel.now in
+    let gone = waiting c.at.result.now in
+    let span = c.in_ok-span.span in
+    let is = c.in_ok-span.ensures.span in
+    let room = c.forget_span.new.self.given.room in
+    settles Returns c.args.id.connection c.args.id.number c.args.tag room c.args.multiple c.args.depot.now c.requeue.new.self ch c.forget_span.new.self gone sends sends [] []
+    (lent_settled span c.args.tag c.args.multiple ch.given.outstanding gone is c.at.ensures) refl refl c.requeue.ensures
+    (forgotten span c.args.tag room c.args.multiple ch c.forget_span.new.self is c.forget_span.ensures.settled)
 
 pub returns-clause-topology : goal.returns-clause-topology
-returns-clause-topology c = ap (λ (s : Store). s.topology) c.put_back.ensures ∙ returned_topology c.args.id.connection c.args.id.number (waiting c.in_ok-gone.gone.now) c.args.depot.now
+returns-clause-topology c = c.requeue.ensures.topology
 
 pub returns-clause-placed : goal.returns-clause-placed
-returns-clause-placed c = stays_placed c.args.id.connection c.args.id.number c.args.tag c.forget.new.self.given.room c.args.multiple c.args.depot.now c.args.channel.now c.forget.new.self c.requires c.forget.ensures
+returns-clause-placed c =
+    let room = c.forget_span.new.self.given.room in
+    stays_placed c.args.id.connection c.args.id.number c.args.tag room c.args.multiple c.args.depot.now c.args.channel.now c.forget_span.new.self c.requires
+    (forgotten c.in_ok-span.span c.args.tag room c.args.multiple c.args.channel.now c.forget_span.new.self c.in_ok-span.ensures.span c.forget_span.ensures.settled)
