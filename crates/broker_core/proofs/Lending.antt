@@ -1,16 +1,15 @@
 -- What a command did on a channel that was lent, as what is kept.
-use Rattle.std.proofs.Common.{◌≡◌, ◌∙◌, ℕ, zero, suc, List, [], ◌∷◌, get_or, set, nat_eq, Bool, Option, Some, None, Result, Ok, Err, sym, ap, subst}
+use Rattle.std.proofs.Common.{◌≡◌, ◌∙◌, ℕ, zero, suc, List, [], ◌∷◌, get_or, set, nat_eq, Option, Some, None, Result, Ok, Err, sym, ap, subst}
 use Rattle.std.specs.Prelude.{option_map}
 use Rattle.std.proofs.lemmas.Option.{none-some}
 use Rattle.model.specs.Topology.{Topology, queue_names}
 use Rattle.model.specs.Broker.{Broker, Connection, with_pair}
 use Rattle.model.specs.Agreement.{IsAgreed}
-use Rattle.model.specs.Deliveries.{after_delivery}
-use Rattle.model.specs.Step.{Is, refusal, channel_or_new}
+use Rattle.model.specs.Step.{IsDelivery, refusal}
 use Rattle.model.specs.declared.contents.Content.{Content}
-use Rattle.model.specs.declared.messages.Taker.{Taker}
+use Rattle.model.specs.declared.events.Send.{Send}
 use Rattle.model.specs.declared.methods.Method.{Method}
-use Rattle.exchange_graph.specs.Marks.{queue_name}
+use Rattle.model.specs.declared.notes.Note.{Note}
 use Rattle.channel.specs.Open.{Open, open_in}
 use Rattle.depot.specs.Store.{Store}
 use Rattle.judging.specs.declared.refusals.Stop.{Stop}
@@ -19,8 +18,10 @@ use Rattle.links.proofs.Putting.{put_same}
 use Rattle.links.proofs.Setting.{set_same, found_channel, found_written}
 use Rattle.links.specs.Lends.{LentArePut}
 use Rattle.links.specs.Placed.{IsPlaced}
-use Rattle.broker_core.specs.State.{Kept, ArePlaced, broker_of, channel_on, names_of, topology_kept}
-use Rattle.broker_core.specs.Commands.{Side, Turns, CanCommand, Answers, AnswersHere, AnswersOn, GivesHere, UnlessPerformed, seen}
+use Rattle.broker_core.specs.State.{Kept, ArePlaced, broker_of, names_of, topology_kept}
+use Rattle.broker_core.specs.Commands.{Side, Turns, CanCommand, Answers, AnswersHere, AnswersOn, CanDeliverHere, DeliversHere, UnlessPerformed, seen}
+use Rattle.broker_core.specs.Picked.{IsPick}
+use Rattle.broker_core.specs.declared.picks.Pick.{Pick}
 use Rattle.broker_core.specs.declared.commands.Done.{Done}
 use Rattle.broker_core.specs.declared.commands.Done.TheVariants.{Performed, Left}
 use Rattle.broker_core.proofs.Stepping.{seen_put}
@@ -125,13 +126,19 @@ lent_same old new c h l was ch lent stored same =
     link_same old new c l (with_channel_in l h ch) lent.found lent.written
     (ap (with_channel_in l h) same ∙ ap (λ (xs : List (Option Open)). record l { channels = xs }) (set_there l.channels h was lent.there)) stored
 
--- a message was given out on a channel that was lent, and in what is kept
-pub given_out : LentArePut → (old new : Kept) (c h place : ℕ) (no_ack : Bool) (by : Taker) (was ch : Open) → channel_of old.links c h ≡ Some was → new.links ≡ with_channel old.links c h ch → topology_kept new ≡ topology_kept old
-    → GivesHere c h old.store was no_ack place by new.store ch
-    → Is (after_delivery (broker_of old) c h (channel_on old c h) no_ack (queue_name (topology_kept old) place) by) (broker_of new)
-given_out are old new c h place no_ack by was ch there written same gives =
-    subst (λ (o : Option Open). Is (after_delivery (broker_of old) c h (channel_or_new (option_map (open_in (names_of old)) o)) no_ack (queue_name (topology_kept old) place) by) (broker_of new)) (sym there)
-    (gives (side_of old) (side_of new) (turns_put old new c h was ch there (put_there are old new c h was ch there written) same))
+-- a delivery that can be made in what is kept can be made on its channel
+pub can_deliver : (old now : Kept) (p : Pick) (ch : Open) → old ≡ now → channel_of old.links p.connection p.channel ≡ Some ch → IsPick (broker_of now) p → CanDeliverHere p old.store ch
+can_deliver old now p ch same is pick =
+    record { side = side_of old; there = ap (option_map (open_in (names_of old))) is; pick = subst (λ (k : Kept). IsPick (broker_of k) p) (sym same) pick }
+
+-- and one that was made on a channel that was lent was made in what is kept
+pub delivered_on : LentArePut → (old now new : Kept) (p : Pick) (was ch : Open) (sends : List Send) (notes : List Note) → old ≡ now → channel_of old.links p.connection p.channel ≡ Some was
+    → new.links ≡ with_channel old.links p.connection p.channel ch → topology_kept new ≡ topology_kept old → IsPick (broker_of now) p → DeliversHere p old.store was sends notes new.store ch
+    → IsDelivery (broker_of now) p.connection sends notes (broker_of new)
+delivered_on are old now new p was ch sends notes same there written topology pick delivers =
+    subst (λ (k : Kept). IsDelivery (broker_of k) p.connection sends notes (broker_of new)) same
+    (delivers (side_of old) (side_of new) (turns_put old new p.connection p.channel was ch there (put_there are old new p.connection p.channel was ch there written) topology)
+    (subst (λ (k : Kept). IsPick (broker_of k) p) (sym same) pick))
 
 -- so it stays placed
 pub put_placed : LentArePut → (old new : Kept) (c h : ℕ) (was ch : Open) → channel_of old.links c h ≡ Some was → new.links ≡ with_channel old.links c h ch → topology_kept new ≡ topology_kept old

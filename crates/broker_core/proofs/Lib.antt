@@ -1,6 +1,6 @@
 pub mod Consuming
 mod Declaring
-mod Delivering
+mod Delivered
 mod Freed
 mod Getting
 mod GivenOut

@@ -143,11 +143,6 @@ decides_on t b c h m content left sends notes new conn e r p =
     subst (λ (o : Option Connection). OnConnection t b c h m content sends notes new o) (sym e)
     (subst (λ (x : Option Refusal). Decides t b c h m content x sends notes new) (sym r) p)
 
--- a channel that is kept, as it is
-pub kept_one : (o : Option Open) → IsSome o → (ch : Open) × (o ≡ Some ch)
-kept_one None h = absurd (let e : false ≡ true = h in cc)
-kept_one (Some ch) h = (ch, refl)
-
 -- a qos sets the same limit of what is kept and of what is seen of it
 pub limited_is : (names : List Text) (ch : Open) (m : Qos) → open_in names (opened.with_qos ch m) ≡ limited (open_in names ch) m
 limited_is names ch m = chosen m.global

@@ -9,7 +9,7 @@ use Rattle.model.specs.Deliveries.{Settlement, after_delivery}
 use Rattle.model.specs.Grammar.{IsMethod}
 use Rattle.model.specs.Sending.{IsCarried}
 use Rattle.model.specs.Step as step
-use Rattle.model.specs.Step.{Is, Performs, Settles, refusal, refusal_of, channel_or_new}
+use Rattle.model.specs.Step.{Is, IsDelivery, Performs, Settles, refusal, refusal_of, channel_or_new}
 use Rattle.model.specs.declared.contents.Content.{Content}
 use Rattle.model.specs.declared.events.Send.{Send}
 use Rattle.model.specs.declared.messages.Entry.{Entry}
@@ -29,6 +29,8 @@ use Rattle.judging.specs.declared.refusals.Stop.TheVariants.{Refused, Memory}
 use Rattle.replies.specs.Sent.{AreAddressed}
 use Rattle.replies.specs.declared.steps.Step.{Step}
 use Rattle.broker_core.specs.State.{Kept, broker_of, topology_kept}
+use Rattle.broker_core.specs.Picked.{IsPick}
+use Rattle.broker_core.specs.declared.picks.Pick.{Pick}
 use Rattle.broker_core.specs.declared.commands.asking.Left as asked
 use Rattle.broker_core.specs.declared.commands.asking.Left.TheVariants as left
 use Rattle.broker_core.specs.declared.commands.Done.{Done}
@@ -89,6 +91,17 @@ SettlesHere how c h s ch tag multiple wanted sends notes s' ch' = (old new : Sid
 abbrev pub GivesHere : ℕ → ℕ → Store → Open → Bool → ℕ → Taker → Store → Open → Type 0
 GivesHere c h s ch no_ack place by s' ch' = (old new : Side) → Turns c h (seen s ch) (seen s' ch') old new
     → Is (after_delivery (state_of s old) c h (seen s ch) no_ack (queue_name s.topology place) by) (state_of s' new)
+
+-- Some state of these queues and this channel has a delivery to this consumer that can be made.
+pub record CanDeliverHere (p : Pick) (s : Store) (ch : Open) : Type 0 where
+  pub side : Side
+  pub there : side.channel p.connection p.channel ≡ Some (seen s ch)
+  pub pick : IsPick (state_of s side) p
+
+-- where one can be made to this consumer, it is made, and this is sent and noted
+abbrev pub DeliversHere : Pick → Store → Open → List Send → List Note → Store → Open → Type 0
+DeliversHere p s ch sends notes s' ch' = (old new : Side) → Turns p.connection p.channel (seen s ch) (seen s' ch') old new
+    → IsPick (state_of s old) p → IsDelivery (state_of s old) p.connection sends notes (state_of s' new)
 
 -- memory was not wanting
 abbrev pub WantsNone : {A : Type 0} → Result A Stop → Type 0

@@ -1,6 +1,6 @@
 pub mod State
-pub mod Picked
 pub mod Seats
+pub mod Picked
 pub mod Freed
 pub mod Steps
 pub mod Commands

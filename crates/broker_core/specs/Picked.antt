@@ -1,5 +1,5 @@
 -- Which delivery is made.
-use Rattle.std.specs.Prelude.{◌≡◌, ◌<◌, ◌≤◌, ℕ, Option, Some, None, length}
+use Rattle.std.specs.Prelude.{◌≡◌, ◌<◌, ◌≤◌, ℕ, true, false, Option, Some, None, length}
 use Rattle.model.specs.Topology.{IsIn}
 use Rattle.model.specs.Broker as seen
 use Rattle.model.specs.Broker.{Broker}
@@ -9,7 +9,10 @@ use Rattle.depot.specs.Store.{HasReady}
 use Rattle.channel.specs.Open.{consumer_in}
 use Rattle.channel.specs.declared.consumers.Consumer.{Consumer}
 use Rattle.broker_core.specs.State.{Kept, broker_of, topology_kept, names_of}
+use Rattle.broker_core.specs.Seats.{has_consumer}
 use Rattle.broker_core.specs.declared.picks.Pick.{Pick}
+use Rattle.broker_core.specs.declared.picks.Taking.{Taking}
+use Rattle.broker_core.specs.declared.picks.Taking.TheVariants.{Gone, Nothing, From}
 
 -- a delivery that can be made, to this consumer
 abbrev pub IsPick : Broker → Pick → Type 0
@@ -49,3 +52,9 @@ pub record TakesAs (kept : Kept) (p : Pick) (k : Consumer) : Type 0 where
 abbrev pub TellsConsumer : Kept → Pick → Option Consumer → Type 0
 TellsConsumer kept p (Some k) = TakesAs kept p k
 TellsConsumer kept p None = CannotTake (broker_of kept) p
+
+-- The consumer of these numbers is not there; or it may take nothing now; or it may take a message, from the queue at this place.
+abbrev pub TellsTaking : Kept → Pick → Taking → Type 0
+TellsTaking kept p Gone = (has_consumer kept p ≡ false) × CannotTake (broker_of kept) p
+TellsTaking kept p Nothing = (has_consumer kept p ≡ true) × CannotTake (broker_of kept) p
+TellsTaking kept p (From place) = (k : Consumer) × TakesAs kept p k × (k.queue ≡ place)

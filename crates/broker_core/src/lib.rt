@@ -6,9 +6,10 @@
 
 mod commands;
 mod cores;
+mod delivering;
 mod freeing;
 mod giving;
 mod picks;
 
 pub use cores::Core;
-pub use picks::Pick;
+pub use picks::{Pick, Taking};

@@ -8,3 +8,14 @@ pub struct Pick {
     /// Consumers of a channel are numbered as they are made.
     pub number: u64,
 }
+
+/// Whether a consumer may take a message now.
+#[derive(Clone, Copy, PartialEq, Eq, Debug, Drop)]
+pub enum Taking {
+    /// It is not there.
+    Gone,
+    /// It may take nothing now.
+    Nothing,
+    /// It may take one, from the queue at this place.
+    From(usize),
+}

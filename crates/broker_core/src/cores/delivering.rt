@@ -1,58 +1,38 @@
 //! Messages that are delivered to consumers. Source: AMQP 0-9-1, basic.deliver.
 
-ghost use Rattle.std.specs.Prelude.{◌≡◌, ◌<◌, ◌∷◌, [], IfOk, length};
-ghost use Rattle.model.specs.Deliveries.{delivery_notes};
-ghost use Rattle.model.specs.Sending.{IsCarried};
-ghost use Rattle.model.specs.Step as said;
-ghost use Rattle.exchange_graph.specs.Marks.{queue_name};
-ghost use Rattle.replies.specs.Sent.{AreAddressed};
+ghost use Rattle.std.specs.Prelude.{◌≡◌};
+ghost use Rattle.links.specs.Consumers.{has_consumer_numbered};
+ghost use Rattle.links.specs.Links.{channel_in};
 
 use crate::cores::Core;
-use crate::giving::give_out;
-use crate::picks::Pick;
+use crate::delivering::deliver_on;
+use crate::picks::{Pick, Taking};
 use channel::Consumer;
-use depot::{Depot, places_are_named};
-use links::lent_channels_are_put;
-use model::{ChannelId, Entry, Taker, Text};
-use replies::{Step, deliver, giving};
+use depot::places_are_named;
+use links::{Link, lent_channels_are_put};
+use replies::Step;
 use std::alloc::{AllocError, Global};
 
-/// The name of the queue at this place.
-fn name_at(depot: &Depot, place: usize) -> &Text
-    requires { place < length depot.now.topology.queues }
-    ensures { result.now ≡ queue_name depot.now.topology place }
+/// Whether the connection has the consumer of these numbers.
+fn has_number(link: &Link, pick: Pick) -> bool
+    ensures { result ≡ has_consumer_numbered (channel_in link.now pick.channel) pick.number }
 {
-    &depot.topology().queue(place).name
-}
-
-/// What is sent and noted of the message that goes to this consumer, from the queue of this name, under this delivery tag.
-fn delivery(
-    alloc: Global,
-    pick: Pick,
-    tag: u64,
-    consumer: &Consumer,
-    queue: &Text,
-    entry: &Entry,
-) -> Result<Step, AllocError>
-    ensures sends { IfOk result (λ s. s.sends.items ≡ said.deliver pick.connection pick.channel tag consumer.now.tag entry.now ∷ []) }
-    ensures notes { IfOk result (λ s. s.notes.items ≡ delivery_notes consumer.now.no_ack entry.now.message.number queue.now) }
-    ensures addressed { IfOk result (λ s. length consumer.now.tag < 256 → IsCarried entry.now.message → AreAddressed pick.connection s.sends.items) }
-{
-    let send = deliver(pick.connection, pick.channel, tag, &consumer.tag, entry)?;
-    giving(alloc, send, consumer.no_ack, entry, queue)
+    match link.channel(pick.channel) {
+        Some(channel) => channel.has_number(pick.number),
+        None => false,
+    }
 }
 
 impl Core {
-    ghost use Rattle.std.specs.Prelude.{◌≡◌, ◌<◌, true, false, IsSome, IfOk, OnOk, OnErr, length, option_map};
+    ghost use Rattle.std.specs.Prelude.{◌≡◌, true, false, IfOk, OnErr, option_map};
     ghost use Rattle.model.specs.Agreement.{IsAgreed};
     ghost use Rattle.model.specs.Naming.{AreNamed};
     ghost use Rattle.model.specs.Sending.{AreCarried};
-    ghost use Rattle.model.specs.Prefetch.{has_tag_left};
-    ghost use Rattle.model.specs.Deliveries.{after_delivery, first_ready};
-    ghost use Rattle.model.specs.Step.{Is, IsDelivery};
-    ghost use Rattle.broker_core.specs.State.{broker_of, channel_on, topology_kept};
-    ghost use Rattle.broker_core.specs.Picked.{IsPick, IsPickFrom, IsNextPicked, TakesAs, TellsConsumer, CannotTake};
+    ghost use Rattle.model.specs.Step.{IsDelivery};
+    ghost use Rattle.broker_core.specs.State.{broker_of, topology_kept};
+    ghost use Rattle.broker_core.specs.Picked.{IsPick, IsPickFrom, IsNextPicked, TakesAs, TellsConsumer, TellsTaking, CannotTake};
     ghost use Rattle.channel.specs.declared.consumers.Consumer.{Consumer as One};
+    ghost use Rattle.replies.specs.Sent.{AreAddressed};
 
     /// The consumer of these numbers, exactly where it may take a message now.
     fn taker(&self, pick: Pick) -> Option<&Consumer>
@@ -117,30 +97,23 @@ impl Core {
         self.taker(pick).is_some()
     }
 
-    /// The first ready message of the queue at this place is given out on a channel that is open, under its next delivery tag. It
-    /// leaves the queue where it needs no acknowledgement.
-    fn give_out(
-        &mut self,
-        id: ChannelId,
-        place: usize,
-        by: Taker,
-        no_ack: bool,
-    ) -> Result<(), AllocError>
-        requires agreed { IsAgreed (broker_of self.old) }
-        requires within { place < length (topology_kept self.old).queues }
-        requires there { IsSome ((broker_of self.old).channel id.connection id.number) }
-        requires left { has_tag_left (channel_on self.old id.connection id.number).next_tag ≡ true }
-        requires ready { IsSome (first_ready ((broker_of self.old).queue (queue_name (topology_kept self.old) place))) }
-        ensures given { OnOk result (Is (after_delivery (broker_of self.old) id.connection id.number
-            (channel_on self.old id.connection id.number) no_ack (queue_name (topology_kept self.old) place) by) (broker_of self.new)) }
-        ensures topology { topology_kept self.new ≡ topology_kept self.old }
-        ensures err { OnErr result (self.new ≡ self.old) }
+    /// Whether the consumer of these numbers may take a message now, and from the queue at which place. Its connection is found
+    /// once.
+    pub fn taking(&self, pick: Pick) -> Taking
+        ensures { TellsTaking self.now pick result }
     {
-        lent_channels_are_put();
-        self.depot.is_named(place);
-        match self.links.channel_mut(id.connection, id.number) {
-            Some(channel) => give_out(id, channel, &mut self.depot, place, by, no_ack),
-            None => unreachable!(),
+        let Some(link) = self.links.get(pick.connection) else {
+            return Taking::Gone;
+        };
+        match link.taker(pick.channel, pick.number) {
+            Some(consumer) => Taking::From(consumer.queue),
+            None => {
+                if has_number(link, pick) {
+                    Taking::Nothing
+                } else {
+                    Taking::Gone
+                }
+            }
         }
     }
 
@@ -155,23 +128,10 @@ impl Core {
         ensures topology { topology_kept self.new ≡ topology_kept self.old }
         ensures err { OnErr result (self.new ≡ self.old) }
     {
-        let Some(consumer) = self.taker(pick) else {
-            unreachable!();
-        };
-        let place = consumer.queue;
-        let no_ack = consumer.no_ack;
-        self.depot.is_named(place);
-        let Some(entry) = self.depot.first_ready(place) else {
-            unreachable!();
-        };
-        let tag = self.links.next_tag(pick.connection, pick.channel);
-        let queue = name_at(&self.depot, place);
-        let step = delivery(alloc, pick, tag, consumer, queue, entry)?;
-        let id = ChannelId {
-            connection: pick.connection,
-            number: pick.channel,
-        };
-        self.give_out(id, place, Taker::Consumer(pick.number), no_ack)?;
-        Ok(step)
+        lent_channels_are_put();
+        match self.links.channel_mut(pick.connection, pick.channel) {
+            Some(channel) => deliver_on(alloc, pick, channel, &mut self.depot),
+            None => unreachable!(),
+        }
     }
 }

@@ -4,7 +4,7 @@ use Rattle.model.specs.Deliveries.{first_ready}
 use Rattle.exchange_graph.specs.Marks.{queue_name}
 use Rattle.broker_core.specs.State.{Kept, broker_of, topology_kept}
 use Rattle.broker_core.proofs.Outcomes.{some_of, some_mapped}
-use Rattle.broker_core.proofs.Delivering.{picked_from, ready_for, none_picked}
+use Rattle.broker_core.proofs.Delivered.{picked_from, ready_for, none_picked}
 use Rattle.broker_core.proofs.cores.Core.can_deliver.Goals as goal
 
 pub returns-in-Some-clause-yes : goal.returns-in-Some-clause-yes

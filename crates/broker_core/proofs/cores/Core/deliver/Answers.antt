@@ -1,55 +1,66 @@
-use Rattle.std.proofs.Common.{◌≡◌, ◌∙◌, ap, sym, subst, Option, Some}
+use Rattle.std.proofs.Common.{◌≡◌, ◌∙◌, None, Some, ap, sym, subst}
 use Rattle.std.specs.Prelude.{option_map, is_some}
+use Rattle.std.specs.Option.{option_copied_mut}
 use Rattle.std.proofs.lemmas.Bool.{false≢true}
-use Rattle.model.specs.Deliveries.{first_ready}
-use Rattle.model.specs.Step.{channel_or_new}
-use Rattle.model.specs.declared.messages.Entry.{Entry}
-use Rattle.exchange_graph.specs.Marks.{queue_name}
-use Rattle.channel.specs.Open.{Open, open_in}
+use Rattle.std.proofs.lemmas.Result.{IfOk-weaker}
+use Rattle.model.specs.Naming.{AreNamed}
+use Rattle.model.specs.Sending.{AreCarried}
+use Rattle.channel.specs.Open.{open_in}
 use Rattle.links.specs.Links.{channel_of}
-use Rattle.broker_core.specs.State.{Kept, broker_of, topology_kept, names_of}
-use Rattle.broker_core.proofs.Stepping.{kept_there, kept_one}
-use Rattle.broker_core.proofs.Getting.{first_carried}
-use Rattle.broker_core.proofs.Delivering.{ready_for, none_picked, delivered, takes_short}
+use Rattle.links.proofs.Outcomes.{on_err}
+use Rattle.broker_core.specs.State.{Kept, broker_of, names_of, topology_kept}
+use Rattle.broker_core.proofs.Stepping.{kept_there}
+use Rattle.broker_core.proofs.Delivered.{picked_there}
+use Rattle.broker_core.proofs.Lending.{side_of, can_command, can_deliver, still_agreed, delivered_on, put_placed, put_stays}
 use Rattle.broker_core.proofs.cores.Core.deliver.Goals as goal
 
-pub unreachable-requires : goal.unreachable-requires
-unreachable-requires c = none_picked c.args.self.now c.args.pick c.in_default.ensures c.requires.picked
+pub deliver_on-requires-clause-can : goal.deliver_on-requires-clause-can
+deliver_on-requires-clause-can c =
+    let old : Kept = record { store = c.self.inside.depot; links = c.self.inside.links } in
+    let there : channel_of old.links c.args.pick.connection c.args.pick.channel ≡ Some c.in-Some.channel.now = sym c.channel_mut.ensures.value ∙ ap option_copied_mut c.in-Some.is in
+    can_command old c.args.pick.connection c.args.pick.channel c.in-Some.channel.now (still_agreed c.args.self.now old c.self.view_is c.requires.agreed) c.self.invariant there
 
-pub unreachable-requires-in_default-first_ready : goal.unreachable-requires-in_default-first_ready
-unreachable-requires-in_default-first_ready c =
-    let place = c.in-Some.consumer.now.queue in
-    let same : first_ready ((broker_of c.args.self.now).queue (queue_name (topology_kept c.args.self.now) place)) ≡ option_map (λ e. e.now) c.first_ready.result =
-    subst (λ (k : Kept). first_ready ((broker_of k).queue (queue_name (topology_kept k) place)) ≡ option_map (λ e. e.now) c.first_ready.result) c.self.view_is
-    (ap first_ready c.is_named.ensures.entries_are ∙ sym c.first_ready.ensures) in
-    false≢true (ap is_some (sym (ap (option_map (λ e. e.now)) c.in_default-first_ready.is)) ∙ ap is_some (sym same ∙ ready_for c.args.self.now c.args.pick c.in-Some.consumer.now c.in-Some.ensures c.requires.picked))
+pub deliver_on-requires-clause-picked : goal.deliver_on-requires-clause-picked
+deliver_on-requires-clause-picked c =
+    let old : Kept = record { store = c.self.inside.depot; links = c.self.inside.links } in
+    let there : channel_of old.links c.args.pick.connection c.args.pick.channel ≡ Some c.in-Some.channel.now = sym c.channel_mut.ensures.value ∙ ap option_copied_mut c.in-Some.is in
+    can_deliver old c.args.self.now c.args.pick c.in-Some.channel.now c.self.view_is there c.requires.picked
+
+pub unreachable-requires : goal.unreachable-requires
+unreachable-requires c =
+    let old : Kept = record { store = c.self.inside.depot; links = c.self.inside.links } in
+    let none : channel_of old.links c.args.pick.connection c.args.pick.channel ≡ None = sym c.channel_mut.ensures.value ∙ ap option_copied_mut c.in-None.is in
+    false≢true (ap is_some (sym none) ∙ kept_there old c.args.self.now c.args.pick.connection c.args.pick.channel c.self.view_is (picked_there (broker_of c.args.self.now) c.args.pick c.requires.picked))
 
 pub returns-clause-ok : goal.returns-clause-ok
 returns-clause-ok c =
-    let connection = c.args.pick.connection in
-    let number = c.args.pick.channel in
     let old : Kept = record { store = c.self.inside.depot; links = c.self.inside.links } in
-    let now : Kept = c.args.self.now in
-    let place = c.in-Some.consumer.now.queue in
-    let e : Entry = c.in-Some-first_ready.entry.now in
-    let found : first_ready ((broker_of now).queue (queue_name (topology_kept now) place)) ≡ Some e =
-    subst (λ (k : Kept). first_ready ((broker_of k).queue (queue_name (topology_kept k) place)) ≡ Some e) c.self.view_is
-    (ap first_ready c.is_named.ensures.entries_are ∙ sym c.first_ready.ensures ∙ ap (option_map (λ e. e.now)) c.in-Some-first_ready.is) in
-    let there = kept_one (channel_of old.links connection number) (kept_there old now connection number c.self.view_is (ap is_some c.in-Some.ensures.taker.there)) in
-    let tagged : c.next_tag-tag.result ≡ (channel_or_new ((broker_of old).channel connection number)).next_tag =
-    c.next_tag-tag.ensures there.0 there.1 ∙ ap (λ (o : Option Open). (channel_or_new (option_map (open_in (names_of old)) o)).next_tag) (sym there.1) in
-    let own : c.next_tag-tag.result ≡ (channel_or_new ((broker_of now).channel connection number)).next_tag =
-    subst (λ (k : Kept). c.next_tag-tag.result ≡ (channel_or_new ((broker_of k).channel connection number)).next_tag) c.self.view_is tagged in
-    let named : c.name_at-queue.result.now ≡ queue_name (topology_kept now) place = c.name_at-queue.ensures ∙ ap (λ (k : Kept). queue_name (topology_kept k) place) c.self.view_is in
-    delivered now (broker_of c.give_out.new.self) c.args.pick c.in-Some.consumer.now e c.next_tag-tag.result c.name_at-queue.result.now c.in_ok-step.step.sends.items c.in_ok-step.step.notes.items
-    c.in-Some.ensures found own named c.in_ok-step.ensures.sends c.in_ok-step.ensures.notes c.in_ok-give_out.ensures.given
+    let ch = c.deliver_on.new.channel in
+    let new : Kept = record { store = c.deliver_on.new.depot; links = c.channel_mut.follows.lender ch } in
+    let there : channel_of old.links c.args.pick.connection c.args.pick.channel ≡ Some c.in-Some.channel.now = sym c.channel_mut.ensures.value ∙ ap option_copied_mut c.in-Some.is in
+    IfOk-weaker c.deliver_on.result _ _ (λ s delivers.
+    delivered_on c.lent_channels_are_put.ensures old c.args.self.now new c.args.pick c.in-Some.channel.now ch s.sends.items s.notes.items c.self.view_is there (c.channel_mut.follows.holds ch) c.deliver_on.ensures.topology c.requires.picked delivers) c.deliver_on.ensures.ok
 
 pub returns-clause-addressed : goal.returns-clause-addressed
-returns-clause-addressed c = λ carried named.
-    let now : Kept = c.args.self.now in
-    let place = c.in-Some.consumer.now.queue in
-    let e : Entry = c.in-Some-first_ready.entry.now in
-    let found : first_ready ((broker_of now).queue (queue_name (topology_kept now) place)) ≡ Some e =
-    subst (λ (k : Kept). first_ready ((broker_of k).queue (queue_name (topology_kept k) place)) ≡ Some e) c.self.view_is
-    (ap first_ready c.is_named.ensures.entries_are ∙ sym c.first_ready.ensures ∙ ap (option_map (λ e. e.now)) c.in-Some-first_ready.is) in
-    c.in_ok-step.ensures.addressed (takes_short now c.args.pick c.in-Some.consumer.now c.in-Some.ensures named) (first_carried ((broker_of now).queue (queue_name (topology_kept now) place)) e (carried (queue_name (topology_kept now) place)) found)
+returns-clause-addressed c =
+    let old : Kept = record { store = c.self.inside.depot; links = c.self.inside.links } in
+    let there : channel_of old.links c.args.pick.connection c.args.pick.channel ≡ Some c.in-Some.channel.now = sym c.channel_mut.ensures.value ∙ ap option_copied_mut c.in-Some.is in
+    IfOk-weaker c.deliver_on.result _ _ (λ s own carried named.
+    own (side_of old) (ap (option_map (open_in (names_of old))) there) (subst (λ (k : Kept). AreCarried (broker_of k)) (sym c.self.view_is) carried)
+    (subst (λ (k : Kept). AreNamed (topology_kept k) (broker_of k)) (sym c.self.view_is) named)) c.deliver_on.ensures.addressed
+
+pub returns-clause-err : goal.returns-clause-err
+returns-clause-err c =
+    let old : Kept = record { store = c.self.inside.depot; links = c.self.inside.links } in
+    let ch = c.deliver_on.new.channel in
+    let new : Kept = record { store = c.deliver_on.new.depot; links = c.channel_mut.follows.lender ch } in
+    let there : channel_of old.links c.args.pick.connection c.args.pick.channel ≡ Some c.in-Some.channel.now = sym c.channel_mut.ensures.value ∙ ap option_copied_mut c.in-Some.is in
+    on_err c.deliver_on.result c.deliver_on.ensures.err (λ same. put_stays old new c.args.pick.connection c.args.pick.channel c.in-Some.channel.now ch there (c.channel_mut.follows.holds ch) same.0 same.1 ∙ c.self.view_is)
+
+pub invariant_of-self : goal.invariant_of-self
+invariant_of-self c =
+    let old : Kept = record { store = c.self.inside.depot; links = c.self.inside.links } in
+    let ch = c.deliver_on.new.channel in
+    let new : Kept = record { store = c.deliver_on.new.depot; links = c.channel_mut.follows.lender ch } in
+    let there : channel_of old.links c.args.pick.connection c.args.pick.channel ≡ Some c.in-Some.channel.now = sym c.channel_mut.ensures.value ∙ ap option_copied_mut c.in-Some.is in
+    put_placed c.lent_channels_are_put.ensures old new c.args.pick.connection c.args.pick.channel c.in-Some.channel.now ch there (c.channel_mut.follows.holds ch) c.deliver_on.ensures.topology c.deliver_on.ensures.placed c.self.invariant

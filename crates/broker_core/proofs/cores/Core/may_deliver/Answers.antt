@@ -5,7 +5,7 @@ use Rattle.model.specs.Topology.{AreApart, queue_names}
 use Rattle.exchange_graph.specs.Marks.{queue_name}
 use Rattle.broker_core.specs.State.{Kept, broker_of, topology_kept}
 use Rattle.broker_core.proofs.Outcomes.{some_of, some_mapped}
-use Rattle.broker_core.proofs.Delivering.{picked_from, ready_for, none_picked, same_queue}
+use Rattle.broker_core.proofs.Delivered.{picked_from, ready_for, none_picked, same_queue}
 use Rattle.broker_core.proofs.cores.Core.may_deliver.Goals as goal
 
 pub returns-then-consumer-queue-clause-yes : goal.returns-then-consumer-queue-clause-yes

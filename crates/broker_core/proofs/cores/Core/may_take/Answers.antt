@@ -1,5 +1,5 @@
 use Rattle.std.proofs.Common.{◌∙◌, sym}
-use Rattle.broker_core.proofs.Delivering.{none_told}
+use Rattle.broker_core.proofs.Delivered.{none_told}
 use Rattle.broker_core.proofs.cores.Core.may_take.Goals as goal
 
 pub returns-clause-no : goal.returns-clause-no

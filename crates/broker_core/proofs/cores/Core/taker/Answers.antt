@@ -4,7 +4,7 @@ use Rattle.std.specs.Option.{option_copied}
 use Rattle.links.specs.Links.{linked_in}
 use Rattle.broker_core.specs.Picked.{TellsConsumer}
 use Rattle.broker_core.specs.State.{Kept}
-use Rattle.broker_core.proofs.Delivering.{tells_is}
+use Rattle.broker_core.proofs.Delivered.{tells_is}
 use Rattle.broker_core.proofs.cores.Core.taker.Goals as goal
 
 pub returns-in-Some : goal.returns-in-Some

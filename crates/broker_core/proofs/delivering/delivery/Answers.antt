@@ -1,7 +1,7 @@
 use Rattle.std.proofs.Common.{subst, sym}
 use Rattle.std.proofs.lemmas.Result.{IfOk-weaker}
 use Rattle.replies.specs.Sent.{AreAddressed}
-use Rattle.broker_core.proofs.cores.delivering.delivery.Goals as goal
+use Rattle.broker_core.proofs.delivering.delivery.Goals as goal
 
 pub returns-clause-addressed : goal.returns-clause-addressed
 returns-clause-addressed c =
