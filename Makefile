@@ -1,7 +1,7 @@
 # `make` alone lists the targets.
 SHELL := bash
 .SHELLFLAGS := -o pipefail -c
-.PHONY: help try look run shop verdicts serve clients libraries deploy reload load refusals cases same promise edits widths prose tools pictures examples bench install package manual test
+.PHONY: help try look run shop verdicts serve clients libraries deploy reload load refusals cases same promise edits widths map prose tools pictures examples bench install package manual test
 
 # where `make install` puts the program
 PREFIX ?= /usr/local
@@ -135,7 +135,11 @@ edits:
 widths:
 	@python3 tools/widths
 
-tools: promise edits widths
+# the calls that docs/inside/ARCHITECTURE.md lists are where it says, and made by one another
+map:
+	@python3 tools/map
+
+tools: promise edits widths map
 	@ls tools/*/tests/test.py | xargs -P 4 -I {} sh -c '$(ONE_TEST)'
 
 # makes the shop's pictures anew; this wants Graphviz

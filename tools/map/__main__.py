@@ -1,8 +1,8 @@
 #!/usr/bin/env python3
 """Checks the paths of docs/inside/ARCHITECTURE.md: each call in their lists is where the list says, and the call before it makes it. Proves nothing.
 
-A path is a part "## The path of .." with a numbered list. An item begins with its calls, `crate::module::Type::function`, as many of modules and
-types as tell it apart; a list has at most 12 items below its first.
+A path is a part "## The path of .." with a numbered list. An item begins with its call, `crate::module::Type::function`, as many of modules and
+types as tell it apart; what is said of it follows a colon, and may name further calls. A list has at most 20 items below its first.
 """
 
 import glob
@@ -11,7 +11,7 @@ import re
 import sys
 
 PAGE = "docs/inside/ARCHITECTURE.md"
-MOST = 12
+MOST = 20
 CALL = re.compile(r"`([a-z_0-9]+(?:::[A-Za-z_0-9]+)+)`")
 ITEM = re.compile(r"^(\d+)\. (.*)$")
 
@@ -71,21 +71,19 @@ def wrong_in(root, name, items):
         yield f"{name}: {len(items) - 1} items below the first, and not {MOST} at most"
     before = []
     for number, item in enumerate(items, 1):
-        head = item.split(":", 1)[0] if ": " in item else item
-        calls = [it for it in CALL.findall(item.split(". ")[0])]
+        head, _, rest = item.partition(": ")
+        calls = CALL.findall(head)
         if not calls:
             yield f"{name}, {number}: it names no call: {head[:60]}"
-            before = []
-            continue
         here = []
         for call in calls:
-            found = bodies(root, call)
-            if not found:
-                yield f"{name}, {number}: `{call}` is not there"
-            here += found
+            here += bodies(root, call)
             function = call.split("::")[-1]
             if before and not any(re.search(rf"\b{function}\b\s*(?:::<[^>]*>)?\(", it) for it in before):
                 yield f"{name}, {number}: the item before doesn't call `{call}`"
+        for call in [*calls, *CALL.findall(rest)]:
+            if not bodies(root, call):
+                yield f"{name}, {number}: `{call}` is not there"
         before = here
 
 

@@ -7,7 +7,8 @@ ghost use Rattle.model.specs.Topology.{Topology as Handed};
 ghost use Rattle.model.specs.declared.contents.Content.{Content as Whole};
 ghost use Rattle.links.specs.Placed.{IsPlaced};
 ghost use Rattle.judging.specs.Judged.{is_requeueing};
-ghost use Rattle.broker_core.specs.Commands.{CanCommand, Answers, AnswersOpen, AnswersHere, UnlessPerformed, IsAddressedBy, WantsNone, HasSpelling, done_of, left_of};
+ghost use Rattle.broker_core.specs.Commands.{CanCommand, Answers, AnswersOpen, AnswersHere, UnlessPerformed, IsAddressedBy, WantsNone, HasSpelling};
+ghost use Rattle.broker_core.specs.Commands.{done_of, left_of};
 
 mod asking;
 mod consuming;

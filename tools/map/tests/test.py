@@ -61,9 +61,9 @@ class Map(unittest.TestCase):
         self.assertIn("3: it names no call", self.told())
 
     def test_a_long_path(self):
-        rest = "".join(f"{it}. `bag::put`\n" for it in range(4, 15))
+        rest = "".join(f"{it}. `bag::put`\n" for it in range(4, 23))
         self.write("docs/inside/ARCHITECTURE.md", PAGE.replace("3. `bag::put`\n", "3. `bag::put`\n" + rest))
-        self.assertIn("13 items below the first, and not 12 at most", self.told())
+        self.assertIn("21 items below the first, and not 20 at most", self.told())
 
     def test_a_page_without_paths(self):
         self.write("docs/inside/ARCHITECTURE.md", "# A map\n")

@@ -20,7 +20,8 @@ pub(crate) fn find_exchange(
     depot: &Depot,
     declare: &ExchangeDeclare,
 ) -> Result<Step, Stop>
-    ensures commands { (ch : Open) (content : Option Content) → Commands id.connection id.number depot.now ch (DeclaresExchange declare.now) content result depot.now ch }
+    ensures commands { (ch : Open) (content : Option Content)
+        → Commands id.connection id.number depot.now ch (DeclaresExchange declare.now) content result depot.now ch }
     ensures addressed { IfOk result (λ s. AreAddressed id.connection s.sends.items) }
 {
     check_exchange(depot.topology(), declare)?;

@@ -27,7 +27,8 @@ pub(crate) fn select(
     channel: &mut Channel,
     no_wait: bool,
 ) -> Result<Step, Stop>
-    ensures commands { (s : Store) (content : Option Whole) → Commands id.connection id.number s channel.old (ConfirmSelect no_wait) content result s channel.new }
+    ensures commands { (s : Store) (content : Option Whole)
+        → Commands id.connection id.number s channel.old (ConfirmSelect no_wait) content result s channel.new }
     ensures addressed { IfOk result (λ s. AreAddressed id.connection s.sends.items) }
     ensures placed { (t : Topology) → IsPlaced t channel.old → IsPlaced t channel.new }
     ensures err { OnErr result (channel.new ≡ channel.old) }

@@ -22,7 +22,8 @@ pub(crate) fn purge(
     depot: &mut Depot,
     purge: &Purge,
 ) -> Result<Step, Stop>
-    ensures commands { (ch : Open) (content : Option Content) → Commands id.connection id.number depot.old ch (QueuePurge purge.now) content result depot.new ch }
+    ensures commands { (ch : Open) (content : Option Content)
+        → Commands id.connection id.number depot.old ch (QueuePurge purge.now) content result depot.new ch }
     ensures addressed { IfOk result (λ s. AreAddressed id.connection s.sends.items) }
     ensures topology { depot.new.topology ≡ depot.old.topology }
     ensures err { OnErr result (depot.new ≡ depot.old) }

@@ -30,7 +30,8 @@ pub(crate) fn ack(
     ack: &Ack,
 ) -> Result<Step, Stop>
     requires { CanCommand id.connection id.number depot.old channel.old }
-    ensures commands { (content : Option Content) → Commands id.connection id.number depot.old channel.old (BasicAck ack.now) content result depot.new channel.new }
+    ensures commands { (content : Option Content)
+        → Commands id.connection id.number depot.old channel.old (BasicAck ack.now) content result depot.new channel.new }
     ensures addressed { IfOk result (λ s. AreAddressed id.connection s.sends.items) }
     ensures topology { depot.new.topology ≡ depot.old.topology }
     ensures placed { IsPlaced depot.old.topology channel.new }
@@ -102,7 +103,8 @@ pub(crate) fn nack(
     nack: &Nack,
 ) -> Result<Step, Stop>
     requires { CanCommand id.connection id.number depot.old channel.old }
-    ensures commands { (content : Option Content) → Commands id.connection id.number depot.old channel.old (BasicNack nack.now) content result depot.new channel.new }
+    ensures commands { (content : Option Content)
+        → Commands id.connection id.number depot.old channel.old (BasicNack nack.now) content result depot.new channel.new }
     ensures addressed { IfOk result (λ s. AreAddressed id.connection s.sends.items) }
     ensures topology { depot.new.topology ≡ depot.old.topology }
     ensures placed { IsPlaced depot.old.topology channel.new }
@@ -125,7 +127,8 @@ pub(crate) fn reject(
     reject: &Reject,
 ) -> Result<Step, Stop>
     requires { CanCommand id.connection id.number depot.old channel.old }
-    ensures commands { (content : Option Content) → Commands id.connection id.number depot.old channel.old (BasicReject reject.now) content result depot.new channel.new }
+    ensures commands { (content : Option Content)
+        → Commands id.connection id.number depot.old channel.old (BasicReject reject.now) content result depot.new channel.new }
     ensures addressed { IfOk result (λ s. AreAddressed id.connection s.sends.items) }
     ensures topology { depot.new.topology ≡ depot.old.topology }
     ensures placed { IsPlaced depot.old.topology channel.new }
@@ -149,7 +152,8 @@ pub(crate) fn recover(
     is_requeue: bool,
 ) -> Result<Step, Stop>
     requires { CanCommand id.connection id.number depot.old channel.old }
-    ensures commands { (content : Option Content) → Commands id.connection id.number depot.old channel.old (BasicRecover is_requeue) content result depot.new channel.new }
+    ensures commands { (content : Option Content)
+        → Commands id.connection id.number depot.old channel.old (BasicRecover is_requeue) content result depot.new channel.new }
     ensures addressed { IfOk result (λ s. AreAddressed id.connection s.sends.items) }
     ensures topology { depot.new.topology ≡ depot.old.topology }
     ensures placed { IsPlaced depot.old.topology channel.new }
