@@ -1,5 +1,5 @@
 -- What a settlement leaves of a channel and of the queues.
-use Rattle.std.proofs.Common.{◌≡◌, ℕ, List, [], ◌++◌, Bool, refl, sym, ap, subst, ◌∙◌, map, arith, Some}
+use Rattle.std.proofs.Common.{◌≡◌, ℕ, List, [], ◌++◌, Bool, sym, ap, subst, ◌∙◌, map, arith, Some}
 use Rattle.std.specs.Prelude.{option_map}
 use Rattle.std.proofs.Math.ListN as numbered
 use Rattle.std.proofs.lemmas.List.{length-map}
