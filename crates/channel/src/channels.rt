@@ -3,10 +3,8 @@
 ghost use Rattle.std.specs.Prelude.{◌≡◌, ◌+◌, ◌*◌, ◌<◌, ◌≤◌, List, length, None, true, false, OnOk, OnErr, is_some, option_map};
 ghost use Rattle.model.specs.Words.{Text as Name};
 ghost use Rattle.model.specs.Consuming.{without_consumer};
-ghost use Rattle.model.specs.Settling.{settled};
 ghost use Rattle.model.specs.Step.{started, next_of, is_spent};
 ghost use Rattle.model.specs.Prefetch.{has_tag_left};
-ghost use Rattle.channel.specs.Outstanding.{tag_of};
 ghost use Rattle.model.specs.Placed.{waiting};
 ghost use Rattle.channel.specs.Spans.{settled_by, TellsSpan};
 ghost use Rattle.channel.specs.Deliveries.{nothing_given, may_be_given, consumer_at};
@@ -273,26 +271,6 @@ impl Channel {
         ensures room { self.old.given.room ≤ self.new.given.room }
     {
         self.deliveries.forget_span(span);
-    }
-
-    /// What this tag settles, in tag order, with the places between of what was settled before; none where it is refused, with
-    /// 406. Source: AMQP 0-9-1, basic.ack.
-    pub fn settle(&self, tag: u64, multiple: bool) -> Option<&[Delivery]>
-        ensures { option_map (λ s. waiting s.now) result ≡ settled tag_of tag multiple self.now.given.outstanding }
-    {
-        match self.span(tag, multiple) {
-            Some(span) => Some(self.at(span)),
-            None => None,
-        }
-    }
-
-    /// Takes out what this tag settles; nothing where it is refused. It takes no memory.
-    pub fn forget(&mut self, tag: u64, multiple: bool)
-        ensures { self.new ≡ without_settled self.old tag multiple self.new.given.room }
-    {
-        if let Some(span) = self.span(tag, multiple) {
-            self.forget_span(span);
-        }
     }
 
     /// Each queue that stood at a place of the table stands now at the place that it has there. It takes no memory.

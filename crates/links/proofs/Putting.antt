@@ -1,14 +1,9 @@
 -- A channel that was lent and written is put at its number, and everything else stays.
-use Rattle.std.proofs.Common.{◌≡◌, ◌<◌, ◌==◌, ℕ, zero, suc, List, [], ◌∷◌, length, get_or, set, Bool, true, false, Option, Some, None, cond, refl, sym, ap, subst, ◌∙◌, nat_eq, arith, if◌then◌else◌, ◌&&◌}
+use Rattle.std.proofs.Common.{◌≡◌, ◌<◌, ◌==◌, ℕ, zero, suc, List, [], ◌∷◌, length, get_or, set, Bool, true, false, Option, Some, None, cond, refl, sym, ap, ◌∙◌, nat_eq, arith, if◌then◌else◌, ◌&&◌}
 use Rattle.std.proofs.lemmas.Bool.{eqb-true, eq-eqb, false≢true}
 use Rattle.std.proofs.lemmas.Option.{none-some}
-use Rattle.std.proofs.lemmas.List.{get_or-set_same}
-use Rattle.std.specs.Prelude.{Result, Ok, Err, OnErr}
 use Rattle.std.specs.Map.{lookup, set_value}
-use Rattle.model.specs.Words.{Text}
-use Rattle.model.specs.declared.methods.Consume.{Consume}
-use Rattle.channel.specs.Open.{Open, SeatsConsumer}
-use Rattle.channel.specs.declared.consumers.SeatRefusal.{SeatRefusal}
+use Rattle.channel.specs.Open.{Open}
 use Rattle.links.proofs.Setting.{set_is, set_same}
 use Rattle.links.specs.Links.{Linked, linked_in, channel_at, channel_of, connection_at, connection_of, with_channel_in, with_channel_at, with_channel, PutsChannel}
 
@@ -70,10 +65,6 @@ puts_written es c h old ch is = at (linked_in es c) refl is
             ap (λ (o : Option Linked). channel_at o k) (found_apart c d es (with_channel_in l h ch) t)
             ∙ sym (ap (λ (b : Bool). if b && (k == h) then Some ch else channel_of es d k) t)
 
--- the same of connections that are known to be those
-pub put_by : (old new : List (ℕ × Linked)) (c h : ℕ) (was ch : Open) → channel_of old c h ≡ Some was → new ≡ with_channel old c h ch → PutsChannel old c h (Some ch) new
-put_by old new c h was ch is e = subst (PutsChannel old c h (Some ch)) (sym e) (puts_written old c h was ch is)
-
 -- what stands at a number is put there again
 set_there : (xs : List (Option Open)) (i : ℕ) (x : Open) → get_or xs i None ≡ Some x → set xs i (Some x) ≡ xs
 set_there [] i x e = absurd (none-some x e)
@@ -87,16 +78,3 @@ put_same es c h ch is = at (linked_in es c) refl is
     at : (o : Option Linked) → linked_in es c ≡ o → channel_at o h ≡ Some ch → with_channel_at es c h o ch ≡ es
     at None e there = absurd (none-some ch there)
     at (Some l) e there = ap (λ (xs : List (Option Open)). set_value (nat_eq c) es (record l { channels = xs })) (set_there l.channels h ch there) ∙ set_same (nat_eq c) es l e
-
--- what was put at a number is found there
-pub found_put : (es : List (ℕ × Linked)) (c h : ℕ) (was ch : Open) → channel_of es c h ≡ Some was → channel_of (with_channel es c h ch) c h ≡ Some ch
-found_put es c h was ch is = at (linked_in es c) refl is
-  where
-    at : (o : Option Linked) → linked_in es c ≡ o → channel_at o h ≡ Some was → channel_of (with_channel_at es c h o ch) c h ≡ Some ch
-    at None e there = absurd (none-some was there)
-    at (Some l) e there = ap (λ (o : Option Linked). channel_at o h) (found_here (nat_eq c) es (with_channel_in l h ch) l e) ∙ get_or-set_same l.channels h (Some ch) None (within l.channels h was there)
-
--- a consumer that is refused changes nothing
-pub unseated_same : (old new : Open) (queue : ℕ) (m : Consume) (r : Result Text SeatRefusal) → SeatsConsumer old queue m r new → OnErr r (new ≡ old)
-unseated_same old new queue m (Ok tag) seated = tt
-unseated_same old new queue m (Err refusal) seated = seated.1

@@ -1,10 +1,9 @@
 -- The connections that run, each with its open channels, as they are kept.
-use Rattle.std.specs.Prelude.{◌≡◌, ◌==◌, ◌<◌, ◌≤◌, true, false, ℕ, List, [], Bool, Option, Some, None, nat_eq, slice_index_or, slice_set, option_map}
+use Rattle.std.specs.Prelude.{◌≡◌, ◌==◌, true, false, ℕ, List, [], Bool, Option, Some, None, nat_eq, slice_index_or, slice_set, option_map}
 use Rattle.std.specs.Map.{lookup, set_value}
 use Rattle.model.specs.Words.{Text}
-use Rattle.model.specs.Step.{is_spent, channels_up_to}
+use Rattle.model.specs.Step.{channels_up_to}
 use Rattle.model.specs.Broker.{Channel, Connection, with_one, with_row, with_pair}
-use Rattle.model.specs.Prefetch.{has_tag_left}
 use Rattle.channel.specs.Open.{Open, open_in}
 use Rattle.model.specs.declared.deliveries.Delivery.{Delivery}
 
@@ -69,25 +68,6 @@ with_channel_at links c h (Some l) ch = with_linked links c (with_channel_in l h
 abbrev pub with_channel : List (ℕ × Linked) → ℕ → ℕ → Open → List (ℕ × Linked)
 with_channel links c h ch = with_channel_at links c h (linked_in links c) ch
 
--- the channel's confirm number can rise, where there are a channel and a number
-abbrev pub CanCount : Option Open → Type 0
-CanCount ch = (k : Open) → ch ≡ Some k → is_spent k.confirm ≡ false
-
--- a delivery tag is left on the channel, where there is one
-abbrev pub CanGive : Option Open → Type 0
-CanGive ch = (k : Open) → ch ≡ Some k → has_tag_left k.given.next_tag ≡ true
-
--- there is room for one delivery more on it
-abbrev pub HasRoom : Option Open → Type 0
-HasRoom ch = (k : Open) → ch ≡ Some k → 0 < k.given.room
-
--- The channel is as it was, but that it has room for one delivery more, and for no fewer than it had.
-pub record SetsRoom (ch : Open) (new : Option Open) : Type 0 where
-  pub room : ℕ
-  pub is : new ≡ Some (record ch { given = record ch.given { room = room } })
-  pub some : 0 < room
-  pub kept : ch.given.room ≤ room
-
 -- this channel stands at h now, and the others as before
 abbrev pub IsChannelSet : List (Option Open) → ℕ → Option Open → List (Option Open) → Type 0
 IsChannelSet old h ch new = (k : ℕ) → slice_index_or new k None ≡ with_one (λ (i : ℕ). slice_index_or old i None) h ch k
@@ -103,24 +83,10 @@ abbrev pub outstanding_on : Option Open → List Delivery
 outstanding_on None = []
 outstanding_on (Some ch) = ch.given.outstanding
 
--- how many messages more a channel can give out without memory
-abbrev pub room_in : Option Open → ℕ
-room_in None = 0
-room_in (Some ch) = ch.given.room
-
--- and how many consumers more can be made on it
-abbrev pub seats_in : Option Open → ℕ
-seats_in None = 0
-seats_in (Some ch) = ch.given.seats
-
 -- This stands at the channel h of the connection c now, and everything else stays.
 pub record PutsChannel (old : List (ℕ × Linked)) (c h : ℕ) (ch : Option Open) (new : List (ℕ × Linked)) : Type 0 where
   pub connections : (d : ℕ) → connection_of new d ≡ connection_of old d
   pub channels : (d k : ℕ) → channel_of new d k ≡ with_pair (channel_of old) c h ch d k
-
--- the open channel h of the connection c becomes what this makes of it, and everything else stays
-abbrev pub ChangesChannel : List (ℕ × Linked) → ℕ → ℕ → (Open → Open) → List (ℕ × Linked) → Type 0
-ChangesChannel old c h change new = (ch : Open) → channel_of old c h ≡ Some ch → PutsChannel old c h (Some (change ch)) new
 
 -- These connections and channels are there now.
 pub record HoldsConnections (new : List (ℕ × Linked)) (connections : ℕ → Option Connection) (channels : ℕ → ℕ → Option Open) : Type 0 where

@@ -9,8 +9,8 @@ ghost use Rattle.links.specs.Moving.{links_moved, MovesAreUnseen};
 ghost use Rattle.links.specs.Lends.{LentArePut};
 
 use crate::link::Link;
-use channel::{Channel, SeatRefusal};
-use model::{Consume, Delivery, Qos, Taker, Text};
+use channel::Channel;
+use model::Delivery;
 use std::alloc::{AllocError, Global};
 use std::collections::HashMap;
 use std::marker::Model;
@@ -37,36 +37,26 @@ impl Links {
       ◌*◌,
       ◌≤◌,
       length,
-      ◌<◌,
-      ◌^◌,
       [],
       ℕ,
       None,
       Some,
-      false,
-      Option,
       IsSome,
-      IfSome,
       IfOk,
       OnOk,
       OnErr,
-      option_map,
       Decides,
     };
     ghost use Rattle.std.specs.Option.{option_copied, option_copied_mut};
     ghost use Rattle.std.specs.Borrow.{sem};
     ghost use Rattle.links.specs.Lends.{LendsLink, LendsChannel};
     ghost use Rattle.model.specs.Broker.{with_one, with_row};
-    ghost use Rattle.model.specs.Step.{started, next_of, paused};
-    ghost use Rattle.model.specs.declared.methods.Qos.{Qos as Limit};
-    ghost use Rattle.model.specs.Settling.{settled};
-    ghost use Rattle.channel.specs.Outstanding.{tag_of};
+    ghost use Rattle.model.specs.Step.{paused};
     ghost use Rattle.model.specs.Placed.{waiting};
-    ghost use Rattle.channel.specs.Open.{Open, with_qos, given_on, settled_on, without_settled, without_named, SeatsConsumer};
+    ghost use Rattle.channel.specs.Open.{Open};
     ghost use Rattle.links.specs.Counting.{CountsConsumers, HasTaker, is_consumed};
     ghost use Rattle.links.specs.Moving.{links_moved};
-    ghost use Rattle.links.specs.Links.{linked_in, connection_of, channel_of, outstanding_on, room_in, seats_in, CanCount, CanGive, HasRoom};
-    ghost use Rattle.links.specs.Links.{SetsRoom, PutsChannel, ChangesChannel, OpensLink, HoldsConnections};
+    ghost use Rattle.links.specs.Links.{linked_in, connection_of, channel_of, outstanding_on, PutsChannel, OpensLink, HoldsConnections};
 
     /// No connection runs. It takes no memory.
     pub fn new(alloc: Global) -> Links
@@ -185,17 +175,6 @@ impl Links {
         }
     }
 
-    /// The confirm number of the next publish on this channel, where publishes are confirmed there.
-    pub fn next_confirm(&self, connection: u64, channel: u16) -> Option<u64>
-        requires { CanCount (channel_of self.now connection channel) }
-        ensures { (ch : Open) → channel_of self.now connection channel ≡ Some ch → result ≡ next_of ch.confirm }
-    {
-        match self.channel(connection, channel) {
-            Some(channel) => channel.next_confirm(),
-            None => None,
-        }
-    }
-
     /// The delivery tag under which the next message is given out on this channel.
     pub fn next_tag(&self, connection: u64, channel: u16) -> u64
         ensures { (ch : Open) → channel_of self.now connection channel ≡ Some ch → result ≡ ch.given.next_tag }
@@ -203,144 +182,6 @@ impl Links {
         match self.channel(connection, channel) {
             Some(channel) => channel.next_tag(),
             None => 0,
-        }
-    }
-
-    /// Publishes on this channel are confirmed from now on.
-    pub fn select(&mut self, connection: u64, channel: u16)
-        requires { IsSome (channel_of self.old connection channel) }
-        ensures { ChangesChannel self.old connection channel (λ (ch : Open). record ch { confirm = started ch.confirm }) self.new }
-    {
-        lent_channels_are_put();
-        if let Some(channel) = self.channel_mut(connection, channel) {
-            channel.select();
-        }
-    }
-
-    /// One publish more on this channel.
-    pub fn count_publish(&mut self, connection: u64, channel: u16)
-        requires there { IsSome (channel_of self.old connection channel) }
-        requires room { CanCount (channel_of self.old connection channel) }
-        ensures { ChangesChannel self.old connection channel (λ (ch : Open). record ch { confirm = next_of ch.confirm }) self.new }
-    {
-        lent_channels_are_put();
-        if let Some(channel) = self.channel_mut(connection, channel) {
-            channel.count_publish();
-        }
-    }
-
-    /// The limit that a qos sets is this channel's.
-    pub fn limit(&mut self, connection: u64, channel: u16, qos: &Qos)
-        requires { IsSome (channel_of self.old connection channel) }
-        ensures { ChangesChannel self.old connection channel (λ (ch : Open). with_qos ch qos.now) self.new }
-    {
-        lent_channels_are_put();
-        if let Some(channel) = self.channel_mut(connection, channel) {
-            channel.limit(qos);
-        }
-    }
-
-    /// A consumer of the queue at this place is made on this channel, or refused: then nothing changes. Tells its tag.
-    pub fn consume(
-        &mut self,
-        connection: u64,
-        channel: u16,
-        alloc: Global,
-        queue: usize,
-        consume: &Consume,
-    ) -> Result<Text, SeatRefusal>
-        requires { IsSome (channel_of self.old connection channel) }
-        ensures seats { (ch : Open) → channel_of self.old connection channel ≡ Some ch
-            → (new : Open) × SeatsConsumer ch queue consume.now result new × PutsChannel self.old connection channel (Some new) self.new }
-        ensures err { OnErr result (self.new ≡ self.old) }
-    {
-        lent_channels_are_put();
-        match self.channel_mut(connection, channel) {
-            Some(channel) => channel.consume(alloc, queue, consume),
-            None => unreachable!(),
-        }
-    }
-
-    /// The consumer of this tag is this channel's no more. It takes no memory.
-    pub fn cancel(&mut self, connection: u64, channel: u16, tag: &[u8])
-        requires { IsSome (channel_of self.old connection channel) }
-        ensures { ChangesChannel self.old connection channel
-            (λ (ch : Open). without_named ch tag.now (seats_in (channel_of self.new connection channel))) self.new }
-    {
-        lent_channels_are_put();
-        if let Some(channel) = self.channel_mut(connection, channel) {
-            channel.cancel(tag);
-        }
-    }
-
-    /// Room is made for one message more that is given out on this channel. Memory is wanting only where it has none, and then
-    /// nothing changes.
-    pub fn reserve(&mut self, connection: u64, channel: u16) -> Result<(), AllocError>
-        requires { IsSome (channel_of self.old connection channel) }
-        ensures ok { OnOk result ((ch : Open) → channel_of self.old connection channel ≡ Some ch
-            → (new : Option Open) × SetsRoom ch new × PutsChannel self.old connection channel new self.new) }
-        ensures full { OnErr result (room_in (channel_of self.old connection channel) ≡ 0) }
-        ensures err { OnErr result (self.new ≡ self.old) }
-    {
-        lent_channels_are_put();
-        match self.channel_mut(connection, channel) {
-            Some(channel) => channel.reserve(1),
-            None => Ok(()),
-        }
-    }
-
-    /// A message of the queue at this place is given out on this channel, and waits to be settled.
-    pub fn give(&mut self, connection: u64, channel: u16, queue: usize, arrival: u64, by: Taker)
-        requires there { IsSome (channel_of self.old connection channel) }
-        requires tag { CanGive (channel_of self.old connection channel) }
-        requires room { HasRoom (channel_of self.old connection channel) }
-        ensures { ChangesChannel self.old connection channel (λ (ch : Open). given_on ch queue arrival by) self.new }
-    {
-        lent_channels_are_put();
-        if let Some(channel) = self.channel_mut(connection, channel) {
-            channel.give(queue, arrival, by);
-        }
-    }
-
-    /// A message is given out on this channel that needs no acknowledgement.
-    pub fn give_settled(&mut self, connection: u64, channel: u16)
-        requires there { IsSome (channel_of self.old connection channel) }
-        requires tag { CanGive (channel_of self.old connection channel) }
-        ensures { ChangesChannel self.old connection channel settled_on self.new }
-    {
-        lent_channels_are_put();
-        if let Some(channel) = self.channel_mut(connection, channel) {
-            channel.give_settled();
-        }
-    }
-
-    /// What this tag settles on this channel, in tag order, with the places between of what was settled before; none where it is
-    /// refused.
-    pub fn settle(
-        &self,
-        connection: u64,
-        channel: u16,
-        tag: u64,
-        multiple: bool,
-    ) -> Option<&[Delivery]>
-        ensures { (ch : Open) → channel_of self.now connection channel ≡ Some ch
-            → option_map (λ s. waiting s.now) result ≡ settled tag_of tag multiple ch.given.outstanding }
-    {
-        match self.channel(connection, channel) {
-            Some(channel) => channel.settle(tag, multiple),
-            None => None,
-        }
-    }
-
-    /// What this tag settles is no longer outstanding on this channel. It takes no memory.
-    pub fn forget(&mut self, connection: u64, channel: u16, tag: u64, multiple: bool)
-        requires { IsSome (channel_of self.old connection channel) }
-        ensures { ChangesChannel self.old connection channel
-            (λ (ch : Open). without_settled ch tag multiple (room_in (channel_of self.new connection channel))) self.new }
-    {
-        lent_channels_are_put();
-        if let Some(channel) = self.channel_mut(connection, channel) {
-            channel.forget(tag, multiple);
         }
     }
 

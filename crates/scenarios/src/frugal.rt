@@ -207,14 +207,16 @@ impl Frugal {
             return Err(Unmet::Claim("a new channel has a tag left"));
         }
         self.channel.give(0, 1, Taker::Get);
-        expect(
-            "a message is outstanding",
-            self.channel.settle(1, false).is_some(),
+        let span = value_of("Channel::span", self.channel.span(1, false).ok_or(()))?;
+        expect_number(
+            "the number of messages that are settled",
+            self.channel.at(span).len() as u64,
+            1,
         )?;
-        self.channel.forget(1, false);
+        self.channel.forget_span(span);
         expect(
-            "none is, once it was settled",
-            self.channel.settle(1, false).is_none(),
+            "none is outstanding, once it was settled",
+            self.channel.span(1, false).is_none(),
         )
     }
 
