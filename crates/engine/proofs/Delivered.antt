@@ -17,7 +17,6 @@ use Rattle.model.specs.declared.notes.Note.{Note}
 use Rattle.laws.proofs.Whole.{pump_keeps}
 use Rattle.broker_core.specs.State as core
 use Rattle.broker_core.specs.State.{Kept}
-use Rattle.broker_core.specs.declared.picks.Pick.{Pick}
 use Rattle.broker.specs.Turns.{WithTurn, topology_kept, broker_of}
 use Rattle.runs.specs.Opened.{Idles}
 use Rattle.engine.specs.Reading.{IsKeptEvent}
