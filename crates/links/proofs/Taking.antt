@@ -1,6 +1,6 @@
 -- Consumers of a queue, counted and found.
-use Rattle.std.proofs.Common.{◌≡◌, ◌∙◌, ◌+◌, ◌≤◌, ◌<◌, ◌∷◌, [], ℕ, zero, suc, List, Bool, true, false, Option, Some, None, cond, inl, inr, refl, sym, ap, subst, arith, nat_eq, sum_by}
-use Rattle.std.specs.Prelude.{Decides, nat_lt, count_by}
+use Rattle.std.proofs.Common.{◌≡◌, ◌≤◌, ◌<◌, ◌∷◌, [], ℕ, zero, suc, List, Bool, true, false, Option, Some, None, cond, inl, inr, refl, ap, arith, nat_eq, sum_by}
+use Rattle.std.specs.Prelude.{Decides}
 use Rattle.std.specs.List.{IsDistinct}
 use Rattle.std.specs.Map.{keys_of}
 use Rattle.std.proofs.lemmas.Bool.{eqb-true, eq-eqb, ltb-true, lt-ltb}

@@ -1,5 +1,5 @@
 -- The connections that run, each with its open channels, as they are kept.
-use Rattle.std.specs.Prelude.{◌≡◌, ◌==◌, true, false, ℕ, List, [], Bool, Option, Some, None, nat_eq, slice_index_or, slice_set, option_map}
+use Rattle.std.specs.Prelude.{◌≡◌, ◌==◌, false, ℕ, List, [], Bool, Option, Some, None, nat_eq, slice_index_or, slice_set, option_map}
 use Rattle.std.specs.Map.{lookup, set_value}
 use Rattle.model.specs.Words.{Text}
 use Rattle.model.specs.Step.{channels_up_to}

@@ -1,6 +1,6 @@
-use Rattle.std.proofs.Common.{◌≡◌, sym, ap, ◌∙◌, refl, ℕ, List}
+use Rattle.std.proofs.Common.{sym, ap, ◌∙◌, refl}
 use Rattle.std.specs.Option.{option_copied_mut}
-use Rattle.links.specs.Links.{Linked, with_channel, with_channel_in, channel_of}
+use Rattle.links.specs.Links.{with_channel_in}
 use Rattle.links.proofs.Setting.{set_same, found_channel, found_written}
 use Rattle.links.proofs.links.Links.channel_mut.Goals as goal
 
