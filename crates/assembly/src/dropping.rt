@@ -10,10 +10,8 @@ ghost use Rattle.assembly.specs.Taking.{TakesEffect};
 use crate::contents::{Awaited, Dropping};
 use crate::faults::Fault;
 use frame::Frame;
-use model::Command;
+use model::{Command, limits};
 
-/// The largest body that is taken, in bytes.
-const MOST_BODY: u64 = 1_048_576;
 /// The largest payload of a header that is taken, in bytes.
 const MOST_HEADER: usize = 3_400;
 
@@ -21,7 +19,7 @@ const MOST_HEADER: usize = 3_400;
 pub(crate) fn is_too_large(payload: &[u8], size: u64) -> bool
     ensures { result ≡ said.is_too_large payload.now size }
 {
-    size > MOST_BODY || payload.len() > MOST_HEADER
+    size > limits::BODY_BYTES || payload.len() > MOST_HEADER
 }
 
 /// A body of so many bytes is dropped, of which so many have come. Past the declared size it is a fault, and at it the publish

@@ -1,10 +1,10 @@
 //! What an ack costs that comes out of order, where many deliveries are outstanding.
 
 use crate::deliveries::{deliver_to, filled};
-use crate::loads::ack_loads::{AckLoad, load_at};
-use crate::loads::consumers::put_consume;
-use crate::measuring::{Keys, Measured, Part, Shape, Written, print_parts};
 use crate::removals::left_of;
+use benchmark_parts::loads::ack_loads::{AckLoad, load_at};
+use benchmark_parts::loads::consumers::put_consume;
+use benchmark_parts::measuring::{Keys, Measured, Part, Shape, Written, print_parts};
 use std::alloc::Global;
 use std::io;
 

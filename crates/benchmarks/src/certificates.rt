@@ -1,7 +1,7 @@
 //! How long certificates take: found, checked, and admitted.
 
-use crate::loads::stated::{Stated, certificates, found, guarantee_of};
-use crate::measuring::{LARGE, Shape, Texts, built};
+use benchmark_parts::loads::stated::{Stated, certificates, found, guarantee_of};
+use benchmark_parts::measuring::{LARGE, Shape, Texts, built};
 use certificate::{Certificate, admit, check};
 use exchange_graph::Topology;
 use guarantees::Guarantee;

@@ -1,7 +1,7 @@
 //! How long large definitions files take.
 
-use crate::loads::files::{many_bindings, many_users, padded};
-use crate::measuring::Written;
+use benchmark_parts::loads::files::{many_bindings, many_users, padded};
+use benchmark_parts::measuring::Written;
 use definitions::read_definitions;
 use std::alloc::Global;
 use std::io;

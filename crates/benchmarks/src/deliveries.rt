@@ -1,8 +1,10 @@
 //! What it costs to publish a message, to deliver it and to have it acknowledged, bytes to bytes.
 
-use crate::loads::consumers::{Acks, put_consume, put_qos};
-use crate::loads::delivery_loads::{DeliveryLoad, MESSAGES, load_at};
-use crate::measuring::{Client, Keys, Measured, Part, SELECT, Shape, Written, built, print_parts};
+use benchmark_parts::loads::consumers::{Acks, put_consume, put_qos};
+use benchmark_parts::loads::delivery_loads::{DeliveryLoad, MESSAGES, load_at};
+use benchmark_parts::measuring::{
+    Client, Keys, Measured, Part, SELECT, Shape, Written, built, print_parts,
+};
 use std::alloc::Global;
 use std::io;
 

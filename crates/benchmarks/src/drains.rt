@@ -1,8 +1,8 @@
 //! What it costs to drain a queue, and how many resident bytes stay when it is empty.
 
 use crate::deliveries::{RunningDeliveries, engine_of, start};
-use crate::loads::delivery_loads::{DeliveryLoad, drain_of};
-use crate::measuring::{Measured, Part, print_parts, resident_bytes};
+use benchmark_parts::loads::delivery_loads::{DeliveryLoad, drain_of};
+use benchmark_parts::measuring::{Measured, Part, print_parts, resident_bytes};
 use std::io;
 
 /// How many messages wait before a drain. The most come first, since later ones take memory that was given back.

@@ -3,8 +3,8 @@
 //! An event is what is done between two looks at other clients: a read of a hundred publishes, a hundred deliveries, a read of acks,
 //! a purge. Times are those of the clock, since the system counts processor time by its ticks, of some milliseconds.
 
-use crate::loads::consumers::{put_ack, put_consume, put_purge};
-use crate::measuring::{Client, Keys, Measured, Shape, Written, built};
+use benchmark_parts::loads::consumers::{put_ack, put_consume, put_purge};
+use benchmark_parts::measuring::{Client, Keys, Measured, Shape, Written, built};
 use std::alloc::Global;
 use std::io;
 use std::time::Instant;

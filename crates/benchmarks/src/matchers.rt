@@ -1,6 +1,6 @@
 //! How long the patterns that match a key are looked for: compared one by one, and by a trie.
 
-use crate::measuring::processor_time;
+use benchmark_parts::measuring::processor_time;
 use std::alloc::{AllocError, Global};
 use std::io;
 use topic_match::{Matcher, Pattern, Plain, Trie};

@@ -1,7 +1,7 @@
 //! How much resident memory a waiting message takes.
 
-use crate::loads::properties::{MODE, MODE_TYPE, MODE_TYPE_ID, NONE};
-use crate::measuring::{Client, Keys, Measured, SELECT, Shape, built, resident_bytes};
+use benchmark_parts::loads::properties::{MODE, MODE_TYPE, MODE_TYPE_ID, NONE};
+use benchmark_parts::measuring::{Client, Keys, Measured, SELECT, Shape, built, resident_bytes};
 use std::alloc::Global;
 use std::io;
 

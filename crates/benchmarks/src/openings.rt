@@ -1,6 +1,8 @@
 //! What an opening costs, and what a connection takes that is open and idle.
 
-use crate::measuring::{Measured, Part, Shape, Texts, built, print_parts, resident_bytes};
+use benchmark_parts::measuring::{
+    Measured, Part, Shape, Texts, built, print_parts, resident_bytes,
+};
 use model::User;
 use std::alloc::Global;
 use std::io;

@@ -2,8 +2,10 @@
 //!
 //! Each load runs ten equal parts, so that a cost that grows with what waits shows between the first and the last.
 
-use crate::loads::named::{Load, load_at};
-use crate::measuring::{Client, Measured, Part, SELECT, built, print_parts, resident_bytes};
+use benchmark_parts::loads::named::{Load, load_at};
+use benchmark_parts::measuring::{
+    Client, Measured, Part, SELECT, built, print_parts, resident_bytes,
+};
 use std::alloc::Global;
 use std::io;
 

@@ -1,9 +1,9 @@
 //! What it costs to reject many messages at once, where their dead letters come to another queue.
 
 use crate::deliveries::deliver_to;
-use crate::loads::consumers::{put_consume, put_nack_all};
-use crate::loads::properties;
-use crate::measuring::{
+use benchmark_parts::loads::consumers::{put_consume, put_nack_all};
+use benchmark_parts::loads::properties;
+use benchmark_parts::measuring::{
     Client, Keys, Measured, Shape, Written, built, processor_time, resident_bytes,
 };
 use std::alloc::Global;

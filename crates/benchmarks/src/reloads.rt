@@ -1,11 +1,11 @@
 //! What it costs to put a configuration in force while messages wait.
 
 use crate::deliveries::{fill, filled, hold_back};
-use crate::loads::named::{Load, plain};
-use crate::loads::reload_loads::{ReloadLoad, WAITING, load_at, same};
-use crate::loads::stated::{Stated, certificates};
-use crate::measuring::{Measured, Part, built, print_times, resident_bytes};
 use crate::publishes::{Running, engine_of};
+use benchmark_parts::loads::named::{Load, plain};
+use benchmark_parts::loads::reload_loads::{ReloadLoad, WAITING, load_at, same};
+use benchmark_parts::loads::stated::{Stated, certificates};
+use benchmark_parts::measuring::{Measured, Part, built, print_times, resident_bytes};
 use certificate::{Checked, admit};
 use guarantees::Guarantee;
 use model::Mode;

@@ -1,8 +1,10 @@
 //! What it costs to have back what a lost connection held, and to purge a queue.
 
 use crate::deliveries::{deliver_to, filled};
-use crate::loads::consumers::{put_consume, put_purge};
-use crate::measuring::{Keys, Measured, Part, Shape, Written, print_parts, processor_time};
+use benchmark_parts::loads::consumers::{put_consume, put_purge};
+use benchmark_parts::measuring::{
+    Keys, Measured, Part, Shape, Written, print_parts, processor_time,
+};
 use std::alloc::Global;
 use std::io;
 

@@ -1,6 +1,6 @@
 //! How long a topology takes to build, and a route to be taken.
 
-use crate::measuring::{Shape, built};
+use benchmark_parts::measuring::{Shape, built};
 use exchange_graph::Topology;
 use std::io;
 use std::time::Instant;

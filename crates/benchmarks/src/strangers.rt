@@ -1,7 +1,7 @@
 //! What a connection takes that does not run, and has begun a content on each channel.
 
-use crate::measuring::{Measured, resident_bytes};
 use crate::openings::{HEADER, START_OK, engine};
+use benchmark_parts::measuring::{Measured, resident_bytes};
 use std::alloc::{AllocError, Global};
 use std::io;
 

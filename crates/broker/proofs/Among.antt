@@ -6,7 +6,7 @@ use Rattle.std.proofs.lemmas.Bool.{eqb-true, eq-eqb, false≢true}
 use Rattle.model.specs.Topology.{IsIn}
 use Rattle.broker.specs.Roster.{is_consumer, is_seat_of}
 use Rattle.broker.specs.declared.roster.seats.Seat.{Seat}
-use Rattle.broker_core.specs.declared.picks.Pick.{Pick}
+use Rattle.commands.specs.declared.picks.Pick.{Pick}
 use Rattle.broker.proofs.Waking.{both}
 
 -- what passes a test stays

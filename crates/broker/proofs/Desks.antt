@@ -5,7 +5,7 @@ use Rattle.std.proofs.lemmas.Bool.{eqb-true, eq-eqb, false≢true}
 use Rattle.std.proofs.lemmas.List.{get_or-set_same, get_or-set_other}
 use Rattle.model.specs.Topology.{IsIn}
 use Rattle.model.specs.Broker.{Broker}
-use Rattle.broker_core.specs.declared.picks.Pick.{Pick}
+use Rattle.commands.specs.declared.picks.Pick.{Pick}
 use Rattle.broker.specs.Roster.{Seats, Lists, Listing, ring_at, is_on_channel, listed_on, IsAt, IsAwake, IsListed, IsListedOn, IsSeatedIn, ListsMore, AllWaken, IsWoken}
 use Rattle.broker.proofs.Sleeping.{apart}
 

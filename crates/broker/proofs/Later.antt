@@ -4,9 +4,9 @@ use Rattle.std.specs.Prelude.{count_by}
 use Rattle.std.proofs.lemmas.List.{drop_min, take_min, length-append}
 use Rattle.std.proofs.lemmas.List.Elements.{filter-append}
 use Rattle.laws.proofs.Counts.{count-append, count-cons, count-cons_yes}
-use Rattle.broker_core.specs.State.{Kept}
-use Rattle.broker_core.specs.Seats.{has_consumer}
-use Rattle.broker_core.specs.declared.picks.Pick.{Pick}
+use Rattle.commands.specs.State.{Kept}
+use Rattle.commands.specs.Seats.{has_consumer}
+use Rattle.commands.specs.declared.picks.Pick.{Pick}
 use Rattle.broker.specs.declared.roster.seats.Seat.{Seat}
 use Rattle.broker.specs.Lines.{turned, standing, AreDistinct}
 use Rattle.broker.specs.Roster.{Seats, picks, order, is_consumer, has_its_consumer, KeepsThose, KeepsLine, LetsIn}

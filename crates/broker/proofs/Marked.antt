@@ -5,9 +5,9 @@ use Rattle.std.proofs.lemmas.Bool.{eqb-true}
 use Rattle.std.proofs.lemmas.Bool.Decides.{leb_tells}
 use Rattle.std.proofs.lemmas.List.{length-set, get_or-set_same, get_or-set_other}
 use Rattle.marks.specs.Places.{bit_of, Differs}
-use Rattle.broker_core.specs.State.{Kept, broker_of}
-use Rattle.broker_core.specs.Picked.{IsPickFrom}
-use Rattle.broker_core.specs.declared.picks.Pick.{Pick}
+use Rattle.commands.specs.State.{Kept, broker_of}
+use Rattle.commands.specs.Picked.{IsPickFrom}
+use Rattle.commands.specs.declared.picks.Pick.{Pick}
 use Rattle.broker.specs.Roster.{Seats, Lists, ring_at, rings_of, IsAwake, IsSeatedIn, QueuesAreMarked, NoneMarked, KeepsIn, KeepsRing, KeepRings, KeepsSeats, ListsMore, Wakens, AllWaken}
 use Rattle.broker.proofs.Sleeping.{apart, set_more, cannot_pick, seated_more}
 

@@ -8,8 +8,8 @@ use Rattle.std.proofs.lemmas.List.{length-set, length-map, get_or-set_same, get_
 use Rattle.std.proofs.lemmas.Map.Made.{lookup-map_values}
 use Rattle.model.specs.Topology.{IsIn}
 use Rattle.marks.specs.Places.{bit_of}
-use Rattle.channel.specs.Moving.{place_now}
-use Rattle.broker_core.specs.declared.picks.Pick.{Pick}
+use Rattle.channels.specs.Moving.{place_now}
+use Rattle.commands.specs.declared.picks.Pick.{Pick}
 use Rattle.broker.specs.declared.roster.seats.Seat.{Seat}
 use Rattle.broker.specs.Roster.{Seats, Lists, Listing, ring_of, ring_at, awake_seat, asleep_seat, listed_on, IsAwake, IsListed, HasList, QueuesAreMarked}
 use Rattle.broker.specs.Moving.{all_awake, StandsIn, AllRoused, IsMoved, ArePlacesApart, emptied, all_emptied, ListsAreEmptied}

@@ -8,9 +8,9 @@ use Rattle.std.proofs.Math.Nat.{mul-le-mul_right}
 use Rattle.model.specs.Topology.{IsIn}
 use Rattle.model.specs.Broker.{Broker}
 use Rattle.exchange_graph.specs.Marks.{queue_name}
-use Rattle.broker_core.specs.State.{Kept, broker_of, topology_kept}
-use Rattle.broker_core.specs.Picked.{IsPickFrom}
-use Rattle.broker_core.specs.declared.picks.Pick.{Pick}
+use Rattle.commands.specs.State.{Kept, broker_of, topology_kept}
+use Rattle.commands.specs.Picked.{IsPickFrom}
+use Rattle.commands.specs.declared.picks.Pick.{Pick}
 use Rattle.broker.specs.declared.roster.seats.Seat.{Seat}
 use Rattle.broker.specs.Lines.{turned, ahead, standing, IsPassed}
 use Rattle.broker.specs.Roster.{Seats, Rings, Lists, ring_at, picks, order, line_of, takes_from, awake_seat, asleep_seat, is_consumer, IsSeatedIn, GoesLast, PicksFirst}

@@ -2,9 +2,9 @@
 use Rattle.std.proofs.Common.{◌≡◌, ◌∙◌, ◌<◌, ◌≤◌, ◌+◌, ◌++◌, ℕ, List, [], ◌∷◌, Bool, true, false, length, filter, get_or, set, min, inl, inr, refl, sym, ap, subst, arith}
 use Rattle.std.specs.Prelude.{◌==◌}
 use Rattle.std.proofs.lemmas.Bool.{eqb-true, eq-eqb}
-use Rattle.broker_core.specs.State.{Kept, broker_of}
-use Rattle.broker_core.specs.Picked.{IsPickFrom}
-use Rattle.broker_core.specs.declared.picks.Pick.{Pick}
+use Rattle.commands.specs.State.{Kept, broker_of}
+use Rattle.commands.specs.Picked.{IsPickFrom}
+use Rattle.commands.specs.declared.picks.Pick.{Pick}
 use Rattle.broker.specs.declared.roster.seats.Seat.{Seat}
 use Rattle.broker.specs.Lines.{turned, IsPassed, AreDistinct}
 use Rattle.broker.specs.Roster.{Seats, Rings, Lists, ring_at, picks, order, awake_seat, IsSeatedIn, NoneAwake, NoneAwakePassed, NoneBetween, NonePassed, GoesLast, SameOrders, PicksFrom, KeepsSeats, KeepsLine, KeepLines, GoesOn, StaysAt, Wakens, AllWaken}

@@ -1,9 +1,9 @@
 -- The consumers of seats, in their order.
 use Rattle.std.proofs.Common.{◌≡◌, ◌∙◌, ◌<◌, ℕ, zero, suc, List, [], ◌∷◌, Bool, true, false, cond, length, get_or, set, filter, refl, sym, ap, subst, inl, inr, ◌++◌, arith}
 use Rattle.model.specs.Topology.{IsIn}
-use Rattle.broker_core.specs.State.{Kept}
-use Rattle.broker_core.specs.Seats.{has_consumer}
-use Rattle.broker_core.specs.declared.picks.Pick.{Pick}
+use Rattle.commands.specs.State.{Kept}
+use Rattle.commands.specs.Seats.{has_consumer}
+use Rattle.commands.specs.declared.picks.Pick.{Pick}
 use Rattle.broker.specs.declared.roster.seats.Seat.{Seat}
 use Rattle.broker.specs.Lines.{AreDistinct}
 use Rattle.broker.specs.Roster.{picks, has_its_consumer}

@@ -6,16 +6,16 @@ use Rattle.model.specs.Words.{Text}
 use Rattle.model.specs.Topology.{IsIn}
 use Rattle.model.specs.Broker as seen
 use Rattle.model.specs.Broker.{Channel}
-use Rattle.channel.specs.Open.{Open, consumer_in}
-use Rattle.channel.specs.declared.consumers.Consumer.{Consumer}
-use Rattle.links.specs.Links.{channel_of}
-use Rattle.links.specs.Consumers.{has_consumer_numbered}
+use Rattle.channels.specs.Open.{Open, consumer_in}
+use Rattle.channels.specs.declared.consumers.Consumer.{Consumer}
+use Rattle.channels.specs.Links.{channel_of}
+use Rattle.channels.specs.Consumers.{has_consumer_numbered}
 use Rattle.laws.specs.Consumers.{WasConsumer}
-use Rattle.broker_core.specs.State.{Kept, broker_of, topology_kept, names_of}
-use Rattle.broker_core.specs.Picked.{IsPickFrom}
-use Rattle.broker_core.specs.Seats.{has_consumer}
-use Rattle.broker_core.specs.declared.picks.Pick.{Pick}
-use Rattle.broker_core.proofs.Stepping.{seen_there}
+use Rattle.commands.specs.State.{Kept, broker_of, topology_kept, names_of}
+use Rattle.commands.specs.Picked.{IsPickFrom}
+use Rattle.commands.specs.Seats.{has_consumer}
+use Rattle.commands.specs.declared.picks.Pick.{Pick}
+use Rattle.commands.proofs.Stepping.{seen_there}
 use Rattle.broker.specs.Roster.{HasConsumer}
 
 found_by : (names : List Text) (cs : List Consumer) (k : seen.Consumer) (n : ℕ) → IsIn k (map (consumer_in names) cs) → k.number ≡ n → is_some (find (λ (c : Consumer). c.number == n) cs) ≡ true

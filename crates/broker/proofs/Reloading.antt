@@ -12,18 +12,18 @@ use Rattle.model.specs.Reloading.{stood_now, with_all_stood}
 use Rattle.model.specs.Step.{Is}
 use Rattle.model.specs.declared.messages.Entry.{Entry}
 use Rattle.laws.proofs.Counts.{count-map}
-use Rattle.channel.specs.Moving.{place_now}
-use Rattle.channel.specs.Open.{consumer_in}
+use Rattle.channels.specs.Moving.{place_now}
+use Rattle.channels.specs.Open.{consumer_in}
 use Rattle.depot.specs.Moving.{stays, goes, AreMoved}
 use Rattle.depot.specs.Store.{IsStoreWhole}
 use Rattle.depot.proofs.Naming.{names-length, is_in}
-use Rattle.links.specs.Links.{channel_of}
-use Rattle.links.proofs.Setting.{same_default}
-use Rattle.broker_core.specs.State.{Kept, ArePlaced, broker_of, topology_kept, names_of}
-use Rattle.broker_core.specs.declared.picks.Pick.{Pick}
-use Rattle.broker_core.proofs.Placing.{takes_within}
-use Rattle.broker_core.proofs.Reloading.{in_mapped, seen_of, one_place}
-use Rattle.broker_core.proofs.Stepping.{seen_there}
+use Rattle.channels.specs.Links.{channel_of}
+use Rattle.channels.proofs.Setting.{same_default}
+use Rattle.commands.specs.State.{Kept, ArePlaced, broker_of, topology_kept, names_of}
+use Rattle.commands.specs.declared.picks.Pick.{Pick}
+use Rattle.commands.proofs.Placing.{takes_within}
+use Rattle.commands.proofs.Reloading.{in_mapped, seen_of, one_place}
+use Rattle.commands.proofs.Stepping.{seen_there}
 use Rattle.exchange_graph.specs.Marks.{queue_name}
 use Rattle.broker.specs.Roster.{Rings, Lists, Seats, ring_at, order, has_taker, takes_from, IsAwake, IsSeatedIn, HasConsumer, AllHaveSeats, IsServing}
 use Rattle.broker.specs.Moving.{StandsIn, ArePlacesApart, RingsAreMoved, ListsAreEmptied}

@@ -20,14 +20,14 @@ use Rattle.model.specs.declared.events.Event.{Event}
 use Rattle.model.specs.declared.events.Event.TheVariants.{Command}
 use Rattle.model.specs.declared.notes.Note.{Note}
 use Rattle.laws.specs.Consumers.{WasConsumer, IsMadeBy, ConsumersAreMade}
-use Rattle.channel.specs.Open.{Open, open_in}
-use Rattle.links.specs.Links.{Linked, linked_in, channel_in, channel_at, connection_at, limits_of}
-use Rattle.broker_core.specs.State.{Kept, broker_of, topology_kept, names_of}
-use Rattle.judging.specs.Judged.{IsIgnored}
+use Rattle.channels.specs.Open.{Open, open_in}
+use Rattle.channels.specs.Links.{Linked, linked_in, channel_in, channel_at, connection_at, limits_of}
+use Rattle.commands.specs.State.{Kept, broker_of, topology_kept, names_of}
+use Rattle.commands.specs.Judged.{IsIgnored}
 use Rattle.broker.specs.Roster.{Rings, Lists, ring_at, wakes, HasConsumer, AllHaveSeats, IsServing, AllRun, HasNoList, MakesNoList, IsSeated, IsAwake, KeepsSeats, KeepsAll}
-use Rattle.links.specs.Consumers.{next_number}
-use Rattle.broker_core.specs.Seats.{next_seat, seat_of, consumed, IsConsumed}
-use Rattle.broker_core.specs.declared.picks.Pick.{Pick}
+use Rattle.channels.specs.Consumers.{next_number}
+use Rattle.commands.specs.Seats.{next_seat, seat_of, consumed, IsConsumed}
+use Rattle.commands.specs.declared.picks.Pick.{Pick}
 use Rattle.broker.proofs.Present.{has_kept}
 use Rattle.broker.proofs.Waking.{cannot_still}
 

@@ -8,11 +8,11 @@ use Rattle.model.specs.Topology.{IsIn}
 use Rattle.model.specs.Broker.{Broker}
 use Rattle.model.specs.Consuming.{MayTake}
 use Rattle.marks.specs.Places.{bit_of, Differs}
-use Rattle.links.proofs.Setting.{same_default}
-use Rattle.broker_core.specs.State.{Kept, broker_of}
-use Rattle.broker_core.specs.Picked.{IsPickFrom, CannotTake}
-use Rattle.broker_core.specs.Seats.{has_consumer}
-use Rattle.broker_core.specs.declared.picks.Pick.{Pick}
+use Rattle.channels.proofs.Setting.{same_default}
+use Rattle.commands.specs.State.{Kept, broker_of}
+use Rattle.commands.specs.Picked.{IsPickFrom, CannotTake}
+use Rattle.commands.specs.Seats.{has_consumer}
+use Rattle.commands.specs.declared.picks.Pick.{Pick}
 use Rattle.broker.specs.declared.roster.seats.Seat.{Seat}
 use Rattle.broker.specs.Roster.{Seats, Lists, Listing, ring_of, awake_seat, asleep_seat, has_its_consumer, IsAwakeAt, IsAwake, IsAsleep, IsListed, IsSeatedIn, KeepsIn, KeepsRing, ListsMore, ListsStay, NoneAwake, Dozes, FallsAsleep, NoneSeated, StaysAt, Wakens, AllWaken, IsWoken}
 use Rattle.broker.proofs.Picks.{picks_set}

@@ -10,8 +10,8 @@ use Rattle.model.specs.Topology.{Topology, IsIn}
 use Rattle.model.specs.Broker.{Consumer, Channel, Broker}
 use Rattle.depot.proofs.Naming.{names-length}
 use Rattle.exchange_graph.specs.Marks.{queue_name}
-use Rattle.broker_core.specs.State.{Kept, broker_of, topology_kept, names_of}
-use Rattle.broker_core.specs.declared.picks.Pick.{Pick}
+use Rattle.commands.specs.State.{Kept, broker_of, topology_kept, names_of}
+use Rattle.commands.specs.declared.picks.Pick.{Pick}
 use Rattle.broker.specs.Roster.{Seats, ring_at, is_numbered_of, has_taker, takes_from, line_of, lines_of, HasConsumer}
 use Rattle.broker.proofs.Waking.{both}
 

@@ -10,10 +10,10 @@ use Rattle.model.specs.Words.{Text}
 use Rattle.model.specs.Topology.{Topology, IsIn}
 use Rattle.model.specs.declared.events.Event.{Event}
 use Rattle.exchange_graph.specs.Marks.{queue_name}
-use Rattle.broker_core.specs.State.{Kept, broker_of, topology_kept, names_of}
-use Rattle.broker_core.specs.Picked.{IsPickFrom}
-use Rattle.broker_core.specs.Seats.{seat_of, consumed, IsConsumed}
-use Rattle.broker_core.specs.declared.picks.Pick.{Pick}
+use Rattle.commands.specs.State.{Kept, broker_of, topology_kept, names_of}
+use Rattle.commands.specs.Picked.{IsPickFrom}
+use Rattle.commands.specs.Seats.{seat_of, consumed, IsConsumed}
+use Rattle.commands.specs.declared.picks.Pick.{Pick}
 use Rattle.broker.specs.Lines.{standing}
 use Rattle.broker.specs.Roster.{Seats, Rings, ring_at, order, is_consumer, takes_from, line_of, lines_of, HasConsumer, AllStandIn, KeepLines, LetsNextIn, SameOrders, IsSeated, PicksFirst}
 use Rattle.broker.specs.Turns.{with_turn}

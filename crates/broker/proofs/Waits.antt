@@ -4,9 +4,9 @@ use Rattle.std.proofs.lemmas.Bool.{false≢true}
 use Rattle.std.proofs.lemmas.Option.{same_Some}
 use Rattle.std.proofs.Math.Nat.{mul-le-mul_right}
 use Rattle.model.specs.Topology.{Topology, IsIn}
-use Rattle.broker_core.specs.State as core
-use Rattle.broker_core.specs.State.{Kept}
-use Rattle.broker_core.specs.declared.picks.Pick.{Pick}
+use Rattle.commands.specs.State as core
+use Rattle.commands.specs.State.{Kept}
+use Rattle.commands.specs.declared.picks.Pick.{Pick}
 use Rattle.broker.specs.Lines.{ahead, standing}
 use Rattle.broker.specs.Roster.{is_consumer}
 use Rattle.broker.specs.Turns.{WithTurn, topology_kept}

@@ -27,8 +27,8 @@ use Rattle.model.specs.declared.methods.Method.{Method}
 use Rattle.model.specs.declared.methods.Method.TheVariants.{ConnectionClose, ChannelOpen, ChannelFlow, ChannelClose, ChannelCloseOk, ExchangeDeclare, QueueDeclare, QueuePurge, BasicQos, BasicConsume, BasicCancel, BasicPublish, BasicGet, BasicAck, BasicReject, BasicNack, BasicRecover, ConfirmSelect}
 use Rattle.model.specs.declared.notes.Note.{Note}
 use Rattle.broker.specs.Roster.{wakes, wakes_on}
-use Rattle.broker_core.specs.Picked.{CannotTake}
-use Rattle.broker_core.specs.declared.picks.Pick.{Pick}
+use Rattle.commands.specs.Picked.{CannotTake}
+use Rattle.commands.specs.declared.picks.Pick.{Pick}
 
 -- ---- one message more leaves no more to take
 

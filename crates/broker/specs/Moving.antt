@@ -1,7 +1,7 @@
 -- Rings of queues that stand at other places, where another topology is put in force (own).
 use Rattle.std.specs.Prelude.{◌≡◌, ◌<◌, ◌⊎◌, ℕ, List, [], map, length}
-use Rattle.channel.specs.Moving.{place_now}
-use Rattle.broker_core.specs.declared.picks.Pick.{Pick}
+use Rattle.channels.specs.Moving.{place_now}
+use Rattle.commands.specs.declared.picks.Pick.{Pick}
 use Rattle.broker.specs.declared.roster.seats.Seat.{Seat}
 use Rattle.broker.specs.Roster.{Seats, Lists, Listing, ring_at, order, awake_seat, IsAwake, IsAsleep, IsListed, HasList, MakesNoList}
 

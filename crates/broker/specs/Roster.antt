@@ -16,10 +16,10 @@ use Rattle.laws.specs.Consumers.{WasConsumer}
 use Rattle.marks.specs.Places.{bit_of}
 use Rattle.depot.specs.Store.{HasReady}
 use Rattle.exchange_graph.specs.Marks.{queue_name}
-use Rattle.broker_core.specs.State.{Kept, broker_of, topology_kept}
-use Rattle.broker_core.specs.Picked.{IsPickFrom, CannotTake}
-use Rattle.broker_core.specs.Seats.{has_consumer, seat_of, IsConsumed}
-use Rattle.broker_core.specs.declared.picks.Pick.{Pick}
+use Rattle.commands.specs.State.{Kept, broker_of, topology_kept}
+use Rattle.commands.specs.Picked.{IsPickFrom, CannotTake}
+use Rattle.commands.specs.Seats.{has_consumer, seat_of, IsConsumed}
+use Rattle.commands.specs.declared.picks.Pick.{Pick}
 use Rattle.broker.specs.declared.roster.seats.Seat.{Seat}
 use Rattle.broker.specs.Lines.{turned, standing, IsPassed}
 

@@ -2,9 +2,9 @@
 use Rattle.std.specs.Prelude.{ℕ, List, Option}
 use Rattle.model.specs.Topology.{Topology}
 use Rattle.model.specs.Broker.{Broker}
-use Rattle.broker_core.specs.State as core
-use Rattle.broker_core.specs.State.{Kept, names_of}
-use Rattle.broker_core.specs.declared.picks.Pick.{Pick}
+use Rattle.commands.specs.State as core
+use Rattle.commands.specs.State.{Kept, names_of}
+use Rattle.commands.specs.declared.picks.Pick.{Pick}
 use Rattle.broker.specs.Roster.{Rings, lines_of}
 
 -- What is kept, and who is served when.

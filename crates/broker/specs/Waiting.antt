@@ -4,9 +4,9 @@ use Rattle.std.specs.Prelude.{if◌then◌else◌, length, slice_index_or}
 use Rattle.model.specs.Topology.{IsIn}
 use Rattle.model.specs.declared.events.Event.{Event}
 use Rattle.exchange_graph.specs.Marks.{queue_name}
-use Rattle.broker_core.specs.Picked.{IsPickFrom}
-use Rattle.broker_core.specs.Seats.{IsConsumed}
-use Rattle.broker_core.specs.declared.picks.Pick.{Pick}
+use Rattle.commands.specs.Picked.{IsPickFrom}
+use Rattle.commands.specs.Seats.{IsConsumed}
+use Rattle.commands.specs.declared.picks.Pick.{Pick}
 use Rattle.broker.specs.Lines.{ahead, standing}
 use Rattle.broker.specs.Roster.{is_consumer, HasConsumer}
 use Rattle.broker.specs.Turns.{WithTurn, topology_kept, broker_of}

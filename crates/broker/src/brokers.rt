@@ -2,7 +2,7 @@
 
 use crate::roster::Roster;
 use crate::turns::turn_kept;
-use broker_core::{Core, Pick};
+use commands::{Core, Pick};
 use exchange_graph::Topology;
 use guarantees::Guarantee;
 use laws::{brokers_stay_agreed, consumers_are_made};
@@ -51,12 +51,12 @@ impl Broker {
     ghost use Rattle.model.specs.Sending.{AreCarried};
     ghost use Rattle.model.specs.Step.{Acts, Is};
     ghost use Rattle.model.specs.declared.events.Event.TheVariants as event_is;
-    ghost use Rattle.broker_core.specs.State.{nothing};
-    ghost use Rattle.broker_core.specs.Obstacles.{TellsObstacle};
+    ghost use Rattle.commands.specs.State.{nothing};
+    ghost use Rattle.commands.specs.Obstacles.{TellsObstacle};
     ghost use Rattle.reloading.specs.Wanting.{MayWant};
-    ghost use Rattle.judging.specs.Judged.{IsAsked, WantsNoMemory};
-    ghost use Rattle.broker_core.specs.Picked.{IsPick};
-    ghost use Rattle.broker_core.specs.declared.picks.Pick.{Pick as Consumer};
+    ghost use Rattle.commands.specs.Judged.{IsAsked, WantsNoMemory};
+    ghost use Rattle.commands.specs.Picked.{IsPick};
+    ghost use Rattle.commands.specs.declared.picks.Pick.{Pick as Consumer};
     ghost use Rattle.broker.specs.Turns.{broker_of, topology_kept};
     ghost use Rattle.broker.specs.Waiting.{AllStand, NoneIsLater, OneComesIn, IsToldInTurn, LinesMove, ServesSoon};
     ghost use Rattle.replies.specs.Sent.{AreAddressed, connection_of_event};

@@ -9,8 +9,8 @@ mod roster;
 mod turns;
 mod waiting;
 
-pub use broker_core::Pick;
 pub use brokers::Broker;
+pub use commands::Pick;
 pub use model::Event;
 pub use replies::Step;
 pub use waiting::nobody_waits;

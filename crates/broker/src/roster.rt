@@ -18,7 +18,7 @@ ghost use Rattle.broker.specs.Roster.{wakes_on};
 
 use crate::roster::desk::{Desks, empty_desks, forget_desk, open_list, wake_desk};
 use crate::roster::seating::Seating;
-use broker_core::{Core, Pick};
+use commands::{Core, Pick};
 use model::{Event, Method};
 use std::alloc::{AllocError, Global};
 use std::collections::HashMap;
@@ -79,10 +79,10 @@ impl Model for Roster {
 impl Roster {
     ghost use Rattle.std.specs.Prelude.{◌≡◌, [], ℕ, true, None, Option, IfSome, IfOk, IsOk, OnOk, length};
     ghost use Rattle.replies.specs.Sent.{connection_of_event};
-    ghost use Rattle.broker_core.specs.declared.picks.Pick.{Pick as Consumer};
-    ghost use Rattle.broker_core.specs.State.{broker_of, topology_kept};
-    ghost use Rattle.broker_core.specs.Picked.{IsPickFrom};
-    ghost use Rattle.broker_core.specs.Seats.{seat_of};
+    ghost use Rattle.commands.specs.declared.picks.Pick.{Pick as Consumer};
+    ghost use Rattle.commands.specs.State.{broker_of, topology_kept};
+    ghost use Rattle.commands.specs.Picked.{IsPickFrom};
+    ghost use Rattle.commands.specs.Seats.{seat_of};
     ghost use Rattle.broker.specs.Roster.{wakes, IsAt, IsSeated, SeatsNext, HasNoList, MakesNoList, ListsRunning};
     ghost use Rattle.broker.specs.Roster.{KeepsSeats, KeepsAll, KeepLines, LetsNextIn, AllWaken, WakesSeat, PicksFirst, GoesOn};
     ghost use Rattle.broker.specs.Moving.{ArePlacesApart, RingsAreMoved, ListsAreEmptied};

@@ -1,11 +1,11 @@
 //! Whose turn it is.
 
 ghost use Rattle.std.specs.Prelude.{◌≡◌, None, Some, IfSome};
-ghost use Rattle.broker_core.specs.State.{broker_of};
-ghost use Rattle.broker_core.specs.Picked.{IsPick};
-ghost use Rattle.broker_core.specs.declared.picks.Pick.{Pick as Consumer};
+ghost use Rattle.commands.specs.State.{broker_of};
+ghost use Rattle.commands.specs.Picked.{IsPick};
+ghost use Rattle.commands.specs.declared.picks.Pick.{Pick as Consumer};
 
-use broker_core::{Core, Pick};
+use commands::{Core, Pick};
 
 /// The consumer whose turn it is, as long as a delivery can be made to it.
 pub(crate) fn turn_kept(core: &Core, turn: Option<Pick>) -> Option<Pick>

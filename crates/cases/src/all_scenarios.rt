@@ -10,6 +10,7 @@ pub(crate) fn all_hold(rt: &HostRuntime) -> io::Result<bool> {
         failed: 0,
     };
     scenarios::tell_all(&mut sums, rt)?;
+    call_scenarios::tell_all(&mut sums, rt)?;
     served_scenarios::tell_all(&mut sums, rt)?;
     println!(rt; "{} scenarios, {} failed", sums.scenarios, sums.failed)?;
     Ok(sums.failed == 0)

@@ -1,11 +1,9 @@
 //! The files that cases have and name.
 
+use model::limits;
 use server::{Files, NotWritten, Unread};
 use std::alloc::Global;
 use std::{fs, io};
-
-/// The greatest file that is read, in bytes.
-const LIMIT: usize = 16_777_216;
 
 /// The folder in which the files of the cases lie.
 #[derive(Clone, Copy, Drop)]
@@ -53,7 +51,7 @@ impl Files for CaseDisk<'_> {
 
     fn read(&mut self, alloc: Global, name: &str) -> Result<Vec<u8>, Unread> {
         match self.bytes(alloc, name) {
-            Ok(bytes) if bytes.len() > LIMIT => Err(Unread::TooLong),
+            Ok(bytes) if bytes.len() > limits::FILE_BYTES => Err(Unread::TooLong),
             Ok(bytes) => Ok(bytes),
             Err(_) => Err(Unread::Failed),
         }

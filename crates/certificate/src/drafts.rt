@@ -8,10 +8,8 @@ ghost use Rattle.certificate.specs.Drafts.{HasNoFile, IsBegun, IsDraft, IsFile, 
 use crate::certificates::Certificate;
 use crate::unwritten::Unwritten;
 use crate::writing::certificate_value;
+use model::limits;
 use std::alloc::{AllocError, Global};
-
-/// The greatest file that is written, in bytes: no longer one is read.
-const LIMIT: usize = 16_777_216;
 
 /// The file of certificates that are found one by one, as far as it is written.
 #[derive(Drop)]
@@ -53,7 +51,7 @@ fn longer(alloc: Global, begun: Vec<u8>, certificate: &Certificate) -> Draft
 {
     let mut text = begun;
     match put_certificate(alloc, &mut text, certificate) {
-        Ok(()) if text.len() < LIMIT => Draft::Text(text),
+        Ok(()) if text.len() < limits::FILE_BYTES => Draft::Text(text),
         Ok(()) => Draft::Refused(Unwritten::TooLong),
         Err(why) => Draft::Refused(why),
     }

@@ -15,11 +15,8 @@ use crate::forms::Form;
 use crate::order::ascend;
 use crate::places::{MOST_PATTERNS, has_few_places, is_passed_over, passes_over};
 use guarantees::Guarantee;
-use model::{Mode, Text};
+use model::{Mode, Text, limits};
 use word_automata::Tracked;
-
-/// The most states of a certificate.
-pub const MOST_STATES: usize = 65_536;
 
 /// Whether this is the mode's name.
 fn is_mode(mode: Mode, name: &[u8]) -> bool
@@ -139,7 +136,7 @@ pub fn fits_guarantee(guarantee: &Guarantee, certificate: &Certificate) -> bool
     is_of(guarantee, certificate)
         && suits(certificate.form(), guarantee.excepts())
         && has_few_places(certificate.form())
-        && certificate.states().len() <= MOST_STATES
+        && certificate.states().len() <= limits::STATES
         && ascend(certificate.states())
         && none_dropped(passes_over(certificate.form()), certificate.states())
 }

@@ -31,7 +31,6 @@ pub use checking::check;
 pub use covering::Covering;
 pub use drafts::Draft;
 pub use faults::CertFault;
-pub use form::MOST_STATES;
 pub use forms::Form;
 pub use places::{MOST_PATTERNS, at_places, passes_over};
 pub use refutations::{Refutation, disprove, refutes};

@@ -7,7 +7,7 @@ ghost use Rattle.certificate.specs.Disproved.{HasItsPath, IsSendable, MayRefute}
 use crate::targets::is_routed;
 use exchange_graph::Topology;
 use guarantees::Guarantee;
-use model::{Mode, Text};
+use model::{Mode, Text, limits};
 use paths::is_path;
 use std::alloc::{AllocError, Global};
 use std::marker::Model;
@@ -50,14 +50,11 @@ impl Refutation {
     }
 }
 
-/// The most bytes of a key.
-const LONGEST_KEY: usize = 255;
-
 /// Whether a key can be sent.
 fn is_sendable(key: &[u8]) -> bool
     ensures { Decides result (IsSendable key.now) }
 {
-    key.len() <= LONGEST_KEY
+    key.len() <= limits::SHORT_BYTES
 }
 
 /// Whether a refutation against such a guarantee has the path that it may have: none against a `reaches`.

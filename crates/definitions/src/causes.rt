@@ -29,7 +29,7 @@ ghost use Rattle.definitions.specs.File.{file_of};
 use crate::document::{
     BindingEntry, Document, ExchangeEntry, PermissionEntry, QueueEntry, UserEntry, VhostEntry,
 };
-use model::{ExchangeKind, Text};
+use model::{ExchangeKind, Text, limits};
 use std::alloc::Global;
 use topology_drafts::{Directory, Draft};
 
@@ -215,7 +215,7 @@ pub fn has_overflows(document: &Document) -> bool
 fn is_short(name: &Text) -> bool
     ensures { Decides result (IsShortName name.now) }
 {
-    name.len() <= 255
+    name.len() <= limits::SHORT_BYTES
 }
 
 /// Whether all names and keys have their form.

@@ -31,7 +31,7 @@ use Rattle.depot.specs.declared.plans.Death.{Death}
 use Rattle.depot.specs.declared.turns.PlannedTurn.{PlannedTurn}
 use Rattle.depot.specs.Store.{Store, entries_named, IsStoreWhole}
 use Rattle.depot.specs.Turns.{TurnOutcome, outcomes, arriving, entered_one, all_entered, notes_of_outcomes}
-use Rattle.depot.specs.Rejecting.{IsApart, Rejecting}
+use Rattle.depot.specs.Settled.{AreSettledBy, IsApart}
 use Rattle.model.specs.Placed.{holder_of_delivery, outstanding_in, AreWithin, AreByTag}
 use Rattle.depot.specs.Dying.{MayHaveLetters, IsDeathOf, Plans, given_at, ArePlanned, without, outcomes_of, died, death_notes, died_all, all_notes, Rejects}
 use Rattle.depot.proofs.Firsts.{number, count-cons, one_passes, none_found, count-filter, find-filter, held_apart}
@@ -75,7 +75,7 @@ found_after qs d lists a k ne =
 abbrev pub AreApartBy : List (List Entry) → Type 0
 AreApartBy lists = (k : ℕ) (a : Holder) → count_by (is_held_as a) (get_or lists k []) ≤ 1
 
-fewer-set : (p : Entry → Bool) (lists : List (List Entry)) (i k : ℕ) (es : List Entry) → count_by p es ≤ count_by p (get_or lists i []) → count_by p (get_or (set lists i es) k []) ≤ count_by p (get_or lists k [])
+pub fewer-set : (p : Entry → Bool) (lists : List (List Entry)) (i k : ℕ) (es : List Entry) → count_by p es ≤ count_by p (get_or lists i []) → count_by p (get_or (set lists i es) k []) ≤ count_by p (get_or lists k [])
 fewer-set p [] i k es e = omega arith
 fewer-set p (xs ∷ xss) zero zero es e = e
 fewer-set p (xs ∷ xss) zero (suc k) es e = omega arith
@@ -271,7 +271,7 @@ rejected_from s c h (g ∷ gs) ds whole apart ordered within are =
     (λ lists w a p.
     rejected_from (with_lists s lists) c h gs are.1 w a (λ i j k l m. ordered (suc i) (suc j) k (omega (arith, l)) (omega (arith, m))) (λ i k l. within (suc i) k (omega (arith, l))) p)
 
-apart_by : (s : Store) → IsStoreWhole s → IsApart s → AreApartBy s.queues
+pub apart_by : (s : Store) → IsStoreWhole s → IsApart s → AreApartBy s.queues
 apart_by s whole apart k a = go (nat_lt k (length s.topology.queues)) refl
   where
     go : (b : Bool) → nat_lt k (length s.topology.queues) ≡ b → count_by (is_held_as a) (get_or s.queues k []) ≤ 1
@@ -284,14 +284,14 @@ apart_by s whole apart k a = go (nat_lt k (length s.topology.queues)) refl
 
 -- what was done by places is the rejection
 pub rejecting : (old new : Store) (c h : ℕ) (gone : List Delivery) (before after : List Note) → IsStoreWhole old → IsApart old → AreByTag gone → AreWithin old.topology gone → new.published ≡ old.published → new.topology ≡ old.topology
-    → Rejects old.topology c h gone old.queues new.queues before after → Rejecting old c h gone before after new
+    → Rejects old.topology c h gone old.queues new.queues before after → AreSettledBy given.Rejects old c h gone before after new
 rejecting old new c h gone before after whole apart ordered within counted same r =
     let t = old.topology in
     let done : with_lists old (died_all t.queues r.deaths old.queues) ≡ new = rw (same, counted, r.entries) refl in
     record {
       noted = all_notes t.queues r.deaths old.queues;
       appended = r.notes;
-      rejected = subst (λ (s : Store). AreRejected t c h (map (outstanding_in (queue_names t.queues)) gone) (entries_named old) (all_notes t.queues r.deaths old.queues) (entries_named s)) done (rejected_from old c h gone r.deaths whole (apart_by old whole apart) ordered within r.planned);
+      settled = subst (λ (s : Store). AreRejected t c h (map (outstanding_in (queue_names t.queues)) gone) (entries_named old) (all_notes t.queues r.deaths old.queues) (entries_named s)) done (rejected_from old c h gone r.deaths whole (apart_by old whole apart) ordered within r.planned);
       counted = counted;
       topology = same;
     }

@@ -1,6 +1,6 @@
 -- Between what is settled are the places of what was settled before: a loop passes them.
-use Rattle.std.proofs.Common.{◌≡◌, ℕ, zero, suc, ◌+◌, ◌<◌, List, [], ◌∷◌, ◌++◌, Bool, true, false, cond, refl, sym, ap, subst, ◌∙◌, length, get_or, take, drop, arith}
-use Rattle.std.proofs.lemmas.List.{append-nil, drop_more, take_more}
+use Rattle.std.proofs.Common.{◌≡◌, ℕ, zero, suc, ◌+◌, ◌<◌, List, [], ◌∷◌, ◌++◌, Bool, true, false, cond, sym, ap, subst, ◌∙◌, length, get_or, take, drop, arith}
+use Rattle.std.proofs.lemmas.List.{drop_more, take_more}
 use Rattle.std.proofs.lemmas.List.Elements.{filter-append}
 use Rattle.model.specs.Topology.{Topology}
 use Rattle.model.specs.declared.messages.Taker.TheVariants as taker

@@ -14,7 +14,7 @@ use Rattle.model.specs.declared.notes.Note.{Note}
 use Rattle.model.specs.declared.notes.Note.TheVariants.{Left}
 use Rattle.model.specs.declared.notes.Way.TheVariants as way
 use Rattle.exchange_graph.specs.Marks.{queue_name}
-use Rattle.deaths.specs.Marked.{IsMarked}
+use Rattle.depot.specs.Marked.{IsMarked}
 use Rattle.model.specs.declared.deliveries.Delivery.{Delivery}
 use Rattle.depot.specs.declared.plans.Death.{Death}
 use Rattle.depot.specs.declared.turns.PlannedTurn.{PlannedTurn}

@@ -1,8 +1,11 @@
-pub mod Store
-pub mod Signs
-pub mod Lends
-pub mod Turns
-pub mod Publishing
-pub mod Rejecting
 pub mod Dying
+pub mod Kept
+pub mod Lends
+pub mod Marked
 pub mod Moving
+pub mod Publishing
+pub mod Purging
+pub mod Settled
+pub mod Signs
+pub mod Store
+pub mod Turns

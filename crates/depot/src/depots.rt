@@ -5,8 +5,10 @@ ghost use Rattle.depot.specs.Store.{Store, IsStoreWhole, IsQueueNamed};
 
 use crate::moving::places_in;
 use crate::publishing::{note_of, publish_in, route_of};
+use crate::purging::purge_in;
 use crate::queues::Queues;
 use crate::rejecting::reject_in;
+use crate::settling::{ack_in, requeue_in};
 use exchange_graph::Topology;
 use kept_routes::{Route, Router};
 use model::{ChannelId, Content, Delivery, Entry, Holder, Note, Publish};
@@ -59,13 +61,10 @@ impl Depot {
       ◌+◌,
       ◌<◌,
       ◌≤◌,
-      ◌++◌,
       [],
       length,
       map,
-      filter,
       find,
-      not,
       replicate,
       IfOk,
       IfSome,
@@ -77,14 +76,12 @@ impl Depot {
       vec_len,
       vec_capacity,
       option_map,
-      position,
     };
     ghost use Rattle.std.specs.Arc.{arc_value};
-    ghost use Rattle.std.specs.Str.{bytes_eq};
     ghost use Rattle.model.specs.Broker.{is_ready, queue_named};
     ghost use Rattle.model.specs.Step.{greatest};
-    ghost use Rattle.model.specs.Entries.{is_under, is_held_as, held_as, change_first, without_first, number_of};
-    ghost use Rattle.queue.specs.Line.{ready_count, requeued};
+    ghost use Rattle.model.specs.Entries.{is_held_as, held_as, change_first, without_first};
+    ghost use Rattle.queue.specs.Line.{ready_count};
     ghost use Rattle.depot.specs.Store.{entries_named, queue_at, with_entries_at, IsStoreWhole, IsQueueNamed, IsNextReady};
     ghost use Rattle.model.specs.Topology.{queue_names};
     ghost use Rattle.model.specs.Reloading.{stood_now};
@@ -92,8 +89,12 @@ impl Depot {
     ghost use Rattle.kept_routes.specs.Routers.{IsRoute};
     ghost use Rattle.depot.specs.Moving.{AreMoved, GoneAreEmpty};
     ghost use Rattle.depot.specs.Publishing.{Publishing};
-    ghost use Rattle.depot.specs.Rejecting.{IsApart, Rejecting};
     ghost use Rattle.model.specs.Placed.{waiting, AreWithin, AreByTag};
+    ghost use Rattle.model.specs.Deliveries.{Leaves, Rejects, Returns};
+    ghost use Rattle.model.specs.declared.notes.Cause.TheVariants.{Acked};
+    ghost use Rattle.depot.specs.Settled.{AreSettledBy, IsApart};
+    ghost use Rattle.depot.specs.Purging.{IsPurgedBy};
+    ghost use Rattle.exchange_graph.specs.Marks.{queue_name};
 
     /// The depot of this topology: each queue is there and has no message.
     pub fn new(alloc: Global, topology: Topology) -> Result<Depot, AllocError>
@@ -151,6 +152,27 @@ impl Depot {
         Ok(routed)
     }
 
+    /// Those of these messages that wait, which the channel holds, leave their queues because they were acknowledged, one after
+    /// another. The notes tell of each. Where memory is wanting, nothing has changed but that there may be more room.
+    pub fn ack(
+        &mut self,
+        alloc: Global,
+        id: ChannelId,
+        gone: &[Delivery],
+        notes: &mut Vec<Note>,
+    ) -> Result<(), AllocError>
+        requires within { AreWithin self.old.topology (waiting gone.now) }
+        requires apart { IsApart self.old }
+        ensures ok { OnOk result (AreSettledBy (Leaves Acked) self.old id.connection id.number (waiting gone.now)
+            notes.old.items notes.new.items self.new) }
+        ensures store { OnErr result (self.new ≡ self.old) }
+        ensures notes { OnErr result (notes.new.items ≡ notes.old.items) }
+    {
+        let topology = self.router.topology();
+        topology.is_well_formed();
+        ack_in(alloc, topology, &mut self.queues, id, gone, notes)
+    }
+
     /// Those of these messages that wait, which the channel holds, leave their queues by a rejection, in the order of their
     /// tags. Where its queue has a dead-letter exchange, a message comes as a dead letter to the end of each queue that it is
     /// routed to from there and that is not full then, in the order of the file; a later rejection finds the queues as the
@@ -159,7 +181,7 @@ impl Depot {
     pub fn reject(
         &mut self,
         alloc: Global,
-        channel: ChannelId,
+        id: ChannelId,
         gone: &[Delivery],
         notes: &mut Vec<Note>,
     ) -> Result<(), AllocError>
@@ -167,19 +189,23 @@ impl Depot {
         requires ordered { AreByTag (waiting gone.now) }
         requires apart { IsApart self.old }
         ensures ok { OnOk result
-            (Rejecting self.old channel.connection channel.number (waiting gone.now) notes.old.items notes.new.items self.new) }
+            (AreSettledBy Rejects self.old id.connection id.number (waiting gone.now)
+            notes.old.items notes.new.items self.new) }
         ensures store { OnErr result (self.new ≡ self.old) }
         ensures notes { OnErr result (notes.new.items ≡ notes.old.items) }
     {
         self.router.topology().is_well_formed();
-        reject_in(
-            alloc,
-            &mut self.router,
-            &mut self.queues,
-            channel,
-            gone,
-            notes,
-        )
+        reject_in(alloc, &mut self.router, &mut self.queues, id, gone, notes)
+    }
+
+    /// Those of these messages that wait, which the channel holds, are ready again, each in its place and marked redelivered.
+    /// It takes no memory.
+    pub fn requeue(&mut self, id: ChannelId, gone: &[Delivery])
+        requires { AreWithin self.old.topology (waiting gone.now) }
+        ensures { AreSettledBy Returns self.old id.connection id.number (waiting gone.now) [] [] self.new }
+    {
+        self.router.topology().is_well_formed();
+        requeue_in(&mut self.queues, id, gone);
     }
 
     /// The topology that was handed in.
@@ -294,35 +320,25 @@ impl Depot {
         self.queues.queue(place).held(holder, arrival)
     }
 
-    /// The message of the queue at this place that is held under this tag is ready again, in its place and marked
-    /// redelivered. Tells whether there is one. It takes no memory.
-    pub fn release(&mut self, place: usize, holder: &Holder, arrival: u64) -> bool
+    /// The ready messages of the queue at this place leave it by a purge, in the order in which they arrived, and the notes tell
+    /// of each. What is held stays. Tells how many they are. Where memory is wanting, nothing has changed but that there may be
+    /// more room.
+    pub fn purge(
+        &mut self,
+        alloc: Global,
+        place: usize,
+        notes: &mut Vec<Note>,
+    ) -> Result<usize, AllocError>
         requires { place < length self.old.topology.queues }
-        ensures told { result ≡ is_some (find (is_held_as holder.now) (queue_at self.old place)) }
-        ensures store { self.new ≡ with_entries_at self.old place (requeued (is_under holder.now) (queue_at self.old place)) }
+        ensures ok { IfOk result (λ count.
+            IsPurgedBy self.old (queue_name self.old.topology place) notes.old.items notes.new.items count self.new) }
+        ensures store { OnErr result (self.new ≡ self.old) }
+        ensures notes { OnErr result (notes.new.items ≡ notes.old.items) }
     {
-        self.queues.queue_mut(place).release(holder, arrival)
-    }
-
-    /// Takes the message of the queue at this place out that is held under this tag, if there is one. It takes no memory.
-    pub fn remove(&mut self, place: usize, holder: &Holder, arrival: u64) -> Option<Entry>
-        requires { place < length self.old.topology.queues }
-        ensures taken { result ≡ find (is_held_as holder.now) (queue_at self.old place) }
-        ensures store { self.new ≡ with_entries_at self.old place (filter (λ e. not (is_held_as holder.now e)) (queue_at self.old place)) }
-    {
-        self.queues.queue_mut(place).remove(holder, arrival)
-    }
-
-    /// Takes the ready messages of the queue at this place out, and appends their publish numbers in the order of arrival.
-    /// What is held stays. There is room for the numbers, so it takes no memory.
-    pub fn purge(&mut self, place: usize, numbers: &mut Vec<u64>)
-        requires within { place < length self.old.topology.queues }
-        requires room { vec_len numbers.old + ready_count (queue_at self.old place) ≤ vec_capacity numbers.old }
-        ensures numbers { numbers.new.items ≡ numbers.old.items ++ map number_of (filter is_ready (queue_at self.old place)) }
-        ensures capacity { vec_capacity numbers.new ≡ vec_capacity numbers.old }
-        ensures store { self.new ≡ with_entries_at self.old place (filter (λ e. not (is_ready e)) (queue_at self.old place)) }
-    {
-        self.queues.queue_mut(place).purge(numbers);
+        let topology = self.router.topology();
+        topology.is_well_formed();
+        let name = &topology.queue(place).name;
+        purge_in(alloc, self.queues.queue_mut(place), name, notes)
     }
 
     /// The entries of the queue at this place in the order of arrival, ready and held; none where there is no such queue.

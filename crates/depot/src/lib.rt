@@ -4,14 +4,19 @@
 //! is routed, grows all that it needs, and only then changes anything, so it is done whole or not at all.
 #![tactic(auto)]
 
+mod departures;
 mod depots;
 mod entering;
 mod lags;
+mod markers;
+mod marking;
 mod moving;
 mod plans;
 mod publishing;
+mod purging;
 mod queues;
 mod rejecting;
+mod settling;
 mod signs;
 mod turns;
 

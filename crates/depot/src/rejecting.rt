@@ -10,10 +10,10 @@ ghost use Rattle.model.specs.Placed.{is_waiting, waiting, AreWithin};
 ghost use Rattle.depot.specs.Dying.{LettersAt, PlansAt, ArePlanned, died, death_notes, died_all, all_notes, IsSoundDeath, notes_in, times_in, Rejects};
 
 use crate::entering::{enter_all, make_room, turns};
+use crate::markers::Marker;
 use crate::plans::Death;
 use crate::queues::Queues;
 use crate::turns::PlannedTurn;
-use deaths::Marker;
 use kept_routes::Router;
 use model::{Cause, ChannelId, DeclaredQueue, Delivery, Message, Note, Text, Way};
 use queue::Store;
@@ -60,7 +60,7 @@ fn plan_one(
     router: &mut Router,
     marker: &mut Marker,
     queues: &Queues,
-    channel: ChannelId,
+    id: ChannelId,
     given: &Delivery,
     deaths: &mut Vec<Death>,
 ) -> Result<(), AllocError>
@@ -68,11 +68,11 @@ fn plan_one(
     requires within { given.now.queue < length router.old.queues }
     ensures planned { OnOk result ((planned : List Planned)
         × (deaths.new.items ≡ deaths.old.items ++ planned)
-        × PlansAt router.old channel.connection channel.number (entries_of queues.now) given.now planned) }
+        × PlansAt router.old id.connection id.number (entries_of queues.now) given.now planned) }
     ensures same { router.new ≡ router.old }
 {
     let place = given.queue;
-    let holder = given.holder(channel);
+    let holder = given.holder(id);
     let Some(entry) = queues.queue(place).held(&holder, given.arrival) else {
         return Ok(());
     };
@@ -98,7 +98,7 @@ fn plan_waiting(
     router: &mut Router,
     marker: &mut Marker,
     queues: &Queues,
-    channel: ChannelId,
+    id: ChannelId,
     given: &Delivery,
     deaths: &mut Vec<Death>,
 ) -> Result<(), AllocError>
@@ -106,12 +106,12 @@ fn plan_waiting(
     requires within { is_waiting given.now ≡ true → given.now.queue < length router.old.queues }
     ensures yes { OnOk result (is_waiting given.now ≡ true → (planned : List Planned)
         × (deaths.new.items ≡ deaths.old.items ++ planned)
-        × PlansAt router.old channel.connection channel.number (entries_of queues.now) given.now planned) }
+        × PlansAt router.old id.connection id.number (entries_of queues.now) given.now planned) }
     ensures no { OnOk result (is_waiting given.now ≡ false → deaths.new.items ≡ deaths.old.items) }
     ensures same { router.new ≡ router.old }
 {
     if given.is_waiting() {
-        plan_one(alloc, router, marker, queues, channel, given, deaths)
+        plan_one(alloc, router, marker, queues, id, given, deaths)
     } else {
         Ok(())
     }
@@ -122,28 +122,20 @@ fn plan(
     alloc: Global,
     router: &mut Router,
     queues: &Queues,
-    channel: ChannelId,
+    id: ChannelId,
     gone: &[Delivery],
 ) -> Result<Vec<Death>, AllocError>
     requires len { length queues.now ≡ length router.old.queues }
     requires within { AreWithin router.old (waiting gone.now) }
     ensures planned { IfOk result (λ deaths.
-        ArePlanned router.old channel.connection channel.number (entries_of queues.now) (waiting gone.now) deaths.items) }
+        ArePlanned router.old id.connection id.number (entries_of queues.now) (waiting gone.now) deaths.items) }
     ensures same { router.new ≡ router.old }
 {
     let mut marker = Marker::new();
     let mut deaths = Vec::new(alloc);
     deaths.reserve_exact(gone.len())?;
     for given in gone {
-        plan_waiting(
-            alloc,
-            router,
-            &mut marker,
-            queues,
-            channel,
-            given,
-            &mut deaths,
-        )?;
+        plan_waiting(alloc, router, &mut marker, queues, id, given, &mut deaths)?;
     }
     Ok(deaths)
 }
@@ -222,21 +214,21 @@ pub(crate) fn reject_in(
     alloc: Global,
     router: &mut Router,
     queues: &mut Queues,
-    channel: ChannelId,
+    id: ChannelId,
     gone: &[Delivery],
     notes: &mut Vec<Note>,
 ) -> Result<(), AllocError>
     requires len { length queues.old ≡ length router.old.queues }
     requires within { AreWithin router.old (waiting gone.now) }
     ensures ok { OnOk result
-        (Rejects router.old channel.connection channel.number (waiting gone.now)
+        (Rejects router.old id.connection id.number (waiting gone.now)
         (entries_of queues.old) (entries_of queues.new) notes.old.items notes.new.items) }
     ensures same { router.new ≡ router.old }
     ensures len { length queues.new ≡ length queues.old }
     ensures queues { OnErr result (entries_of queues.new ≡ entries_of queues.old) }
     ensures notes { OnErr result (notes.new.items ≡ notes.old.items) }
 {
-    let deaths = plan(alloc, router, queues, channel, gone)?;
+    let deaths = plan(alloc, router, queues, id, gone)?;
     make_rooms(queues, &deaths)?;
     notes.reserve_exact(count_notes(&deaths))?;
     perform(router.topology().queues(), queues, deaths, notes);

@@ -13,3 +13,4 @@ pub mod Tooks
 pub mod Swept
 pub mod Delivered
 pub mod Certifying
+pub mod Waiting

@@ -15,7 +15,7 @@ use Rattle.model.specs.Guarantee.{Guarantee}
 use Rattle.model.specs.Arrivals.{Wire, new_wire, new_world, is_ended, can_open, standing, Same}
 use Rattle.model.specs.declared.events.Event.{Event}
 use Rattle.model.specs.declared.events.Event.TheVariants as event
-use Rattle.broker_core.specs.State.{nothing}
+use Rattle.commands.specs.State.{nothing}
 use Rattle.broker.specs.Turns.{topology_kept, broker_of}
 use Rattle.runs.specs.Opened.{IsOpened}
 use Rattle.engine.specs.Reading.{IsKeptEvent, kept_of}

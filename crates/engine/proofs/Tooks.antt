@@ -158,7 +158,7 @@ outcome old new i l l' (Err x) e st ch t =
     let found = link_in-place 0 old.links i l e.links.rising ch.within ch.here in
     record { ok = tt; fewer = tt; err = waited old new l l' b found t.waits; awake = awake_is (is_over (world_of old) l.number) (is_paused (world_of old) l.number) (over_is old l found ∙ t.awake.0) (paused_is old l found ∙ t.awake.1); more = more_is old l found t.awake.0 t.more }
 
-number_is : (ls : List Connected) (c i : ℕ) (l : Connected) → IsLinkPlace ls c (Some i) → get_or ls i l ≡ l → l.number ≡ c
+pub number_is : (ls : List Connected) (c i : ℕ) (l : Connected) → IsLinkPlace ls c (Some i) → get_or ls i l ≡ l → l.number ≡ c
 number_is ls c i l place here = sym (ap (λ (z : Connected). z.number) here) ∙ place.1 l
 
 pub took : {E : Type 0} (old new : Parts) (c i : ℕ) (what : Result Turn E) → IsEngine old → Stays old new → IsLinkPlace old.links c (Some i)
@@ -281,7 +281,7 @@ fed_err (Err x) p ls err = λ i. record p { links = err i }
 
 -- ---- what is asked of one connection
 
-found_at : (ls : List Connected) (c i : ℕ) (l : Connected) → AreRising 0 ls → IsLinkPlace ls c (Some i) → get_or ls i l ≡ l → link_in ls c ≡ Some l
+pub found_at : (ls : List Connected) (c i : ℕ) (l : Connected) → AreRising 0 ls → IsLinkPlace ls c (Some i) → get_or ls i l ≡ l → link_in ls c ≡ Some l
 found_at ls c i l r place here = subst (λ (k : ℕ). link_in ls k ≡ Some l) (number_is ls c i l place here) (link_in-place 0 ls i l r place.0 here)
 
 pub output_at : (p : Parts) (c i : ℕ) (l : Connected) → IsEngine p → IsLinkPlace p.links c (Some i) → get_or p.links i l ≡ l → ((world_of p).wire c).output ≡ l.output.bytes

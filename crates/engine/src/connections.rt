@@ -8,6 +8,7 @@ ghost use Rattle.std.specs.Prelude.{
   length,
   get_or,
   true,
+  false,
   IfSome,
   Some,
   IsOk,
@@ -23,7 +24,9 @@ ghost use Rattle.engine.specs.Reading.{IsKeptEvent, HasMore, kept_of};
 ghost use Rattle.outputs.specs.Waiting.{HoldsNone};
 ghost use Rattle.engine.specs.Performing.{rules_of};
 ghost use Rattle.engine.specs.Turning.{LinkTook, LinkWaits, MayTurn, OnIdle};
-ghost use Rattle.engine.specs.World.{AreRising};
+ghost use Rattle.broker.specs.Waiting.{NoneIsLater};
+ghost use Rattle.engine.specs.World.{AreRising, wire_in};
+ghost use Rattle.engine.specs.Waiting.{TurnLeaves};
 ghost use Rattle.engine.specs.Engines.{
   IsLinkPlace,
   LinksTook,
@@ -104,6 +107,8 @@ fn turn_link(
     ensures kept { IsKeptEvent link.new.number link.new.kept link.new.stream.fault }
     ensures number { link.new.number ≡ link.old.number }
     ensures topology { topology_kept broker.new ≡ topology_kept broker.old }
+    ensures turns { IfOk result (λ t. TurnLeaves link.old.number (wire_in false link.old) broker.old t broker.new) }
+    ensures broker_kept { OnErr result (broker.new ≡ broker.old) }
 {
     if link.session.is_over() {
         return Ok(Turn::Over);
@@ -149,6 +154,9 @@ pub(crate) fn turn_at(
     ensures took { LinksTook (rules_of (topology_kept broker.old) users.now) (broker_of broker.old)
         links.old.items place result (broker_of broker.new) links.new.items }
     ensures topology { topology_kept broker.new ≡ topology_kept broker.old }
+    ensures turns { (l : seen_link.Connected) → get_or links.old.items place l ≡ l
+        → IfOk result (λ t. TurnLeaves l.number (wire_in false l) broker.old t broker.new) }
+    ensures broker_kept { OnErr result (broker.new ≡ broker.old) }
 {
     let turn = turn_link(alloc, users, broker, scratch, spares, &mut links[place]);
     sweep(places, links, place);
@@ -160,6 +168,8 @@ fn take_from(broker: &mut Broker, spares: &mut Spares, link: &mut Connected, n: 
     ensures sent { LinkSent (topology_kept broker.old) (broker_of broker.old) link.old n (broker_of broker.new) link.new }
     ensures none { HoldsNone link.new.output }
     ensures topology { topology_kept broker.new ≡ topology_kept broker.old }
+    ensures turn { broker.new.turn ≡ broker.old.turn }
+    ensures later { NoneIsLater broker.old broker.new }
 {
     let was = link.output.bytes().len() >= BOUND;
     link.output.take_up_to(n);
@@ -180,6 +190,8 @@ pub(crate) fn take_at(
     requires { place < length links.old.items }
     ensures sent { LinksSent (topology_kept broker.old) (broker_of broker.old) links.old.items place n (broker_of broker.new) links.new.items }
     ensures topology { topology_kept broker.new ≡ topology_kept broker.old }
+    ensures turn { broker.new.turn ≡ broker.old.turn }
+    ensures later { NoneIsLater broker.old broker.new }
 {
     take_from(broker, spares, &mut links[place], n);
     sweep(places, links, place);

@@ -2,7 +2,7 @@
 
 mod putting;
 
-ghost use Rattle.std.specs.Prelude.{◌≡◌, ◌<◌, ℕ, length, true, IfOk, IsOk, OnErr, OnOk, MatchOption, vec_len, vec_capacity};
+ghost use Rattle.std.specs.Prelude.{◌≡◌, ◌<◌, ℕ, length, true, IfSome, IfOk, IsOk, OnErr, OnOk, MatchOption, vec_len, vec_capacity};
 ghost use Rattle.model.specs.Arrivals.{Same, Waits, new_world, is_over, is_awake};
 ghost use Rattle.model.specs.Consuming.{CanDeliver};
 ghost use Rattle.model.specs.Headline.{IsSound};
@@ -12,6 +12,7 @@ ghost use Rattle.engine.specs.World.{world_of};
 ghost use Rattle.engine.specs.Reading.{HasMore};
 ghost use Rattle.engine.specs.Engines.{Turned, OnDid, left_in, room_for};
 ghost use Rattle.engine.specs.Pumping.{IsPump};
+ghost use Rattle.engine.specs.Waiting.{KeepsTurns, TurnLeaves, ServesOne, TellsOne};
 ghost use Rattle.engine.specs.Opening.{Numbers, OpenedNew, OpenedReady};
 ghost use Rattle.engine.specs.InForce.{in_force};
 
@@ -23,7 +24,7 @@ use crate::turning::Turn;
 use broker::Broker;
 use certificate::Checked;
 use guarantees::Guarantee;
-use model::User;
+use model::{User, limits};
 use outputs::{Scratch, Spares};
 use runs::Delivered;
 use std::alloc::{AllocError, Global};
@@ -128,7 +129,8 @@ impl Engine {
     /// Refused `Full` where 1,024 connections are not gone, `Spent` where the last number was given, and for memory only
     /// where neither is so. A refusal changes nothing.
     pub fn open(&mut self, alloc: Global) -> Result<ConnId, Refused>
-        ensures { OpenedNew (world_of self.old) result (world_of self.new) }
+        ensures opened { OpenedNew (world_of self.old) result (world_of self.new) }
+        ensures broker { self.new.broker ≡ self.old.broker }
     {
         let number = next_number(&mut self.links, self.given)?;
         self.places.learn(number, self.links.len());
@@ -141,10 +143,12 @@ impl Engine {
     ///
     /// It is refused as [`Engine::open`] is.
     pub fn open_ready(&mut self, alloc: Global, channels: u8) -> Result<ConnId, Refused>
-        ensures { OpenedReady (world_of self.old) channels result (world_of self.new) }
+        ensures opened { OpenedReady (world_of self.old) channels result (world_of self.new) }
+        ensures turns { KeepsTurns self.old.broker self.new.broker }
     {
         let number = next_number(&mut self.links, self.given)?;
-        self.broker.open(alloc, number, 255, u16::from(channels))?;
+        self.broker
+            .open(alloc, number, limits::CHANNEL_MAX, u16::from(channels))?;
         self.places.learn(number, self.links.len());
         self.links.push_reserved(Connected::running(alloc, number));
         self.given = number;
@@ -158,6 +162,7 @@ impl Engine {
         ensures over { is_over (world_of self.old) c ≡ true → IsOk result × (self.new ≡ self.old) }
         ensures err { OnErr result (self.new ≡ self.old) }
         ensures full { OnErr result (room_for self.old c < length bytes.now) }
+        ensures broker { self.new.broker ≡ self.old.broker }
     {
         match place_of(&self.links, &self.places, c) {
             Some(place) => feed_at(&mut self.links, place, bytes),
@@ -177,6 +182,8 @@ impl Engine {
         ensures err { OnErr result (Waits (world_of self.old) c (world_of self.new)) }
         ensures awake { OnErr result (is_awake (world_of self.old) c ≡ true) }
         ensures more { OnErr result (HasMore ((world_of self.old).wire c).kept ((world_of self.old).wire c).stream) }
+        ensures turns { IfOk result (λ t. TurnLeaves c ((world_of self.old).wire c) self.old.broker t self.new.broker) }
+        ensures broker { OnErr result (self.new.broker ≡ self.old.broker) }
     {
         match place_of(&self.links, &self.places, c) {
             Some(place) => turn_at(
@@ -194,12 +201,16 @@ impl Engine {
     }
 
     /// Makes one delivery to a consumer, and tells of which connection, with its notes: none where no delivery can be made.
+    /// Deliveries go round: whoever else could be delivered to was passed over by few deliveries only, this one among them.
     ///
-    /// Where memory is refused nothing is delivered; it is wanted only where a delivery can be made.
+    /// Where memory is refused nothing is delivered, and the turn stays with the consumer that was told; it is wanted only where a
+    /// delivery can be made.
     pub fn pump(&mut self, alloc: Global) -> Result<Option<Delivered>, AllocError>
         ensures ok { IfOk result (λ did. MatchOption did (Idles (world_of self.old) (world_of self.new))
             (λ d. IsPump (world_of self.old) d.connection d.notes.items (world_of self.new))) }
+        ensures in_turn { IfOk result (λ did. IfSome did (λ d. ServesOne self.old.broker d.connection self.new.broker)) }
         ensures err { OnErr result (Same (world_of self.old) (world_of self.new)) }
+        ensures told { OnErr result (TellsOne self.old.broker self.new.broker) }
         ensures wanted { OnErr result ((c : ℕ) × CanDeliver (world_of self.old).state.broker c) }
     {
         match self.broker.pick() {
@@ -222,7 +233,8 @@ impl Engine {
 
     /// Takes `n` bytes from the front of `c`'s output, at most what is there.
     pub fn sent(&mut self, c: ConnId, n: u64)
-        ensures { TakesAway (world_of self.old) c n (world_of self.new) }
+        ensures taken { TakesAway (world_of self.old) c n (world_of self.new) }
+        ensures turns { KeepsTurns self.old.broker self.new.broker }
     {
         if let Some(place) = place_of(&self.links, &self.places, c) {
             take_at(
@@ -238,7 +250,8 @@ impl Engine {
 
     /// Loses the connection `c`: its output is never taken, and what it held is ready again.
     pub fn lose(&mut self, c: ConnId)
-        ensures { IsLost (world_of self.old) c (world_of self.new) }
+        ensures lost { IsLost (world_of self.old) c (world_of self.new) }
+        ensures turns { KeepsTurns self.old.broker self.new.broker }
     {
         if let Some(place) = place_of(&self.links, &self.places, c) {
             self.broker.lose(c);

@@ -7,6 +7,7 @@ ghost use Rattle.model.specs.State.{after_move};
 ghost use Rattle.model.specs.Arrivals.{IsSaid};
 ghost use Rattle.model.specs.Sending.{AreCarried, AreOwn};
 ghost use Rattle.broker.specs.Turns.{topology_kept, broker_of};
+ghost use Rattle.broker.specs.Waiting.{NoneIsLater, OneComesIn};
 ghost use Rattle.engine.specs.Performing.{IsAskedBy, session_after, rules_of, IsAnswerTo, ByBroker, ByPhase, DecidesByPhase, PausesOr};
 
 use broker::{Broker, Step};
@@ -42,6 +43,8 @@ fn by_broker(
     ensures broker_kept { OnErr result (broker.new ≡ broker.old) }
     ensures session_kept { OnErr result (session.new ≡ session.old) }
     ensures topology { topology_kept broker.new ≡ topology_kept broker.old }
+    ensures turn { broker.new.turn ≡ broker.old.turn }
+    ensures later { OnOk result (OneComesIn event.now broker.old broker.new) }
 {
     let step = broker.step(alloc, event)?;
     learn(session, event, &step.sends);
@@ -79,6 +82,8 @@ fn open_if(c: u64, alloc: Global, broker: &mut Broker, session: &Session) -> Res
     ensures ok { OnOk result (Is (after_move (broker_of broker.old) c session.now) (broker_of broker.new)) }
     ensures err { OnErr result (broker.new ≡ broker.old) }
     ensures topology { topology_kept broker.new ≡ topology_kept broker.old }
+    ensures turn { broker.new.turn ≡ broker.old.turn }
+    ensures later { OnOk result (NoneIsLater broker.old broker.new) }
 {
     match session.phase() {
         Phase::Running => broker.open(alloc, c, session.channel_max(), 0),
@@ -103,6 +108,8 @@ fn by_phase(
     ensures broker_kept { OnErr result (broker.new ≡ broker.old) }
     ensures session_kept { OnErr result (session.new ≡ session.old) }
     ensures topology { topology_kept broker.new ≡ topology_kept broker.old }
+    ensures turn { broker.new.turn ≡ broker.old.turn }
+    ensures later { OnOk result (OneComesIn event.now broker.old broker.new) }
 {
     let mut next = session.copied();
     let sends = sends_of(c, alloc, users, &mut next, event)?;
@@ -132,6 +139,8 @@ pub(crate) fn perform(
     ensures broker_kept { OnErr result (broker.new ≡ broker.old) }
     ensures session_kept { OnErr result (session.new ≡ session.old) }
     ensures topology { topology_kept broker.new ≡ topology_kept broker.old }
+    ensures turn { broker.new.turn ≡ broker.old.turn }
+    ensures later { OnOk result (OneComesIn event.now broker.old broker.new) }
 {
     match session.phase() {
         Phase::Running => by_broker(c, alloc, broker, session, event),
@@ -143,6 +152,8 @@ pub(crate) fn perform(
 pub(crate) fn pause_if(broker: &mut Broker, c: u64, is: bool)
     ensures pauses { PausesOr (topology_kept broker.old) c false is (broker_of broker.old) (broker_of broker.new) }
     ensures topology { topology_kept broker.new ≡ topology_kept broker.old }
+    ensures turn { broker.new.turn ≡ broker.old.turn }
+    ensures later { NoneIsLater broker.old broker.new }
 {
     if is {
         broker.pause(c);
@@ -154,6 +165,8 @@ pub(crate) fn resume_if(broker: &mut Broker, c: u64, was: bool, is: bool)
     requires { is ≡ true → was ≡ true }
     ensures pauses { PausesOr (topology_kept broker.old) c was is (broker_of broker.old) (broker_of broker.new) }
     ensures topology { topology_kept broker.new ≡ topology_kept broker.old }
+    ensures turn { broker.new.turn ≡ broker.old.turn }
+    ensures later { NoneIsLater broker.old broker.new }
 {
     if !was {
         return;

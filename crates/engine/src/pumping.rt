@@ -1,10 +1,11 @@
 //! One delivery to one connection.
 
-ghost use Rattle.std.specs.Prelude.{◌≡◌, None, IfOk, OnErr};
+ghost use Rattle.std.specs.Prelude.{◌≡◌, None, IfOk, OnOk, OnErr};
 ghost use Rattle.model.specs.Naming.{AreNamed};
 ghost use Rattle.model.specs.Sending.{AreCarried};
 ghost use Rattle.broker.specs.Turns.{topology_kept, broker_of};
-ghost use Rattle.broker_core.specs.Picked.{IsPick};
+ghost use Rattle.broker.specs.Waiting.{NoneIsLater, ServesSoon};
+ghost use Rattle.commands.specs.Picked.{IsPick};
 ghost use Rattle.engine.specs.World.{link_in, AreRising};
 ghost use Rattle.engine.specs.Pumping.{LinkPumped, LinksPumped, LinksNotPumped};
 
@@ -35,6 +36,9 @@ fn pump_link(
     ensures broker_kept { OnErr result (broker.new ≡ broker.old) }
     ensures output_kept { OnErr result (link.new.output.bytes ≡ link.old.output.bytes) }
     ensures topology { topology_kept broker.new ≡ topology_kept broker.old }
+    ensures over { OnOk result (broker.new.turn ≡ None) }
+    ensures later { OnOk result (NoneIsLater broker.old broker.new) }
+    ensures soon { OnOk result (ServesSoon broker.old pick) }
 {
     spares.make_room(&mut link.output)?;
     let max = link.session.frame_max();
@@ -75,7 +79,11 @@ pub(crate) fn pump_among(
     ensures ok { IfOk result (λ notes. LinksPumped (topology_kept broker.old) (broker_of broker.old)
         pick.connection links.old.items notes.items (broker_of broker.new) links.new.items) }
     ensures err { OnErr result (LinksNotPumped (broker_of broker.old) pick.connection links.old.items (broker_of broker.new) links.new.items) }
+    ensures broker_kept { OnErr result (broker.new ≡ broker.old) }
     ensures topology { topology_kept broker.new ≡ topology_kept broker.old }
+    ensures over { OnOk result (broker.new.turn ≡ None) }
+    ensures later { OnOk result (NoneIsLater broker.old broker.new) }
+    ensures soon { OnOk result (ServesSoon broker.old pick) }
 {
     match place_of(links, places, pick.connection) {
         Some(place) => pump_link(alloc, broker, scratch, spares, &mut links[place], pick),

@@ -1,6 +1,6 @@
 //! One turn of one connection.
 
-ghost use Rattle.std.specs.Prelude.{◌≡◌, ◌≤◌, ◌++◌, Some, None, false, IfOk, OnErr};
+ghost use Rattle.std.specs.Prelude.{◌≡◌, ◌≤◌, ◌++◌, Some, None, false, IfOk, OnOk, OnErr};
 ghost use Rattle.std.specs.List.{AllByRecursion};
 ghost use Rattle.model.specs.Arrivals.{IsSaid, is_ended, is_past_bound, under_session};
 ghost use Rattle.model.specs.Phases.{is_running as runs};
@@ -9,10 +9,13 @@ ghost use Rattle.model.specs.Spelling.{receiver, spelling, IsSpelled};
 ghost use Rattle.model.specs.declared.events.Event as event;
 ghost use Rattle.model.specs.declared.events.Event.TheVariants as happens;
 ghost use Rattle.broker.specs.Turns.{topology_kept, broker_of};
+ghost use Rattle.broker.specs.Waiting.{NoneIsLater, OneComesIn};
 ghost use Rattle.assembly.specs.Held.{stream_of};
 ghost use Rattle.engine.specs.Reading.{IsKeptEvent, IsEventMade, HasMore, kept_of};
 ghost use Rattle.engine.specs.Performing.{IsAskedBy, PausesOr, rules_of};
 ghost use Rattle.engine.specs.Turning.{Performed, DidEvent, LinkTook, LinkWaits, MayTurn, OnIdle};
+ghost use Rattle.engine.specs.World.{wire_in};
+ghost use Rattle.engine.specs.Waiting.{TurnLeaves};
 ghost use Rattle.outputs.specs.Waiting.{HoldsNone};
 
 use crate::connected::Connected;
@@ -56,6 +59,8 @@ pub(crate) fn put_out(
     ensures own { AllByRecursion (λ s. receiver s ≡ c) sends.now }
     ensures pauses { PausesOr (topology_kept broker.old) c false (is_past_bound output.new.bytes) (broker_of broker.old) (broker_of broker.new) }
     ensures topology { topology_kept broker.new ≡ topology_kept broker.old }
+    ensures turn { broker.new.turn ≡ broker.old.turn }
+    ensures later { NoneIsLater broker.old broker.new }
 {
     put_sends(c, output, scratch, max, sends);
     let is_past = output.bytes().len() >= 1_048_576;
@@ -83,6 +88,8 @@ fn do_event(
     ensures session_kept { OnErr result (session.new ≡ session.old) }
     ensures output_kept { OnErr result (output.new ≡ output.old) }
     ensures topology { topology_kept broker.new ≡ topology_kept broker.old }
+    ensures turn { broker.new.turn ≡ broker.old.turn }
+    ensures later { OnOk result (OneComesIn event.now broker.old broker.new) }
 {
     let max = session.frame_max();
     let step = perform(c, alloc, users, broker, session, event)?;
@@ -107,6 +114,8 @@ fn do_kept(
     ensures broker_kept { OnErr result (broker.new ≡ broker.old) }
     ensures link_kept { OnErr result (link.new ≡ link.old) }
     ensures topology { topology_kept broker.new ≡ topology_kept broker.old }
+    ensures turn { broker.new.turn ≡ broker.old.turn }
+    ensures later { OnOk result ((e : event.Event) → link.old.kept ≡ Some e → OneComesIn e broker.old broker.new) }
 {
     let done = match &link.kept {
         Some(event) => do_event(
@@ -148,6 +157,8 @@ fn do_fault(
     ensures broker_kept { OnErr result (broker.new ≡ broker.old) }
     ensures link_kept { OnErr result (link.new ≡ link.old) }
     ensures topology { topology_kept broker.new ≡ topology_kept broker.old }
+    ensures turn { broker.new.turn ≡ broker.old.turn }
+    ensures later { OnOk result (OneComesIn (happens.Fault link.old.number code) broker.old broker.new) }
 {
     let connection = link.number;
     let event = Event::Fault { connection, code };
@@ -207,6 +218,8 @@ pub(crate) fn turn_awake(
     ensures kept { IsKeptEvent link.new.number link.new.kept link.new.stream.fault }
     ensures number { link.new.number ≡ link.old.number }
     ensures topology { topology_kept broker.new ≡ topology_kept broker.old }
+    ensures turns { IfOk result (λ t. TurnLeaves link.old.number (wire_in false link.old) broker.old t broker.new) }
+    ensures broker_kept { OnErr result (broker.new ≡ broker.old) }
 {
     match read_next(link.number, &mut link.stream, &mut link.kept)? {
         Next::Command => {

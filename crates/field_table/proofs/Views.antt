@@ -1,7 +1,7 @@
 -- What was read, one more value or pair at a time; and tables with their lengths.
 use Rattle.std.proofs.Common.{◌≡◌, ℕ, ◌^◌, ◌<◌, List, [], ◌∷◌, ◌++◌, length, Option, Some, Result, Ok, Err, refl, sym, ap, subst, ◌∙◌, append-nil}
 use Rattle.model.specs.Grammar.{Argument, Long_text}
-use Rattle.model.specs.Tables.{Value, Values, Pairs, value, pair, letter, content, pairs_bytes, sized, table_bytes}
+use Rattle.model.specs.Tables.{Value, Values, Pairs, value, pair, letter, content, pairs_bytes, with_length, table_bytes}
 use Rattle.field_table.specs.Arguments.{a_long_text, argument_at}
 use Rattle.field_table.specs.Reading.{IsFirstValue, IsFirstPair, SpellsValues, SpellsPairs, HasPairs}
 use Rattle.field_table.specs.View.{Named, field_view, entry_view, table_view, fields_view, entries_view, values_then, pairs_then}
@@ -68,7 +68,7 @@ spells bytes pairs ps are e s =
     let t = argument_takes a_long_text bytes (Long_text pairs, []) tt are e in
     record {
       fits = record { size = subst (λ (z : List ℕ). length z < 2 ^ 32) s.parts t.fits; fits = s.fits };
-      parts = t.parts ∙ append-nil (sized pairs) ∙ ap sized s.parts;
+      parts = t.parts ∙ append-nil (with_length pairs) ∙ ap with_length s.parts;
     }
 
 pub table_read : (bytes pairs rest : List ℕ) (r : Result FieldTable BadTable) → IsBytes bytes → argument_at a_long_text bytes ≡ Some (Long_text pairs, rest) → rest ≡ []

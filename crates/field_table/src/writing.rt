@@ -2,7 +2,7 @@
 
 ghost use Rattle.std.specs.Prelude.{◌≡◌, ◌<◌, ◌≤◌, ◌+◌, ◌-◌, ◌^◌, [], ◌∷◌, ◌++◌, length, vec_len, vec_capacity, OnOk, IfErr, IfSome, IsSome, Err};
 ghost use Rattle.std.specs.Int.{w32, to_be_bytes};
-ghost use Rattle.model.specs.Tables.{letter, content, sized, values_bytes, pairs_bytes, table_bytes, HavePairsSpelling, IsValue};
+ghost use Rattle.model.specs.Tables.{letter, content, with_length, values_bytes, pairs_bytes, table_bytes, HavePairsSpelling, IsValue};
 ghost use Rattle.field_table.specs.declared.refusals.BadTable.TheVariants.{Memory};
 ghost use Rattle.field_table.specs.View.{field_view, entry_view, array_view, pairs_view, table_view};
 ghost use Rattle.field_table.specs.Answers.{TableRefused};
@@ -116,9 +116,9 @@ fn put_field(out: &mut Vec<u8>, field: &Field, depth: usize)
 /// Appends a letter and bytes with their length before them.
 fn put_sized(out: &mut Vec<u8>, letter: u8, body: &[u8])
     requires fits { length body.now < 2 ^ 32 }
-    requires room { vec_len out.old + length (letter ∷ sized body.now) ≤ vec_capacity out.old }
-    ensures items { out.new.items ≡ out.old.items ++ letter ∷ sized body.now }
-    ensures len { vec_len out.new ≡ vec_len out.old + length (letter ∷ sized body.now) }
+    requires room { vec_len out.old + length (letter ∷ with_length body.now) ≤ vec_capacity out.old }
+    ensures items { out.new.items ≡ out.old.items ++ letter ∷ with_length body.now }
+    ensures len { vec_len out.new ≡ vec_len out.old + length (letter ∷ with_length body.now) }
     ensures capacity { vec_capacity out.old ≤ vec_capacity out.new }
 {
     put(out, letter, &(body.len() as u32).to_be_bytes());

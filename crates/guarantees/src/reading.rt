@@ -15,7 +15,7 @@ use crate::promises::Guarantee;
 use crate::stated::{StatedGuarantee, has_patterns};
 use exchange_graph::Topology;
 use json_file::{BadJson, FromValue, entries, parse, text};
-use model::{Mode, Text};
+use model::{Mode, Text, limits};
 use serde_json::Value;
 use std::alloc::{AllocError, Global};
 use topic_match::is_pattern;
@@ -133,7 +133,7 @@ fn is_worded(guarantee: &StatedGuarantee) -> bool
     ensures { Decides result (IsGuaranteeWorded guarantee.now) }
 {
     has_patterns(guarantee)
-        && guarantee.exchange().len() <= 255
+        && guarantee.exchange().len() <= limits::SHORT_BYTES
         && guarantee.queue().len() != 0
         && is_pattern(guarantee.queue().as_bytes())
 }

@@ -2,6 +2,7 @@
 
 ghost use Rattle.std.specs.Prelude.{◌≤◌, length, IfOk};
 
+use model::limits;
 use server::{Files, NotWritten, Unread, has_bytes_left};
 use std::alloc::Global;
 use std::io::{ErrorKind, Read};
@@ -12,9 +13,6 @@ use std::{fs, io};
 pub struct Disk<'a> {
     pub rt: &'a HostRuntime,
 }
-
-/// The greatest file that is read, in bytes.
-const LIMIT: u64 = 16_777_216;
 
 /// The name by which a file is the standard input.
 const STANDARD_INPUT: &str = "/dev/stdin";
@@ -30,7 +28,8 @@ fn unread(error: &io::Error) -> Unread {
 /// What stands in a file up to the limit, and one byte more where it goes on.
 fn front_of<R: Read + Drop>(alloc: Global, file: R) -> io::Result<Vec<u8>> {
     let mut bytes = Vec::new(alloc);
-    file.take(LIMIT + 1).read_to_end(&mut bytes)?;
+    file.take(limits::FILE_BYTES as u64 + 1)
+        .read_to_end(&mut bytes)?;
     Ok(bytes)
 }
 
@@ -38,7 +37,7 @@ fn front_of<R: Read + Drop>(alloc: Global, file: R) -> io::Result<Vec<u8>> {
 fn within_limit(bytes: Vec<u8>) -> Result<Vec<u8>, Unread>
     ensures { IfOk result (λ kept. length kept.items ≤ 16777216) }
 {
-    if bytes.len() as u64 > LIMIT {
+    if bytes.len() > limits::FILE_BYTES {
         Err(Unread::TooLong)
     } else {
         Ok(bytes)
@@ -79,7 +78,7 @@ impl Files for Disk<'_> {
 
     fn has_bytes(&mut self, _alloc: Global, name: &str, bytes: &[u8]) -> Result<bool, Unread> {
         match self.compare(name, bytes) {
-            Ok(true) if bytes.len() as u64 > LIMIT => Err(Unread::TooLong),
+            Ok(true) if bytes.len() > limits::FILE_BYTES => Err(Unread::TooLong),
             Ok(same) => Ok(same),
             Err(error) => Err(unread(&error)),
         }

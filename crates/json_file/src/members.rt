@@ -18,18 +18,15 @@ ghost use Rattle.json_file.specs.Members.{
 ghost use Rattle.json_file.specs.Outcomes.{GivesValue, GivesView, Parses};
 
 use crate::faults::BadJson;
-use model::Text;
+use model::{Text, limits};
 use serde_json::{Map, Value};
 use std::alloc::Global;
-
-/// The greatest length of a file, in bytes.
-const LIMIT: usize = 16_777_216;
 
 /// The value that a file states, where it is JSON of at most 16,777,216 bytes and nests at most 127 deep.
 pub fn parse(alloc: Global, bytes: &[u8]) -> Result<Value, BadJson>
     ensures { Parses result bytes.now }
 {
-    if bytes.len() > LIMIT {
+    if bytes.len() > limits::FILE_BYTES {
         return Err(BadJson::TooLong);
     }
     match Value::from_slice(alloc, bytes) {

@@ -1,6 +1,6 @@
 //! A topology with the routes that were taken last.
 
-use crate::routes::{Access, Found, Route};
+use crate::routes::{Found, Route};
 use crate::slots::{empty_slots, found, learned, routed, slot_of};
 use exchange_graph::{Scratch, Topology};
 use model::Text;
@@ -109,13 +109,6 @@ impl Router {
             exchange,
             key,
         )
-    }
-
-    /// Whether a client may publish to this exchange, under this key as under any other. It takes no memory.
-    pub fn access(&self, exchange: &Text, key: &Text) -> Access
-        ensures { result ≡ access_to self.now exchange.now }
-    {
-        self.find(exchange, key).access
     }
 
     /// The topology that was handed in.

@@ -14,7 +14,7 @@ use Rattle.model.specs.Entering.{comes_to, entry_notes}
 use Rattle.model.specs.Deaths.{TellsOfDeath, AreMarked, alone, added, marked_before, first_death}
 use Rattle.model.specs.Deliveries.{without_given, AreRejected}
 use Rattle.model.specs.Broker.{body_bytes}
-use Rattle.model.specs.Routed.{Said, sized, is_entry_into, note_at}
+use Rattle.model.specs.Routed.{Said, with_sizes, is_entry_into, note_at}
 use Rattle.model.specs.Letters.{DiesInto, Rejection, AreRejections, none as no_rejection, next, rejection_notes}
 use Rattle.model.specs.declared.messages.Entry.{Entry}
 use Rattle.model.specs.declared.notes.Cause.TheVariants.{Rejected}
@@ -314,7 +314,7 @@ record HasFirst (t : Topology) (queues : Text → List Entry) (said : List Said)
   of : Rejection t queues
   rest : List Note
   is : notes ≡ rejection_notes t queues said of ++ rest
-  more : AreRejections t queues (said ++ sized (body_bytes of.entry) (rejection_notes t queues said of)) rest
+  more : AreRejections t queues (said ++ with_sizes (body_bytes of.entry) (rejection_notes t queues said of)) rest
 
 first_of : {t : Topology} {queues : Text → List Entry} {said : List Said} {notes : List Note} → AreRejections t queues said notes → (notes ≡ []) ⊎ HasFirst t queues said notes
 first_of no_rejection = inl refl
@@ -370,7 +370,7 @@ enters_billing more a = go (first_of a)
           number = f.of.entry.message.number;
           rest = f.rest;
           is = ap (drop 1) f.is ∙ ap (λ (rs : List Text). map (note_at deaths while_in_q1 [] (body_bytes f.of.entry) f.of.entry.message.number Dead) rs ++ f.rest) to;
-          said = sized (body_bytes f.of.entry) (rejection_notes deaths while_in_q1 [] f.of);
+          said = with_sizes (body_bytes f.of.entry) (rejection_notes deaths while_in_q1 [] f.of);
           others = f.more;
         }
 

@@ -15,7 +15,7 @@ use Rattle.model.specs.Reloading.{NothingStands, by_entry, stood_now}
 use Rattle.model.specs.History.{Occurrence, Of_event, Of_reload, History, reloads_of}
 use Rattle.model.specs.Run.{AreCounted, empty_state}
 use Rattle.model.specs.State.{Config, State, Step}
-use Rattle.model.specs.Tracing.{by_publish, IsKept, AreKept, AreSafe, NoneStood}
+use Rattle.model.specs.Tracing.{by_publish, MayStand, AreKept, AreSafe, NoneStood}
 use Rattle.model.specs.declared.topologies.DeclaredQueue.{DeclaredQueue}
 use Rattle.model.specs.declared.messages.Entry.{Entry}
 use Rattle.model.specs.declared.events.Send.{Send}
@@ -45,7 +45,7 @@ later_on t p exchange r key s last dies routes l = record {
 
 -- ---- each message
 
-kept_same : (f : Config) (q : Text) (m o : Message) → AreSame m o → IsKept f q o → IsKept f q m
+kept_same : (f : Config) (q : Text) (m o : Message) → AreSame m o → MayStand f q o → MayStand f q m
 kept_same f q m o s at = record {
   housed = at.housed;
   short = subst (λ (z : Text). length z ≤ 255) (sym s.first_key) at.short;
@@ -55,10 +55,10 @@ kept_same f q m o s at = record {
 }
 
 -- a dead letter may stand where it comes
-kept_letter : (f : Config) (old : Text → List Entry) (q : Text) (x : Entry) → IsWellFormed f.topology → (l : IsLetter f.topology old q x) → IsKept f l.from l.entry.message → IsKept f q x.message
+kept_letter : (f : Config) (old : Text → List Entry) (q : Text) (x : Entry) → IsWellFormed f.topology → (l : IsLetter f.topology old q x) → MayStand f l.from l.entry.message → MayStand f q x.message
 kept_letter f old q x wf l at =
     let key = l.entry.message.key in
-    subst (λ (z : Entry). IsKept f q z.message) (sym l.is) (record {
+    subst (λ (z : Entry). MayStand f q z.message) (sym l.is) (record {
       housed = routed_is_there f.topology l.exchange (key_after l.last.dead_letter_key key) q wf l.routes;
       short = at.short;
       safe = λ g i v covers.
@@ -69,13 +69,13 @@ kept_letter f old q x wf l at =
     })
 
 module _ (f : Config) (old new : Broker) (e : Event) (sends : List Send) (notes : List Note) where
-  each_kept : IsSound f → IsSaid e → AreKept f old → (q : Text) (x : Entry) → Came f.topology old new e sends notes q x → IsKept f q x.message
+  each_kept : IsSound f → IsSaid e → AreKept f old → (q : Text) (x : Entry) → Came f.topology old new e sends notes q x → MayStand f q x.message
   each_kept sound said kept q x (stood o) = kept_same f q x.message o.entry.message o.same (kept.each q o.entry o.there)
   each_kept sound said kept q x (by_letter l) = kept_letter f old.queue q x sound.wf l (kept.each l.from l.entry l.there)
   each_kept sound said kept q x (published p i is) =
       let routes = picked q p.is.routed i in
       let short = key_is_short p said in
-      subst (λ (z : Entry). IsKept f q z.message) (sym is) (record {
+      subst (λ (z : Entry). MayStand f q z.message) (sym is) (record {
         housed = routed_is_there f.topology p.publish.exchange p.publish.routing_key q sound.wf routes;
         short = short;
         safe = λ g j v covers. (
@@ -153,7 +153,7 @@ in_or_not x (y ∷ ys) = go (bytes_eq x y) refl (in_or_not x ys)
     go false e (inr n) = inr (λ i. elim i [ inl s ↦ false≢true (sym e ∙ (bytes_eq-Decides x y).1 s) | inr j ↦ n j ])
 
 -- the queue of an entry is not gone
-still_housed : (f g : Config) (b : Broker) → NothingStands f.topology g b → (q : Text) (e : Entry) → IsIn e (b.queue q) → IsKept f q e.message → IsIn q (queue_names g.topology.queues)
+still_housed : (f g : Config) (b : Broker) → NothingStands f.topology g b → (q : Text) (e : Entry) → IsIn e (b.queue q) → MayStand f q e.message → IsIn q (queue_names g.topology.queues)
 still_housed f g b nothing q e i at = elim (in_or_not q (queue_names g.topology.queues)) [
   | inl there ↦ there
   | inr gone ↦ absurd (nothing.none_stranded q (record { was = at.housed; gone = gone; in_use = by_entry e i }))
@@ -175,7 +175,7 @@ reload_kept f g b kept nothing = record {
   each = λ q x i.
       let s = all_stood (b.queue q) x i in
       let was = kept.each q s.entry s.there in
-      subst (λ (z : Entry). IsKept g q z.message) (sym s.is) (record {
+      subst (λ (z : Entry). MayStand g q z.message) (sym s.is) (record {
         housed = still_housed f g b nothing q s.entry s.there was;
         short = was.short;
         safe = λ u j never covers. (

@@ -18,7 +18,7 @@ use Rattle.model.specs.Entries.{is_held_as, without_first}
 use Rattle.model.specs.Entering.{entry_notes, comes_to}
 use Rattle.model.specs.Deaths.{IsDeath, DiesBy, DiesIn, MayDie, dead_letter, with_headers}
 use Rattle.model.specs.Deliveries.{holder_of, given_in, without_given, ready_in, AreRejected}
-use Rattle.model.specs.Routed.{Said, with_size, sized, is_said_into, bytes_into, is_full_after, note_at}
+use Rattle.model.specs.Routed.{Said, with_size, with_sizes, is_said_into, bytes_into, is_full_after, note_at}
 use Rattle.model.specs.Letters.{DiesInto, Rejection, AreRejections, none as no_rejection, next, rejection_notes, IsOfNoRejection, is_dead_into, is_rejected}
 use Rattle.model.specs.declared.topologies.DeclaredQueue.{DeclaredQueue}
 use Rattle.model.specs.declared.messages.Mark.TheVariants.{Ready}
@@ -154,7 +154,7 @@ bytes-append : (q : Text) (xs ys : List Said) → bytes_into q (xs ++ ys) ≡ by
 bytes-append q xs ys = ap (sum_by (λ (s : Said). s.size)) (filter-append (is_said_into q) xs ys) ∙ sum_by-append (λ (s : Said). s.size) (filter (is_said_into q) xs) (filter (is_said_into q) ys)
 
 -- what comes to a queue can be given out
-came_ready : (t : Topology) (entries : Text → List Entry) (m : Message) (n : ℕ) (q : Text) (rs : List Text) → count_by is_ready (comes_to t entries m q rs) ≡ count_by (is_said_into q) (sized (length m.content.body) (entry_notes t entries (length m.content.body) n way.Dead rs))
+came_ready : (t : Topology) (entries : Text → List Entry) (m : Message) (n : ℕ) (q : Text) (rs : List Text) → count_by is_ready (comes_to t entries m q rs) ≡ count_by (is_said_into q) (with_sizes (length m.content.body) (entry_notes t entries (length m.content.body) n way.Dead rs))
 came_ready t entries m n q [] = refl
 came_ready t entries m n q (r ∷ rs) = go (bytes_eq r q) refl (is_full t entries r (length m.content.body)) (came_ready t entries m n q rs)
   where
@@ -162,7 +162,7 @@ came_ready t entries m n q (r ∷ rs) = go (bytes_eq r q) refl (is_full t entrie
     size = length m.content.body
 
     said : List Said
-    said = sized (length m.content.body) (entry_notes t entries (length m.content.body) n way.Dead rs)
+    said = with_sizes (length m.content.body) (entry_notes t entries (length m.content.body) n way.Dead rs)
 
     go : (same : Bool) → bytes_eq r q ≡ same → (full : Bool) → count_by is_ready (comes_to t entries m q rs) ≡ count_by (is_said_into q) said
         → count_by is_ready (if same && not full then record { message = m; mark = Ready } ∷ comes_to t entries m q rs else comes_to t entries m q rs) ≡ count_by (is_said_into q) (with_size size (if full then Refused n r else Entered n r way.Dead) ∷ said)
@@ -172,7 +172,7 @@ came_ready t entries m n q (r ∷ rs) = go (bytes_eq r q) refl (is_full t entrie
     go false s false more = more ∙ sym (count-cons_no (is_said_into q) (with_size size (Entered n r way.Dead)) said s)
 
 -- and its bytes with it
-came_bytes : (t : Topology) (entries : Text → List Entry) (m : Message) (n : ℕ) (q : Text) (rs : List Text) → ready_bytes (comes_to t entries m q rs) ≡ bytes_into q (sized (length m.content.body) (entry_notes t entries (length m.content.body) n way.Dead rs))
+came_bytes : (t : Topology) (entries : Text → List Entry) (m : Message) (n : ℕ) (q : Text) (rs : List Text) → ready_bytes (comes_to t entries m q rs) ≡ bytes_into q (with_sizes (length m.content.body) (entry_notes t entries (length m.content.body) n way.Dead rs))
 came_bytes t entries m n q [] = refl
 came_bytes t entries m n q (r ∷ rs) = go (bytes_eq r q) refl (is_full t entries r (length m.content.body)) (came_bytes t entries m n q rs)
   where
@@ -180,7 +180,7 @@ came_bytes t entries m n q (r ∷ rs) = go (bytes_eq r q) refl (is_full t entrie
     came = filter is_ready (comes_to t entries m q rs)
 
     into : List Said
-    into = filter (is_said_into q) (sized (length m.content.body) (entry_notes t entries (length m.content.body) n way.Dead rs))
+    into = filter (is_said_into q) (with_sizes (length m.content.body) (entry_notes t entries (length m.content.body) n way.Dead rs))
 
     entered : Said
     entered = with_size (length m.content.body) (Entered n r way.Dead)
@@ -193,7 +193,7 @@ came_bytes t entries m n q (r ∷ rs) = go (bytes_eq r q) refl (is_full t entrie
 
     go : (same : Bool) → bytes_eq r q ≡ same → (full : Bool) → sum_by body_bytes came ≡ sum_by of_size into
         → ready_bytes (if same && not full then record { message = m; mark = Ready } ∷ comes_to t entries m q rs else comes_to t entries m q rs)
-        ≡ bytes_into q (with_size (length m.content.body) (if full then Refused n r else Entered n r way.Dead) ∷ sized (length m.content.body) (entry_notes t entries (length m.content.body) n way.Dead rs))
+        ≡ bytes_into q (with_size (length m.content.body) (if full then Refused n r else Entered n r way.Dead) ∷ with_sizes (length m.content.body) (entry_notes t entries (length m.content.body) n way.Dead rs))
     go true s true more = more
     go true s false more = with_it more ∙ sym (ap (λ (b : Bool). sum_by of_size (cond b (entered ∷ into) into)) s)
     go false s true more = more
@@ -229,7 +229,7 @@ follows_itself first = record { held = λ q e i idle. i; ready = λ q. let e : c
 record IsRejection (t : Topology) (first : Text → List Entry) (said : List Said) (notes : List Note) (new : Text → List Entry) : Type 0 where
   of : Rejection t first
   noted_so : notes ≡ rejection_notes t first said of
-  follows : Follows first (said ++ sized (body_bytes of.entry) notes) new
+  follows : Follows first (said ++ with_sizes (body_bytes of.entry) notes) new
 
 module _ (t : Topology) (apart : AreApart (queue_names t.queues)) (c h : ℕ) (first old : Text → List Entry) (said : List Said) (o : Outstanding) (e : Entry) (there : IsIn e (first o.queue)) (f : Follows first said (without_given c h old o)) where
   abbrev gone : Text → List Entry
@@ -237,7 +237,7 @@ module _ (t : Topology) (apart : AreApart (queue_names t.queues)) (c h : ℕ) (f
 
   -- notes beside the size of this message
   abbrev own : List Note → List Said
-  own notes = sized (body_bytes e) notes
+  own notes = with_sizes (body_bytes e) notes
 
   -- behind these notes
   counted : (q : Text) (notes rest : List Note) → notes ≡ Left e.message.number o.queue Rejected ∷ rest → count_by (is_said_into q) (said ++ own notes) ≡ count_by (is_said_into q) said + count_by (is_said_into q) (own rest)
@@ -327,8 +327,8 @@ rejections_from t apart c h first (o ∷ os) old said notes new f (mid, one, res
         let at = find_in (is_held_as (holder_of c h o)) e (old o.queue) is in
         let there : IsIn e (first o.queue) = f.held o.queue e at.0 (idle_if_held (holder_of c h o) e at.1) in
         let r = one_rejection t apart c h first old said o e there (gone_follows c h first old said o f) one left mid noted_left dies_so in
-        let after : AreRejections t first (said ++ sized (body_bytes r.of.entry) (rejection_notes t first said r.of)) rest =
-        subst (λ (ns : List Note). AreRejections t first (said ++ sized (body_bytes r.of.entry) ns) rest) r.noted_so (others (said ++ sized (body_bytes r.of.entry) one) r.follows) in
+        let after : AreRejections t first (said ++ with_sizes (body_bytes r.of.entry) (rejection_notes t first said r.of)) rest =
+        subst (λ (ns : List Note). AreRejections t first (said ++ with_sizes (body_bytes r.of.entry) ns) rest) r.noted_so (others (said ++ with_sizes (body_bytes r.of.entry) one) r.follows) in
         subst (AreRejections t first said) (sym (all ∙ ap (λ (ns : List Note). ns ++ rest) r.noted_so)) (next r.of after)
 
 -- What is noted of messages that are rejected tells of each where its dead letter came.

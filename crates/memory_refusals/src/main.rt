@@ -14,18 +14,18 @@ mod running;
 mod sections;
 
 use counts::Counts;
+use model::limits;
 use running::answered;
 use std::alloc::Global;
 use std::io::{self, ErrorKind, Read as _, Write as _};
 use std::process::ExitCode;
 
-/// The most bytes of standard input that are read.
-const LIMIT: u64 = 16_777_216;
-
 /// Standard input.
 fn input(rt: &HostRuntime) -> io::Result<String> {
     let mut text = String::new(rt.alloc());
-    rt.reader().take(LIMIT).read_to_string(&mut text)?;
+    rt.reader()
+        .take(limits::FILE_BYTES as u64)
+        .read_to_string(&mut text)?;
     Ok(text)
 }
 

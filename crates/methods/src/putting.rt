@@ -3,7 +3,7 @@
 ghost use Rattle.std.specs.Prelude.{◌≡◌, ◌+◌, ◌≤◌, ◌<◌, ◌^◌, [], ◌∷◌, ◌++◌, length, vec_len, vec_capacity, MatchOption, IfSome};
 ghost use Rattle.model.specs.Grammar.{octet as octet_of};
 ghost use Rattle.model.specs.Headers.{value_of, IsValue};
-ghost use Rattle.model.specs.Tables.{sized};
+ghost use Rattle.model.specs.Tables.{with_length};
 ghost use Rattle.methods.specs.Pieces.{piece_seen};
 ghost use Rattle.methods.specs.Putting.{pieces_bytes, AreSpelled};
 
@@ -131,9 +131,9 @@ fn put_octet(out: &mut Vec<u8>, n: u8)
 
 fn put_long_text(out: &mut Vec<u8>, text: &[u8])
     requires fits { length text.now < 2 ^ 32 }
-    requires room { vec_len out.old + length (sized text.now) ≤ vec_capacity out.old }
-    ensures items { out.new.items ≡ out.old.items ++ sized text.now }
-    ensures len { vec_len out.new ≡ vec_len out.old + length (sized text.now) }
+    requires room { vec_len out.old + length (with_length text.now) ≤ vec_capacity out.old }
+    ensures items { out.new.items ≡ out.old.items ++ with_length text.now }
+    ensures len { vec_len out.new ≡ vec_len out.old + length (with_length text.now) }
     ensures capacity { vec_capacity out.old ≤ vec_capacity out.new }
 {
     put_bytes(out, &(text.len() as u32).to_be_bytes());

@@ -15,9 +15,9 @@ view_of (Spelled block) = spelled_by block.value.items
 view_of (Apart block) = block.value
 
 -- what is kept as it was spelled is a spelling
-abbrev pub IsKept : Kept → Type 0
-IsKept Empty = Unit {0}
-IsKept (Small len block) = IsSpelling (take len block.value)
-IsKept (Larger len block) = IsSpelling (take len block.value)
-IsKept (Spelled block) = IsSpelling block.value.items
-IsKept (Apart block) = Unit {0}
+abbrev pub IsKeptText : Kept → Type 0
+IsKeptText Empty = Unit {0}
+IsKeptText (Small len block) = IsSpelling (take len block.value)
+IsKeptText (Larger len block) = IsSpelling (take len block.value)
+IsKeptText (Spelled block) = IsSpelling block.value.items
+IsKeptText (Apart block) = Unit {0}

@@ -13,7 +13,7 @@ use Rattle.model.specs.declared.notes.Note.{Note}
 use Rattle.model.specs.declared.notes.Note.TheVariants.{Entered, Left}
 use Rattle.model.specs.declared.notes.Way.TheVariants as way
 use Rattle.model.specs.Broker.{body_bytes}
-use Rattle.model.specs.Routed.{Said, sized, note_at}
+use Rattle.model.specs.Routed.{Said, with_sizes, note_at}
 
 -- A message with this key that is rejected in the queue q goes on to the queue r: q dead-letters to an exchange, and the key that q fixes,
 -- or else the message's own, leads from there to r (RabbitMQ, "Dead Letter Exchanges").
@@ -42,7 +42,7 @@ rejection_notes t queues said r = Left r.entry.message.number r.queue Rejected
 pub data AreRejections (t : Topology) (queues : Text → List Entry) : List Said → List Note → Type 0 where
   none : {said : List Said} → AreRejections t queues said []
   next : {said : List Said} {rest : List Note} (r : Rejection t queues)
-      → AreRejections t queues (said ++ sized (body_bytes r.entry) (rejection_notes t queues said r)) rest
+      → AreRejections t queues (said ++ with_sizes (body_bytes r.entry) (rejection_notes t queues said r)) rest
       → AreRejections t queues said (rejection_notes t queues said r ++ rest)
 
 -- the note is of no rejection and of no dead letter

@@ -36,8 +36,8 @@ abbrev pub with_size : ℕ → Note → Said
 with_size size note = record { note = note; size = size }
 
 -- notes of one message, whose body has this size
-abbrev pub sized : ℕ → List Note → List Said
-sized size notes = map (with_size size) notes
+abbrev pub with_sizes : ℕ → List Note → List Said
+with_sizes size notes = map (with_size size) notes
 
 -- it is said that a message entered this queue
 abbrev pub is_said_into : Text → Said → Bool

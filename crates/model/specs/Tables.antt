@@ -49,8 +49,8 @@ letter (Byte_array t) = 120
 letter Void = 86
 
 -- bytes behind their length
-abbrev pub sized : List ℕ → List ℕ
-sized body = to_be_bytes w32 (length body) ++ body
+abbrev pub with_length : List ℕ → List ℕ
+with_length body = to_be_bytes w32 (length body) ++ body
 
 abbrev mutual
   -- what stands behind the letter: numbers are big-endian
@@ -63,11 +63,11 @@ abbrev mutual
   content (Float n) = to_be_bytes w32 n
   content (Double n) = to_be_bytes w64 n
   content (Decimal scale digits) = scale ∷ to_be_bytes w32 digits
-  content (Long_string t) = sized t
-  content (Field_array vs) = sized (values_bytes vs)
+  content (Long_string t) = with_length t
+  content (Field_array vs) = with_length (values_bytes vs)
   content (Timestamp n) = to_be_bytes w64 n
-  content (Inner_table ps) = sized (pairs_bytes ps)
-  content (Byte_array t) = sized t
+  content (Inner_table ps) = with_length (pairs_bytes ps)
+  content (Byte_array t) = with_length t
   content Void = []
 
   -- letter and content of each
@@ -110,7 +110,7 @@ abbrev mutual
 
 -- a table is spelled as its length and its pairs
 abbrev pub table_bytes : Pairs → List ℕ
-table_bytes ps = sized (pairs_bytes ps)
+table_bytes ps = with_length (pairs_bytes ps)
 
 -- a table that has a spelling: 4 bytes hold its length, and tables and arrays stand inside one another at most 16 levels deep, the outermost counted (own)
 pub record HavePairsSpelling (ps : Pairs) : Type 0 where

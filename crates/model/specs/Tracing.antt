@@ -45,7 +45,7 @@ AreSafe t gs b = (q : Text) (e : Entry) → IsIn e (b.queue q) → (g : Guarante
 -- ---- what every broker keeps, also where what is in force changes
 
 -- The message may stand in this queue under what is in force.
-pub record IsKept (f : Config) (q : Text) (m : Message) : Type 0 where
+pub record MayStand (f : Config) (q : Text) (m : Message) : Type 0 where
   -- the queue is one of the topology
   pub housed : IsIn q (queue_names f.topology.queues)
   -- a publish can have the message's first key
@@ -57,7 +57,7 @@ pub record IsKept (f : Config) (q : Text) (m : Message) : Type 0 where
 -- What every broker keeps of its messages:
 pub record AreKept (f : Config) (b : Broker) : Type 0 where
   -- each may stand in its queue
-  pub each : (q : Text) (e : Entry) → IsIn e (b.queue q) → IsKept f q e.message
+  pub each : (q : Text) (e : Entry) → IsIn e (b.queue q) → MayStand f q e.message
   -- messages of one publish were first sent to the same place
   pub alike : (q r : Text) (e d : Entry) → IsIn e (b.queue q) → IsIn d (b.queue r) → e.message.number ≡ d.message.number → AreSentAlike e.message d.message
 

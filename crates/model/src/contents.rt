@@ -2,7 +2,7 @@
 
 ghost use Rattle.std.specs.Prelude.{◌≡◌, IfOk};
 ghost use Rattle.model.specs.Headers.{no_properties};
-ghost use Rattle.model.specs.Kept.{view_of, IsKept};
+ghost use Rattle.model.specs.Kept.{view_of, IsKeptText};
 ghost use Rattle.model.specs.Properties.{spelled_by, IsSpelling};
 
 use crate::bodies::Body;
@@ -158,7 +158,7 @@ fn in_block<T: Drop>(alloc: Global, value: T) -> Result<Arc<T>, AllocError>
 /// A copy of these flags and values, in the smallest block that takes them.
 fn keep(alloc: Global, bytes: &[u8]) -> Result<Kept, AllocError>
     requires { IsSpelling bytes.now }
-    ensures { IfOk result (λ kept. IsKept kept × (view_of kept ≡ spelled_by bytes.now)) }
+    ensures { IfOk result (λ kept. IsKeptText kept × (view_of kept ≡ spelled_by bytes.now)) }
 {
     let len = bytes.len();
     if len <= MOST_SMALL {
@@ -196,14 +196,14 @@ impl Drop for Properties {
 impl Model for Properties {
     ghost use Rattle.model.specs.Headers.{no_properties};
     ghost use Rattle.model.specs.Properties.{spelled_by, IsSpelling};
-    ghost use Rattle.model.specs.Kept.{view_of, IsKept};
+    ghost use Rattle.model.specs.Kept.{view_of, IsKeptText};
     ghost use Rattle.model.specs.declared.contents.Fields.{Fields as Seen};
 
     ghost Value = { Seen };
 
     ghost view = { λ p. view_of p.kept };
 
-    ghost invariant = { λ p. IsKept p.kept };
+    ghost invariant = { λ p. IsKeptText p.kept };
 }
 
 impl Properties {

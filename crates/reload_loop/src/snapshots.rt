@@ -14,12 +14,10 @@ ghost use Rattle.reload_loop.specs.Snapshots.{
   names_of,
 };
 
+use model::limits;
 use named_files::{Files, NotWritten, Unread};
 use std::alloc::Global;
 use std::marker::Model;
-
-/// The longest file that is read, in bytes.
-const LIMIT: usize = 16_777_216;
 
 /// The names of the three files by which a broker serves.
 #[derive(Clone, Copy, Drop)]
@@ -162,7 +160,7 @@ fn copied(alloc: Global, slot: &Result<Vec<u8>, Unread>) -> Result<Vec<u8>, Unre
 {
     match slot {
         Ok(bytes) => {
-            if bytes.len() > LIMIT {
+            if bytes.len() > limits::FILE_BYTES {
                 return Err(Unread::TooLong);
             }
             match Vec::from_slice(alloc, bytes.as_slice()) {

@@ -42,17 +42,6 @@ impl Step {
         })
     }
 
-    /// This is noted, and nothing sent. It takes no memory.
-    pub fn noting(alloc: Global, notes: Vec<Note>) -> Step
-        ensures sends { result.sends.items ≡ [] }
-        ensures notes { result.notes.items ≡ notes.items }
-    {
-        Step {
-            sends: Vec::new(alloc),
-            notes,
-        }
-    }
-
     /// This goes back behind what is there, and that is noted of this publish, where there is something to go back and the
     /// publish was routed nowhere. There is room for it.
     pub fn send_back(&mut self, number: u64, returned: Option<Send>, is_none: bool)

@@ -2,11 +2,9 @@
 
 use crate::expectations::{Unmet, value_of};
 use engine::Engine;
+use model::limits;
 use server::{Files, NotWritten, Unread, started};
 use std::alloc::Global;
-
-/// The greatest file that is read, in bytes.
-const LIMIT: usize = 16_777_216;
 
 /// One user, whose password is `wonder`, and one queue, to which `orders` routes the key `new`. The hash is of another
 /// implementation of SHA-256.
@@ -38,7 +36,7 @@ impl Files for ScenarioDisk {
 
     fn read(&mut self, alloc: Global, name: &str) -> Result<Vec<u8>, Unread> {
         match Vec::from_slice(alloc, self.text(name)) {
-            Ok(bytes) if bytes.len() <= LIMIT => Ok(bytes),
+            Ok(bytes) if bytes.len() <= limits::FILE_BYTES => Ok(bytes),
             Ok(_) => Err(Unread::TooLong),
             Err(_) => Err(Unread::Memory),
         }

@@ -5,7 +5,7 @@ use Rattle.std.specs.Str.{bytes_eq}
 use Rattle.std.proofs.lemmas.List.{append-nil}
 use Rattle.std.proofs.lemmas.Bool.Decides.{nat_tests}
 use Rattle.model.specs.Words.{Text}
-use Rattle.splitting.proofs.Left.{left}
+use Rattle.model.proofs.Left.{left}
 use Rattle.model.specs.declared.events.Arrival.TheVariants.{Open, Ready, In, Sent, Pump, Lose, Reload}
 use Rattle.scripts.specs.FileNames.{FileNames}
 use Rattle.scripts.specs.Script.{ScriptArrival, cut, piece, number, connection, opening, ready, bytes_in, sent, lost, three_names, reload, by_word, arrival_of, line_of, arrivals_from, opened_after, onto_arrivals, with_line}

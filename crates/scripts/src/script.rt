@@ -5,7 +5,7 @@ ghost use Rattle.scripts.specs.Script.{script, line_of, opened_after, RefusesScr
 ghost use Rattle.scripts.specs.Lines.{TakesLine};
 
 use crate::lines::{Arrival, BadLine, line_of};
-use splitting::first_part;
+use model::first_part;
 use std::alloc::Global;
 
 /// Why a script is not read.

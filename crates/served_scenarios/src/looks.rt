@@ -3,6 +3,7 @@
 ghost use Rattle.std.specs.Prelude.{⊤};
 
 use memory_wire::{Client, MemoryWire};
+use model::limits;
 use reload_loop::program_with_sockets;
 use scenario_parts::{
     Closed, MESSAGE, OPENED, OPENING, Unmet, expect, expect_bytes, expect_number, joined, value_of,
@@ -10,9 +11,6 @@ use scenario_parts::{
 use server::{Files, Listener, Listening, NotWritten, Unread};
 use std::alloc::{AllocError, Global};
 use std::io::Write;
-
-/// The greatest file that is read, in bytes.
-const LIMIT: usize = 16_777_216;
 
 /// The front of a definitions file: the user bob, whose password is `wonder`, and the exchange `orders`, up to the first queue. The
 /// hash is of another implementation of SHA-256.
@@ -132,7 +130,7 @@ impl Files for Replaced {
 
     fn read(&mut self, alloc: Global, name: &str) -> Result<Vec<u8>, Unread> {
         match self.text(alloc, name) {
-            Ok(bytes) if bytes.len() <= LIMIT => Ok(bytes),
+            Ok(bytes) if bytes.len() <= limits::FILE_BYTES => Ok(bytes),
             Ok(_) => Err(Unread::TooLong),
             Err(_) => Err(Unread::Memory),
         }

@@ -8,7 +8,7 @@ ghost use Rattle.session.specs.Answers.{move_of, awaited_move, IsAnswer};
 
 use crate::accepts;
 use crate::sends::{close, open_ok, tune};
-use model::{Method, Phase, Tuning, User};
+use model::{Method, Phase, Tuning, User, limits};
 
 /// What is sent, and where the connection stands then.
 #[derive(Drop)]
@@ -37,7 +37,7 @@ fn is_taken(tuning: &Tuning) -> bool
     ensures { result ≡ said.is_taken tuning.now }
 {
     let in_range = tuning.frame_max == 0 || tuning.frame_max >= 4096 && tuning.frame_max <= 131_072;
-    tuning.channel_max <= 255 && in_range && tuning.heartbeat == 0
+    tuning.channel_max <= limits::CHANNEL_MAX && in_range && tuning.heartbeat == 0
 }
 
 /// The limits that hold after this tune-ok, where it is taken.
@@ -48,7 +48,7 @@ fn tune_by(tuning: &Tuning) -> OpeningAnswer
 {
     OpeningAnswer::Tunes {
         channel_max: if tuning.channel_max == 0 {
-            255
+            limits::CHANNEL_MAX
         } else {
             tuning.channel_max
         },

@@ -8,7 +8,7 @@ ghost use Rattle.model.specs.declared.events.Send.TheVariants as send;
 ghost use Rattle.session.specs.Answers.{Fits};
 ghost use Rattle.model.specs.Sending.{AreOwn};
 
-use model::{Close, Ids, Method, Send, Start, Table, Text, Tuning, reply_text};
+use model::{Close, Ids, Method, Send, Start, Table, Text, Tuning, limits, reply_text};
 use std::alloc::{AllocError, Global};
 
 /// The pairs of the table in start: what the server can do beside AMQP, and its name.
@@ -35,7 +35,7 @@ pub(crate) fn tune() -> Method
     ensures fits { Fits result }
 {
     Method::ConnectionTune(Tuning {
-        channel_max: 255,
+        channel_max: limits::CHANNEL_MAX,
         frame_max: 131_072,
         heartbeat: 0,
     })

@@ -7,7 +7,7 @@ ghost use Rattle.model.specs.declared.events.Send as sent;
 
 use crate::answers::{OpeningAnswer, answer_to, logs_in};
 use crate::sends::{close, greeting, nothing, one, start};
-use model::{Ids, Method, Phase, Publish, Send, Text, User};
+use model::{Ids, Method, Phase, Publish, Send, Text, User, limits};
 use std::alloc::{AllocError, Global};
 use std::marker::Model;
 
@@ -79,7 +79,7 @@ impl Session {
     {
         Session {
             phase: Phase::Header,
-            channel_max: 255,
+            channel_max: limits::CHANNEL_MAX,
             frame_max: 4096,
         }
     }
@@ -90,7 +90,7 @@ impl Session {
     {
         Session {
             phase: Phase::Running,
-            channel_max: 255,
+            channel_max: limits::CHANNEL_MAX,
             frame_max: 131_072,
         }
     }
@@ -142,7 +142,7 @@ impl Session {
         ensures { self.new ≡ to_phase self.old phase.Over }
     {
         self.phase = Phase::Over;
-        self.channel_max = 255;
+        self.channel_max = limits::CHANNEL_MAX;
         self.frame_max = 131_072;
     }
 

@@ -4,7 +4,7 @@ ghost use Rattle.std.specs.Prelude.{◌≡◌, IfOk, Decides};
 ghost use Rattle.model.specs.Words.{Text};
 ghost use Rattle.model.specs.Topology.{Topology as Shown};
 ghost use Rattle.model.specs.declared.topologies.Mode.{Mode as Promise};
-ghost use Rattle.model.specs.Certificates.{IsKept};
+ghost use Rattle.model.specs.Certificates.{KeepsTo};
 ghost use Rattle.model.specs.Positions.{FitsEach};
 ghost use Rattle.state_routes.specs.Gates.{accepted};
 ghost use Rattle.state_routes.specs.Exits.{IsBounded, open_through};
@@ -138,7 +138,7 @@ impl Routes {
         ensures links { IfOk result (λ yes. Decides yes (IsKeptBy letters.now self.now state.now)) }
         ensures promise { IfOk result (λ yes. (t : Shown) (m : Promise) (x q : Text)
             → IsKnown t m x q letters.now self.now → AreOnce letters.now
-            → Decides yes (IsKept m t x q letters.now state.now)) }
+            → Decides yes (KeepsTo m t x q letters.now state.now)) }
     {
         let yes = self.keeps(alloc, letters, state)?;
         Ok(yes)

@@ -15,7 +15,7 @@ ghost use Rattle.topology_drafts.specs.Causes.{
 };
 
 use crate::directory::Directory;
-use model::{Binding, DeclaredQueue, Exchange, Place};
+use model::{Binding, DeclaredQueue, Exchange, Place, limits};
 use topic_match::is_pattern;
 
 /// Whether an exchange of this name is there. The default exchange is not.
@@ -61,7 +61,7 @@ fn key_has_exchange(queue: &DeclaredQueue) -> bool
 fn is_named(exchange: &Exchange) -> bool
     ensures { Decides result (IsNamed exchange.now) }
 {
-    exchange.name.len() != 0 && exchange.name.len() <= 255
+    exchange.name.len() != 0 && exchange.name.len() <= limits::SHORT_BYTES
 }
 
 /// Whether a dead-letter key is a pattern, if there is one.

@@ -3,11 +3,11 @@
 mod waking;
 
 ghost use Rattle.std.specs.Prelude.{◌≡◌, ◌≤◌, ℕ, true, None, OnOk, length};
-ghost use Rattle.broker_core.specs.State.{broker_of};
+ghost use Rattle.commands.specs.State.{broker_of};
 ghost use Rattle.broker.specs.Roster.{listed_on, IsListedOn, Listing, IsListed, HasList, HasNoList, MakesNoList, KeepLists, ListsMore, ListsStay};
 ghost use Rattle.broker.specs.Moving.{all_emptied, emptied};
 
-use broker_core::{Core, Pick};
+use commands::{Core, Pick};
 use std::alloc::{AllocError, Global};
 use std::collections::HashMap;
 use std::marker::Model;

@@ -10,8 +10,8 @@ ghost use Rattle.std.specs.Prelude.{None, IfSome, OnOk, length, count_by, filter
 ghost use Rattle.std.specs.List.{position_from};
 ghost use Rattle.model.specs.Topology.{IsIn};
 ghost use Rattle.marks.specs.Places.{bit_of};
-ghost use Rattle.broker_core.specs.Picked.{IsPickFrom};
-ghost use Rattle.broker_core.specs.declared.picks.Pick.{Pick as Consumer};
+ghost use Rattle.commands.specs.Picked.{IsPickFrom};
+ghost use Rattle.commands.specs.declared.picks.Pick.{Pick as Consumer};
 ghost use Rattle.broker.specs.declared.roster.seats.Seat.{Seat as Taken};
 ghost use Rattle.broker.specs.Lines.{turned, AreDistinct};
 ghost use Rattle.broker.specs.Roster.{ring_of, picks, is_consumer, is_seat_of, has_its_consumer, IsAwakeAt, IsAwake, IsAsleep, StaysAt};
@@ -20,7 +20,7 @@ ghost use Rattle.broker.specs.Moving.{all_awake};
 
 use crate::roster::desk::{Desks, Listed, list_seat};
 use crate::roster::seats::Seat;
-use broker_core::{Core, Pick};
+use commands::{Core, Pick};
 use marks::{Flat, Over, Places};
 use std::alloc::{AllocError, Global};
 use std::marker::Model;
@@ -351,8 +351,8 @@ impl Model for Ring {
 impl Ring {
     ghost use Rattle.std.specs.Prelude.{◌≡◌, ◌<◌, [], ℕ, true, false, None, IfSome, OnOk, length};
     ghost use Rattle.marks.specs.Places.{bit_of};
-    ghost use Rattle.broker_core.specs.declared.picks.Pick.{Pick as Consumer};
-    ghost use Rattle.broker_core.specs.Picked.{IsPickFrom};
+    ghost use Rattle.commands.specs.declared.picks.Pick.{Pick as Consumer};
+    ghost use Rattle.commands.specs.Picked.{IsPickFrom};
     ghost use Rattle.broker.specs.Roster.{order, IsAwake, IsAsleep, KeepsIn, KeepsRing, NoneSeated, GoesLast, KeepsLine, LetsIn, IsBounded, ListsMore, Wakens};
     ghost use Rattle.broker.specs.Moving.{AllRoused};
 

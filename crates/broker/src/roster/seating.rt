@@ -6,16 +6,16 @@
 
 ghost use Rattle.std.specs.Prelude.{◌≡◌, ◌<◌, ◌≤◌, ◌*◌, [], ℕ, None, IfSome, IfOk, OnOk, length};
 ghost use Rattle.marks.specs.Places.{bit_of};
-ghost use Rattle.broker_core.specs.State.{topology_kept};
-ghost use Rattle.broker_core.specs.Picked.{IsPickFrom};
+ghost use Rattle.commands.specs.State.{topology_kept};
+ghost use Rattle.commands.specs.Picked.{IsPickFrom};
 ghost use Rattle.broker.specs.Roster.{ring_at, rings_of, IsAwake, IsAsleep, QueuesAreMarked, IsNextMarked, KeepRings, KeepLines, LetsIn};
 ghost use Rattle.broker.specs.Roster.{IsBounded, KeepsSeats, ListsMore, AllWaken, NoneSeated, NoneBetween, NonePassed, PicksFrom, SameOrders};
 ghost use Rattle.broker.specs.Moving.{IsMoved, ArePlacesApart, RingsAreMoved};
-ghost use Rattle.broker_core.specs.declared.picks.Pick.{Pick as Consumer};
+ghost use Rattle.commands.specs.declared.picks.Pick.{Pick as Consumer};
 
 use crate::roster::desk::Desks;
 use crate::roster::ring::{Ring, SeatMarks};
-use broker_core::{Core, Pick};
+use commands::{Core, Pick};
 use marks::{Flat, Over, Places};
 use std::alloc::{AllocError, Global};
 use std::marker::Model;
@@ -279,8 +279,8 @@ impl Model for Seating {
 
 impl Seating {
     ghost use Rattle.std.specs.Prelude.{◌≡◌, ◌<◌, ◌+◌, ◌^◌, ℕ, None, IfSome, IfOk, OnOk, length};
-    ghost use Rattle.broker_core.specs.State.{topology_kept};
-    ghost use Rattle.broker_core.specs.Picked.{IsPickFrom};
+    ghost use Rattle.commands.specs.State.{topology_kept};
+    ghost use Rattle.commands.specs.Picked.{IsPickFrom};
     ghost use Rattle.broker.specs.Roster.{ring_at, rings_of, IsAwake, IsAsleep, KeepRings, KeepLines, LetsIn, IsBounded};
     ghost use Rattle.broker.specs.Roster.{KeepsSeats, ListsMore, AllWaken, NoneBetween, NonePassed, PicksFrom, SameOrders};
     ghost use Rattle.broker.specs.Moving.{ArePlacesApart, RingsAreMoved};

@@ -1,6 +1,6 @@
 //! Seats of consumers.
 
-use broker_core::Pick;
+use commands::Pick;
 
 /// The seat of a consumer in the ring of its queue.
 #[derive(Clone, Copy, PartialEq, Eq, Debug, Drop)]

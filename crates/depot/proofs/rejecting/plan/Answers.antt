@@ -1,5 +1,4 @@
-use Rattle.std.proofs.Common.{◌∙◌, ap, length, arith}
-use Rattle.model.specs.Topology.{Topology}
+use Rattle.std.proofs.Common.{◌∙◌, arith}
 use Rattle.depot.specs.Store.{entries_of}
 use Rattle.depot.proofs.Waiting.{nothing, within_next}
 use Rattle.depot.proofs.Planned.{planned_next}
@@ -12,7 +11,7 @@ plan_waiting-requires-clause-within c =
 pub loop-given-preserved : goal.loop-given-preserved
 loop-given-preserved c = record {
   planned =
-      planned_next c.args.router.now c.loop-given.router c.args.channel.connection c.args.channel.number (entries_of c.args.queues.now) c.args.gone.now c.loop-given.given-index nothing
+      planned_next c.args.router.now c.loop-given.router c.args.id.connection c.args.id.number (entries_of c.args.queues.now) c.args.gone.now c.loop-given.given-index nothing
       c.loop-given.deaths.items c.plan_waiting.new.deaths.items (let t = c.loop-given-test.true in omega arith) c.loop-given.invariant.same c.in_ok-plan_waiting.ensures.yes c.in_ok-plan_waiting.ensures.no c.loop-given.invariant.planned;
   same = c.plan_waiting.ensures.same ∙ c.loop-given.invariant.same;
 }

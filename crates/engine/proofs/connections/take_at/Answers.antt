@@ -20,4 +20,6 @@ returns c =
         sent = sent;
       };
       topology = c.take_from.ensures.topology;
+      turn = c.take_from.ensures.turn;
+      later = c.take_from.ensures.later;
     }

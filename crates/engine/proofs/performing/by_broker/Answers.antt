@@ -10,4 +10,6 @@ returns c = record {
   broker_kept = tt;
   session_kept = tt;
   topology = c.step.ensures.topology;
+  turn = c.step.ensures.turn;
+  later = c.in_ok-step.ensures.later;
 }

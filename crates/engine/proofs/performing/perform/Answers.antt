@@ -19,4 +19,6 @@ returns-in_default c =
       broker_kept = c.by_phase.ensures.broker_kept;
       session_kept = c.by_phase.ensures.session_kept;
       topology = c.by_phase.ensures.topology;
+      turn = c.by_phase.ensures.turn;
+      later = c.by_phase.ensures.later;
     }

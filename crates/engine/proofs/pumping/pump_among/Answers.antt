@@ -17,5 +17,9 @@ returns c =
       ok = ok_map c.pump_link.result _ _ (λ notes pumped. record { change = change; pumped = pumped }) c.pump_link.ensures.ok;
       err = not_pumped_by c.pump_link.result (broker_of c.args.broker.now) (broker_of c.pump_link.new.broker) c.args.pick.connection ls (set ls c.in-Some.place c.pump_link.new.link) change
           (on_err_map c.pump_link.result _ _ (λ e. ap broker_of e) c.pump_link.ensures.broker_kept) c.pump_link.ensures.output_kept;
+      broker_kept = c.pump_link.ensures.broker_kept;
       topology = c.pump_link.ensures.topology;
+      over = c.pump_link.ensures.over;
+      later = c.pump_link.ensures.later;
+      soon = c.pump_link.ensures.soon;
     }

@@ -1,4 +1,5 @@
 use Rattle.broker.specs.Turns.{topology_kept, broker_of}
+use Rattle.engine.proofs.Waiting.{later_then}
 use Rattle.engine.proofs.Replies.{delivery_sends}
 use Rattle.engine.proofs.pumping.pump_link.Goals as goal
 
@@ -21,3 +22,6 @@ returns-in-Ok-clause-ok c =
       put = rw (← max.value, ← sends, ← c.make_room.ensures.bytes) c.put_out.ensures.bytes;
       pauses = rw (← c.pump.ensures.topology) c.put_out.ensures.pauses;
     }
+
+pub returns-in-Ok-clause-later : goal.returns-in-Ok-clause-later
+returns-in-Ok-clause-later c = later_then c.args.broker.now c.pump.new.self c.put_out.new.broker c.in-Ok.ensures.later c.put_out.ensures.later

@@ -1,4 +1,7 @@
-use Rattle.std.proofs.Common.{refl}
+use Rattle.std.proofs.Common.{◌∙◌, refl, sym, subst}
+use Rattle.std.proofs.lemmas.Option.{same_Some}
+use Rattle.model.specs.declared.events.Event.{Event}
+use Rattle.broker.specs.Waiting.{OneComesIn}
 use Rattle.engine.proofs.Turned.{performed_is}
 use Rattle.engine.proofs.turning.do_kept.Goals as goal
 
@@ -8,6 +11,8 @@ returns-in-Ok c = record {
   broker_kept = tt;
   link_kept = tt;
   topology = c.do_event-done.ensures.topology;
+  turn = c.do_event-done.ensures.turn;
+  later = λ e h. subst (λ (x : Event). OneComesIn x c.args.broker.now c.do_event-done.new.broker) (same_Some c.in-Some.event e (sym c.in-Some.is ∙ h)) c.in-Ok.ensures.later;
 }
 
 pub returns-in-Err : goal.returns-in-Err
@@ -19,4 +24,6 @@ returns-in-Err c =
       broker_kept = kept.broker_kept;
       link_kept = λ i. record { number = l.number; session = kept.session_kept i; stream = l.stream; kept = l.kept; output = kept.output_kept i };
       topology = c.do_event-done.ensures.topology;
+      turn = c.do_event-done.ensures.turn;
+      later = tt;
     }

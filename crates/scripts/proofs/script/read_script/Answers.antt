@@ -1,7 +1,7 @@
 use Rattle.std.proofs.Common.{◌+◌, ◌≤◌, ◌∙◌, length, arith}
 use Rattle.std.specs.Option.{option_copied}
-use Rattle.splitting.specs.Parts.{parts_left}
-use Rattle.splitting.proofs.Left.{left}
+use Rattle.model.specs.Parts.{parts_left}
+use Rattle.model.proofs.Left.{left}
 use Rattle.scripts.proofs.Loops.{taken, left_less, line_few}
 use Rattle.scripts.proofs.script.read_script.Goals as goal
 

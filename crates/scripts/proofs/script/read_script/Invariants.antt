@@ -1,8 +1,8 @@
 use Rattle.std.proofs.Common.{◌≡◌, ◌+◌, ◌≤◌, length}
 use Rattle.std.specs.Prelude.{option_copied}
 use Rattle.scripts.specs.Script.{arrivals_from, onto_arrivals, script}
-use Rattle.splitting.specs.Parts.{parts_left}
-use Rattle.splitting.proofs.Left.{left}
+use Rattle.model.specs.Parts.{parts_left}
+use Rattle.model.proofs.Left.{left}
 use Rattle.scripts.proofs.script.read_script.Given as goal
 
 abbrev pub invariant-lines : goal.invariant-lines

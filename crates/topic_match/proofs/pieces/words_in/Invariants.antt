@@ -1,8 +1,8 @@
 use Rattle.std.proofs.Common.{◌≡◌, ◌++◌}
 use Rattle.std.specs.Prelude.{option_copied}
 use Rattle.model.specs.Words.{pieces}
-use Rattle.splitting.specs.Parts.{parts_left}
-use Rattle.splitting.proofs.Left.{left}
+use Rattle.model.specs.Parts.{parts_left}
+use Rattle.model.proofs.Left.{left}
 use Rattle.topic_match.proofs.pieces.words_in.Given as goal
 
 abbrev pub invariant-pieces : goal.invariant-pieces

@@ -3,10 +3,10 @@ use Rattle.model.specs.Consuming.{CanDeliver}
 use Rattle.broker.specs.Roster.{Rings, HasConsumer, PicksFirst}
 use Rattle.broker.specs.Turns as seen
 use Rattle.broker.specs.Turns.{WithTurn, with_turn}
-use Rattle.broker_core.specs.State.{Kept, broker_of, topology_kept}
-use Rattle.broker_core.specs.declared.picks.Pick.{Pick}
-use Rattle.broker_core.specs.Picked.{IsPick, IsPickFrom}
-use Rattle.broker_core.proofs.Picking.{pick_from}
+use Rattle.commands.specs.State.{Kept, broker_of, topology_kept}
+use Rattle.commands.specs.declared.picks.Pick.{Pick}
+use Rattle.commands.specs.Picked.{IsPick, IsPickFrom}
+use Rattle.commands.proofs.Picking.{pick_from}
 use Rattle.broker.proofs.Outcomes.{if_some, told_some}
 use Rattle.broker.proofs.Seated.{holds, serves, serves_kept, running_still}
 use Rattle.broker.specs.Waiting.{IsToldInTurn}

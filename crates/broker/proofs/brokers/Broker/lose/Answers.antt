@@ -1,6 +1,6 @@
 use Rattle.std.proofs.Common.{[], refl, subst}
 use Rattle.model.specs.declared.events.Event.TheVariants.{Lose}
-use Rattle.broker_core.specs.State.{Kept, broker_of, topology_kept}
+use Rattle.commands.specs.State.{Kept, broker_of, topology_kept}
 use Rattle.broker.specs.Roster.{Rings}
 use Rattle.broker.proofs.Ending.{others_run}
 use Rattle.broker.proofs.Seated.{holds, was_there, serves, serves_asleep, serves_kept, running_but}

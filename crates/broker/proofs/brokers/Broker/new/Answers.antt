@@ -7,7 +7,7 @@ use Rattle.model.specs.Broker.{Broker, Channel}
 use Rattle.model.specs.Entries.{is_held_as}
 use Rattle.model.specs.Step.{Is}
 use Rattle.model.specs.declared.messages.Entry.{Entry}
-use Rattle.broker_core.specs.State.{Kept, broker_of, topology_kept, nothing}
+use Rattle.commands.specs.State.{Kept, broker_of, topology_kept, nothing}
 use Rattle.broker.specs.Roster.{Rings, Lists, HasNoList}
 use Rattle.broker.proofs.Seated.{serves, serves_none}
 use Rattle.broker.proofs.brokers.Broker.new.Goals as goal

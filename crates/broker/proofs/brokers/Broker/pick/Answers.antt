@@ -1,5 +1,5 @@
 use Rattle.std.proofs.Common.{◌∙◌, refl, sym, ap, subst}
-use Rattle.broker_core.specs.Picked.{IsPick}
+use Rattle.commands.specs.Picked.{IsPick}
 use Rattle.broker.specs.Turns.{WithTurn, broker_of}
 use Rattle.broker.specs.Waiting.{AllStand}
 use Rattle.broker.proofs.Seated.{holds}

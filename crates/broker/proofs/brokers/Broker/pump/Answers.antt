@@ -1,10 +1,10 @@
 use Rattle.std.proofs.Common.{None, refl, sym, subst}
 use Rattle.model.specs.declared.events.Event.TheVariants.{Deliver}
-use Rattle.broker_core.specs.Picked.{IsPick}
+use Rattle.commands.specs.Picked.{IsPick}
 use Rattle.broker.specs.Roster.{Rings, IsServing}
 use Rattle.broker.specs.Turns as seen
 use Rattle.broker.specs.Turns.{WithTurn, with_turn}
-use Rattle.broker_core.specs.State.{Kept, broker_of, topology_kept}
+use Rattle.commands.specs.State.{Kept, broker_of, topology_kept}
 use Rattle.broker.proofs.Ending.{delivery_runs}
 use Rattle.broker.proofs.Seated.{holds, was_there, serves, serves_asleep, running_still}
 use Rattle.broker.specs.Waiting.{NoneIsLater}

@@ -3,7 +3,7 @@ use Rattle.model.specs.Topology.{Topology, queue_names}
 use Rattle.model.specs.Reloading.{NoneIsStranded}
 use Rattle.depot.specs.Moving.{AreMoved}
 use Rattle.depot.proofs.Naming.{names-length}
-use Rattle.broker_core.specs.State.{Kept, topology_kept, names_of}
+use Rattle.commands.specs.State.{Kept, topology_kept, names_of}
 use Rattle.broker.specs.Roster.{Rings}
 use Rattle.broker.specs.Moving.{ArePlacesApart, RingsAreMoved, ListsAreEmptied}
 use Rattle.broker.specs.Turns as seen

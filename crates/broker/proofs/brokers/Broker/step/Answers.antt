@@ -1,8 +1,8 @@
 use Rattle.std.proofs.Common.{◌∙◌, ℕ, sym, ap, subst}
 use Rattle.std.specs.Prelude.{IfSome}
 use Rattle.broker.specs.Roster.{Rings, ring_at, HasSeat, IsServing, AllRun, IsAwake}
-use Rattle.broker_core.specs.Seats.{seat_of, IsConsumed}
-use Rattle.broker_core.specs.State.{Kept, broker_of, topology_kept}
+use Rattle.commands.specs.Seats.{seat_of, IsConsumed}
+use Rattle.commands.specs.State.{Kept, broker_of, topology_kept}
 use Rattle.replies.specs.Sent.{connection_of_event}
 use Rattle.broker.proofs.Ending.{others_run}
 use Rattle.broker.proofs.Outcomes.{if_some, on_err}

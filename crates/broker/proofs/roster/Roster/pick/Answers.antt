@@ -1,5 +1,5 @@
 use Rattle.std.proofs.Common.{◌+◌, length, refl, sym, ap, subst, arith}
-use Rattle.broker_core.specs.State.{broker_of}
+use Rattle.commands.specs.State.{broker_of}
 use Rattle.broker.specs.Roster.{Rings, IsSeated, PicksFirst, GoesOn}
 use Rattle.broker.proofs.roster.Roster.pick.Goals as goal
 

@@ -1,5 +1,5 @@
 use Rattle.std.proofs.Common.{sym, subst}
-use Rattle.broker_core.specs.State.{broker_of}
+use Rattle.commands.specs.State.{broker_of}
 use Rattle.broker.specs.Roster.{Rings, ring_at, IsSeated}
 use Rattle.broker.proofs.Sleeping.{seated_more}
 use Rattle.broker.proofs.roster.Roster.seat_next.Goals as goal

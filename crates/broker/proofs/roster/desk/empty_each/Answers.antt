@@ -1,5 +1,5 @@
 use Rattle.std.proofs.Common.{List, [], set, ap, ◌∙◌, arith}
-use Rattle.channel.proofs.Moving.{one_changed}
+use Rattle.channels.proofs.Moving.{one_changed}
 use Rattle.broker.specs.Roster.{Listing}
 use Rattle.broker.proofs.roster.desk.empty_each.Goals as goal
 

@@ -1,5 +1,5 @@
 use Rattle.std.proofs.Common.{◌≡◌, List, []}
-use Rattle.channel.proofs.Moving.{changed_to}
+use Rattle.channels.proofs.Moving.{changed_to}
 use Rattle.broker.specs.Roster.{Listing}
 use Rattle.broker.proofs.roster.desk.empty_each.Given as goal
 

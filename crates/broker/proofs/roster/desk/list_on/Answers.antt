@@ -1,5 +1,5 @@
 use Rattle.std.proofs.Common.{get_or}
-use Rattle.links.proofs.Setting.{same_default}
+use Rattle.channels.proofs.Setting.{same_default}
 use Rattle.broker.proofs.Desks.{stay_set}
 use Rattle.broker.proofs.roster.desk.list_on.Goals as goal
 

@@ -1,6 +1,6 @@
 use Rattle.std.proofs.Common.{◌∙◌, ◌≤◌, ◌+◌, ◌⊎◌, List, [], ◌∷◌, length, filter, count_by, sym, ap, subst}
 use Rattle.std.specs.Prelude.{vec_capacity}
-use Rattle.broker_core.specs.State.{broker_of}
+use Rattle.commands.specs.State.{broker_of}
 use Rattle.broker.specs.declared.roster.seats.Seat.{Seat}
 use Rattle.broker.specs.Lines.{turned, AreDistinct}
 use Rattle.broker.specs.Roster.{ring_of, picks, has_its_consumer, awake_seat, IsSeatedIn}

@@ -1,6 +1,6 @@
 use Rattle.std.proofs.Common.{◌∙◌, false, ap, sym, subst, arith}
-use Rattle.links.proofs.Setting.{same_default}
-use Rattle.broker_core.specs.Picked.{IsPickFrom}
+use Rattle.channels.proofs.Setting.{same_default}
+use Rattle.commands.specs.Picked.{IsPickFrom}
 use Rattle.broker.specs.declared.roster.seats.Seat.{Seat}
 use Rattle.broker.specs.Roster.{ring_of}
 use Rattle.broker.proofs.Desks.{more_on}

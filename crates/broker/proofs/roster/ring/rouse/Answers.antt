@@ -1,5 +1,5 @@
 use Rattle.std.proofs.Common.{get_or, false}
-use Rattle.links.proofs.Setting.{same_default}
+use Rattle.channels.proofs.Setting.{same_default}
 use Rattle.broker.specs.declared.roster.seats.Seat.{Seat}
 use Rattle.broker.proofs.Sleeping.{roused}
 use Rattle.broker.proofs.roster.ring.rouse.Goals as goal

@@ -1,5 +1,5 @@
 use Rattle.std.proofs.Common.{List, set, get_or, ap, ◌∙◌, arith, false}
-use Rattle.channel.proofs.Moving.{one_changed}
+use Rattle.channels.proofs.Moving.{one_changed}
 use Rattle.broker.specs.declared.roster.seats.Seat.{Seat}
 use Rattle.broker.specs.Roster.{awake_seat}
 use Rattle.broker.proofs.roster.ring.rouse_each.Goals as goal

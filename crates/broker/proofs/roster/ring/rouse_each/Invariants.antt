@@ -1,5 +1,5 @@
 use Rattle.std.proofs.Common.{◌≡◌}
-use Rattle.channel.proofs.Moving.{changed_to}
+use Rattle.channels.proofs.Moving.{changed_to}
 use Rattle.broker.specs.declared.roster.seats.Seat.{Seat}
 use Rattle.broker.specs.Roster.{awake_seat}
 use Rattle.broker.proofs.roster.ring.rouse_each.Given as goal

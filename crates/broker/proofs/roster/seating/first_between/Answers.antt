@@ -1,7 +1,7 @@
 use Rattle.std.proofs.Common.{◌≡◌, ◌∙◌, ◌+◌, ℕ, inl, inr, refl, subst, arith}
 use Rattle.std.proofs.lemmas.Bool.Decides.{leb_tells}
-use Rattle.broker_core.specs.Picked.{IsPickFrom}
-use Rattle.broker_core.specs.State.{broker_of}
+use Rattle.commands.specs.Picked.{IsPickFrom}
+use Rattle.commands.specs.State.{broker_of}
 use Rattle.broker.specs.Roster.{rings_of, IsSeated}
 use Rattle.broker.proofs.Desks.{more_on}
 use Rattle.broker.proofs.Marked.{marked_by}

@@ -1,6 +1,6 @@
 use Rattle.std.proofs.Common.{◌≡◌, ◌≤◌, ◌-◌, length}
 use Rattle.broker.specs.Roster.{rings_of, QueuesAreMarked, KeepsSeats, ListsMore, NoneBetween, SameOrders}
-use Rattle.broker_core.specs.State.{topology_kept}
+use Rattle.commands.specs.State.{topology_kept}
 use Rattle.broker.proofs.roster.seating.first_between.Given as goal
 
 -- each seat is there still, each queue in whose ring one is awake is marked, and from no queue before the next a delivery can be made

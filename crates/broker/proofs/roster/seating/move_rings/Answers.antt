@@ -1,7 +1,7 @@
 use Rattle.std.proofs.Common.{◌≡◌, ◌∙◌, ◌<◌, ℕ, [], length, get_or, sym, subst, arith}
 use Rattle.std.proofs.lemmas.List.{get_or-set_other}
-use Rattle.channel.specs.Moving.{place_now}
-use Rattle.links.proofs.Setting.{same_default}
+use Rattle.channels.specs.Moving.{place_now}
+use Rattle.channels.proofs.Setting.{same_default}
 use Rattle.broker.specs.Roster.{Seats, ring_at}
 use Rattle.broker.specs.Moving.{IsMoved, ArePlacesApart}
 use Rattle.broker.proofs.Moving.{one_moved}

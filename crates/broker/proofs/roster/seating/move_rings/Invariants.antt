@@ -1,5 +1,5 @@
 use Rattle.std.proofs.Common.{◌≡◌, ◌<◌, ◌≤◌, ℕ, length}
-use Rattle.channel.specs.Moving.{place_now}
+use Rattle.channels.specs.Moving.{place_now}
 use Rattle.broker.specs.Roster.{ring_at, QueuesAreMarked}
 use Rattle.broker.specs.Moving.{IsMoved}
 use Rattle.broker.proofs.roster.seating.move_rings.Given as goal

@@ -1,5 +1,5 @@
 use Rattle.std.proofs.Common.{◌≤◌, ◌-◌, length}
-use Rattle.broker_core.specs.State.{topology_kept}
+use Rattle.commands.specs.State.{topology_kept}
 use Rattle.broker.specs.Roster.{NoneMarked}
 use Rattle.broker.proofs.roster.seating.next_both.Given as goal
 

@@ -1,6 +1,6 @@
 use Rattle.std.proofs.Common.{◌∙◌, [], refl, sym, ap, subst}
-use Rattle.broker_core.specs.State.{broker_of}
-use Rattle.links.proofs.Setting.{same_default}
+use Rattle.commands.specs.State.{broker_of}
+use Rattle.channels.proofs.Setting.{same_default}
 use Rattle.broker.specs.Roster.{Seats, order, IsSeatedIn, GoesLast, KeepsIn}
 use Rattle.broker.proofs.Marked.{marked_set, keeps_set}
 use Rattle.broker.proofs.Orders.{picks_in, orders_set}

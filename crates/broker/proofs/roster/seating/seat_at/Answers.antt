@@ -1,6 +1,6 @@
 use Rattle.std.proofs.Common.{[], sym, subst}
 use Rattle.std.proofs.lemmas.List.{get_or-set_same}
-use Rattle.links.proofs.Setting.{same_default}
+use Rattle.channels.proofs.Setting.{same_default}
 use Rattle.broker.specs.Roster.{Seats, ring_at, KeepsRing, KeepsLine, LetsIn, IsBounded}
 use Rattle.broker.proofs.Marked.{marked_more, marked_set, keep_set}
 use Rattle.broker.proofs.Orders.{lines_set}

@@ -1,5 +1,5 @@
 use Rattle.std.proofs.Common.{◌∙◌, [], sym, subst}
-use Rattle.links.proofs.Setting.{same_default}
+use Rattle.channels.proofs.Setting.{same_default}
 use Rattle.broker.specs.Roster.{Seats, IsAwake}
 use Rattle.broker.proofs.Marked.{marked_less}
 use Rattle.broker.proofs.roster.seating.settle.Goals as goal

@@ -1,5 +1,5 @@
 use Rattle.std.proofs.Common.{[], sym, subst}
-use Rattle.links.proofs.Setting.{same_default}
+use Rattle.channels.proofs.Setting.{same_default}
 use Rattle.broker.specs.Roster.{Seats, Wakens}
 use Rattle.broker.proofs.Marked.{marked_more, marked_set, waken_set}
 use Rattle.broker.proofs.roster.seating.wake_at.Goals as goal

@@ -1,7 +1,8 @@
 use Rattle.std.proofs.Common.{◌≡◌, sym, subst, refl, length, arith, OnOk}
 use Rattle.model.specs.Topology.{IsWellFormed}
+use Rattle.model.specs.Deliveries as given
 use Rattle.depot.specs.Store.{Store, IsStoreWhole, entries_of}
-use Rattle.depot.specs.Rejecting.{IsApart, Rejecting}
+use Rattle.depot.specs.Settled.{AreSettledBy, IsApart}
 use Rattle.model.specs.Placed.{waiting, AreWithin}
 use Rattle.depot.specs.Dying.{Rejects}
 use Rattle.depot.proofs.Changes.{entries_of-length}
@@ -17,6 +18,6 @@ returns-clause-ok c =
     let whole : IsStoreWhole was = record { formed = subst IsWellFormed c.topology.ensures c.is_well_formed.ensures; len = omega (arith, long, all) } in
     let within : AreWithin was.topology (waiting c.args.gone.now) = subst (λ (s : Store). AreWithin s.topology (waiting c.args.gone.now)) (sym c.self.view_is) c.requires.within in
     let apart : IsApart was = subst IsApart (sym c.self.view_is) c.requires.apart in
-    subst (λ (s : Store). OnOk c.reject_in.result (Rejecting s c.args.channel.connection c.args.channel.number (waiting c.args.gone.now) c.args.notes.now.items c.reject_in.new.notes.items now)) c.self.view_is
-    (on_ok c.reject_in.result (Rejects was.topology c.args.channel.connection c.args.channel.number (waiting c.args.gone.now) was.queues now.queues c.args.notes.now.items c.reject_in.new.notes.items) _
-    (rejecting was now c.args.channel.connection c.args.channel.number (waiting c.args.gone.now) c.args.notes.now.items c.reject_in.new.notes.items whole apart c.requires.ordered within refl c.reject_in.ensures.same) c.reject_in.ensures.ok)
+    subst (λ (s : Store). OnOk c.reject_in.result (AreSettledBy given.Rejects s c.args.id.connection c.args.id.number (waiting c.args.gone.now) c.args.notes.now.items c.reject_in.new.notes.items now)) c.self.view_is
+    (on_ok c.reject_in.result (Rejects was.topology c.args.id.connection c.args.id.number (waiting c.args.gone.now) was.queues now.queues c.args.notes.now.items c.reject_in.new.notes.items) _
+    (rejecting was now c.args.id.connection c.args.id.number (waiting c.args.gone.now) c.args.notes.now.items c.reject_in.new.notes.items whole apart c.requires.ordered within refl c.reject_in.ensures.same) c.reject_in.ensures.ok)

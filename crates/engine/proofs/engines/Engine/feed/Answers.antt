@@ -21,10 +21,11 @@ returns-in-Some c =
       over = rw (← c.self.view_is) (fed_over c.feed_at.result old c.feed_at.new.links.items c.args.c c.in-Some.place c.self.invariant place c.feed_at.ensures.over);
       err = rw (← c.self.view_is) (fed_err c.feed_at.result old c.feed_at.new.links.items c.feed_at.ensures.err);
       full = rw (← c.self.view_is) (fed_full c.feed_at.result old c.args.c c.in-Some.place (length c.args.bytes.now) c.self.invariant place c.feed_at.ensures.full);
+      broker = rw (← c.self.view_is) refl;
     }
 
 pub returns-in-None : goal.returns-in-None
 returns-in-None c =
     let i = c.self.inside in
     let old : Parts = record { broker = i.broker; guarantees = i.guarantees.items; users = i.users.items; given = i.given; links = i.links.items } in
-    record { ok = rw (← c.self.view_is) (hears_none old c.args.c c.args.bytes.now (rw (← c.deref.ensures.value) c.in-None.ensures.place)); over = λ is. (refl, refl); err = tt; full = tt }
+    record { ok = rw (← c.self.view_is) (hears_none old c.args.c c.args.bytes.now (rw (← c.deref.ensures.value) c.in-None.ensures.place)); over = λ is. (refl, refl); err = tt; full = tt; broker = refl }

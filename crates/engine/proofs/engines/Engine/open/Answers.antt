@@ -12,8 +12,8 @@ use Rattle.engine.proofs.Agreeing.{agreed, opens_new_agrees}
 use Rattle.engine.proofs.Tooks.{world_stays}
 use Rattle.engine.proofs.engines.Engine.open.Goals as goal
 
-pub returns-in_err-number : goal.returns-in_err-number
-returns-in_err-number c =
+pub returns-in_err-number-clause-opened : goal.returns-in_err-number-clause-opened
+returns-in_err-number-clause-opened c =
     let i = c.self.inside in
     let old : Parts = record { broker = i.broker; guarantees = i.guarantees.items; users = i.users.items; given = i.given; links = i.links.items } in
     let new : Parts = record old { links = c.next_number.new.links.items } in
@@ -40,8 +40,8 @@ invariant_of-self-2 c =
     engine_opened old new c.new.result new_session opened_stream c.self.invariant more
     (opens_new_agrees (world_of old) (world_of new) c.in_ok-number.number (agreed old c.self.invariant) (opened_new old new c.new.result c.in_ok-number.number c.self.invariant.links numbers more refl))
 
-pub returns : goal.returns
-returns c =
+pub returns-clause-opened : goal.returns-clause-opened
+returns-clause-opened c =
     let i = c.self.inside in
     let old : Parts = record { broker = i.broker; guarantees = i.guarantees.items; users = i.users.items; given = i.given; links = i.links.items } in
     let new : Parts = record old { given = c.in_ok-number.number; links = c.push_reserved.new.self.items } in
@@ -57,3 +57,9 @@ returns c =
     } in
     subst (λ (p : Parts). IsOpened (event.Open (p.given + 1)) opened_stream (world_of p) (Some c.in_ok-number.number) (world_of new)) c.self.view_is
     (opened_new old new c.new.result c.in_ok-number.number c.self.invariant.links numbers more refl)
+
+pub returns-in_err-number-clause-broker : goal.returns-in_err-number-clause-broker
+returns-in_err-number-clause-broker c = rw (← c.self.view_is) refl
+
+pub returns-clause-broker : goal.returns-clause-broker
+returns-clause-broker c = rw (← c.self.view_is) refl

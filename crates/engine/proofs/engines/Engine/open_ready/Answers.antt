@@ -12,10 +12,12 @@ use Rattle.engine.specs.Opening.{OpenedReady}
 use Rattle.engine.proofs.Openings.{IsOneMore, refused_so, refused_memory, engine_opened, opened_ready}
 use Rattle.engine.proofs.Agreeing.{agreed, opens_ready_agrees}
 use Rattle.engine.proofs.Tooks.{world_stays}
+use Rattle.engine.specs.Waiting.{KeepsTurns}
+use Rattle.engine.proofs.Waiting.{turns_same, turns_if}
 use Rattle.engine.proofs.engines.Engine.open_ready.Goals as goal
 
-pub returns-in_err-number : goal.returns-in_err-number
-returns-in_err-number c =
+pub returns-in_err-number-clause-opened : goal.returns-in_err-number-clause-opened
+returns-in_err-number-clause-opened c =
     let i = c.self.inside in
     let old : Parts = record { broker = i.broker; guarantees = i.guarantees.items; users = i.users.items; given = i.given; links = i.links.items } in
     let new : Parts = record old { links = c.next_number.new.links.items } in
@@ -24,8 +26,8 @@ returns-in_err-number c =
     (refused_so old new (event.Running (i.given + 1) 255 c.args.channels) running_stream c.from_residual.result p.0 c.in_err-number.field-0.0 p.1 p.2 c.self.invariant.links c.in_err-number.ensures.numbers
     (world_stays old new (record { topology = refl; guarantees = refl; users = refl; given = refl }) refl c.in_err-number.ensures.same))
 
-pub returns-in_err-open : goal.returns-in_err-open
-returns-in_err-open c =
+pub returns-in_err-open-clause-opened : goal.returns-in_err-open-clause-opened
+returns-in_err-open-clause-opened c =
     let i = c.self.inside in
     let old : Parts = record { broker = i.broker; guarantees = i.guarantees.items; users = i.users.items; given = i.given; links = i.links.items } in
     let new : Parts = record old { broker = c.open.new.self; links = c.next_number.new.links.items } in
@@ -54,8 +56,8 @@ invariant_of-self-2 c =
     engine_opened old new c.running.result running_session running_stream c.self.invariant more
     (opens_ready_agrees (world_of old) (world_of new) c.args.channels c.in_ok-number.number (agreed old c.self.invariant) (opened_ready old new c.running.result c.in_ok-number.number c.args.channels c.self.invariant.links numbers more acts))
 
-pub returns : goal.returns
-returns c =
+pub returns-clause-opened : goal.returns-clause-opened
+returns-clause-opened c =
     let i = c.self.inside in
     let old : Parts = record { broker = i.broker; guarantees = i.guarantees.items; users = i.users.items; given = i.given; links = i.links.items } in
     let new : Parts = record old { broker = c.open.new.self; given = c.in_ok-number.number; links = c.push_reserved.new.self.items } in
@@ -73,3 +75,13 @@ returns c =
     subst (λ (k : ℕ). Acts (topology_kept i.broker) (broker_of i.broker) (event.Running c.in_ok-number.number 255 k) [] [] (broker_of c.open.new.self)) c.from.ensures c.in_ok-open.ensures.ok in
     subst (λ (p : Parts). IsOpened (event.Running (p.given + 1) 255 c.args.channels) running_stream (world_of p) (Some c.in_ok-number.number) (world_of new)) c.self.view_is
     (opened_ready old new c.running.result c.in_ok-number.number c.args.channels c.self.invariant.links numbers more acts)
+
+pub returns-in_err-number-clause-turns : goal.returns-in_err-number-clause-turns
+returns-in_err-number-clause-turns c = rw (← c.self.view_is) (turns_same c.self.inside.broker)
+
+pub returns-in_err-open-clause-turns : goal.returns-in_err-open-clause-turns
+returns-in_err-open-clause-turns c = subst (λ (p : Parts). KeepsTurns p.broker c.open.new.self) c.self.view_is (turns_if c.self.inside.broker c.open.new.self c.in_err-open.ensures.err)
+
+pub returns-clause-turns : goal.returns-clause-turns
+returns-clause-turns c = subst (λ (p : Parts). KeepsTurns p.broker c.open.new.self) c.self.view_is
+    (record { turn = c.open.ensures.turn; topology = c.open.ensures.topology; later = c.in_ok-open.ensures.later })

@@ -4,6 +4,7 @@ use Rattle.std.proofs.lemmas.Result.{err_from_is_err_and}
 use Rattle.model.specs.Topology.{Topology}
 use Rattle.reloading.specs.Wanting.{MayWant}
 use Rattle.broker.specs.Turns.{topology_kept, broker_of}
+use Rattle.broker.specs.Waiting.{LinesMove}
 use Rattle.runs.specs.Reloaded.{IsPutInForce, TellsReload, IsMemory}
 use Rattle.engine.specs.InForce.{in_force}
 use Rattle.engine.specs.World.{Parts, world_of}
@@ -61,3 +62,11 @@ returns-clause-told c =
     let tells = tells_offered i.broker c.put.new.broker c.args.checked c.args.users.items parts.result.0 c.as_slice.result.now parts.result.1.items (Ok tt) parts.ensures.topology c.as_slice.ensures.value parts.ensures.guarantees (c.in_ok-put.ensures.put c.args.users.items) in
     subst (λ (z : Parts). IsPutInForce (world_of z) (in_force c.args.checked c.args.users.items) (world_of (record old { broker = c.put.new.broker; guarantees = parts.result.1.items; users = c.args.users.items }))) c.self.view_is
     (put_world old _ _ (takes old c.put.new.broker c.args.checked c.args.users.items parts.result.1.items parts.ensures.guarantees tells))
+
+pub returns-in_err-put-clause-lines : goal.returns-in_err-put-clause-lines
+returns-in_err-put-clause-lines c =
+    let p = err_from_is_err_and c.from_residual.result c.from_residual.ensures.1 in
+    rw (p.1) tt
+
+pub returns-clause-lines : goal.returns-clause-lines
+returns-clause-lines c = subst (λ (p : Parts). LinesMove p.broker c.put.new.broker) c.self.view_is c.in_ok-put.ensures.lines

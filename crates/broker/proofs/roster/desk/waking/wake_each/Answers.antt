@@ -2,7 +2,7 @@ use Rattle.std.proofs.Common.{◌≡◌, ◌∙◌, ◌+◌, [], List, inl, inr,
 use Rattle.std.proofs.lemmas.Bool.Decides.{leb_tells}
 use Rattle.std.proofs.lemmas.List.{get_or-set_other}
 use Rattle.model.specs.Topology.{IsIn}
-use Rattle.links.proofs.Setting.{same_default}
+use Rattle.channels.proofs.Setting.{same_default}
 use Rattle.broker.specs.Roster.{Listing, listed_on}
 use Rattle.broker.proofs.Sleeping.{waken_on, woken_still, woken_one}
 use Rattle.broker.proofs.roster.desk.waking.wake_each.Goals as goal

@@ -1,6 +1,6 @@
 use Rattle.std.proofs.Common.{◌≡◌, ◌∙◌, ◌+◌, ℕ, get_or, inl, inr, sym, ap, subst, arith}
 use Rattle.std.proofs.lemmas.Bool.Decides.{leb_tells}
-use Rattle.links.proofs.Setting.{same_default}
+use Rattle.channels.proofs.Setting.{same_default}
 use Rattle.broker.specs.Roster.{IsWoken}
 use Rattle.broker.proofs.Among.{place_in}
 use Rattle.broker.proofs.Sleeping.{waken_on, woken_still, woken_one}

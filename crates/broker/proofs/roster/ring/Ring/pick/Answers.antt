@@ -1,8 +1,8 @@
 use Rattle.std.proofs.Common.{◌∙◌, ◌+◌, ◌++◌, List, [], ◌∷◌, length, take, drop, arith, get_or, refl, sym, ap, subst}
 use Rattle.std.specs.Prelude.{vec_capacity}
 use Rattle.std.proofs.lemmas.List.{take_at}
-use Rattle.broker_core.specs.Picked.{IsPickFrom}
-use Rattle.broker_core.specs.declared.picks.Pick.{Pick}
+use Rattle.commands.specs.Picked.{IsPickFrom}
+use Rattle.commands.specs.declared.picks.Pick.{Pick}
 use Rattle.broker.specs.declared.roster.seats.Seat.{Seat}
 use Rattle.broker.specs.Lines.{turned, AreDistinct}
 use Rattle.broker.specs.Roster.{Seats, ring_of, picks, order, KeepsIn, NoneAwake, NoneAwakePassed, GoesLast}

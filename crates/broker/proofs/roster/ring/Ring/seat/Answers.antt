@@ -2,8 +2,8 @@ use Rattle.std.proofs.Common.{◌∙◌, List, [], length, filter, drop, inl, in
 use Rattle.std.specs.Prelude.{vec_capacity}
 use Rattle.std.proofs.lemmas.List.{take_at}
 use Rattle.model.specs.Topology.{IsIn}
-use Rattle.broker_core.specs.State.{broker_of}
-use Rattle.broker_core.specs.declared.picks.Pick.{Pick}
+use Rattle.commands.specs.State.{broker_of}
+use Rattle.commands.specs.declared.picks.Pick.{Pick}
 use Rattle.broker.specs.declared.roster.seats.Seat.{Seat}
 use Rattle.broker.specs.Lines.{turned, AreDistinct}
 use Rattle.broker.specs.Roster.{Seats, ring_of, picks, order, IsSeatedIn}

@@ -1,7 +1,7 @@
 use Rattle.std.proofs.Common.{◌∙◌, List, length, sym, ap, subst, arith}
 use Rattle.std.specs.Prelude.{IfSome}
 use Rattle.std.proofs.lemmas.List.{take_at}
-use Rattle.broker_core.specs.State.{broker_of}
+use Rattle.commands.specs.State.{broker_of}
 use Rattle.broker.specs.Roster.{Seats, rings_of, IsSeated, KeepsSeats, NonePassed, PicksFrom, SameOrders}
 use Rattle.broker.proofs.roster.seating.Seating.pick.Goals as goal
 

@@ -1,0 +1,125 @@
+//! The scenarios of single calls: of an engine, of a topology, of the program over streams and files that no command line names, and
+//! of a process that has no memory left. `cases` runs them.
+#![tactic(auto)]
+
+mod dead_routes;
+mod engines;
+mod filing;
+mod frugal;
+mod large_outputs;
+mod lasting;
+mod nothing_left;
+mod parts;
+mod room;
+mod streams;
+mod thrifty;
+
+use scenario_parts::Sums;
+use std::io;
+
+/// The scenarios of an engine and of a topology.
+fn tell_engines(sums: &mut Sums, rt: &HostRuntime) -> io::Result<()> {
+    let alloc = rt.alloc();
+    sums.tell(
+        rt,
+        "an_engine_takes_single_turns",
+        engines::an_engine_takes_single_turns(alloc),
+    )?;
+    sums.tell(
+        rt,
+        "a_lost_connection_is_over_and_its_number_is_not_given_again",
+        engines::a_lost_connection_is_over_and_its_number_is_not_given_again(alloc),
+    )?;
+    sums.tell(
+        rt,
+        "an_engine_opens_1024_connections_and_no_more",
+        engines::an_engine_opens_1024_connections_and_no_more(alloc),
+    )?;
+    sums.tell(
+        rt,
+        "a_delivery_comes_behind_a_large_output",
+        large_outputs::a_delivery_comes_behind_a_large_output(alloc),
+    )?;
+    sums.tell(
+        rt,
+        "a_dead_letter_goes_to_the_exchange_of_its_queue",
+        dead_routes::a_dead_letter_goes_to_the_exchange_of_its_queue(alloc),
+    )?;
+    sums.tell(
+        rt,
+        "a_broker_that_works_for_long_keeps_no_more_room",
+        lasting::a_broker_that_works_for_long_keeps_no_more_room(rt, alloc),
+    )
+}
+
+/// The scenarios of the program over streams and files that no command line names.
+fn tell_programs(sums: &mut Sums, rt: &HostRuntime) -> io::Result<()> {
+    let alloc = rt.alloc();
+    sums.tell(
+        rt,
+        "output_that_is_not_taken_has_status_four",
+        streams::output_that_is_not_taken_has_status_four(alloc),
+    )?;
+    sums.tell(
+        rt,
+        "a_complaint_that_is_not_taken_has_status_four",
+        streams::a_complaint_that_is_not_taken_has_status_four(alloc),
+    )?;
+    sums.tell(
+        rt,
+        "certificates_that_are_written_are_accepted",
+        filing::certificates_that_are_written_are_accepted(alloc),
+    )?;
+    sums.tell(
+        rt,
+        "a_file_past_the_limit_is_given_up",
+        filing::a_file_past_the_limit_is_given_up(alloc),
+    )
+}
+
+/// The scenarios of parts of a broker in a process that has no memory left.
+fn tell_thrift(sums: &mut Sums, rt: &HostRuntime) -> io::Result<()> {
+    let alloc = rt.alloc();
+    sums.tell(
+        rt,
+        "positions_take_no_memory",
+        thrifty::positions_take_no_memory(rt, alloc),
+    )?;
+    sums.tell(
+        rt,
+        "a_sound_stream_takes_no_memory",
+        thrifty::a_sound_stream_takes_no_memory(rt, alloc),
+    )?;
+    sums.tell(
+        rt,
+        "a_queue_takes_no_memory",
+        thrifty::a_queue_takes_no_memory(rt, alloc),
+    )?;
+    sums.tell(
+        rt,
+        "a_depot_takes_no_memory",
+        thrifty::a_depot_takes_no_memory(rt, alloc),
+    )?;
+    sums.tell(
+        rt,
+        "a_broker_with_a_consumer_takes_no_memory",
+        thrifty::a_broker_with_a_consumer_takes_no_memory(rt, alloc),
+    )
+}
+
+/// The scenarios of a process that has no memory left.
+fn tell_memory(sums: &mut Sums, rt: &HostRuntime) -> io::Result<()> {
+    sums.tell(
+        rt,
+        "no_memory_is_left",
+        nothing_left::no_memory_is_left(rt, rt.alloc()),
+    )?;
+    tell_thrift(sums, rt)
+}
+
+/// Runs these scenarios, and prints a line for each.
+pub fn tell_all(sums: &mut Sums, rt: &HostRuntime) -> io::Result<()> {
+    tell_engines(sums, rt)?;
+    tell_programs(sums, rt)?;
+    tell_memory(sums, rt)
+}

@@ -1,0 +1,114 @@
+//! What calls are made of: files, what they state, and an engine.
+
+ghost use Rattle.commands.specs.Judged.{IsAsked};
+
+use crate::filing::{CERTIFICATES, DEFINITIONS, GUARANTEES};
+use certificate::{CertFault, Certificate, Checked, admit};
+use definitions::read_definitions;
+use engine::{Engine, Turn};
+use exchange_graph::Topology;
+use guarantees::{Guarantee, read_guarantees};
+use model::{Body, Consume, Content, Event, Method, Properties, Publish, Table, Text};
+use scenario_parts::{CONSUME, MESSAGE, Unmet, expect, new_broker, value_of};
+use std::alloc::Global;
+
+/// What the three files state.
+#[derive(Drop)]
+pub(crate) struct Stated {
+    pub(crate) topology: Topology,
+    pub(crate) guarantees: Vec<Guarantee>,
+    pub(crate) certificates: Vec<Certificate>,
+}
+
+impl Stated {
+    /// What they state with these guarantees.
+    pub(crate) fn with(alloc: Global, guarantees: &[u8]) -> Result<Stated, Unmet> {
+        let definitions = value_of("read_definitions", read_definitions(alloc, DEFINITIONS))?;
+        let (topology, _) = definitions.into_parts();
+        let guarantees = value_of(
+            "read_guarantees",
+            read_guarantees(alloc, guarantees, &topology),
+        )?;
+        let certificates = value_of("Certificate::read", Certificate::read(alloc, CERTIFICATES))?;
+        Ok(Stated {
+            topology,
+            guarantees,
+            certificates,
+        })
+    }
+
+    /// All of it is admitted.
+    pub(crate) fn admitted(self, alloc: Global) -> Result<Checked, (usize, CertFault)> {
+        let Stated {
+            topology,
+            guarantees,
+            certificates,
+        } = self;
+        admit(alloc, topology, guarantees, certificates.as_slice())
+    }
+}
+
+/// A publish of an empty body by the default exchange to the queue `audit`.
+pub(crate) fn publish() -> (Publish, Content) {
+    let publish = Publish {
+        reserved: 0,
+        exchange: Text::empty(),
+        routing_key: Text::short(b"audit"),
+        mandatory: false,
+        immediate: false,
+    };
+    let content = Content {
+        properties: Properties::none(),
+        body: Body::empty(),
+    };
+    (publish, content)
+}
+
+/// A consume of the queue `audit` under the tag `t`.
+pub(crate) fn consume() -> Consume {
+    Consume {
+        reserved: 0,
+        queue: Text::short(b"audit"),
+        consumer_tag: Text::short(b"t"),
+        no_local: false,
+        no_ack: false,
+        exclusive: false,
+        no_wait: false,
+        arguments: Table::empty(),
+    }
+}
+
+/// A command on channel 1 of connection 1.
+pub(crate) fn command(method: Method, content: Option<Content>) -> Event
+    ensures { IsAsked result }
+{
+    Event::Command {
+        connection: 1,
+        channel: 1,
+        method,
+        content,
+    }
+}
+
+/// What is admitted of the files.
+pub(crate) fn checked(alloc: Global) -> Result<Checked, Unmet> {
+    let stated = Stated::with(alloc, GUARANTEES)?;
+    value_of("admit", stated.admitted(alloc))
+}
+
+/// The engine of three connections, each with channel 1: the first has a consumer, for which a message waits; the second has a
+/// publish to be performed; and the third is lost.
+pub(crate) fn new_engine(alloc: Global) -> Result<Engine, Unmet> {
+    let mut engine = new_broker(alloc)?;
+    for _ in 0..3 {
+        value_of("Engine::open_ready", engine.open_ready(alloc, 1))?;
+    }
+    for command in [CONSUME, MESSAGE] {
+        value_of("Engine::feed", engine.feed(1, command))?;
+        let turn = value_of("Engine::turn", engine.turn(alloc, 1))?;
+        expect("the command is performed", matches!(turn, Turn::Did(_)))?;
+    }
+    value_of("Engine::feed", engine.feed(2, MESSAGE))?;
+    engine.lose(3);
+    Ok(engine)
+}

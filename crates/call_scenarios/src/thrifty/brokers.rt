@@ -1,0 +1,96 @@
+//! A broker with a consumer.
+
+ghost use Rattle.commands.specs.Judged.{IsAsked};
+
+use crate::parts::{Stated, command, consume, publish};
+use crate::room::Room;
+use broker::Broker;
+use model::{Event, Method, Qos, Reject};
+use scenario_parts::{Unmet, expect, value_of};
+use std::alloc::Global;
+
+/// Performs a command on channel 1 of connection 1.
+fn perform(alloc: Global, broker: &mut Broker, event: &Event) -> Result<(), Unmet>
+    requires { IsAsked event.now }
+{
+    value_of("Broker::step", broker.step(alloc, event))?;
+    Ok(())
+}
+
+/// Delivers a message.
+fn deliver(alloc: Global, broker: &mut Broker) -> Result<(), Unmet> {
+    let Some(pick) = broker.pick() else {
+        return Err(Unmet::Claim("a message can be delivered"));
+    };
+    value_of("Broker::pump", broker.pump(alloc, pick))?;
+    Ok(())
+}
+
+/// A consumer that may hold one message has one, under the delivery tag 1, while another waits.
+fn deliver_one(alloc: Global, broker: &mut Broker) -> Result<(), Unmet> {
+    let limit = Method::BasicQos(Qos {
+        prefetch_size: 0,
+        prefetch_count: 1,
+        global: false,
+    });
+    perform(alloc, broker, &command(limit, None))?;
+    perform(
+        alloc,
+        broker,
+        &command(Method::BasicConsume(consume()), None),
+    )?;
+    for _ in 0..2 {
+        let (publish, content) = publish();
+        let publish = command(Method::BasicPublish(publish), Some(content));
+        perform(alloc, broker, &publish)?;
+    }
+    deliver(alloc, broker)
+}
+
+/// A broker of which connection 1 runs, whose consumer has what it may.
+fn busy_broker(alloc: Global) -> Result<Broker, Unmet> {
+    let stated = Stated::with(alloc, b"{\"guarantees\":[]}")?;
+    let mut broker = value_of("Broker::new", Broker::new(alloc, stated.topology))?;
+    value_of("Broker::open", broker.open(alloc, 1, 255, 1))?;
+    deliver_one(alloc, &mut broker)?;
+    Ok(broker)
+}
+
+/// An event of the broker sends nothing.
+fn expect_silence(alloc: Global, broker: &mut Broker, event: &Event) -> Result<(), Unmet>
+    requires { IsAsked event.now }
+{
+    let step = value_of("Broker::step", broker.step(alloc, event))?;
+    expect("nothing is sent", step.sends.is_empty())
+}
+
+/// The consumer may take nothing until it is asked to requeue what it has; then it may, unless it is paused.
+fn expect_broker(alloc: Global, broker: &mut Broker) -> Result<(), Unmet> {
+    expect("the consumer has what it may", broker.pick().is_none())?;
+    let reject = Method::BasicReject(Reject {
+        delivery_tag: 1,
+        requeue: true,
+    });
+    expect_silence(alloc, broker, &command(reject, None))?;
+    expect_silence(alloc, broker, &Event::Pause { connection: 1 })?;
+    expect(
+        "a paused consumer may take nothing",
+        broker.pick().is_none(),
+    )?;
+    expect_silence(alloc, broker, &Event::Resume { connection: 1 })?;
+    expect("the consumer may take a message", broker.pick().is_some())
+}
+
+/// A consumer is looked at, what it has is requeued, and its connection pauses and goes on.
+pub(crate) fn a_broker_with_a_consumer_takes_no_memory(
+    rt: &HostRuntime,
+    alloc: Global,
+) -> Result<(), Unmet> {
+    let mut first = busy_broker(alloc)?;
+    let mut second = busy_broker(alloc)?;
+    expect_broker(alloc, &mut first)?;
+    let room = Room::of_all(rt, alloc)?;
+    let outcome = expect_broker(alloc, &mut second);
+    drop(room);
+    outcome
+}

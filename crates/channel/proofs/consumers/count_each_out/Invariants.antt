@@ -1,8 +1,0 @@
-use Rattle.std.proofs.Common.{◌≡◌, map, take}
-use Rattle.model.specs.Placed.{waiting}
-use Rattle.channel.specs.Seats.{counted_out}
-use Rattle.channel.proofs.consumers.count_each_out.Given as goal
-
--- those that wait before the index are counted no more
-abbrev pub invariant-loop-one : goal.invariant-loop-one
-invariant-loop-one l = l.seats ≡ map (counted_out (waiting (take l.one-index l.gone))) l.fn.seats

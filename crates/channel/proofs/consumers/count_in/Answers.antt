@@ -1,8 +1,0 @@
-use Rattle.std.proofs.Common.{◌∙◌, sym, ap, map}
-use Rattle.model.specs.declared.messages.Taker.{Taker}
-use Rattle.channel.specs.Seats.{counted_in}
-use Rattle.channel.proofs.Halving.{in_get}
-use Rattle.channel.proofs.consumers.count_in.Goals as goal
-
-pub returns-in-Get-clause-seats : goal.returns-in-Get-clause-seats
-returns-in-Get-clause-seats c = sym (ap (λ (by : Taker). map (counted_in by) c.args.seats.now.items) c.in-Get.is ∙ in_get c.args.seats.now.items)

@@ -1,7 +1,0 @@
-use Rattle.std.proofs.Common.{◌∙◌, sym}
-use Rattle.channel.specs.Seats.{is_numbered}
-use Rattle.channel.proofs.Halving.{none_found}
-use Rattle.channel.proofs.consumers.place_of.Goals as goal
-
-pub returns-clause-none : goal.returns-clause-none
-returns-clause-none c = λ none. none_found (is_numbered c.args.number) 0 c.args.seats.now (sym c.search.ensures.is ∙ none)

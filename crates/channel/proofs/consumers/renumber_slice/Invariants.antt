@@ -1,7 +1,0 @@
-use Rattle.std.proofs.Common.{◌≡◌}
-use Rattle.channel.specs.Moving.{seat_moved}
-use Rattle.channel.proofs.Moving.{changed_to}
-use Rattle.channel.proofs.consumers.renumber_slice.Given as goal
-
-abbrev pub invariant-loop-seat : goal.invariant-loop-seat
-invariant-loop-seat l = l.seats ≡ changed_to (seat_moved l.places) l.seat-index l.initial.seats

@@ -1,7 +1,0 @@
-pub mod Outstanding
-pub mod Spans
-pub mod Seats
-pub mod Names
-pub mod Deliveries
-pub mod Open
-pub mod Moving

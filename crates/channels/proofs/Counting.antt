@@ -1,0 +1,193 @@
+-- Counts of what consumers hold, at each change.
+use Rattle.std.proofs.Common.{◌≡◌, ℕ, zero, suc, ◌+◌, ◌<◌, List, [], ◌∷◌, ◌++◌, length, get_or, map, filter, find, count_by, refl, sym, ap, ◌∙◌, arith, Bool, true, false, cond, not, Some}
+use Rattle.std.specs.Prelude.{◌||◌, ◌==◌}
+use Rattle.std.specs.List.{All, list_any}
+use Rattle.std.proofs.lemmas.List.Sums.{count_by-le-length, length-filter, sum_by-cons}
+use Rattle.model.specs.Settling.{takes, is_refused, kept}
+use Rattle.model.specs.Prefetch.{is_to, count_to, count_given}
+use Rattle.model.specs.declared.messages.Taker.{Taker}
+use Rattle.channels.specs.Outstanding.{tag_of, taker_of}
+use Rattle.channels.proofs.Settlement.{taken_by}
+use Rattle.channels.specs.Seats.{consumers_of, counts_of, is_numbered, counted_in, counted_out, may_held, taker_held, AreParts}
+use Rattle.channels.specs.Deliveries.{may_of, taker_among}
+use Rattle.model.specs.declared.deliveries.Delivery.{Delivery}
+use Rattle.channels.specs.declared.consumers.Consumer.{Consumer}
+use Rattle.channels.specs.declared.consumers.CountedConsumer.{CountedConsumer}
+
+-- ---- the first i of a list changed, the others as they were
+
+-- ---- counts of a list in two parts
+
+passed_apart : {X : Type 0} (p q : X → Bool) (xs : List X) → length (filter p xs) ≡ length (filter p (filter q xs)) + length (filter p (filter (λ x. not (q x)) xs))
+passed_apart p q [] = refl
+passed_apart {X = X} p q (x ∷ xs) = go (q x) (p x) refl (passed_apart p q xs)
+  where
+    yes : List X
+    yes = filter q xs
+
+    no : List X
+    no = filter (λ y. not (q y)) xs
+
+    go : (b t : Bool) → p x ≡ t → length (filter p xs) ≡ length (filter p yes) + length (filter p no)
+        → length (cond t (x ∷ filter p xs) (filter p xs)) ≡ length (filter p (cond b (x ∷ yes) yes)) + length (filter p (cond (not b) (x ∷ no) no))
+    go true true h e = rw h (omega arith)
+    go true false h e = rw h e
+    go false true h e = rw h (omega arith)
+    go false false h e = rw h e
+
+counted_apart : {X : Type 0} (p q : X → Bool) (xs : List X) → count_by p xs ≡ count_by p (filter q xs) + count_by p (filter (λ x. not (q x)) xs)
+counted_apart p q xs = let a = length-filter p xs in let b = length-filter p (filter q xs) in let c = length-filter p (filter (λ x. not (q x)) xs) in let d = passed_apart p q xs in omega arith
+
+-- what a tag settles, and what stays
+pub taken_parts : (os : List Delivery) (tag : ℕ) (multiple : Bool) → AreParts os (taken_by tag multiple os) (kept tag_of tag multiple os)
+taken_parts os tag multiple p = go (is_refused tag_of tag multiple os)
+  where
+    t : Delivery → Bool
+    t = takes tag_of tag multiple
+
+    go : (b : Bool) → count_by p os ≡ count_by p (cond b [] (filter t os)) + count_by p (cond b os (filter (λ o. not (t o)) os))
+    go true = omega arith
+    go false = counted_apart p t os
+
+-- ---- seats
+
+abbrev counts : List Consumer → List Delivery → List ℕ
+counts consumers given = map (λ (c : Consumer). count_to taker_of c.number given) consumers
+
+-- the consumers stay where each count is changed
+pub same_consumers : (f : CountedConsumer → CountedConsumer) → ((s : CountedConsumer) → (f s).consumer ≡ s.consumer) → (seats : List CountedConsumer) → consumers_of (map f seats) ≡ consumers_of seats
+same_consumers f same [] = refl
+same_consumers f same (s ∷ ss) = ap (λ (c : Consumer). c ∷ consumers_of (map f ss)) (same s) ∙ ap (λ (cs : List Consumer). s.consumer ∷ cs) (same_consumers f same ss)
+
+head_is : (x y : ℕ) (xs ys : List ℕ) → x ∷ xs ≡ y ∷ ys → x ≡ y
+head_is x y xs ys e = cc
+
+tail_is : (x y : ℕ) (xs ys : List ℕ) → x ∷ xs ≡ y ∷ ys → xs ≡ ys
+tail_is x y xs ys e = cc
+
+-- each count is changed as what is outstanding changes
+pub new_counts : (f : CountedConsumer → CountedConsumer) (old new : List Delivery) → ((s : CountedConsumer) → s.held ≡ count_to taker_of s.consumer.number old → (f s).held ≡ count_to taker_of s.consumer.number new)
+    → (seats : List CountedConsumer) → counts_of seats ≡ counts (consumers_of seats) old → counts_of (map f seats) ≡ counts (consumers_of seats) new
+new_counts f old new step [] h = refl
+new_counts f old new step (s ∷ ss) h =
+    ap (λ (n : ℕ). n ∷ counts_of (map f ss)) (step s (head_is _ _ _ _ h))
+    ∙ ap (λ (ns : List ℕ). count_to taker_of s.consumer.number new ∷ ns) (new_counts f old new step ss (tail_is _ _ _ _ h))
+
+pub in_consumer : (by : Taker) (s : CountedConsumer) → (counted_in by s).consumer ≡ s.consumer
+in_consumer by s = go (is_to s.consumer.number by)
+  where
+    go : (b : Bool) → (cond b (record s { held = s.held + 1 }) s).consumer ≡ s.consumer
+    go true = refl
+    go false = refl
+
+pub in_held : (by : Taker) (s : CountedConsumer) → (counted_in by s).held ≡ s.held + cond (is_to s.consumer.number by) 1 0
+in_held by s = go (is_to s.consumer.number by)
+  where
+    go : (b : Bool) → (cond b (record s { held = s.held + 1 }) s).held ≡ s.held + cond b 1 0
+    go true = refl
+    go false = omega arith
+
+one_passed : (p : Delivery → Bool) (os : List Delivery) (o : Delivery) → length (filter p (os ++ o ∷ [])) ≡ length (filter p os) + cond (p o) 1 0
+one_passed p [] o = go (p o)
+  where
+    go : (b : Bool) → length (cond b (o ∷ []) []) ≡ 0 + cond b 1 0
+    go true = refl
+    go false = refl
+one_passed p (x ∷ xs) o = go (p x) (one_passed p xs o)
+  where
+    go : (b : Bool) → length (filter p (xs ++ o ∷ [])) ≡ length (filter p xs) + cond (p o) 1 0
+        → length (cond b (x ∷ filter p (xs ++ o ∷ [])) (filter p (xs ++ o ∷ []))) ≡ length (cond b (x ∷ filter p xs) (filter p xs)) + cond (p o) 1 0
+    go true e = omega arith
+    go false e = e
+
+pub one_more : (p : Delivery → Bool) (os : List Delivery) (o : Delivery) → count_by p (os ++ o ∷ []) ≡ count_by p os + cond (p o) 1 0
+one_more p os o = let a = length-filter p (os ++ o ∷ []) in let b = length-filter p os in let c = one_passed p os o in omega arith
+
+pub step_in : (by : Taker) (os : List Delivery) (o : Delivery) → o.by ≡ by → (s : CountedConsumer) → s.held ≡ count_to taker_of s.consumer.number os → (counted_in by s).held ≡ count_to taker_of s.consumer.number (os ++ o ∷ [])
+step_in by os o e s h =
+    in_held by s
+    ∙ ap (λ (n : ℕ). n + cond (is_to s.consumer.number by) 1 0) h
+    ∙ ap (λ (t : Taker). count_to taker_of s.consumer.number os + cond (is_to s.consumer.number t) 1 0) (sym e)
+    ∙ sym (one_more (λ x. is_to s.consumer.number (taker_of x)) os o)
+
+pub step_out : (given gone left : List Delivery) → AreParts given gone left → (s : CountedConsumer) → s.held ≡ count_to taker_of s.consumer.number given → (counted_out gone s).held ≡ count_to taker_of s.consumer.number left
+step_out given gone left parts s h = let p = parts (λ x. is_to s.consumer.number (taker_of x)) in omega arith
+
+-- a consumer more
+pub one_seat : (seats : List CountedConsumer) (s : CountedConsumer) (given : List Delivery) → counts_of seats ≡ counts (consumers_of seats) given → s.held ≡ count_to taker_of s.consumer.number given
+    → counts_of (seats ++ s ∷ []) ≡ counts (consumers_of (seats ++ s ∷ [])) given
+one_seat [] s given h e = ap (λ (n : ℕ). n ∷ []) e
+one_seat (x ∷ xs) s given h e =
+    ap (λ (n : ℕ). n ∷ counts_of (xs ++ s ∷ [])) (head_is _ _ _ _ h)
+    ∙ ap (λ (ns : List ℕ). count_to taker_of x.consumer.number given ∷ ns) (one_seat xs s given (tail_is _ _ _ _ h) e)
+
+-- some are taken out
+pub seats_filtered : (p : Consumer → Bool) (seats : List CountedConsumer) → consumers_of (filter (λ (s : CountedConsumer). p s.consumer) seats) ≡ filter p (consumers_of seats)
+seats_filtered p [] = refl
+seats_filtered p (s ∷ ss) = go (p s.consumer) (seats_filtered p ss)
+  where
+    go : (b : Bool) → consumers_of (filter (λ (s : CountedConsumer). p s.consumer) ss) ≡ filter p (consumers_of ss)
+        → consumers_of (cond b (s ∷ filter (λ (s : CountedConsumer). p s.consumer) ss) (filter (λ (s : CountedConsumer). p s.consumer) ss)) ≡ cond b (s.consumer ∷ filter p (consumers_of ss)) (filter p (consumers_of ss))
+    go true e = ap (λ (cs : List Consumer). s.consumer ∷ cs) e
+    go false e = e
+
+pub counts_filtered : (p : CountedConsumer → Bool) (seats : List CountedConsumer) (given : List Delivery) → counts_of seats ≡ counts (consumers_of seats) given → counts_of (filter p seats) ≡ counts (consumers_of (filter p seats)) given
+counts_filtered p [] given h = refl
+counts_filtered p (s ∷ ss) given h = go (p s) (counts_filtered p ss given (tail_is _ _ _ _ h))
+  where
+    go : (b : Bool) → counts_of (filter p ss) ≡ counts (consumers_of (filter p ss)) given → counts_of (cond b (s ∷ filter p ss) (filter p ss)) ≡ counts (consumers_of (cond b (s ∷ filter p ss) (filter p ss))) given
+    go true e = ap (λ (n : ℕ). n ∷ counts_of (filter p ss)) (head_is _ _ _ _ h) ∙ ap (λ (ns : List ℕ). count_to taker_of s.consumer.number given ∷ ns) e
+    go false e = e
+
+-- seats are counted by their consumers
+pub counted_of : (p : Consumer → Bool) (seats : List CountedConsumer) → count_by (λ (s : CountedConsumer). p s.consumer) seats ≡ count_by p (consumers_of seats)
+counted_of p [] = refl
+counted_of p (s ∷ ss) =
+    sum_by-cons (λ (x : CountedConsumer). cond (p x.consumer) 1 0) s ss
+    ∙ ap (λ (n : ℕ). cond (p s.consumer) 1 0 + n) (counted_of p ss)
+    ∙ sym (sum_by-cons (λ (x : Consumer). cond (p x) 1 0) s.consumer (consumers_of ss))
+
+pub any_named : (p : Consumer → Bool) (seats : List CountedConsumer) → list_any (λ (s : CountedConsumer). p s.consumer) seats ≡ list_any p (consumers_of seats)
+any_named p [] = refl
+any_named p (s ∷ ss) = ap (λ (b : Bool). p s.consumer || b) (any_named p ss)
+
+-- by its kept counts a consumer may take what it may by what is outstanding
+pub may_kept : (limit given number : ℕ) (seats : List CountedConsumer) (os : List Delivery) → counts_of seats ≡ counts (consumers_of seats) os → given ≡ count_given taker_of os
+    → may_held limit given (find (is_numbered number) seats) ≡ may_of limit os (find (λ (c : Consumer). c.number == number) (consumers_of seats))
+may_kept limit given number [] os h g = refl
+may_kept limit given number (s ∷ ss) os h g = go (s.consumer.number == number) (may_kept limit given number ss os (tail_is _ _ _ _ h) g)
+  where
+    go : (b : Bool) → may_held limit given (find (is_numbered number) ss) ≡ may_of limit os (find (λ (c : Consumer). c.number == number) (consumers_of ss))
+        → may_held limit given (cond b (Some s) (find (is_numbered number) ss)) ≡ may_of limit os (cond b (Some s.consumer) (find (λ (c : Consumer). c.number == number) (consumers_of ss)))
+    go true e = rw (head_is _ _ _ _ h, g) refl
+    go false e = e
+
+-- so it is told where it may
+pub taker_kept : (limit given number : ℕ) (seats : List CountedConsumer) (os : List Delivery) → counts_of seats ≡ counts (consumers_of seats) os → given ≡ count_given taker_of os
+    → taker_held limit given (find (is_numbered number) seats) ≡ taker_among limit os (find (λ (c : Consumer). c.number == number) (consumers_of seats))
+taker_kept limit given number [] os h g = refl
+taker_kept limit given number (s ∷ ss) os h g = go (s.consumer.number == number) (taker_kept limit given number ss os (tail_is _ _ _ _ h) g)
+  where
+    go : (b : Bool) → taker_held limit given (find (is_numbered number) ss) ≡ taker_among limit os (find (λ (c : Consumer). c.number == number) (consumers_of ss))
+        → taker_held limit given (cond b (Some s) (find (is_numbered number) ss)) ≡ taker_among limit os (cond b (Some s.consumer) (find (λ (c : Consumer). c.number == number) (consumers_of ss)))
+    go true e = rw (head_is _ _ _ _ h, g) refl
+    go false e = e
+
+-- no count is above what is outstanding
+pub counts_small : (n : ℕ) (consumers : List Consumer) (os : List Delivery) → length os < n → All (λ k. k < n) (counts consumers os)
+counts_small n [] os h k d lt = absurd (omega arith)
+counts_small n (c ∷ cs) os h zero d lt = let m = count_by-le-length (λ x. is_to c.number (taker_of x)) os in omega arith
+counts_small n (c ∷ cs) os h (suc k) d lt = counts_small n cs os h k d (omega arith)
+
+-- each count of a seat is in the list of counts
+held_at : (seats : List CountedConsumer) (k : ℕ) (d : CountedConsumer) → get_or (counts_of seats) k d.held ≡ (get_or seats k d).held
+held_at [] k d = refl
+held_at (s ∷ ss) zero d = refl
+held_at (s ∷ ss) (suc k) d = held_at ss k d
+
+counts-length : (seats : List CountedConsumer) → length (counts_of seats) ≡ length seats
+counts-length [] = refl
+counts-length (s ∷ ss) = ap suc (counts-length ss)
+
+pub held_small : (n : ℕ) (seats : List CountedConsumer) → All (λ k. k < n) (counts_of seats) → All (λ (s : CountedConsumer). s.held < n) seats
+held_small n seats h k d lt = let a = h k d.held (let l = counts-length seats in omega arith) in let e = held_at seats k d in omega arith

@@ -1,0 +1,15 @@
+pub mod Runs
+pub mod Settlement
+pub mod Counting
+pub mod Seating
+pub mod Numbering
+pub mod Halving
+pub mod Moving
+mod Marking
+pub mod LinksCounting
+mod Opening
+pub mod Outcomes
+pub mod Setting
+pub mod Putting
+pub mod LinksMoving
+pub mod Taking

@@ -1,0 +1,8 @@
+use Rattle.std.proofs.Common.{◌≡◌, map, take}
+use Rattle.model.specs.Placed.{waiting}
+use Rattle.channels.specs.Seats.{counted_out}
+use Rattle.channels.proofs.consumers.count_each_out.Given as goal
+
+-- those that wait before the index are counted no more
+abbrev pub invariant-loop-one : goal.invariant-loop-one
+invariant-loop-one l = l.seats ≡ map (counted_out (waiting (take l.one-index l.gone))) l.fn.seats

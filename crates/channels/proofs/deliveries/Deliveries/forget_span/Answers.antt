@@ -1,0 +1,15 @@
+use Rattle.std.proofs.Common.{◌<◌, ℕ, sym, subst, List}
+use Rattle.model.specs.Settling.{kept}
+use Rattle.channels.specs.Outstanding.{tag_of}
+use Rattle.channels.specs.Seats.{SeatsAreCounted, AreNumbered, AreParts}
+use Rattle.channels.proofs.Counting.{taken_parts}
+use Rattle.model.specs.declared.deliveries.Delivery.{Delivery}
+use Rattle.channels.proofs.deliveries.Deliveries.forget_span.Goals as goal
+
+pub invariant_of-self : goal.invariant_of-self
+invariant_of-self c = (
+  subst (λ (n : ℕ). n < c.self.inside.next_tag) (sym c.forget.ensures.last) c.self.invariant.0,
+  subst (λ (os : List Delivery). SeatsAreCounted c.count_out.new.self os) (sym c.forget.ensures.outstanding) (c.count_out.ensures.counted _ _ (subst (λ (gone : List Delivery). AreParts c.self.inside.pending.outstanding gone (kept tag_of c.args.span.tag c.args.span.multiple c.self.inside.pending.outstanding)) (sym c.at.ensures)
+      (taken_parts c.self.inside.pending.outstanding c.args.span.tag c.args.span.multiple)) c.self.invariant.1),
+  subst (AreNumbered c.self.inside.next_number) (sym c.count_out.ensures.consumers) c.self.invariant.2,
+)

@@ -1,0 +1,12 @@
+use Rattle.std.proofs.Common.{◌<◌, ℕ, sym, subst, List}
+use Rattle.channels.specs.Seats.{SeatsAreCounted, AreNumbered}
+use Rattle.model.specs.declared.deliveries.Delivery.{Delivery}
+use Rattle.channels.proofs.Moving.{moved_numbered}
+use Rattle.channels.proofs.deliveries.Deliveries.renumber.Goals as goal
+
+pub invariant_of-self : goal.invariant_of-self
+invariant_of-self c = (
+  subst (λ (n : ℕ). n < c.self.inside.next_tag) (sym c.renumber.ensures.last) c.self.invariant.0,
+  subst (λ (os : List Delivery). SeatsAreCounted c.renumber-2.new.self os) (sym c.renumber.ensures.outstanding) (c.renumber-2.ensures.counted _ c.self.invariant.1),
+  subst (AreNumbered c.self.inside.next_number) (sym c.renumber-2.ensures.consumers) (moved_numbered c.args.places.now c.self.inside.next_number _ c.self.invariant.2),
+)

@@ -1,0 +1,17 @@
+use Rattle.std.proofs.Common.{◌+◌, ◌*◌, ◌≤◌, ap, subst, arith, drop, length, length-drop, List}
+use Rattle.model.specs.Settling.{Rises}
+use Rattle.channels.specs.Outstanding.{OutstandingList, tag_of}
+use Rattle.model.specs.declared.deliveries.Delivery.{Delivery}
+use Rattle.channels.proofs.Settlement.{waiting_rises}
+use Rattle.channels.proofs.pending.Unsettled.all.Goals as goal
+
+pub returns-clause-rises : goal.returns-clause-rises
+returns-clause-rises c = subst (λ (l : OutstandingList). Rises tag_of l.outstanding) c.self.view_is (waiting_rises (drop c.self.inside.start c.self.inside.items.items) c.self.invariant.order.rises)
+
+pub returns-clause-few : goal.returns-clause-few
+returns-clause-few c =
+    let e = ap (λ (ys : List Delivery). length ys) c.behind.ensures in
+    let l = length-drop c.self.inside.start c.self.inside.items.items in
+    let counted = c.self.invariant.counted in
+    let few = c.self.invariant.few in
+    subst (λ (s : OutstandingList). length c.behind.result.now ≤ 2 * length s.outstanding + 32) c.self.view_is (omega arith)

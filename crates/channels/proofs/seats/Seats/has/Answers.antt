@@ -1,0 +1,10 @@
+use Rattle.std.proofs.Common.{◌≡◌, ◌∙◌, ap, subst, List}
+use Rattle.std.specs.List.{list_any}
+use Rattle.channels.specs.Seats.{Seated, is_named, has_name}
+use Rattle.channels.specs.declared.consumers.CountedConsumer.{CountedConsumer}
+use Rattle.channels.proofs.Counting.{any_named}
+use Rattle.channels.proofs.seats.Seats.has.Goals as goal
+
+pub returns : goal.returns
+returns c = subst (λ (s : Seated). c.is_in_use.result ≡ list_any (is_named c.args.tag.now) s.consumers) c.self.view_is
+    (c.is_in_use.ensures ∙ ap (λ (ss : List CountedConsumer). list_any (has_name c.args.tag.now) ss) c.deref.ensures.value ∙ any_named (is_named c.args.tag.now) c.self.inside.seats.items)

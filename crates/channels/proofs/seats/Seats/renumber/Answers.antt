@@ -1,0 +1,18 @@
+use Rattle.std.proofs.Common.{◌∙◌, refl, sym, ap, subst, map}
+use Rattle.channels.specs.Seats.{Seated, SeatsAreCounted, consumers_of, counts_of}
+use Rattle.channels.specs.Moving.{consumer_moved}
+use Rattle.channels.proofs.Moving.{moved_consumers, moved_counts, moved_counted}
+use Rattle.channels.proofs.seats.Seats.renumber.Goals as goal
+
+pub returns-clause-consumers : goal.returns-clause-consumers
+returns-clause-consumers c =
+    ap consumers_of c.renumber.ensures.seats ∙ moved_consumers c.args.places.now c.self.inside.seats.items
+    ∙ ap (λ (s : Seated). map (consumer_moved c.args.places.now) s.consumers) c.self.view_is
+
+pub returns-clause-counted : goal.returns-clause-counted
+returns-clause-counted c given k =
+    let was : SeatsAreCounted (record { consumers = consumers_of c.self.inside.seats.items; held = counts_of c.self.inside.seats.items; given = c.self.inside.given; room = _ }) given = subst (λ (s : Seated). SeatsAreCounted s given) (sym c.self.view_is) k in
+    moved_counted c.args.places.now _ _ given
+    (ap consumers_of c.renumber.ensures.seats ∙ moved_consumers c.args.places.now c.self.inside.seats.items)
+    (ap counts_of c.renumber.ensures.seats ∙ moved_counts c.args.places.now c.self.inside.seats.items)
+    refl was

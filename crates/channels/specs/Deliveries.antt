@@ -1,0 +1,135 @@
+-- What an open channel keeps of its deliveries.
+use Rattle.std.specs.Prelude.{◌⊎◌, ◌≡◌, ◌<◌, ◌≤◌, ◌+◌, ℕ, List, [], ◌∷◌, ◌++◌, length, find}
+use Rattle.std.specs.Prelude.{Bool, true, false, ◌==◌, ◌&&◌, if◌then◌else◌, Option, Some, None, Result, Ok, Err}
+use Rattle.std.specs.List.{list_any}
+use Rattle.model.specs.Words.{Text}
+use Rattle.model.specs.Step.{greatest}
+use Rattle.model.specs.Prefetch.{may_hold, has_tag_left}
+use Rattle.model.specs.declared.messages.Taker.{Taker}
+use Rattle.channels.specs.Outstanding.{taker_of}
+use Rattle.channels.specs.Seats.{is_named}
+use Rattle.channels.specs.Names.{server_name, IsNextName, AreNamesSpent}
+use Rattle.channels.specs.declared.names.Name.{Name}
+use Rattle.model.specs.declared.deliveries.Delivery.{Delivery}
+use Rattle.channels.specs.declared.consumers.Consumer.{Consumer}
+use Rattle.channels.specs.declared.consumers.SeatRefusal.{SeatRefusal}
+use Rattle.channels.specs.declared.consumers.SeatRefusal.TheVariants.{InUse, TooMany, Spent, Memory}
+
+-- delivery tags, limits, consumers, what is outstanding, and how many messages more can be given out, and how many consumers more be made, without memory
+pub record Given : Type 0 where
+  pub next_tag : ℕ
+  -- consumers are numbered as they are made, and no number is used again
+  pub next_number : ℕ
+  -- the number of the next consumer tag that the server makes
+  pub next_name : ℕ
+  -- the limit of consumers made later, and that of all of them together; 0 is none (RabbitMQ, "Consumer Prefetch")
+  pub each_limit : ℕ
+  pub limit : ℕ
+  pub consumers : List Consumer
+  -- in the order of their tags
+  pub outstanding : List Delivery
+  pub room : ℕ
+  pub seats : ℕ
+
+-- nothing was given out, there is no consumer and no limit
+abbrev pub nothing_given : ℕ → ℕ → Given
+nothing_given room seats = record {
+  next_tag = 1;
+  next_number = 1;
+  next_name = 1;
+  each_limit = 0;
+  limit = 0;
+  consumers = [];
+  outstanding = [];
+  room = room;
+  seats = seats;
+}
+
+-- a message is given out under the next tag, and is outstanding (AMQP 0-9-1, basic.deliver, basic.get-ok)
+abbrev pub with_given : Given → ℕ → ℕ → Taker → ℕ → Given
+with_given g queue arrival by room = record g {
+  next_tag = g.next_tag + 1;
+  outstanding = g.outstanding ++ record { tag = g.next_tag; queue = queue; arrival = arrival; by = by } ∷ [];
+  room = room;
+}
+
+-- a limit is set: of all consumers of the channel together, or of each that is made later (RabbitMQ, "Consumer Prefetch", global)
+abbrev pub with_limit : Given → ℕ → Bool → Given
+with_limit g count global = if global then record g { limit = count } else record g { each_limit = count }
+
+-- this consumer, if there is one, may be given one message more under this limit of the channel
+abbrev pub may_of : ℕ → List Delivery → Option Consumer → Bool
+may_of limit outstanding None = false
+may_of limit outstanding (Some c) = may_hold taker_of limit c.no_ack c.limit c.number outstanding
+
+-- this consumer, if there is one and it may
+abbrev pub taker_among : ℕ → List Delivery → Option Consumer → Option Consumer
+taker_among limit outstanding c = if may_of limit outstanding c then c else None
+
+-- a tag is left, and the consumer of this number is the channel's and may be given one message more
+abbrev pub may_be_given : Given → ℕ → Bool
+may_be_given g number = has_tag_left g.next_tag && may_of g.limit g.outstanding (find (λ (c : Consumer). c.number == number) g.consumers)
+
+-- the consumer of this number
+abbrev pub consumer_at : Given → ℕ → Option Consumer
+consumer_at g number = find (λ (c : Consumer). c.number == number) g.consumers
+
+-- the consumer of this number, where it may be given one message more
+abbrev pub taker_at : Given → ℕ → Option Consumer
+taker_at g number = if may_be_given g number then consumer_at g number else None
+
+-- one consumer more, under the next number and the limit set for each (AMQP 0-9-1, basic.consume)
+abbrev pub with_consumer_added : Given → Text → ℕ → Bool → ℕ → Given
+with_consumer_added g name queue no_ack seats = record g {
+  seats = seats;
+  next_number = g.next_number + 1;
+  consumers = g.consumers ++ record { number = g.next_number; tag = name; queue = queue; no_ack = no_ack; limit = g.each_limit } ∷ [];
+}
+
+-- Nothing stands against a consumer of this tag: it is not in use on the channel, there are fewer than 256 (own), and a number is left.
+pub record MaySeat (g : Given) (name : Text) : Type 0 where
+  pub free : list_any (is_named name) g.consumers ≡ false
+  pub few : length g.consumers < 256
+  pub left : g.next_number < greatest
+
+-- the first thing that stands against it, in this order, or that nothing does
+abbrev pub JudgesSeat : Given → Text → Option SeatRefusal → Type 0
+JudgesSeat g name None = MaySeat g name
+JudgesSeat g name (Some InUse) = list_any (is_named name) g.consumers ≡ true
+JudgesSeat g name (Some TooMany) = (list_any (is_named name) g.consumers ≡ false) × (256 ≤ length g.consumers)
+JudgesSeat g name (Some Spent) = (list_any (is_named name) g.consumers ≡ false) × ((length g.consumers < 256) × (g.next_number ≡ greatest))
+JudgesSeat g name (Some Memory) = ⊥
+
+-- a consumer was made, for which there is room for one fewer now
+abbrev pub AddsConsumer : Given → Text → ℕ → Bool → Given → Type 0
+AddsConsumer old name queue no_ack new = (new ≡ with_consumer_added old name queue no_ack new.seats) × (old.seats ≤ new.seats + 1)
+
+-- why a consumer without a tag of its own was refused, in this order: there are 256; the numbers or the names are spent; memory was wanting, and a name is left
+abbrev pub RefusesUnnamed : Given → SeatRefusal → Type 0
+RefusesUnnamed g InUse = ⊥
+RefusesUnnamed g TooMany = 256 ≤ length g.consumers
+RefusesUnnamed g Spent = (length g.consumers < 256) × ((g.next_number ≡ greatest) ⊎ AreNamesSpent g.consumers g.next_name)
+RefusesUnnamed g Memory = (length g.consumers < 256) × ((g.next_number < greatest) × ((n : ℕ) × IsNextName g.consumers g.next_name n))
+
+-- the next name for a consumer without a tag of its own, against which nothing stands; or why it has none
+abbrev pub NamesUnnamed : Given → Result Name SeatRefusal → Type 0
+NamesUnnamed g (Ok name) =
+    (length g.consumers < 256) × ((g.next_number < greatest) × (IsNextName g.consumers g.next_name name.number × (name.tag.bytes ≡ server_name name.number)))
+NamesUnnamed g (Err refusal) = RefusesUnnamed g refusal
+
+-- what stands against it, or that a name is left and nothing does
+abbrev pub JudgesUnnamed : Given → Option SeatRefusal → Type 0
+JudgesUnnamed g None = (length g.consumers < 256) × ((g.next_number < greatest) × ((n : ℕ) × IsNextName g.consumers g.next_name n))
+JudgesUnnamed g (Some refusal) = RefusesUnnamed g refusal
+
+-- A consumer was made under the next name, of this number.
+pub record IsMadeUnder (old : Given) (queue : ℕ) (no_ack : Bool) (tag : Text) (new : Given) (n : ℕ) : Type 0 where
+  pub next : IsNextName old.consumers old.next_name n
+  pub named : tag ≡ server_name n
+  pub made : new ≡ record (with_consumer_added old (server_name n) queue no_ack new.seats) { next_name = n + 1 }
+
+-- A consumer was made under the next name that is not in use, which is told, or refused: then nothing changed.
+abbrev pub ConsumesUnnamed : Given → ℕ → Bool → Result Text SeatRefusal → Given → Type 0
+ConsumesUnnamed old queue no_ack (Ok tag) new =
+    (length old.consumers < 256) × ((old.next_number < greatest) × ((old.seats ≤ new.seats + 1) × ((n : ℕ) × IsMadeUnder old queue no_ack tag new n)))
+ConsumesUnnamed old queue no_ack (Err refusal) new = RefusesUnnamed old refusal × (new ≡ old)

@@ -1,0 +1,13 @@
+pub mod Consumers
+pub mod Counting
+pub mod Deliveries
+pub mod Lends
+pub mod Links
+pub mod LinksMoving
+pub mod Moving
+pub mod Names
+pub mod Open
+pub mod Outstanding
+pub mod Placed
+pub mod Seats
+pub mod Spans

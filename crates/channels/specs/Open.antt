@@ -1,0 +1,119 @@
+-- An open channel as it is kept, with queues by their places in the file, and as the model has it, with queues by their names.
+use Rattle.std.specs.Prelude.{◌≡◌, ℕ, ◌+◌, ◌-◌, List, [], ◌∷◌, ◌++◌, map, filter, count_by, slice_index_or}
+use Rattle.std.specs.Prelude.{not, Bool, true, false, Option, Some, None, Result, Ok, Err}
+use Rattle.model.specs.Words.{Text}
+use Rattle.model.specs.Topology.{IsIn}
+use Rattle.model.specs.Broker as seen
+use Rattle.model.specs.Settling.{kept}
+use Rattle.model.specs.Consuming.{tag_for, with_consumer, may_take}
+use Rattle.model.specs.Step.{Of_connection, refusal_of_seat}
+use Rattle.model.specs.declared.methods.Consume.{Consume}
+use Rattle.model.specs.declared.methods.Qos.{Qos}
+use Rattle.model.specs.declared.messages.Taker.{Taker}
+use Rattle.channels.specs.Outstanding.{tag_of}
+use Rattle.channels.specs.Seats.{is_named, takes_from}
+use Rattle.channels.specs.Deliveries.{Given, with_limit, with_given}
+use Rattle.model.specs.Placed.{outstanding_in}
+use Rattle.channels.specs.declared.consumers.Consumer.{Consumer}
+use Rattle.channels.specs.declared.consumers.SeatRefusal.{SeatRefusal}
+use Rattle.channels.specs.declared.consumers.SeatRefusal.TheVariants.{InUse, TooMany, Spent, Memory}
+
+-- an open channel
+pub record Open : Type 0 where
+  -- the last confirm number, where publishes are confirmed (RabbitMQ, "Publisher Confirms")
+  pub confirm : Option ℕ
+  -- a close was sent, and close-ok is awaited
+  pub is_closing : Bool
+  pub given : Given
+
+-- the channel with the limit that a qos sets (AMQP 0-9-1, basic.qos)
+abbrev pub with_qos : Open → Qos → Open
+with_qos ch m = record ch { given = with_limit ch.given m.prefetch_count m.global }
+
+-- the channel on which a message of the queue at this place was given out under the next tag, and waits to be settled (AMQP 0-9-1, basic.get-ok)
+abbrev pub given_on : Open → ℕ → ℕ → Taker → Open
+given_on ch queue arrival by = record ch { given = with_given ch.given queue arrival by (ch.given.room - 1) }
+
+-- the same of a message that needs no acknowledgement
+abbrev pub settled_on : Open → Open
+settled_on ch = record ch { given = record ch.given { next_tag = ch.given.next_tag + 1 } }
+
+-- the channel without what this tag settles, and with so much room (AMQP 0-9-1, basic.ack)
+abbrev pub without_settled : Open → ℕ → Bool → ℕ → Open
+without_settled ch tag multiple room = record ch { given = record ch.given { outstanding = kept tag_of tag multiple ch.given.outstanding; room = room } }
+
+-- the channel without the consumers of this tag, and with so much room (AMQP 0-9-1, basic.cancel)
+abbrev pub without_named : Open → Text → ℕ → Open
+without_named ch tag seats = record ch { given = record ch.given { consumers = filter (λ c. not (is_named tag c)) ch.given.consumers; seats = seats } }
+
+-- how many of its consumers take from the queue at this place
+abbrev pub consumers_from : ℕ → Open → ℕ
+consumers_from queue ch = count_by (takes_from queue) ch.given.consumers
+
+-- a consumer, where queues have these names
+abbrev pub consumer_in : List Text → Consumer → seen.Consumer
+consumer_in names c = record { number = c.number; tag = c.tag; queue = slice_index_or names c.queue []; no_ack = c.no_ack; limit = c.limit }
+
+-- the channel, where queues have these names
+abbrev pub open_in : List Text → Open → seen.Channel
+open_in names ch = record {
+  confirm = ch.confirm;
+  next_tag = ch.given.next_tag;
+  next_number = ch.given.next_number;
+  next_name = ch.given.next_name;
+  is_closing = ch.is_closing;
+  consumers = map (consumer_in names) ch.given.consumers;
+  each_limit = ch.given.each_limit;
+  limit = ch.given.limit;
+  outstanding = map (outstanding_in names) ch.given.outstanding;
+}
+
+-- the places of their queues, in the order in which they were made
+abbrev pub places_of : List Consumer → List ℕ
+places_of consumers = map (λ (c : Consumer). c.queue) consumers
+
+-- A consumer of the queue at this place was made under this tag (AMQP 0-9-1, basic.consume).
+pub record IsConsumerSeated (old : Open) (queue : ℕ) (m : Consume) (tag : Text) (new : Open) : Type 0 where
+  -- nothing stood against it
+  pub free : (names : List Text) → refusal_of_seat (open_in names old) m ≡ None
+  pub named : (names : List Text) → tag ≡ tag_for (open_in names old) m.consumer_tag
+  -- so the channel has it, where the queue at this place has the name that the consume gives
+  pub made : (names : List Text) → slice_index_or names queue [] ≡ m.queue → open_in names new ≡ with_consumer (open_in names old) m
+  -- what was given out stays, and so do the other consumers' places
+  pub outstanding : new.given.outstanding ≡ old.given.outstanding
+  pub places : places_of new.given.consumers ≡ places_of old.given.consumers ++ queue ∷ []
+
+-- why none was made: as the model says, or for want of memory where nothing stands against it
+abbrev pub IsUnseated : Open → Consume → SeatRefusal → Type 0
+IsUnseated old m InUse = (names : List Text) → refusal_of_seat (open_in names old) m ≡ Some (Of_connection 530)
+IsUnseated old m TooMany = (names : List Text) → refusal_of_seat (open_in names old) m ≡ Some (Of_connection 506)
+IsUnseated old m Spent = (names : List Text) → refusal_of_seat (open_in names old) m ≡ Some (Of_connection 541)
+IsUnseated old m Memory = (names : List Text) → refusal_of_seat (open_in names old) m ≡ None
+
+-- what stands against one consumer more, or that nothing does
+abbrev pub JudgesConsumer : Open → Consume → Option SeatRefusal → Type 0
+JudgesConsumer ch m None = (names : List Text) → refusal_of_seat (open_in names ch) m ≡ None
+JudgesConsumer ch m (Some refusal) = IsUnseated ch m refusal
+
+-- A consumer was made under this tag, or refused: then nothing changed.
+abbrev pub SeatsConsumer : Open → ℕ → Consume → Result Text SeatRefusal → Open → Type 0
+SeatsConsumer old queue m (Ok tag) new = IsConsumerSeated old queue m tag new
+SeatsConsumer old queue m (Err refusal) new = IsUnseated old m refusal × (new ≡ old)
+
+-- The consumer of this number is the channel's, the only one of this number, and may be given one message more.
+pub record IsTaker (ch : Open) (number : ℕ) (k : Consumer) : Type 0 where
+  pub numbered : k.number ≡ number
+  pub seat : IsIn k ch.given.consumers
+  -- so the model has it, where queues have these names
+  pub its : (names : List Text) → IsIn (consumer_in names k) (open_in names ch).consumers
+  pub only : (names : List Text) (other : seen.Consumer) → IsIn other (open_in names ch).consumers → other.number ≡ number → other ≡ consumer_in names k
+  pub may : (names : List Text) → may_take (open_in names ch) (consumer_in names k) ≡ true
+
+-- No consumer of this number may be given one message more.
+abbrev pub HasNoTaker : Open → ℕ → Type 0
+HasNoTaker ch number = (names : List Text) (k : seen.Consumer) → IsIn k (open_in names ch).consumers → k.number ≡ number → may_take (open_in names ch) k ≡ false
+
+-- The consumer of this number is told, exactly where it may be given one message more.
+abbrev pub TellsTaker : Open → ℕ → Option Consumer → Type 0
+TellsTaker ch number (Some k) = IsTaker ch number k
+TellsTaker ch number None = HasNoTaker ch number

@@ -1,0 +1,282 @@
+//! What is kept of an open channel.
+
+ghost use Rattle.std.specs.Prelude.{◌≡◌, ◌+◌, ◌*◌, ◌<◌, ◌≤◌, List, length, None, true, false, OnOk, OnErr, option_map};
+ghost use Rattle.model.specs.Words.{Text as Name};
+ghost use Rattle.model.specs.Consuming.{without_consumer};
+ghost use Rattle.model.specs.Step.{started, next_of, is_spent};
+ghost use Rattle.model.specs.Prefetch.{has_tag_left};
+ghost use Rattle.model.specs.Placed.{waiting};
+ghost use Rattle.channels.specs.Spans.{settled_by, TellsSpan};
+ghost use Rattle.channels.specs.Deliveries.{nothing_given, may_be_given, consumer_at};
+ghost use Rattle.channels.specs.Open.{with_qos, given_on, settled_on, without_settled, without_named, consumers_from, open_in};
+ghost use Rattle.channels.specs.Open.{JudgesConsumer, SeatsConsumer, TellsTaker};
+ghost use Rattle.channels.specs.Moving.{open_moved};
+
+use crate::consumers::{Consumer, SeatRefusal};
+use crate::deliveries::Deliveries;
+use crate::spans::Span;
+use laws::next_tags_are_found;
+use model::{Consume, Delivery, Qos, Taker, Text};
+use std::alloc::{AllocError, Global};
+use std::marker::Model;
+
+/// What is kept of an open channel. Source: AMQP 0-9-1, section 1.5, "channel"; RabbitMQ, "Publisher Confirms".
+#[derive(Drop)]
+pub struct Channel {
+    /// The last confirm number, where publishes are confirmed.
+    confirm: Option<u64>,
+    /// A close was sent, and close-ok is awaited.
+    is_closing: bool,
+    deliveries: Deliveries,
+}
+
+impl Model for Channel {
+    ghost use Rattle.channels.specs.Open.{Open};
+
+    ghost Value = { Open };
+
+    ghost view = { λ c. record { confirm = c.confirm; is_closing = c.is_closing; given = c.deliveries } };
+}
+
+impl Channel {
+    /// A channel with nothing on it: publishes are not confirmed. It takes no memory.
+    pub fn new(alloc: Global) -> Channel
+        ensures { result ≡ record { confirm = None; is_closing = false; given = nothing_given result.given.room result.given.seats } }
+    {
+        Channel {
+            confirm: None,
+            is_closing: false,
+            deliveries: Deliveries::new(alloc),
+        }
+    }
+
+    /// What is left of a channel once a close was sent on it: everything but a close and close-ok is ignored. It takes no
+    /// memory.
+    pub fn closing(alloc: Global) -> Channel
+        ensures { result ≡ record { confirm = None; is_closing = true; given = nothing_given result.given.room result.given.seats } }
+    {
+        Channel {
+            confirm: None,
+            is_closing: true,
+            deliveries: Deliveries::new(alloc),
+        }
+    }
+
+    /// Whether a close was sent and close-ok is awaited.
+    pub fn is_closing(&self) -> bool
+        ensures { result ≡ self.now.is_closing }
+    {
+        self.is_closing
+    }
+
+    /// The last confirm number, 0 before the first confirm; none where publishes are not confirmed.
+    pub fn confirm(&self) -> Option<u64>
+        ensures { result ≡ self.now.confirm }
+    {
+        self.confirm
+    }
+
+    /// Publishes are confirmed from now on, by numbers from 1. Where they already are, nothing changes.
+    pub fn select(&mut self)
+        ensures { self.new ≡ record self.old { confirm = started self.old.confirm } }
+    {
+        if self.confirm.is_none() {
+            self.confirm = Some(0);
+        }
+    }
+
+    /// The confirm number of the next publish, where publishes are confirmed.
+    pub fn next_confirm(&self) -> Option<u64>
+        requires { is_spent self.now.confirm ≡ false }
+        ensures { result ≡ next_of self.now.confirm }
+    {
+        match self.confirm {
+            Some(number) => Some(number + 1),
+            None => None,
+        }
+    }
+
+    /// One publish more: it takes the next confirm number, where publishes are confirmed.
+    pub fn count_publish(&mut self)
+        requires { is_spent self.old.confirm ≡ false }
+        ensures { self.new ≡ record self.old { confirm = next_of self.old.confirm } }
+    {
+        self.confirm = self.next_confirm();
+    }
+
+    /// Sets the limit that a qos sets: of all its consumers together, or of each that is made later. Source: AMQP 0-9-1,
+    /// basic.qos; RabbitMQ, "Consumer Prefetch".
+    pub fn limit(&mut self, qos: &Qos)
+        ensures { self.new ≡ with_qos self.old qos.now }
+    {
+        self.deliveries.limit(qos.prefetch_count, qos.global);
+    }
+
+    /// What stands against the consumer that a consume asks for, in this order: that a consumer of the channel has the tag (530),
+    /// that the channel has 256 consumers (506), and that the numbers or the server's tags are spent (541). It takes no memory.
+    /// Source: AMQP 0-9-1, basic.consume.
+    pub fn refusal(&self, consume: &Consume) -> Option<SeatRefusal>
+        ensures { JudgesConsumer self.now consume.now result }
+    {
+        if consume.consumer_tag.len() == 0 {
+            next_tags_are_found();
+            return self.deliveries.refusal_unnamed();
+        }
+        self.deliveries.refusal(consume.consumer_tag.as_bytes())
+    }
+
+    /// Makes a consumer of the queue at this place, under the tag that the consume gives, or where it gives none under one of
+    /// the server's. Tells its tag. Refused, in this order: where a consumer of the channel has the tag (530), where the channel
+    /// has 256 consumers (506), and where the numbers or the server's tags are spent (541). Memory is wanting only where nothing
+    /// stands against it. Where it is refused, or memory is wanting, nothing changes. Source: AMQP 0-9-1, basic.consume.
+    pub fn consume(
+        &mut self,
+        alloc: Global,
+        queue: usize,
+        consume: &Consume,
+    ) -> Result<Text, SeatRefusal>
+        ensures { SeatsConsumer self.old queue consume.now result self.new }
+    {
+        if consume.consumer_tag.len() == 0 {
+            next_tags_are_found();
+            return self
+                .deliveries
+                .consume_unnamed(alloc, queue, consume.no_ack);
+        }
+        if let Some(refusal) = self.deliveries.refusal(consume.consumer_tag.as_bytes()) {
+            return Err(refusal);
+        }
+        let tag = consume.consumer_tag.clone()?;
+        self.deliveries
+            .consume(consume.consumer_tag.clone()?, queue, consume.no_ack)?;
+        Ok(tag)
+    }
+
+    /// Takes out the consumer of this tag, if there is one; what it was given stays outstanding. It takes no memory. Source:
+    /// AMQP 0-9-1, basic.cancel.
+    pub fn cancel(&mut self, tag: &[u8])
+        ensures whole { self.new ≡ without_named self.old tag.now self.new.given.seats }
+        ensures seen { (names : List Name) → open_in names self.new ≡ without_consumer (open_in names self.old) tag.now }
+    {
+        self.deliveries.cancel(tag);
+    }
+
+    /// The number of the next consumer: none was made under it yet.
+    pub fn next_number(&self) -> u64
+        ensures { result ≡ self.now.given.next_number }
+    {
+        self.deliveries.next_number()
+    }
+
+    /// The consumer of this number, exactly where it is the channel's and may be given a message now: a delivery tag is left,
+    /// and neither its limit nor the channel's is reached. Source: RabbitMQ, "Consumer Prefetch".
+    pub fn taker(&self, number: u64) -> Option<&Consumer>
+        ensures { TellsTaker self.now number (option_map (λ k. k.now) result) }
+    {
+        self.deliveries.taker(number)
+    }
+
+    /// Whether the consumer of this number is the channel's, and may be given a message now: a delivery tag is left, and neither
+    /// its limit nor the channel's is reached. Source: RabbitMQ, "Consumer Prefetch".
+    pub fn may_take(&self, number: u64) -> bool
+        ensures { result ≡ may_be_given self.now.given number }
+    {
+        self.deliveries.may_take(number)
+    }
+
+    /// The consumer of this number, if the channel has it.
+    pub fn consumer(&self, number: u64) -> Option<&Consumer>
+        ensures { option_map (λ k. k.now) result ≡ consumer_at self.now.given number }
+    {
+        self.deliveries.consumer(number)
+    }
+
+    /// How many of its consumers take from the queue at this place.
+    pub fn consumers_from(&self, queue: usize) -> usize
+        ensures { result ≡ consumers_from queue self.now }
+    {
+        self.deliveries.consumers_from(queue)
+    }
+
+    /// Whether a delivery tag is left.
+    pub fn has_tag_left(&self) -> bool
+        ensures { result ≡ has_tag_left self.now.given.next_tag }
+    {
+        self.deliveries.has_tag_left()
+    }
+
+    /// The delivery tag under which the next message is given out.
+    pub fn next_tag(&self) -> u64
+        ensures { result ≡ self.now.given.next_tag }
+    {
+        self.deliveries.next_tag()
+    }
+
+    /// Makes room for so many messages more that are given out. What is made is bounded by what is outstanding. Where memory is
+    /// wanting, as it may be only where there was not so much, nothing changes.
+    pub fn reserve(&mut self, more: usize) -> Result<(), AllocError>
+        ensures same { self.new ≡ record self.old { given = record self.old.given { room = self.new.given.room } } }
+        ensures kept { self.old.given.room ≤ self.new.given.room }
+        ensures full { OnErr result (self.old.given.room < more) }
+        ensures grown { self.old.given.room < self.new.given.room → self.new.given.room ≤ 3 * length self.old.given.outstanding + more + 68 }
+        ensures room { OnOk result (more ≤ self.new.given.room) }
+        ensures err { OnErr result (self.new ≡ self.old) }
+    {
+        self.deliveries.reserve(more)
+    }
+
+    /// A message of the queue at this place is given out under the next tag, and waits to be settled.
+    pub fn give(&mut self, queue: usize, arrival: u64, by: Taker)
+        requires left { has_tag_left self.old.given.next_tag ≡ true }
+        requires room { 0 < self.old.given.room }
+        ensures { self.new ≡ given_on self.old queue arrival by }
+    {
+        self.deliveries.give(queue, arrival, by);
+    }
+
+    /// A message is given out under the next tag that needs no acknowledgement.
+    pub fn give_settled(&mut self)
+        requires { has_tag_left self.old.given.next_tag ≡ true }
+        ensures { self.new ≡ settled_on self.old }
+    {
+        self.deliveries.give_settled();
+    }
+
+    /// All that is outstanding, in tag order, with the places between of what was settled before: at most as many again, and 32.
+    pub fn outstanding(&self) -> &[Delivery]
+        ensures all { waiting result.now ≡ self.now.given.outstanding }
+        ensures few { length result.now ≤ 2 * length self.now.given.outstanding + 32 }
+    {
+        self.deliveries.outstanding()
+    }
+
+    /// What this tag settles; none where it is refused, with 406. It is searched for here alone. Source: AMQP 0-9-1, basic.ack.
+    pub fn span(&self, tag: u64, multiple: bool) -> Option<Span>
+        ensures { TellsSpan tag multiple self.now.given.outstanding result }
+    {
+        self.deliveries.span(tag, multiple)
+    }
+
+    /// What this span settles, in tag order, with the places between of what was settled before; nothing where its tag is
+    /// refused.
+    pub fn at(&self, span: Span) -> &[Delivery]
+        ensures { waiting result.now ≡ settled_by span self.now.given.outstanding }
+    {
+        self.deliveries.at(span)
+    }
+
+    /// Takes out what this span settles; nothing where its tag is refused. It takes no memory.
+    pub fn forget_span(&mut self, span: Span)
+        ensures settled { self.new ≡ without_settled self.old span.tag span.multiple self.new.given.room }
+        ensures room { self.old.given.room ≤ self.new.given.room }
+    {
+        self.deliveries.forget_span(span);
+    }
+
+    /// Each queue that stood at a place of the table stands now at the place that it has there. It takes no memory.
+    pub fn renumber(&mut self, places: &[usize])
+        ensures { self.new ≡ open_moved places.now self.old }
+    {
+        self.deliveries.renumber(places);
+    }
+}

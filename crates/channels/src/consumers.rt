@@ -1,0 +1,343 @@
+//! The consumers of a channel, and what they may be given.
+
+ghost use Rattle.std.specs.Prelude.{cond, ◌&&◌, ◌≡◌, ◌<◌, ◌≤◌, ◌-◌, ◌^◌, None, Some, IfSome, option_map, not, true, false};
+ghost use Rattle.std.specs.Prelude.{length, map, find, filter, count_by, vec_len, vec_capacity};
+ghost use Rattle.model.specs.declared.messages.Taker.TheVariants as taker;
+ghost use Rattle.std.specs.List.{list_any, position_from, All};
+ghost use Rattle.model.specs.Prefetch.{is_to, is_delivery, is_below};
+ghost use Rattle.model.specs.Placed.{is_waiting, waiting};
+ghost use Rattle.channels.specs.Seats.{consumers_of, is_numbered, has_name, takes_from, counted_in, counted_out, uncounted};
+ghost use Rattle.channels.specs.Seats.{may_held, taker_held, IsSeatAt, NumbersRise};
+ghost use Rattle.channels.specs.Moving.{seat_moved};
+
+use crate::pending::place_now;
+use model::{Delivery, Taker, Text};
+use std::alloc::AllocError;
+
+/// One who takes a queue's messages. Source: AMQP 0-9-1, basic.consume.
+#[derive(Drop)]
+pub struct Consumer {
+    /// Consumers of a channel are numbered as they are made, and no number is used again.
+    pub number: u64,
+    pub tag: Text,
+    /// The queue's place in the file of definitions.
+    pub queue: usize,
+    pub no_ack: bool,
+    /// How many messages it may hold; 0 is no limit.
+    pub limit: u16,
+}
+
+/// A consumer, and how many of the outstanding messages were given to it.
+#[derive(Drop)]
+pub struct CountedConsumer {
+    pub consumer: Consumer,
+    pub(crate) held: usize,
+}
+
+/// Why a consumer was not made.
+#[derive(Clone, Copy, PartialEq, Eq, Debug, Drop)]
+pub enum SeatRefusal {
+    /// Its tag is in use on the channel: 530.
+    InUse,
+    /// The channel has 256 consumers: 506.
+    TooMany,
+    /// The numbers of consumers are spent: 541.
+    Spent,
+    Memory,
+}
+
+impl From<AllocError> for SeatRefusal {
+    ghost use Rattle.channels.specs.declared.consumers.SeatRefusal.TheVariants.{Memory};
+
+    ghost from_gives = { λ _ r. r ≡ Memory };
+
+    fn from(_: AllocError) -> SeatRefusal {
+        SeatRefusal::Memory
+    }
+}
+
+/// Some consumer has this tag.
+pub(crate) fn is_in_use(seats: &[CountedConsumer], tag: &[u8]) -> bool
+    ensures { result ≡ list_any (has_name tag.now) seats.now }
+{
+    seats.iter().any(|s| s.consumer.tag.as_bytes() == tag)
+}
+
+/// The number of the consumer at this place.
+fn number_at(seats: &[CountedConsumer], place: usize) -> u64
+    requires { place < length seats.now }
+{
+    seats[place].consumer.number
+}
+
+/// The place of the first consumer with this number or a greater one, where numbers rise.
+fn place_near(seats: &[CountedConsumer], number: u64) -> usize {
+    let mut low = 0;
+    let mut high = seats.len();
+    while low < high {
+        let middle = low + (high - low) / 2;
+        if number_at(seats, middle) < number {
+            low = middle + 1;
+        } else {
+            high = middle;
+        }
+    }
+    low
+}
+
+/// Whether the consumer at this place has this number.
+fn is_at(seats: &[CountedConsumer], place: usize, number: u64) -> bool
+    ensures { result ≡ true → IsSeatAt seats.now number place }
+{
+    place < seats.len() && seats[place].consumer.number == number
+}
+
+/// The first place at which the consumer has this number, looked for one by one.
+fn search(seats: &[CountedConsumer], number: u64) -> Option<usize>
+    ensures is { result ≡ position_from (is_numbered number) 0 seats.now }
+    ensures some { IfSome result (λ place. IsSeatAt seats.now number place) }
+{
+    seats.iter().position(|s| s.consumer.number == number)
+}
+
+/// The place of the consumer of this number. It is found by halving, since numbers rise; none is told after a look at each.
+fn place_of(seats: &[CountedConsumer], number: u64) -> Option<usize>
+    ensures some { IfSome result (λ place. IsSeatAt seats.now number place) }
+    ensures none { result ≡ None → find (is_numbered number) seats.now ≡ None }
+{
+    let place = place_near(seats, number);
+    if is_at(seats, place, number) {
+        return Some(place);
+    }
+    search(seats, number)
+}
+
+/// The seat of the consumer of this number.
+fn seat_of(seats: &[CountedConsumer], number: u64) -> Option<&CountedConsumer>
+    requires { NumbersRise (consumers_of seats.now) }
+    ensures { option_map (λ s. s.now) result ≡ find (is_numbered number) seats.now }
+{
+    match place_of(seats, number) {
+        Some(place) => Some(&seats[place]),
+        None => None,
+    }
+}
+
+/// The consumer of this number.
+pub(crate) fn consumer_of(seats: &[CountedConsumer], number: u64) -> Option<&Consumer>
+    requires { NumbersRise (consumers_of seats.now) }
+    ensures { option_map (λ k. k.now) result ≡ option_map (λ s. s.consumer) (find (is_numbered number) seats.now) }
+{
+    match seat_of(seats, number) {
+        Some(seat) => Some(&seat.consumer),
+        None => None,
+    }
+}
+
+/// How many take from the queue at this place.
+pub(crate) fn count_from(seats: &[CountedConsumer], queue: usize) -> usize
+    ensures { result ≡ count_by (λ s. takes_from queue s.consumer) seats.now }
+{
+    seats.iter().filter(|s| s.consumer.queue == queue).count()
+}
+
+/// Takes out the consumers of this tag.
+pub(crate) fn take_out(seats: &mut Vec<CountedConsumer>, tag: &[u8])
+    ensures seats { seats.new.items ≡ filter (λ s. not (has_name tag.now s)) seats.old.items }
+    ensures len { vec_len seats.new ≤ vec_len seats.old }
+    ensures capacity { vec_capacity seats.new ≡ vec_capacity seats.old }
+{
+    seats.retain(|s| s.consumer.tag.as_bytes() != tag);
+}
+
+/// It was given to the consumer of this number.
+fn is_its(by: &Taker, number: u64) -> bool
+    ensures { result ≡ is_to number by.now }
+{
+    match by {
+        Taker::Get => false,
+        Taker::Consumer(other) => *other == number,
+    }
+}
+
+/// It was given to some consumer.
+fn is_consumed(by: &Taker) -> bool
+    ensures { result ≡ is_delivery by.now }
+{
+    matches!(by, Taker::Consumer(_))
+}
+
+/// 1 where it was given to some consumer, else 0.
+pub(crate) fn one_if_consumed(by: &Taker) -> usize
+    ensures { result ≡ cond (is_delivery by.now) 1 0 }
+{
+    if is_consumed(by) { 1 } else { 0 }
+}
+
+/// How many of those that wait were given to the consumer of this number.
+pub(crate) fn given_to(given: &[Delivery], number: u64) -> usize
+    ensures { result ≡ count_by (λ o. is_waiting o && is_to number o.by) given.now }
+{
+    let mut count = 0;
+    for one in given {
+        if one.is_waiting() & is_its(&one.by, number) {
+            count += 1;
+        }
+    }
+    count
+}
+
+/// How many of those that wait were given to consumers.
+pub(crate) fn given_to_all(given: &[Delivery]) -> usize
+    ensures { result ≡ count_by (λ o. is_waiting o && is_delivery o.by) given.now }
+{
+    let mut count = 0;
+    for one in given {
+        if one.is_waiting() & is_consumed(&one.by) {
+            count += 1;
+        }
+    }
+    count
+}
+
+/// Counts a message that is given out to the consumer of this number, if there is one.
+fn count_one_in(seats: &mut [CountedConsumer], number: u64)
+    requires held { All (λ s. s.held < 2 ^ 64 - 1) seats.old }
+    requires rise { NumbersRise (consumers_of seats.old) }
+    ensures { seats.new ≡ map (counted_in (taker.Consumer number)) seats.old }
+{
+    if let Some(place) = place_of(seats, number) {
+        seats[place].held += 1;
+    }
+}
+
+/// Counts a message that is given out.
+pub(crate) fn count_in(seats: &mut Vec<CountedConsumer>, by: &Taker)
+    requires held { All (λ s. s.held < 2 ^ 64 - 1) seats.old.items }
+    requires rise { NumbersRise (consumers_of seats.old.items) }
+    ensures seats { seats.new.items ≡ map (counted_in by.now) seats.old.items }
+    ensures len { vec_len seats.new ≡ vec_len seats.old }
+    ensures capacity { vec_capacity seats.new ≡ vec_capacity seats.old }
+{
+    match by {
+        Taker::Get => {}
+        Taker::Consumer(number) => count_one_in(seats, *number),
+    }
+}
+
+/// Counts one no more that was given to the consumer of this number, if there is one.
+fn count_number_out(seats: &mut [CountedConsumer], number: u64)
+    requires { NumbersRise (consumers_of seats.old) }
+    ensures { seats.new ≡ map (uncounted (taker.Consumer number)) seats.old }
+{
+    if let Some(place) = place_of(seats, number) {
+        seats[place].held = seats[place].held.saturating_sub(1);
+    }
+}
+
+/// Counts one no more that is settled.
+fn count_one_out(seats: &mut [CountedConsumer], by: &Taker)
+    requires { NumbersRise (consumers_of seats.old) }
+    ensures { seats.new ≡ map (uncounted by.now) seats.old }
+{
+    match by {
+        Taker::Get => {}
+        Taker::Consumer(number) => count_number_out(seats, *number),
+    }
+}
+
+/// Counts this one no more, where it waits.
+fn count_waiting_out(seats: &mut [CountedConsumer], one: &Delivery)
+    requires { NumbersRise (consumers_of seats.old) }
+    ensures yes { is_waiting one.now ≡ true → seats.new ≡ map (uncounted one.now.by) seats.old }
+    ensures no { is_waiting one.now ≡ false → seats.new ≡ seats.old }
+{
+    if one.is_waiting() {
+        count_one_out(seats, &one.by);
+    }
+}
+
+/// Counts those that wait no more, one after another.
+fn count_each_out(seats: &mut [CountedConsumer], gone: &[Delivery])
+    requires { NumbersRise (consumers_of seats.old) }
+    ensures { seats.new ≡ map (counted_out (waiting gone.now)) seats.old }
+{
+    for one in gone {
+        count_waiting_out(seats, one);
+    }
+}
+
+/// Counts those that wait no more.
+pub(crate) fn count_out(seats: &mut Vec<CountedConsumer>, gone: &[Delivery])
+    requires { NumbersRise (consumers_of seats.old.items) }
+    ensures seats { seats.new.items ≡ map (counted_out (waiting gone.now)) seats.old.items }
+    ensures len { vec_len seats.new ≡ vec_len seats.old }
+    ensures capacity { vec_capacity seats.new ≡ vec_capacity seats.old }
+{
+    count_each_out(seats, gone);
+}
+
+/// This limit leaves room for one message more beside so many.
+fn is_room(limit: u16, held: usize) -> bool
+    ensures { result ≡ is_below limit held }
+{
+    limit == 0 || held < limit as usize
+}
+
+/// The consumer there may be given one message more, where all consumers of the channel have `given` under this limit of theirs.
+fn may_hold(seat: &CountedConsumer, limit: u16, given: usize) -> bool
+    ensures { result ≡ may_held limit given (Some seat.now) }
+{
+    seat.consumer.no_ack || (is_room(seat.consumer.limit, seat.held) && is_room(limit, given))
+}
+
+/// The consumer of this number is there, and may be given one message more.
+pub(crate) fn may_one(seats: &[CountedConsumer], number: u64, limit: u16, given: usize) -> bool
+    requires { NumbersRise (consumers_of seats.now) }
+    ensures { result ≡ may_held limit given (find (is_numbered number) seats.now) }
+{
+    match seat_of(seats, number) {
+        Some(seat) => may_hold(seat, limit, given),
+        None => false,
+    }
+}
+
+/// The consumer of this number, where it is there and may be given one message more.
+pub(crate) fn taker_of(
+    seats: &[CountedConsumer],
+    number: u64,
+    limit: u16,
+    given: usize,
+) -> Option<&Consumer>
+    requires { NumbersRise (consumers_of seats.now) }
+    ensures { option_map (λ k. k.now) result ≡ taker_held limit given (find (is_numbered number) seats.now) }
+{
+    match seat_of(seats, number) {
+        Some(seat) => {
+            if may_hold(seat, limit, given) {
+                Some(&seat.consumer)
+            } else {
+                None
+            }
+        }
+        None => None,
+    }
+}
+
+/// Each is told where its queue stands now.
+pub(crate) fn renumber(seats: &mut Vec<CountedConsumer>, places: &[usize])
+    ensures seats { seats.new.items ≡ map (seat_moved places.now) seats.old.items }
+    ensures len { vec_len seats.new ≡ vec_len seats.old }
+    ensures capacity { vec_capacity seats.new ≡ vec_capacity seats.old }
+{
+    renumber_slice(seats, places);
+}
+
+/// Each of these is told where its queue stands now.
+fn renumber_slice(seats: &mut [CountedConsumer], places: &[usize])
+    ensures { seats.new ≡ map (seat_moved places.now) seats.old }
+{
+    for seat in seats.iter_mut() {
+        seat.consumer.queue = place_now(places, seat.consumer.queue);
+    }
+}

@@ -1,0 +1,26 @@
+//! Connections that run, each with its open channels: whether publishes on one are confirmed, whether a close was sent on it, and what it
+//! has given out.
+//!
+//! A `Channel` is seen as the record that the model keeps of it. `Deliveries` are a channel's delivery tags, what is
+//! outstanding under them, and the consumers with their limits (`specs/Outstanding.antt`). `Links` are seen as a list of the connections beside
+//! their numbers, each with its limit, whether it is paused, and its channels at their numbers (`specs/Links.antt`).
+#![tactic(auto)]
+
+mod channels;
+mod consumers;
+mod deliveries;
+mod link;
+mod links;
+mod names;
+mod pending;
+mod seats;
+mod slots;
+mod spans;
+mod tags;
+
+pub use channels::Channel;
+pub use consumers::{Consumer, CountedConsumer, SeatRefusal};
+pub use deliveries::Deliveries;
+pub use link::Link;
+pub use links::{Links, lent_channels_are_put, moves_are_unseen};
+pub use spans::Span;

@@ -1,0 +1,42 @@
+//! Consumer tags that the server makes.
+
+ghost use Rattle.std.specs.Prelude.{◌≡◌};
+ghost use Rattle.channels.specs.Names.{server_name, FindsName};
+
+use crate::seats::Seats;
+use arrayvec::ArrayString;
+use itoa::Buffer;
+
+/// What is before the number, and the most bytes that a number is written in.
+const ROOM: usize = 49;
+
+/// A consumer tag that the server made of its number.
+#[derive(Drop)]
+pub(crate) struct Name {
+    pub(crate) number: u64,
+    pub(crate) tag: ArrayString<ROOM>,
+}
+
+/// The name of this number.
+fn name_of(number: u64) -> ArrayString<ROOM>
+    ensures { result.bytes ≡ server_name number }
+{
+    let mut digits = Buffer::new();
+    let mut name = ArrayString::new();
+    name.push_str("amq.ctag-");
+    name.push_str(digits.format(number));
+    name
+}
+
+/// The first name from this number on that no consumer has; none where they have all of them. It takes no memory.
+pub(crate) fn next_name(seats: &Seats, from: u64) -> Option<Name>
+    ensures { FindsName seats.now.consumers from result }
+{
+    for number in from..u64::MAX {
+        let tag = name_of(number);
+        if !seats.has(tag.as_bytes()) {
+            return Some(Name { number, tag });
+        }
+    }
+    None
+}

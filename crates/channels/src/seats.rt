@@ -1,0 +1,176 @@
+//! The consumers of a channel, with kept counts of what they were given.
+
+ghost use Rattle.std.specs.Prelude.{◌≡◌};
+
+use crate::consumers::{
+    Consumer, CountedConsumer, consumer_of, count_from, count_in, count_out, given_to_all,
+    is_in_use, may_one, one_if_consumed, renumber, take_out, taker_of,
+};
+use model::{Delivery, Taker};
+use std::alloc::{AllocError, Global};
+use std::marker::Model;
+
+/// Consumers in the order in which they were made. Each has a count of what was given to it and is not settled, and one
+/// more counts what was given to any, cancelled ones too.
+#[derive(Drop)]
+pub(crate) struct Seats {
+    seats: Vec<CountedConsumer>,
+    given: usize,
+}
+
+impl Model for Seats {
+    ghost use Rattle.std.specs.Prelude.{◌-◌, vec_len, vec_capacity};
+    ghost use Rattle.channels.specs.Seats.{Seated, consumers_of, counts_of};
+
+    ghost Value = { Seated };
+
+    ghost view = { λ s. record {
+      consumers = consumers_of s.seats.items;
+      held = counts_of s.seats.items;
+      given = s.given;
+      room = vec_capacity s.seats - vec_len s.seats;
+    } };
+}
+
+impl Seats {
+    ghost use Rattle.std.specs.Prelude.{◌≡◌, ◌+◌, ◌-◌, ◌<◌, ◌≤◌, ◌^◌, ◌++◌, ◌∷◌, [], ℕ, List, length, find, filter, count_by, map};
+    ghost use Rattle.std.specs.Prelude.{not, ◌==◌, option_map, OnOk, OnErr};
+    ghost use Rattle.std.specs.List.{list_any, All};
+    ghost use Rattle.model.specs.Prefetch.{count_to};
+    ghost use Rattle.channels.specs.Outstanding.{taker_of};
+    ghost use Rattle.model.specs.Placed.{waiting};
+    ghost use Rattle.channels.specs.Seats.{SeatsAreCounted, AreParts, NumbersRise, consumers_of, is_named, takes_from};
+    ghost use Rattle.channels.specs.Deliveries.{may_of, taker_among};
+    ghost use Rattle.channels.specs.Moving.{consumer_moved, outstanding_moved};
+    ghost use Rattle.channels.specs.declared.consumers.Consumer.{Consumer as One};
+    ghost use Rattle.model.specs.declared.deliveries.Delivery.{Delivery as Given};
+
+    /// No consumer, and nothing counted. It takes no memory.
+    pub(crate) fn new(alloc: Global) -> Seats
+        ensures consumers { result.consumers ≡ [] }
+        ensures counted { SeatsAreCounted result [] }
+    {
+        Seats {
+            seats: Vec::new(alloc),
+            given: 0,
+        }
+    }
+
+    /// All of them.
+    pub(crate) fn all(&self) -> &[CountedConsumer]
+        ensures { consumers_of result.now ≡ self.now.consumers }
+    {
+        &self.seats
+    }
+
+    /// How many there are.
+    pub(crate) fn len(&self) -> usize
+        ensures { result ≡ length self.now.consumers }
+    {
+        self.seats.len()
+    }
+
+    /// Whether some consumer has this tag.
+    pub(crate) fn has(&self, tag: &[u8]) -> bool
+        ensures { result ≡ list_any (is_named tag.now) self.now.consumers }
+    {
+        is_in_use(&self.seats, tag)
+    }
+
+    /// How many take from the queue at this place.
+    pub(crate) fn count_from(&self, queue: usize) -> usize
+        ensures { result ≡ count_by (takes_from queue) self.now.consumers }
+    {
+        count_from(&self.seats, queue)
+    }
+
+    /// The consumer of this number.
+    pub(crate) fn numbered(&self, number: u64) -> Option<&Consumer>
+        requires { NumbersRise self.now.consumers }
+        ensures { option_map (λ k. k.now) result ≡ find (λ (c : One). c.number == number) self.now.consumers }
+    {
+        consumer_of(&self.seats, number)
+    }
+
+    /// Whether the consumer of this number is there and may be given one message more, under this limit of all.
+    pub(crate) fn may_take(&self, number: u64, limit: u16) -> bool
+        requires { NumbersRise self.now.consumers }
+        ensures { (given : List Given) → SeatsAreCounted self.now given
+            → result ≡ may_of limit given (find (λ (c : One). c.number == number) self.now.consumers) }
+    {
+        may_one(&self.seats, number, limit, self.given)
+    }
+
+    /// The consumer of this number, where it is there and may be given one message more, under this limit of all.
+    pub(crate) fn taker(&self, number: u64, limit: u16) -> Option<&Consumer>
+        requires { NumbersRise self.now.consumers }
+        ensures { (given : List Given) → SeatsAreCounted self.now given
+            → option_map (λ k. k.now) result ≡ taker_among limit given (find (λ (c : One). c.number == number) self.now.consumers) }
+    {
+        taker_of(&self.seats, number, limit, self.given)
+    }
+
+    /// Makes room for one more. Nothing else changes, also where memory is wanting.
+    pub(crate) fn reserve(&mut self) -> Result<(), AllocError>
+        ensures same { self.new ≡ record self.old { room = self.new.room } }
+        ensures kept { self.old.room ≤ self.new.room }
+        ensures room { OnOk result (0 < self.new.room) }
+        ensures full { OnErr result (self.old.room ≡ 0) }
+        ensures err { OnErr result (self.new.room ≡ self.old.room) }
+    {
+        self.seats.reserve(1)
+    }
+
+    /// A consumer more, who has been given so many already.
+    pub(crate) fn push(&mut self, consumer: Consumer, held: usize)
+        requires { 0 < self.old.room }
+        ensures consumers { self.new.consumers ≡ self.old.consumers ++ consumer ∷ [] }
+        ensures room { self.new.room + 1 ≡ self.old.room }
+        ensures counted { (given : List Given) → SeatsAreCounted self.old given
+            → held ≡ count_to taker_of consumer.number given → SeatsAreCounted self.new given }
+    {
+        self.seats.push_reserved(CountedConsumer { consumer, held });
+    }
+
+    /// Takes out the consumers of this tag. What they were given counts on for all.
+    pub(crate) fn take_out(&mut self, tag: &[u8])
+        ensures consumers { self.new.consumers ≡ filter (λ c. not (is_named tag.now c)) self.old.consumers }
+        ensures room { self.old.room ≤ self.new.room }
+        ensures counted { (given : List Given) → SeatsAreCounted self.old given → SeatsAreCounted self.new given }
+    {
+        take_out(&mut self.seats, tag);
+    }
+
+    /// Each queue that stood at a place of the table stands now at the place that it has there. It takes no memory.
+    pub(crate) fn renumber(&mut self, places: &[usize])
+        ensures consumers { self.new.consumers ≡ map (consumer_moved places.now) self.old.consumers }
+        ensures room { self.new.room ≡ self.old.room }
+        ensures counted { (given : List Given) → SeatsAreCounted self.old given → SeatsAreCounted self.new (map (outstanding_moved places.now) given) }
+    {
+        renumber(&mut self.seats, places);
+    }
+
+    /// Counts a message that is given out.
+    pub(crate) fn count_in(&mut self, by: &Taker)
+        requires each { All (λ n. n < 2 ^ 64 - 1) self.old.held }
+        requires all { self.old.given < 2 ^ 64 - 1 }
+        requires rise { NumbersRise self.old.consumers }
+        ensures consumers { self.new.consumers ≡ self.old.consumers }
+        ensures room { self.new.room ≡ self.old.room }
+        ensures counted { (given : List Given) (o : Given) → o.by ≡ by.now → SeatsAreCounted self.old given → SeatsAreCounted self.new (given ++ o ∷ []) }
+    {
+        count_in(&mut self.seats, by);
+        self.given += one_if_consumed(by);
+    }
+
+    /// Counts those no more that are settled now; what was settled before has a place that counts for none.
+    pub(crate) fn count_out(&mut self, gone: &[Delivery])
+        requires { NumbersRise self.old.consumers }
+        ensures consumers { self.new.consumers ≡ self.old.consumers }
+        ensures room { self.new.room ≡ self.old.room }
+        ensures counted { (given left : List Given) → AreParts given (waiting gone.now) left → SeatsAreCounted self.old given → SeatsAreCounted self.new left }
+    {
+        count_out(&mut self.seats, gone);
+        self.given = self.given.saturating_sub(given_to_all(gone));
+    }
+}

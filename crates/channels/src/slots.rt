@@ -1,0 +1,156 @@
+//! Places for the channels of a connection, each at its number, and the channels that stand there.
+
+ghost use Rattle.std.specs.Prelude.{
+  ◌≡◌,
+  ◌+◌,
+  ◌≤◌,
+  ◌^◌,
+  ◌∷◌,
+  ◌++◌,
+  None,
+  Option,
+  Some,
+  false,
+  IsSome,
+  IfSome,
+  IfOk,
+  OnOk,
+  OnErr,
+  replicate,
+  slice_index_or,
+  List,
+  map,
+  min,
+  sum_by,
+  option_map,
+  vec_len,
+};
+ghost use Rattle.channels.specs.Moving.{open_moved};
+ghost use Rattle.channels.specs.LinksMoving.{channels_moved};
+ghost use Rattle.model.specs.Words.{Text as Name};
+ghost use Rattle.model.specs.Broker.{new_channel};
+ghost use Rattle.model.specs.Step.{greatest};
+ghost use Rattle.channels.specs.Open.{open_in, IsTaker, HasNoTaker};
+ghost use Rattle.channels.specs.Links.{IsChannelSet};
+ghost use Rattle.channels.specs.Consumers.{next_number};
+ghost use Rattle.channels.specs.Counting.{consumers_at};
+
+use crate::channels::Channel;
+use crate::consumers::Consumer;
+use std::alloc::{AllocError, Global};
+
+/// Room for the channels 0 to `count`, where all but 0 are open and new.
+pub(crate) fn open_channels(alloc: Global, count: u16) -> Result<Vec<Option<Channel>>, AllocError>
+    ensures { IfOk result (λ channels. (names : List Name) → map (option_map (open_in names)) channels.items ≡ None ∷ replicate count (Some new_channel)) }
+{
+    let mut channels = Vec::new(alloc);
+    channels.reserve(count as usize + 1)?;
+    channels.push_reserved(None);
+    for number in 0..count {
+        channels.push_reserved(Some(Channel::new(alloc)));
+    }
+    Ok(channels)
+}
+
+/// There are places for so many channels more, which are not open. Where memory is wanting, nothing has changed.
+fn grow(channels: &mut Vec<Option<Channel>>, more: usize) -> Result<(), AllocError>
+    ensures ok { OnOk result (channels.new.items ≡ channels.old.items ++ replicate more None) }
+    ensures err { OnErr result (channels.new.items ≡ channels.old.items) }
+{
+    channels.reserve(more)?;
+    for _ in 0..more {
+        channels.push_reserved(None);
+    }
+    Ok(())
+}
+
+/// This stands at the channel of this number from now on, where none may have been open yet. Where memory is wanting, nothing
+/// has changed.
+pub(crate) fn open_at(
+    channels: &mut Vec<Option<Channel>>,
+    number: u16,
+    channel: Channel,
+) -> Result<(), AllocError>
+    ensures ok { OnOk result (IsChannelSet channels.old.items number (Some channel) channels.new.items) }
+    ensures err { OnErr result (channels.new.items ≡ channels.old.items) }
+    ensures few { vec_len channels.old ≤ 2 ^ 16 → vec_len channels.new ≤ 2 ^ 16 }
+{
+    let at = number as usize;
+    let more = (at + 1).saturating_sub(channels.len());
+    grow(channels, more)?;
+    channels[at] = Some(channel);
+    Ok(())
+}
+
+/// This stands at the channel of this number from now on.
+pub(crate) fn put_at(channels: &mut [Option<Channel>], number: u16, channel: Option<Channel>)
+    requires { IsSome (slice_index_or channels.old number None) }
+    ensures { IsChannelSet channels.old number channel channels.new }
+{
+    let at = number as usize;
+    if at < channels.len() {
+        channels[at] = channel;
+    }
+}
+
+/// How many consumers on this channel take from the queue at this place.
+fn consumers_in(slot: &Option<Channel>, queue: usize) -> usize
+    ensures { result ≡ consumers_at queue slot.now }
+{
+    match slot {
+        Some(channel) => channel.consumers_from(queue),
+        None => 0,
+    }
+}
+
+/// The same of all these channels, at most the greatest number.
+pub(crate) fn count_consumers(channels: &[Option<Channel>], queue: usize) -> usize
+    ensures { result ≡ min (sum_by (consumers_at queue) channels.now) greatest }
+{
+    let mut count: usize = 0;
+    for slot in channels {
+        count = count.saturating_add(consumers_in(slot, queue));
+    }
+    count
+}
+
+/// The number of the next consumer, where close-ok is not awaited on the channel.
+pub(crate) fn number_of(channel: &Channel) -> Option<u64>
+    ensures { result ≡ next_number (Some channel.now) }
+{
+    if channel.is_closing() {
+        None
+    } else {
+        Some(channel.next_number())
+    }
+}
+
+/// The consumer of this number, exactly where close-ok is not awaited on the channel and it may be given a message now.
+pub(crate) fn taker_of(channel: &Channel, number: u64) -> Option<&Consumer>
+    ensures some { IfSome result (λ k. (channel.now.is_closing ≡ false) × IsTaker channel.now number k.now) }
+    ensures none { result ≡ None → channel.now.is_closing ≡ false → HasNoTaker channel.now number }
+{
+    if channel.is_closing() {
+        None
+    } else {
+        channel.taker(number)
+    }
+}
+
+/// The channel here is told where queues stand now.
+fn renumber_in(slot: &mut Option<Channel>, places: &[usize])
+    ensures { slot.new ≡ option_map (open_moved places.now) slot.old }
+{
+    if let Some(channel) = slot {
+        channel.renumber(places);
+    }
+}
+
+/// Each channel is told where queues stand now.
+pub(crate) fn renumber_each(channels: &mut [Option<Channel>], places: &[usize])
+    ensures { channels.new ≡ channels_moved places.now channels.old }
+{
+    for slot in channels.iter_mut() {
+        renumber_in(slot, places);
+    }
+}

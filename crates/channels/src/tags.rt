@@ -1,0 +1,271 @@
+//! Which of the outstanding deliveries a tag settles.
+
+ghost use Rattle.std.specs.Prelude.{◌≡◌, ◌+◌, ◌<◌, ◌≤◌, ◌++◌, ℕ, IfSome, IfNone, option_map, true, false};
+ghost use Rattle.std.specs.Prelude.{length, take, drop, set, get_or, count_by, vec_len, vec_capacity};
+ghost use Rattle.std.specs.List.{list_any};
+ghost use Rattle.model.specs.Settling.{has_tag, settled, kept, Rises};
+ghost use Rattle.channels.specs.Outstanding.{tag_of, given_tag, marked, IsTagAt, AreInOrder};
+ghost use Rattle.channels.specs.Spans.{settled_by, TellsSpan};
+ghost use Rattle.model.specs.Placed.{is_waiting, waiting};
+
+use crate::spans::Span;
+use model::Delivery;
+
+/// The tag under which it was given out, also where it was settled.
+fn given_tag(one: &Delivery) -> u64
+    ensures { result ≡ given_tag one.now }
+{
+    if one.tag == 0 { one.arrival } else { one.tag }
+}
+
+/// The tag under which the one at this place was given out.
+fn tag_at(given: &[Delivery], place: usize) -> u64
+    requires { place < length given.now }
+    ensures { (d : Delivery) → given_tag (get_or given.now place d) ≡ result }
+{
+    given_tag(&given[place])
+}
+
+/// How many tags are lower, where tags rise.
+fn lower(given: &[Delivery], tag: u64) -> usize
+    requires { Rises given_tag given.now }
+    ensures within { result ≤ length given.now }
+    ensures below { (k : ℕ) (d : Delivery) → k < result → given_tag (get_or given.now k d) < tag }
+    ensures above { (k : ℕ) (d : Delivery) → result ≤ k → k < length given.now → tag ≤ given_tag (get_or given.now k d) }
+{
+    let mut low = 0;
+    let mut high = given.len();
+    while low < high {
+        let middle = low + (high - low) / 2;
+        if tag_at(given, middle) < tag {
+            low = middle + 1;
+        } else {
+            high = middle;
+        }
+    }
+    low
+}
+
+/// Whether this tag waits at this place.
+fn is_at(given: &[Delivery], place: usize, tag: u64) -> bool
+    ensures yes { result ≡ true → IsTagAt given.now place tag }
+    ensures no { result ≡ false → IsTagAt given.now place tag → ⊥ }
+{
+    tag != 0 && place < given.len() && given[place].tag == tag
+}
+
+/// The place of a tag that waits, where tags rise.
+fn search(given: &[Delivery], tag: u64) -> Option<usize>
+    requires { Rises given_tag given.now }
+    ensures there { IfSome result (λ i. IsTagAt given.now i tag) }
+    ensures none { IfNone result (list_any (has_tag tag_of tag) (waiting given.now) ≡ false) }
+{
+    let i = lower(given, tag);
+    if is_at(given, i, tag) {
+        return Some(i);
+    }
+    None
+}
+
+/// The same: it is looked for near this place first.
+fn place_of(given: &[Delivery], tag: u64, near: usize) -> Option<usize>
+    requires { Rises given_tag given.now }
+    ensures there { IfSome result (λ i. IsTagAt given.now i tag) }
+    ensures none { IfNone result (list_any (has_tag tag_of tag) (waiting given.now) ≡ false) }
+{
+    if is_at(given, near, tag) {
+        return Some(near);
+    }
+    search(given, tag)
+}
+
+/// What a tag settles, and where; none where it is refused. It is looked for at the front first.
+pub(crate) fn span_of(given: &[Delivery], tag: u64, multiple: bool) -> Option<Span>
+    requires { Rises given_tag given.now }
+    ensures { TellsSpan tag multiple (waiting given.now) result }
+{
+    if multiple && tag == 0 {
+        return Some(Span {
+            tag,
+            multiple,
+            place: 0,
+        });
+    }
+    match place_of(given, tag, 0) {
+        Some(place) => Some(Span {
+            tag,
+            multiple,
+            place,
+        }),
+        None => None,
+    }
+}
+
+/// The run of places that a span settles.
+fn run_of(given: &[Delivery], span: Span) -> Option<(usize, usize)>
+    requires { Rises given_tag given.now }
+    ensures within { IfSome result (λ r. (r.0 ≤ r.1) × (r.1 ≤ length given.now)) }
+    ensures run { option_map (λ r. waiting (drop r.0 (take r.1 given.now))) result ≡ settled tag_of span.tag span.multiple (waiting given.now) }
+    ensures next { IfSome result (λ r. (r.0 ≡ 0 → ⊥) → r.1 ≡ r.0 + 1) }
+    ensures there { IfSome result (λ r. (r.0 ≡ 0 → ⊥) → IsTagAt given.now r.0 span.tag) }
+    ensures rest { IfSome result (λ r. waiting (take r.0 given.now) ++ waiting (drop r.1 given.now) ≡ kept tag_of span.tag span.multiple (waiting given.now)) }
+    ensures none { IfNone result (kept tag_of span.tag span.multiple (waiting given.now) ≡ waiting given.now) }
+{
+    if span.multiple && span.tag == 0 {
+        return Some((0, given.len()));
+    }
+    match place_of(given, span.tag, span.place) {
+        None => None,
+        Some(i) => {
+            if span.multiple {
+                Some((0, i + 1))
+            } else {
+                Some((i, i + 1))
+            }
+        }
+    }
+}
+
+/// What a span settles, with the places between of what was settled before; nothing where its tag is refused.
+pub(crate) fn settled_of(given: &[Delivery], span: Span) -> &[Delivery]
+    requires { Rises given_tag given.now }
+    ensures { waiting result.now ≡ settled_by span (waiting given.now) }
+{
+    match run_of(given, span) {
+        Some((from, to)) => &given[..to][from..],
+        None => &[],
+    }
+}
+
+/// How many of these wait to be settled.
+fn count_waiting(given: &[Delivery]) -> usize
+    ensures { result ≡ count_by is_waiting given.now }
+{
+    given.iter().filter(|one| one.tag != 0).count()
+}
+
+/// How many a span settles of those behind `start`.
+pub(crate) fn count_settled(items: &Vec<Delivery>, start: usize, span: Span) -> usize
+    requires start { start ≤ vec_len items.now }
+    requires rises { Rises given_tag (drop start items.now.items) }
+    ensures { result + length (kept tag_of span.tag span.multiple (waiting (drop start items.now.items))) ≡ length (waiting (drop start items.now.items)) }
+{
+    count_waiting(settled_of(behind(items, start), span))
+}
+
+/// The place of this one once it is settled.
+fn marked(one: &Delivery) -> Delivery
+    ensures { result ≡ marked one.now }
+{
+    Delivery {
+        tag: 0,
+        queue: one.queue,
+        arrival: one.tag,
+        by: one.by,
+    }
+}
+
+/// The one at this place is settled.
+fn mark_in(items: &mut [Delivery], place: usize)
+    requires { place < length items.old }
+    ensures { (d : Delivery) → items.new ≡ set items.old place (marked (get_or items.old place d)) }
+{
+    let settled = marked(&items[place]);
+    items[place] = settled;
+}
+
+/// The one at this place is settled.
+fn mark(items: &mut Vec<Delivery>, place: usize)
+    requires { place < vec_len items.old }
+    ensures items { (d : Delivery) → items.new.items ≡ set items.old.items place (marked (get_or items.old.items place d)) }
+    ensures len { vec_len items.new ≡ vec_len items.old }
+    ensures capacity { vec_capacity items.new ≡ vec_capacity items.old }
+{
+    mark_in(items, place);
+}
+
+/// Those behind the start.
+pub(crate) fn behind(items: &Vec<Delivery>, start: usize) -> &[Delivery]
+    requires { start ≤ vec_len items.now }
+    ensures { result.now ≡ drop start items.now.items }
+{
+    &items[start..]
+}
+
+/// Takes out what a span settles of those behind `start`: the front moves over it, or its place is marked. Tells where the rest
+/// starts.
+pub(crate) fn forget_in(items: &mut Vec<Delivery>, start: usize, span: Span) -> usize
+    requires start { start ≤ vec_len items.old }
+    requires rises { Rises given_tag (drop start items.old.items) }
+    ensures start { result ≤ vec_len items.new }
+    ensures order { (last : ℕ) → AreInOrder last (drop start items.old.items) → AreInOrder last (drop result items.new.items) }
+    ensures kept { waiting (drop result items.new.items) ≡ kept tag_of span.tag span.multiple (waiting (drop start items.old.items)) }
+    ensures len { vec_len items.new ≡ vec_len items.old }
+    ensures capacity { vec_capacity items.new ≡ vec_capacity items.old }
+{
+    match run_of(behind(items, start), span) {
+        None => start,
+        Some((from, to)) => {
+            if from == 0 {
+                start + to
+            } else {
+                mark(items, start + from);
+                start
+            }
+        }
+    }
+}
+
+/// What is behind `start` and waits stands at the front, and nothing else.
+fn close_up(items: &mut Vec<Delivery>, start: usize)
+    requires { start ≤ vec_len items.old }
+    ensures items { items.new.items ≡ waiting (drop start items.old.items) }
+    ensures capacity { vec_capacity items.new ≡ vec_capacity items.old }
+{
+    drop_front(items, start);
+    items.retain(|one| one.tag != 0);
+}
+
+/// Takes the front away.
+fn drop_front(items: &mut Vec<Delivery>, n: usize)
+    requires { n ≤ vec_len items.old }
+    ensures items { items.new.items ≡ drop n items.old.items }
+    ensures len { vec_len items.new + n ≡ vec_len items.old }
+    ensures capacity { vec_capacity items.new ≡ vec_capacity items.old }
+{
+    items.drain(..n);
+}
+
+/// Closes up what is kept, where that is wanted. Tells where it starts.
+pub(crate) fn close_if(items: &mut Vec<Delivery>, start: usize, is_wanted: bool) -> usize
+    requires start { start ≤ vec_len items.old }
+    ensures start { result ≤ vec_len items.new }
+    ensures order { (last : ℕ) → AreInOrder last (drop start items.old.items) → AreInOrder last (drop result items.new.items) }
+    ensures waiting { waiting (drop result items.new.items) ≡ waiting (drop start items.old.items) }
+    ensures fewer { vec_len items.new ≤ vec_len items.old }
+    ensures closed { is_wanted ≡ true → vec_len items.new ≡ length (waiting (drop start items.old.items)) }
+    ensures capacity { vec_capacity items.new ≡ vec_capacity items.old }
+{
+    if !is_wanted {
+        return start;
+    }
+    close_up(items, start);
+    0
+}
+
+/// Makes a place for one more by closing up, where there is none and not all wait. Tells where they start.
+pub(crate) fn make_place(items: &mut Vec<Delivery>, start: usize) -> usize
+    requires start { start ≤ vec_len items.old }
+    requires room { length (waiting (drop start items.old.items)) < vec_capacity items.old }
+    ensures start { result ≤ vec_len items.new }
+    ensures order { (last : ℕ) → AreInOrder last (drop start items.old.items) → AreInOrder last (drop result items.new.items) }
+    ensures waiting { waiting (drop result items.new.items) ≡ waiting (drop start items.old.items) }
+    ensures fewer { vec_len items.new ≤ vec_len items.old }
+    ensures place { vec_len items.new < vec_capacity items.new }
+    ensures capacity { vec_capacity items.new ≡ vec_capacity items.old }
+{
+    if items.len() < items.capacity() {
+        return start;
+    }
+    close_if(items, start, true)
+}

@@ -1,0 +1,70 @@
+-- What becomes of a command: it is performed on its channel alone, or left to be done.
+use Rattle.std.specs.Prelude.{IfOk}
+use Rattle.std.proofs.Common.{◌≡◌, ℕ, Option, Some, Result, Ok, Err, refl, sym, subst}
+use Rattle.model.specs.Topology.{Topology}
+use Rattle.model.specs.Broker.{Broker, Channel}
+use Rattle.model.specs.Step as step
+use Rattle.model.specs.Step.{Performs}
+use Rattle.model.specs.declared.contents.Content.{Content}
+use Rattle.model.specs.declared.methods.Method.{Method}
+use Rattle.commands.specs.Judged.{HasChannel}
+use Rattle.commands.specs.declared.refusals.Refusal.{Refusal}
+use Rattle.commands.specs.declared.refusals.Refusal.TheVariants as refusal_is
+use Rattle.commands.specs.declared.refusals.Stop.{Stop}
+use Rattle.commands.specs.declared.refusals.Stop.TheVariants.{Refused, Memory}
+use Rattle.replies.specs.Sent.{AreAddressed}
+use Rattle.replies.specs.declared.steps.Step.{Step}
+use Rattle.commands.specs.Commands.{ComesTo, Answers, Asks, UnlessPerformed, IsAddressedBy, WantsNone, done_of, left_of}
+use Rattle.commands.specs.declared.commands.asking.Left as asked
+use Rattle.commands.specs.declared.commands.Done.{Done}
+
+-- any refusal can be made on an open channel
+pub has_open : (r : Refusal) (ch : Channel) → HasChannel r (Some ch)
+has_open refusal_is.Ignored ch = tt
+has_open (refusal_is.Channel code) ch = refl
+has_open (refusal_is.Connection code) ch = tt
+
+pub performed_answers : (against : Option step.Refusal) (t : Topology) (old : Broker) (c h : ℕ) (ch : Channel) (m : Method) (content : Option Content) (new : Broker) (r : Result Step Stop) (d : Result Done Stop) → d ≡ done_of r
+    → ComesTo against (λ s. Performs t old c h ch m content s.sends.items s.notes.items new) r → Answers against t old c h (Some ch) m content d new
+performed_answers against t old c h ch m content new r d e comes = subst (λ (x : Result Done Stop). Answers against t old c h (Some ch) m content x new) (sym e) (go r comes)
+  where
+    go : (x : Result Step Stop) → ComesTo against (λ s. Performs t old c h ch m content s.sends.items s.notes.items new) x → Answers against t old c h (Some ch) m content (done_of x) new
+    go (Ok s) p = p
+    go (Err (Refused stop)) p = (p, has_open stop ch)
+    go (Err Memory) p = p
+
+pub performed_addressed : (c : ℕ) (X : Type 0) (r : Result Step Stop) (d : Result Done Stop) → d ≡ done_of r → X → IfOk r (λ s. X → AreAddressed c s.sends.items) → IsAddressedBy c d
+performed_addressed c X r d e x own = subst (IsAddressedBy c) (sym e) (go r own)
+  where
+    go : (y : Result Step Stop) → IfOk y (λ s. X → AreAddressed c s.sends.items) → IsAddressedBy c (done_of y)
+    go (Ok s) f = f x
+    go (Err stop) f = tt
+
+pub left_answers : (against : Option step.Refusal) (t : Topology) (old : Broker) (c h : ℕ) (ch : Option Channel) (m : Method) (content : Option Content) (new : Broker) (r : Result asked.Left Refusal) (d : Result Done Stop) → d ≡ left_of r
+    → Asks t ch m against r → Answers against t old c h ch m content d new
+left_answers against t old c h ch m content new r d e asks = subst (λ (x : Result Done Stop). Answers against t old c h ch m content x new) (sym e) (go r asks)
+  where
+    go : (x : Result asked.Left Refusal) → Asks t ch m against x → Answers against t old c h ch m content (left_of x) new
+    go (Ok l) p = p
+    go (Err refusal) p = p
+
+pub left_kept : (X : Type 0) (r : Result asked.Left Refusal) (d : Result Done Stop) → d ≡ left_of r → X → UnlessPerformed d X
+left_kept X r d e x = subst (λ (y : Result Done Stop). UnlessPerformed y X) (sym e) (go r)
+  where
+    go : (y : Result asked.Left Refusal) → UnlessPerformed (left_of y) X
+    go (Ok l) = x
+    go (Err refusal) = x
+
+pub left_addressed : (c : ℕ) (r : Result asked.Left Refusal) (d : Result Done Stop) → d ≡ left_of r → IsAddressedBy c d
+left_addressed c r d e = subst (IsAddressedBy c) (sym e) (go r)
+  where
+    go : (y : Result asked.Left Refusal) → IsAddressedBy c (left_of y)
+    go (Ok l) = tt
+    go (Err refusal) = tt
+
+pub left_quiet : (r : Result asked.Left Refusal) (d : Result Done Stop) → d ≡ left_of r → WantsNone d
+left_quiet r d e = subst (λ (y : Result Done Stop). WantsNone y) (sym e) (go r)
+  where
+    go : (y : Result asked.Left Refusal) → WantsNone (left_of y)
+    go (Ok l) = tt
+    go (Err refusal) = tt

@@ -1,0 +1,78 @@
+-- Consumers that are made and cancelled, as the model has them.
+use Rattle.std.proofs.Common.{◌≡◌, ◌∙◌, ◌<◌, ℕ, List, [], ◌∷◌, Bool, true, false, Option, Some, None, Err, length, refl, sym, ap, if◌then◌else◌}
+use Rattle.std.specs.Prelude.{is_some, ◌==◌, ◌||◌}
+use Rattle.std.proofs.lemmas.Bool.{leb-false, false≢true}
+use Rattle.model.specs.Words.{Text}
+use Rattle.model.specs.Topology.{Topology, queue_names}
+use Rattle.model.specs.Broker.{Channel}
+use Rattle.model.specs.Consuming.{next_free, tag_for, is_tag_wanting, with_consumer, without_consumer}
+use Rattle.model.specs.Step.{Refusal, Of_connection, Consumes, Cancels, greatest, or_else, refusal_in, refusal_of_asking, refusal_of_consume, refusal_of_tag, refusal_of_many, refusal_of_numbers, refusal_of_seat, consume_sends, cancel_sends}
+use Rattle.model.specs.declared.events.Send.{Send}
+use Rattle.model.specs.declared.methods.Cancel.{Cancel}
+use Rattle.model.specs.declared.methods.Consume.{Consume}
+use Rattle.model.specs.declared.notes.Note.{Note}
+use Rattle.channels.specs.Open.{Open, open_in, IsConsumerSeated, IsUnseated}
+use Rattle.channels.specs.declared.consumers.SeatRefusal.{SeatRefusal}
+use Rattle.channels.specs.declared.consumers.SeatRefusal.TheVariants.{InUse, TooMany, Spent, Memory as WantsMemory}
+use Rattle.depot.specs.Store.{Store}
+use Rattle.commands.specs.Judged.{IsQueuePlace, IsStoppedBy, stop_of}
+use Rattle.commands.specs.declared.refusals.Stop.{Stop}
+use Rattle.commands.specs.declared.refusals.Stop.TheVariants.{Refused, Memory}
+use Rattle.replies.specs.declared.steps.Step.{Step}
+use Rattle.commands.specs.Commands.{Side, Turns, ComesTo, seen, state_of}
+use Rattle.commands.proofs.Turning.{does_here}
+use Rattle.laws.proofs.Named.{server_short}
+
+-- ---- its tag
+
+second_none : (a b : Option Refusal) → or_else a b ≡ None → b ≡ None
+second_none None b e = e
+second_none (Some r) b e = absurd (false≢true (sym (ap is_some e)))
+
+none_wanting : (a b : Bool) → (if a || b then Some (Of_connection 541) else None) ≡ None → b ≡ false
+none_wanting true b e = absurd (false≢true (sym (ap is_some e)))
+none_wanting false true e = absurd (false≢true (sym (ap is_some e)))
+none_wanting false false e = refl
+
+-- the tag under which a consumer is made is short where the one that is given is
+pub tag_short : (ch : Channel) (m : Consume) → refusal_of_seat ch m ≡ None → length m.consumer_tag < 256 → length (tag_for ch m.consumer_tag) < 256
+tag_short ch m free short = go m.consumer_tag (none_wanting (ch.next_number == greatest) (is_tag_wanting ch m.consumer_tag) (second_none (refusal_of_many ch) (refusal_of_numbers ch m.consumer_tag) (second_none (refusal_of_tag ch m.consumer_tag) (or_else (refusal_of_many ch) (refusal_of_numbers ch m.consumer_tag)) free))) short
+  where
+    go : (given : Text) → is_tag_wanting ch given ≡ false → length given < 256 → length (tag_for ch given) < 256
+    go [] left lt = server_short (next_free ch) (leb-false 18446744073709551615 (next_free ch) left)
+    go (b ∷ bs) left lt = lt
+
+-- ---- what stands against it
+
+-- where nothing stands against a consume, nothing does against its seat
+pub seat_free : (t : Topology) (ch : Channel) (m : Consume) → refusal_of_consume t ch m ≡ None → refusal_of_seat ch m ≡ None
+seat_free t ch m free = second_none (refusal_of_asking m) (refusal_of_seat ch m) (second_none (refusal_in t m.queue) (or_else (refusal_of_asking m) (refusal_of_seat ch m)) free)
+
+-- what was stopped comes to that
+pub stopped : (A : Type 0) (against : Option Refusal) (Does : Step → Type 0) (stop : Stop) → IsStoppedBy {A = A} against (Err stop) → ComesTo against Does (Err stop)
+stopped A against Does (Refused r) is = is
+stopped A against Does Memory is = is
+
+-- and a consumer that was not made, though nothing stood against it, wanted memory
+pub unseated : (t : Topology) (names : List Text) (ch : Open) (m : Consume) (why : SeatRefusal) (Does : Step → Type 0) → refusal_of_consume t (open_in names ch) m ≡ None → IsUnseated ch m why
+    → ComesTo (refusal_of_consume t (open_in names ch) m) Does (Err (stop_of why))
+unseated t names ch m InUse Does free is = absurd (false≢true (ap is_some (sym (seat_free t (open_in names ch) m free) ∙ is names)))
+unseated t names ch m TooMany Does free is = absurd (false≢true (ap is_some (sym (seat_free t (open_in names ch) m free) ∙ is names)))
+unseated t names ch m Spent Does free is = absurd (false≢true (ap is_some (sym (seat_free t (open_in names ch) m free) ∙ is names)))
+unseated t names ch m WantsMemory Does free is = free
+
+-- ---- what is done
+
+-- a consumer that was made on the channel, where no queue changed, is a consume
+pub consumed : (c h place : ℕ) (s : Store) (ch made : Open) (m : Consume) (tag : Text) (sends : List Send) (notes : List Note) (old new : Side) → IsQueuePlace s.topology m.queue place → IsConsumerSeated ch place m tag made
+    → sends ≡ consume_sends c h m.no_wait tag → notes ≡ [] → Turns c h (seen s ch) (seen s made) old new → Consumes (state_of s old) c h (seen s ch) m sends notes (state_of s new)
+consumed c h place s ch made m tag sends notes old new at seated sent noted turns =
+    let names = queue_names s.topology.queues in
+    does_here c h s (seen s ch) (seen s made) (with_consumer (seen s ch) m) sends (consume_sends c h m.no_wait (tag_for (seen s ch) m.consumer_tag)) notes old new
+    (sent ∙ ap (consume_sends c h m.no_wait) (seated.named names)) noted (seated.made names at.named) turns
+
+-- and so is one that is the channel's no more a cancel
+pub cancelled : (c h : ℕ) (s : Store) (ch left : Open) (m : Cancel) (sends : List Send) (notes : List Note) (old new : Side) → sends ≡ cancel_sends c h m.no_wait m.consumer_tag → notes ≡ []
+    → seen s left ≡ without_consumer (seen s ch) m.consumer_tag → Turns c h (seen s ch) (seen s left) old new → Cancels (state_of s old) c h (seen s ch) m sends notes (state_of s new)
+cancelled c h s ch left m sends notes old new sent noted same turns =
+    does_here c h s (seen s ch) (seen s left) (without_consumer (seen s ch) m.consumer_tag) sends (cancel_sends c h m.no_wait m.consumer_tag) notes old new sent noted same turns

@@ -1,0 +1,25 @@
+pub mod Consuming
+mod Declaring
+mod Delivered
+mod Freed
+mod Getting
+mod GivenOut
+mod Outcomes
+pub mod Picking
+pub mod Placing
+mod Publishing
+mod Purging
+mod Staying
+pub mod Reloading
+mod Settling
+mod Lending
+mod Answering
+mod Commanding
+mod Standing
+pub mod Stepping
+mod Turning
+mod Exchanges
+pub mod Judging
+mod Settlements
+mod Consumes
+pub mod Settled

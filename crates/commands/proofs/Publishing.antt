@@ -1,0 +1,74 @@
+-- What a publish leaves of its channel and of the queues.
+use Rattle.std.proofs.Common.{◌≡◌, ◌+◌, ◌++◌, ◌∷◌, [], ◌∙◌, ℕ, List, length, Bool, true, false, ◌&&◌, Option, Some, None, refl, ap, if◌then◌else◌}
+use Rattle.std.specs.Prelude.{is_some, IfSome}
+use Rattle.model.specs.Topology.{Topology, queue_names}
+use Rattle.model.specs.Broker.{Channel, with_pair}
+use Rattle.model.specs.Sending.{IsAddressed}
+use Rattle.model.specs.Step.{IsPublish, next_of, confirm_sends, confirm_notes, answer_of, return_of, returned_notes, entry_notes, is_none, is_some_full}
+use Rattle.model.specs.declared.contents.Content.{Content}
+use Rattle.model.specs.declared.methods.Publish.{Publish}
+use Rattle.model.specs.declared.events.Send.{Send}
+use Rattle.model.specs.declared.notes.Note.{Note}
+use Rattle.model.specs.declared.notes.Note.TheVariants.{Published}
+use Rattle.model.specs.declared.notes.Way.TheVariants as way
+use Rattle.channels.specs.Open.{Open, open_in}
+use Rattle.depot.specs.Store.{Store, entries_named}
+use Rattle.depot.specs.Publishing.{Publishes}
+use Rattle.depot.specs.declared.depots.Routed.{Routed}
+use Rattle.replies.specs.Sent.{AreAddressed, return_if, sent_back}
+use Rattle.commands.specs.Commands.{Side, Turns, seen, state_of}
+
+-- what goes back of a publish goes back where it is mandatory and routed nowhere
+back_sent : (man none : Bool) (s : Send) → sent_back none (if man then Some s else None) ≡ (if man && none then s ∷ [] else [])
+back_sent true true s = refl
+back_sent true false s = refl
+back_sent false true s = refl
+back_sent false false s = refl
+
+-- and that is noted
+back_noted : (man none : Bool) (s : Send) → (none && is_some (if man then Some s else None)) ≡ (man && none)
+back_noted true true s = refl
+back_noted true false s = refl
+back_noted false true s = refl
+back_noted false false s = refl
+
+-- a channel that counted a publish is seen so
+counted_seen : (s s' : Store) (ch ch' : Open) → s'.topology ≡ s.topology → ch' ≡ record ch { confirm = next_of ch.confirm } → seen s' ch' ≡ record (seen s ch) { confirm = next_of ch.confirm }
+counted_seen s s' ch ch' same e = ap (λ (t : Topology). open_in (queue_names t.queues) ch') same ∙ ap (open_in (queue_names s.topology.queues)) e
+
+-- a publish of the depot, counted on the channel, sent back and confirmed, is one of the broker
+pub publish_here : (c h : ℕ) (s s' : Store) (ch ch' : Open) (p : Publish) (content : Content) (noted : List Note) (routed : Routed) (old new : Side)
+    → Publishes s c h p content (next_of ch.confirm) noted routed s' → ch' ≡ record ch { confirm = next_of ch.confirm } → Turns c h (seen s ch) (seen s' ch') old new
+    → IsPublish s.topology (state_of s old) c h (seen s ch) p content
+    (sent_back routed.is_none (return_if c h p content) ++ confirm_sends c h (next_of ch.confirm) (answer_of routed.is_some_full))
+    ((noted ++ returned_notes (s.published + 1) (routed.is_none && is_some (return_if c h p content))) ++ confirm_notes (s.published + 1) (next_of ch.confirm) (answer_of routed.is_some_full)) (state_of s' new)
+publish_here c h s s' ch ch' p content noted routed old new made e turns =
+    let n = s.published + 1 in
+    let entries = entries_named s in
+    let back : Option Send = return_if c h p content in
+    let full = is_some_full s.topology entries content made.targets in
+    let none = is_none made.targets in
+    let front : List Note = Published n c h p.exchange p.routing_key (next_of ch.confirm) ∷ entry_notes s.topology entries (length content.body) n way.Publish made.targets in
+    record {
+      targets = made.targets;
+      routed = made.picked;
+      noted = ap (λ (z : List Note). (z ++ returned_notes n (routed.is_none && is_some back)) ++ confirm_notes n (next_of ch.confirm) (answer_of routed.is_some_full)) made.notes
+          ∙ ap (λ (f : Bool). (front ++ returned_notes n (routed.is_none && is_some back)) ++ confirm_notes n (next_of ch.confirm) (answer_of f)) made.full
+          ∙ ap (λ (b : Bool). (front ++ returned_notes n (b && is_some back)) ++ confirm_notes n (next_of ch.confirm) (answer_of full)) made.none
+          ∙ ap (λ (b : Bool). (front ++ returned_notes n b) ++ confirm_notes n (next_of ch.confirm) (answer_of full)) (back_noted p.mandatory none (return_of c h p content));
+      sent = ap (λ (f : Bool). sent_back routed.is_none back ++ confirm_sends c h (next_of ch.confirm) (answer_of f)) made.full
+          ∙ ap (λ (b : Bool). sent_back b back ++ confirm_sends c h (next_of ch.confirm) (answer_of full)) made.none
+          ∙ ap (λ (z : List Send). z ++ confirm_sends c h (next_of ch.confirm) (answer_of full)) (back_sent p.mandatory none (return_of c h p content));
+      left = record {
+        counted = made.counted;
+        queues = made.queues;
+        connections = turns.connections;
+        channels = λ d k. turns.channels d k ∙ ap (λ (x : Channel). with_pair old.channel c h (Some x) d k) (counted_seen s s' ch ch' made.topology e);
+      };
+    }
+
+-- what goes back has an address where all of it has, and what follows it keeps its own
+pub back_own : (c : ℕ) (none : Bool) (back : Option Send) (more : List Send) → IfSome back (λ s. IsAddressed c s) → AreAddressed c more → AreAddressed c (sent_back none back ++ more)
+back_own c false back more own rest = rest
+back_own c true None more own rest = rest
+back_own c true (Some s) more own rest = (own, rest)

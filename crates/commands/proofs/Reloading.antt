@@ -1,0 +1,152 @@
+-- Another topology is in force: what it leaves of queues and channels, by names.
+use Rattle.std.proofs.Common.{◌≡◌, ◌∙◌, ◌<◌, ℕ, zero, suc, List, [], ◌∷◌, length, get_or, map, Option, Some, None, inl, inr, refl, sym, ap, subst, arith}
+use Rattle.std.specs.Prelude.{option_map}
+use Rattle.std.specs.List.{All, AllByRecursion}
+use Rattle.std.proofs.lemmas.Option.{same_Some}
+use Rattle.model.specs.Words.{Text}
+use Rattle.model.specs.Topology.{Topology, IsIn, AreApart, queue_names}
+use Rattle.model.specs.Agreement.{IsAgreed}
+use Rattle.model.specs.Reloading.{IsInUse, by_entry, by_consumer, NoneIsStranded, stood_now, with_all_stood}
+use Rattle.model.specs.Step.{Is}
+use Rattle.model.specs.declared.messages.Entry.{Entry}
+use Rattle.channels.specs.Open.{Open, open_in, consumer_in}
+use Rattle.model.specs.Placed.{outstanding_in}
+use Rattle.channels.specs.Moving.{place_now, outstanding_moved, consumer_moved, open_moved, IsNamedAlike, AreNamedAlike}
+use Rattle.model.specs.declared.deliveries.Delivery.{Delivery}
+use Rattle.channels.specs.declared.consumers.Consumer.{Consumer}
+use Rattle.depot.specs.Store.{entries_named}
+use Rattle.depot.specs.Moving.{stays, goes, AreMoved, GoneAreEmpty}
+use Rattle.depot.proofs.Naming.{names-length, is_in}
+use Rattle.channels.specs.Links.{Linked, channel_of, connection_of, seen_in}
+use Rattle.channels.specs.LinksMoving.{links_moved, MovesAreUnseen}
+use Rattle.channels.specs.Placed.{IsPlaced}
+use Rattle.channels.proofs.LinksMoving.{moved_channel, moved_connection}
+use Rattle.channels.proofs.Setting.{same_default}
+use Rattle.commands.specs.State.{Kept, ArePlaced, broker_of, topology_kept, names_of}
+
+-- ---- each of a list
+
+all_in : {X : Type 0} (P : X → Type 0) (x : X) (xs : List X) → All P xs → IsIn x xs → P x
+all_in P x [] all i = absurd i
+all_in P x (y ∷ ys) all (inl e) = subst P (sym e) (all zero y (omega arith))
+all_in P x (y ∷ ys) all (inr i) = all_in P x ys (λ k d lt. all (suc k) d (omega (arith, lt))) i
+
+each_of : {X : Type 0} (P : X → Type 0) (xs : List X) → ((x : X) → IsIn x xs → P x) → AllByRecursion P xs
+each_of P [] f = tt
+each_of P (x ∷ xs) f = (f x (inl refl), each_of P xs (λ y i. f y (inr i)))
+
+all_moved : {X : Type 0} (P : X → Type 0) (g : X → X) (xs : List X) → ((x : X) → IsIn x xs → P (g x)) → All P (map g xs)
+all_moved P g [] f k d lt = absurd (omega (arith, lt))
+all_moved P g (x ∷ xs) f zero d lt = f x (inl refl)
+all_moved P g (x ∷ xs) f (suc k) d lt = all_moved P g xs (λ y i. f y (inr i)) k d (omega (arith, lt))
+
+pub in_mapped : {X Y : Type 0} (g : X → Y) (x : X) (xs : List X) → IsIn x xs → IsIn (g x) (map g xs)
+in_mapped g x [] i = absurd i
+in_mapped g x (y ∷ ys) (inl e) = inl (ap g e)
+in_mapped g x (y ∷ ys) (inr i) = inr (in_mapped g x ys i)
+
+-- a name stands at one place
+pub one_place : (names : List Text) (i j : ℕ) → AreApart names → i < length names → j < length names → get_or names i [] ≡ get_or names j [] → i ≡ j
+one_place [] i j apart l m e = absurd (omega (arith, l))
+one_place (n ∷ ns) zero zero apart l m e = refl
+one_place (n ∷ ns) zero (suc j) apart l m e = absurd (apart.0 (subst (λ (z : Text). IsIn z ns) (sym e) (is_in ns j (omega (arith, m)))))
+one_place (n ∷ ns) (suc i) zero apart l m e = absurd (apart.0 (subst (λ (z : Text). IsIn z ns) e (is_in ns i (omega (arith, l)))))
+one_place (n ∷ ns) (suc i) (suc j) apart l m e = ap suc (one_place ns i j apart.1 (omega (arith, l)) (omega (arith, m)) e)
+
+-- one of these is what one of those is seen as
+pub record IsSeenOf {X Y : Type 0} (f : X → Y) (y : Y) (xs : List X) : Type 0 where
+  pub one : X
+  pub among : IsIn one xs
+  pub is : f one ≡ y
+
+pub seen_of : {X Y : Type 0} (f : X → Y) (y : Y) (xs : List X) → IsIn y (map f xs) → IsSeenOf f y xs
+seen_of f y [] i = absurd i
+seen_of f y (x ∷ xs) (inl e) = record { one = x; among = inl refl; is = sym e }
+seen_of f y (x ∷ xs) (inr i) = let more = seen_of f y xs i in record { one = more.one; among = inr more.among; is = more.is }
+
+-- ---- where queues in use stand
+
+-- The queue at this place stands at its place in the new file, under its name.
+pub record Stands (old new : List Text) (places : List ℕ) (p : ℕ) : Type 0 where
+  pub within : place_now places p < length new
+  pub named : IsNamedAlike old new places p
+
+module _ (old : Kept) (t : Topology) (places : List ℕ) (placed : ArePlaced old) (agreed : IsAgreed (broker_of old)) (none : NoneIsStranded (topology_kept old) t (broker_of old))
+    (moved : AreMoved (names_of old) (queue_names t.queues) places) where
+  abbrev news : List Text
+  news = queue_names t.queues
+
+  abbrev StandsAt : ℕ → Type 0
+  StandsAt p = Stands (names_of old) news places p
+
+  stands : (p : ℕ) → p < length (topology_kept old).queues → IsInUse (broker_of old) (get_or (names_of old) p []) → StandsAt p
+  stands p lt used =
+      let long = names-length (topology_kept old).queues in
+      let len = moved.len in
+      let here = same_default places p 0 p (omega (arith, lt, long, len)) in
+      elim (moved.each p (omega (arith, lt, long))) [
+        | stays there named ↦ record {
+          within = omega (arith, there, here);
+          named = ap (λ (k : ℕ). get_or news k []) (sym here) ∙ named;
+        }
+        | goes gone behind ↦ absurd (none (get_or (names_of old) p []) (record { was = is_in (names_of old) p (omega (arith, lt, long)); gone = gone; in_use = used }))
+      ]
+
+  outstanding_stands : (c h : ℕ) (ch : Open) (o : Delivery) → channel_of old.links c h ≡ Some ch → IsIn o ch.given.outstanding → StandsAt o.queue
+  outstanding_stands c h ch o is i =
+      let held = agreed.given c h (open_in (names_of old) ch) (outstanding_in (names_of old) o) (ap (option_map (open_in (names_of old))) is) (in_mapped (outstanding_in (names_of old)) o ch.given.outstanding i) in
+      stands o.queue (all_in (λ (x : Delivery). x.queue < length (topology_kept old).queues) o ch.given.outstanding (placed c h ch is).outstanding i) (by_entry held.entry held.there)
+
+  consumer_stands : (c h : ℕ) (ch : Open) (k : Consumer) → channel_of old.links c h ≡ Some ch → IsIn k ch.given.consumers → StandsAt k.queue
+  consumer_stands c h ch k is i =
+      stands k.queue (all_in (λ (x : Consumer). x.queue < length (topology_kept old).queues) k ch.given.consumers (placed c h ch is).consumers i)
+      (by_consumer c h (open_in (names_of old) ch) (consumer_in (names_of old) k) (ap (option_map (open_in (names_of old))) is) (in_mapped (consumer_in (names_of old)) k ch.given.consumers i) refl)
+
+  pub all_alike : (c h : ℕ) (ch : Open) → channel_of old.links c h ≡ Some ch → AreNamedAlike (names_of old) news places ch
+  all_alike c h ch is = record {
+    outstanding = each_of (λ (o : Delivery). IsNamedAlike (names_of old) news places o.queue) ch.given.outstanding (λ o i. (outstanding_stands c h ch o is i).named);
+    consumers = each_of (λ (k : Consumer). IsNamedAlike (names_of old) news places k.queue) ch.given.consumers (λ k i. (consumer_stands c h ch k is i).named);
+  }
+
+  -- ---- what is outstanding and consumers stay within the queues that are there
+
+  within : (p : ℕ) → StandsAt p → place_now places p < length t.queues
+  within p at = let long = names-length t.queues in let lt = at.within in omega (arith, lt, long)
+
+  moved_placed : (c h : ℕ) (ch : Open) → channel_of old.links c h ≡ Some ch → IsPlaced t (open_moved places ch)
+  moved_placed c h ch is = record {
+    outstanding = all_moved (λ (o : Delivery). o.queue < length t.queues) (outstanding_moved places) ch.given.outstanding (λ o i. within o.queue (outstanding_stands c h ch o is i));
+    consumers = all_moved (λ (k : Consumer). k.queue < length t.queues) (consumer_moved places) ch.given.consumers (λ k i. within k.queue (consumer_stands c h ch k is i));
+  }
+
+  pub placed_moved : (new : Kept) → topology_kept new ≡ t → new.links ≡ links_moved places old.links → ArePlaced new
+  placed_moved new e made c h ch is =
+      subst (λ (x : Topology). IsPlaced x ch) (sym e)
+      (go (channel_of old.links c h) refl (sym (moved_channel places old.links c h) ∙ sym (ap (λ (ls : List (ℕ × Linked)). channel_of ls c h) made) ∙ is))
+    where
+      go : (o : Option Open) → channel_of old.links c h ≡ o → option_map (open_moved places) o ≡ Some ch → IsPlaced t ch
+      go None was f = absurd (let nothing : None ≡ Some ch = f in cc)
+      go (Some x) was f = subst (IsPlaced t) (same_Some (open_moved places x) ch f) (moved_placed c h x was)
+
+  -- ---- queues that are gone are empty
+
+  pub gone_empty : GoneAreEmpty old.store news
+  gone_empty q was gone = go (entries_named old.store q) refl
+    where
+      go : (es : List Entry) → entries_named old.store q ≡ es → entries_named old.store q ≡ []
+      go [] e = e
+      go (x ∷ es) e = absurd (none q (record { was = was; gone = gone; in_use = by_entry x (subst (λ (ys : List Entry). IsIn x ys) (sym e) (inl refl)) }))
+
+  -- ---- what is seen
+
+  pub all_stood : MovesAreUnseen → (new : Kept) → topology_kept new ≡ t → new.links ≡ links_moved places old.links → new.store.published ≡ old.store.published
+      → ((q : Text) → entries_named new.store q ≡ map stood_now (entries_named old.store q)) → Is (with_all_stood (broker_of old)) (broker_of new)
+  all_stood unseen new e made published entries = record {
+    counted = published;
+    queues = entries;
+    connections = λ c. ap (λ (ls : List (ℕ × Linked)). connection_of ls c) made ∙ moved_connection places old.links c;
+    channels = λ c h.
+        ap (λ (x : Topology). seen_in (queue_names x.queues) new.links c h) e
+        ∙ ap (λ (ls : List (ℕ × Linked)). seen_in news ls c h) made
+        ∙ unseen (names_of old) news places old.links all_alike c h;
+  }

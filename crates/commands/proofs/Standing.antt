@@ -1,0 +1,95 @@
+-- What a reload looks at is what the broker has.
+use Rattle.std.proofs.Common.{◌≡◌, ◌∙◌, ◌<◌, length, ℕ, List, [], get_or, Option, Some, Result, sym, ap, subst, arith}
+use Rattle.std.specs.Prelude.{IfOk, OnErr, option_map, slice_get, Decides}
+use Rattle.std.proofs.lemmas.Option.{slice_get_within, get_or_from_slice_get}
+use Rattle.std.proofs.lemmas.Result.{IfOk-weaker}
+use Rattle.model.specs.Words.{Text}
+use Rattle.model.specs.Topology.{Topology, IsIn, AreApart}
+use Rattle.model.specs.Guarantee.{Guarantee}
+use Rattle.model.specs.Broker as seen
+use Rattle.model.specs.Broker.{Broker}
+use Rattle.model.specs.declared.obstacles.Obstacle.{Obstacle}
+use Rattle.channels.specs.Open.{open_in, consumer_in}
+use Rattle.depot.specs.Store.{Store, entries_named, queue_at, IsStoreWhole, IsQueueNamed}
+use Rattle.depot.proofs.Naming.{names-length}
+use Rattle.channels.specs.Links.{channel_of}
+use Rattle.channels.specs.Counting.{is_consumed, HasTaker}
+use Rattle.reloading.specs.Obstacles.{JudgesReload}
+use Rattle.reloading.specs.Standing.{IsConsumed, IsStanding}
+use Rattle.reloading.specs.Wanting.{MayWant}
+use Rattle.reloading.proofs.Wanting.{on_err_too}
+use Rattle.commands.specs.Obstacles.{TellsObstacle}
+use Rattle.commands.specs.State.{Kept, ArePlaced, broker_of, topology_kept, names_of}
+use Rattle.commands.proofs.Placing.{takes_within}
+use Rattle.commands.proofs.Reloading.{in_mapped, seen_of, one_place}
+use Rattle.commands.proofs.Stepping.{seen_there}
+
+module _ (kept : Kept) (place : ℕ) (q : Text) (at : slice_get (names_of kept) place ≡ Some q) where
+  abbrev names : List Text
+  names = names_of kept
+
+  is_named : get_or names place [] ≡ q
+  is_named = get_or_from_slice_get names place q [] at
+
+  -- a consumer that is counted is one of the broker's
+  consumed_by : HasTaker kept.links place → IsConsumed (broker_of kept) q
+  consumed_by t = record {
+    connection = t.connection;
+    number = t.number;
+    channel = open_in names t.channel;
+    there = ap (option_map (open_in names)) t.there;
+    consumer = consumer_in names t.consumer;
+    among = in_mapped (consumer_in names) t.consumer t.channel.given.consumers t.among;
+    takes = ap (λ (p : ℕ). get_or names p []) t.takes ∙ is_named;
+  }
+
+  -- and the other way round
+  taken_by : ArePlaced kept → AreApart names → IsConsumed (broker_of kept) q → HasTaker kept.links place
+  taken_by placed apart c =
+      let its = seen_there names (channel_of kept.links c.connection c.number) c.channel c.there in
+      let one = seen_of (consumer_in names) c.consumer its.kept.given.consumers (subst (λ (ch : seen.Channel). IsIn c.consumer ch.consumers) (sym its.same) c.among) in
+      let long = names-length (topology_kept kept).queues in
+      let within = takes_within (topology_kept kept) one.one its.kept.given.consumers (placed c.connection c.number its.kept its.there).consumers one.among in
+      record {
+        connection = c.connection;
+        number = c.number;
+        channel = its.kept;
+        there = its.there;
+        consumer = one.one;
+        among = one.among;
+        takes = one_place names one.one.queue place apart (omega (arith, within, long)) (slice_get_within names place q at) (ap (λ (k : seen.Consumer). k.queue) one.is ∙ c.takes ∙ sym is_named);
+      }
+
+-- what stands at a place of the file stands under its name
+abbrev pub AreNamed : Type 0
+AreNamed = (s : Store) (place : ℕ) → IsStoreWhole s → place < length s.topology.queues → IsQueueNamed s place
+
+pub standing : AreNamed → (kept : Kept) → IsStoreWhole kept.store → ArePlaced kept → ((place : ℕ) → Decides (is_consumed kept.links place) (HasTaker kept.links place))
+    → IsStanding (topology_kept kept) (λ place. queue_at kept.store place) (λ place. is_consumed kept.links place) (broker_of kept)
+standing are kept whole placed found = record {
+  queue = λ place q at.
+      let long = names-length (topology_kept kept).queues in
+      let lt = slice_get_within (names_of kept) place q at in
+      ap (entries_named kept.store) (sym (is_named kept place q at)) ∙ (are kept.store place whole (omega (arith, lt, long))).entries_are;
+  consumers = λ place q at. (λ e. consumed_by kept place q at ((found place).0 e), λ c. (found place).1 (taken_by kept place q at placed whole.formed.queues_apart c));
+}
+
+-- what is told of it is told of the broker
+pub judged : {E : Type 0} (r : Result (Option Obstacle) E) (kept : Kept) (t new : Topology) (gs : List Guarantee) → t ≡ topology_kept kept
+    → IsStanding (topology_kept kept) (λ place. queue_at kept.store place) (λ place. is_consumed kept.links place) (broker_of kept)
+    → IfOk r (JudgesReload t (λ place. queue_at kept.store place) (λ place. is_consumed kept.links place) new gs)
+    → IfOk r (TellsObstacle (topology_kept kept) (broker_of kept) new gs)
+judged r kept t new gs e stands told =
+    IfOk-weaker r (JudgesReload (topology_kept kept) (λ place. queue_at kept.store place) (λ place. is_consumed kept.links place) new gs) (TellsObstacle (topology_kept kept) (broker_of kept) new gs)
+    (λ o judges users. judges (broker_of kept) users stands)
+    (subst (λ (x : Topology). IfOk r (JudgesReload x (λ place. queue_at kept.store place) (λ place. is_consumed kept.links place) new gs)) e told)
+
+-- what memory may be wanting for, in whatever broker it is so, may be wanting for of the broker
+pub wanted : {E : Type 0} (r : Result (Option Obstacle) E) (kept : Kept) (t new : Topology) → t ≡ topology_kept kept
+    → IsStanding (topology_kept kept) (λ place. queue_at kept.store place) (λ place. is_consumed kept.links place) (broker_of kept)
+    → OnErr r ((b : Broker) → IsStanding t (λ place. queue_at kept.store place) (λ place. is_consumed kept.links place) b → MayWant t new b)
+    → OnErr r (MayWant (topology_kept kept) new (broker_of kept))
+wanted r kept t new e stands wants =
+    on_err_too r ((b : Broker) → IsStanding (topology_kept kept) (λ place. queue_at kept.store place) (λ place. is_consumed kept.links place) b → MayWant (topology_kept kept) new b) (MayWant (topology_kept kept) new (broker_of kept))
+    (λ may. may (broker_of kept) stands)
+    (subst (λ (x : Topology). OnErr r ((b : Broker) → IsStanding x (λ place. queue_at kept.store place) (λ place. is_consumed kept.links place) b → MayWant x new b)) e wants)

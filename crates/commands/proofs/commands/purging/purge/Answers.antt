@@ -1,0 +1,33 @@
+use Rattle.std.proofs.Common.{◌≡◌, ◌∙◌, ap, sym, subst, ℕ, None}
+use Rattle.model.specs.Words.{Text}
+use Rattle.model.specs.Topology.{Topology}
+use Rattle.model.specs.Deliveries.{ready_in}
+use Rattle.model.specs.Step.{purge_sends, refusal_in}
+use Rattle.model.specs.declared.messages.Entry.{Entry}
+use Rattle.depot.specs.Store.{entries_named, queue_at}
+use Rattle.depot.specs.Purging.{IsPurgedBy}
+use Rattle.commands.specs.Judged.{IsQueuePlace}
+use Rattle.commands.proofs.Purging.{purged_is}
+use Rattle.commands.proofs.commands.purging.purge.Goals as goal
+use Rattle.std.proofs.Common.{List}
+
+pub returns-clause-commands : goal.returns-clause-commands
+returns-clause-commands c =
+    let s = c.args.depot.now in
+    let asked = c.args.purge.now in
+    let place = c.in_ok-place.place in
+    let at : IsQueuePlace s.topology asked.queue place = subst (λ (t : Topology). IsQueuePlace t asked.queue place) c.topology.ensures c.in_ok-place.ensures.place in
+    let none : refusal_in s.topology asked.queue ≡ None = subst (λ (t : Topology). refusal_in t asked.queue ≡ None) c.topology.ensures (sym c.in_ok-place.ensures.refusal) in
+    let here : queue_at s place ≡ entries_named s asked.queue = sym c.is_named.ensures.entries_are ∙ ap (entries_named s) at.named in
+    let count : c.ready_at-count.result ≡ ready_in (entries_named s asked.queue) = c.ready_at-count.ensures ∙ ap (λ (es : List Entry). ready_in es) here in
+    let sent = c.in_ok-step.ensures.sends ∙ ap (λ (n : ℕ). purge_sends c.args.id.connection c.args.id.number asked.no_wait n) count in
+    let by : IsPurgedBy s asked.queue c.in_ok-step.step.notes.items c.purge.new.notes.items c.in_ok-purge.field-0 c.purge.new.self =
+    subst (λ (q : Text). IsPurgedBy s q c.in_ok-step.step.notes.items c.purge.new.notes.items c.in_ok-purge.field-0 c.purge.new.self) at.named c.in_ok-purge.ensures.ok in
+    λ ch content old new turns. (
+      none,
+      purged_is s c.purge.new.self ch c.args.id.connection c.args.id.number c.in_ok-purge.field-0 old new asked c.in_ok-step.step.sends.items c.in_ok-step.step.notes.items c.purge.new.notes.items
+          turns sent c.in_ok-step.ensures.notes by,
+    )
+
+pub returns-clause-topology : goal.returns-clause-topology
+returns-clause-topology c = c.in_ok-purge.ensures.ok.topology

@@ -1,0 +1,28 @@
+use Rattle.std.proofs.Common.{◌≡◌, subst, Some, Result, Ok}
+use Rattle.commands.specs.declared.refusals.Stop.{Stop}
+use Rattle.commands.specs.Commands.{AnswersOn, UnlessPerformed}
+use Rattle.commands.specs.declared.commands.Done.{Done}
+use Rattle.commands.specs.declared.commands.Done.TheVariants.{Left}
+use Rattle.commands.proofs.Commanding.{left_can, left_done, left_own}
+use Rattle.commands.proofs.cores.Core.command.Goals as goal
+
+pub finish-requires-clause-can : goal.finish-requires-clause-can
+finish-requires-clause-can c =
+    let is : c.in-Some-Ok-Left.field-0 ≡ Ok (Left c.in-Some-Ok-Left.left) = cc (c.in-Some-Ok-Left.field-0-is, c.in-Some-Ok-Left.field-0-0-is) in
+    let answers = subst (λ (r : Result Done Stop). AnswersOn c.args.self.now c.args.id.connection c.args.id.number c.args.method.now c.args.content.now (Some r) c.decide.new.self) is c.in-Some-Ok-Left.ensures.answers in
+    let same = subst (λ (r : Result Done Stop). UnlessPerformed r (c.decide.new.self ≡ c.args.self.now)) is c.in-Some-Ok-Left.ensures.kept in
+    left_can c.args.self.now c.decide.new.self c.args.id.connection c.args.id.number c.args.method.now c.args.content.now c.in-Some-Ok-Left.left same answers
+
+pub returns-in-Some-Ok-Left-clause-ok : goal.returns-in-Some-Ok-Left-clause-ok
+returns-in-Some-Ok-Left-clause-ok c =
+    let is : c.in-Some-Ok-Left.field-0 ≡ Ok (Left c.in-Some-Ok-Left.left) = cc (c.in-Some-Ok-Left.field-0-is, c.in-Some-Ok-Left.field-0-0-is) in
+    let answers = subst (λ (r : Result Done Stop). AnswersOn c.args.self.now c.args.id.connection c.args.id.number c.args.method.now c.args.content.now (Some r) c.decide.new.self) is c.in-Some-Ok-Left.ensures.answers in
+    let same = subst (λ (r : Result Done Stop). UnlessPerformed r (c.decide.new.self ≡ c.args.self.now)) is c.in-Some-Ok-Left.ensures.kept in
+    left_done c.args.self.now c.decide.new.self c.finish.new.self c.args.id.connection c.args.id.number c.args.method.now c.args.content.now c.in-Some-Ok-Left.left c.finish.result same answers c.finish.ensures.ok
+
+pub returns-in-Some-Ok-Left-clause-addressed : goal.returns-in-Some-Ok-Left-clause-addressed
+returns-in-Some-Ok-Left-clause-addressed c =
+    let is : c.in-Some-Ok-Left.field-0 ≡ Ok (Left c.in-Some-Ok-Left.left) = cc (c.in-Some-Ok-Left.field-0-is, c.in-Some-Ok-Left.field-0-0-is) in
+    let answers = subst (λ (r : Result Done Stop). AnswersOn c.args.self.now c.args.id.connection c.args.id.number c.args.method.now c.args.content.now (Some r) c.decide.new.self) is c.in-Some-Ok-Left.ensures.answers in
+    let same = subst (λ (r : Result Done Stop). UnlessPerformed r (c.decide.new.self ≡ c.args.self.now)) is c.in-Some-Ok-Left.ensures.kept in
+    left_own c.args.self.now c.decide.new.self c.args.id.connection c.args.id.number c.args.method.now c.args.content.now c.in-Some-Ok-Left.left c.finish.result same answers c.finish.ensures.addressed

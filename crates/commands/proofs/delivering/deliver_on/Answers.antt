@@ -1,0 +1,47 @@
+use Rattle.std.proofs.Common.{◌≡◌, ◌∙◌, ap, sym, Some}
+use Rattle.std.specs.Prelude.{option_map, is_some}
+use Rattle.std.proofs.lemmas.Bool.{false≢true}
+use Rattle.model.specs.Deliveries.{first_ready}
+use Rattle.model.specs.declared.messages.Entry.{Entry}
+use Rattle.exchange_graph.specs.Marks.{queue_name}
+use Rattle.depot.specs.Store.{entries_named}
+use Rattle.commands.proofs.Placing.{takes_within}
+use Rattle.commands.proofs.Getting.{first_carried}
+use Rattle.commands.proofs.Delivered.{ready_on, delivered, takes_short}
+use Rattle.commands.proofs.delivering.deliver_on.Goals as goal
+
+pub is_named-requires : goal.is_named-requires
+is_named-requires c = takes_within c.args.depot.now.topology c.in-Some.consumer.now c.args.channel.now.given.consumers c.requires.can.placed.consumers c.in-Some.ensures.seat
+
+pub first_ready-requires : goal.first_ready-requires
+first_ready-requires c = takes_within c.args.depot.now.topology c.in-Some.consumer.now c.args.channel.now.given.consumers c.requires.can.placed.consumers c.in-Some.ensures.seat
+
+pub unreachable-requires-in_default-first_ready : goal.unreachable-requires-in_default-first_ready
+unreachable-requires-in_default-first_ready c =
+    let s = c.args.depot.now in
+    let same : first_ready (entries_named s (queue_name s.topology c.in-Some.consumer.now.queue)) ≡ option_map (λ e. e.now) c.first_ready.result = ap first_ready c.is_named.ensures.entries_are ∙ sym c.first_ready.ensures in
+    let ready = ready_on s c.requires.picked.side c.args.pick c.args.channel.now c.in-Some.consumer.now c.requires.picked.there c.in-Some.ensures c.requires.picked.pick in
+    false≢true (ap is_some (sym (ap (option_map (λ e. e.now)) c.in_default-first_ready.is)) ∙ ap is_some (sym same ∙ ready))
+
+pub name_at-queue-requires : goal.name_at-queue-requires
+name_at-queue-requires c = takes_within c.args.depot.now.topology c.in-Some.consumer.now c.args.channel.now.given.consumers c.requires.can.placed.consumers c.in-Some.ensures.seat
+
+pub give_out-requires-clause-within : goal.give_out-requires-clause-within
+give_out-requires-clause-within c = takes_within c.args.depot.now.topology c.in-Some.consumer.now c.args.channel.now.given.consumers c.requires.can.placed.consumers c.in-Some.ensures.seat
+
+pub returns-clause-ok : goal.returns-clause-ok
+returns-clause-ok c =
+    let s = c.args.depot.now in
+    let e : Entry = c.in-Some-first_ready.entry.now in
+    let found : first_ready (entries_named s (queue_name s.topology c.in-Some.consumer.now.queue)) ≡ Some e =
+    ap first_ready c.is_named.ensures.entries_are ∙ sym c.first_ready.ensures ∙ ap (option_map (λ e. e.now)) c.in-Some-first_ready.is in
+    delivered s c.give_out.new.depot c.args.channel.now c.give_out.new.channel c.args.pick c.in-Some.consumer.now e c.next_tag-tag.result c.name_at-queue.result.now c.in_ok-step.step.sends.items c.in_ok-step.step.notes.items
+    c.in-Some.ensures found c.next_tag-tag.ensures c.name_at-queue.ensures c.in_ok-step.ensures.sends c.in_ok-step.ensures.notes c.in_ok-give_out.ensures.gives
+
+pub returns-clause-addressed : goal.returns-clause-addressed
+returns-clause-addressed c = λ side there carried named.
+    let s = c.args.depot.now in
+    let q = queue_name s.topology c.in-Some.consumer.now.queue in
+    let e : Entry = c.in-Some-first_ready.entry.now in
+    let found : first_ready (entries_named s q) ≡ Some e = ap first_ready c.is_named.ensures.entries_are ∙ sym c.first_ready.ensures ∙ ap (option_map (λ e. e.now)) c.in-Some-first_ready.is in
+    c.in_ok-step.ensures.addressed (takes_short s side c.args.pick c.args.channel.now c.in-Some.consumer.now there c.in-Some.ensures named) (first_carried (entries_named s q) e (carried q) found)

@@ -1,0 +1,11 @@
+use Rattle.std.proofs.Common.{◌≡◌, drop}
+use Rattle.depot.specs.Store.{Store}
+use Rattle.commands.specs.Freed.{AreReturnedFrom}
+use Rattle.commands.proofs.freeing.requeue_channels.Given as goal
+
+-- once what is outstanding on the channels from here on is ready again, all is
+abbrev pub invariant-loop-place : goal.invariant-loop-place
+invariant-loop-place l = record {
+  topology : l.depot.topology ≡ l.fn.depot.topology;
+  returned : (last : Store) → AreReturnedFrom l.connection l.place l.depot (drop l.place l.link.channels) last → AreReturnedFrom l.connection 0 l.fn.depot l.link.channels last;
+}

@@ -1,0 +1,12 @@
+use Rattle.kept_routes.specs.declared.routes.Access.TheVariants.{Open, Internal, Absent}
+use Rattle.commands.proofs.Exchanges.{refused_by}
+use Rattle.commands.proofs.refusals.publishes.check_access.Goals as goal
+
+pub returns-in-Open : goal.returns-in-Open
+returns-in-Open c = λ t exchange told. refused_by t exchange c.args.access Open told (cc)
+
+pub returns-in-Internal : goal.returns-in-Internal
+returns-in-Internal c = λ t exchange told. refused_by t exchange c.args.access Internal told (cc)
+
+pub returns-in-Absent : goal.returns-in-Absent
+returns-in-Absent c = λ t exchange told. refused_by t exchange c.args.access Absent told (cc)

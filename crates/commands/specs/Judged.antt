@@ -1,0 +1,121 @@
+-- What is decided of a command.
+use Rattle.std.specs.Prelude.{◌≡◌, ◌<◌, ◌⊎◌, Bool, true, false, length, ℕ, Option, Some, None, Result, Ok, Err, IsSome, if◌then◌else◌, nat_lt}
+use Rattle.model.specs.Words.{Text}
+use Rattle.model.specs.Topology.{Topology}
+use Rattle.model.specs.Broker.{Broker, Channel, Connection}
+use Rattle.model.specs.Step as step
+use Rattle.model.specs.Step.{Of_channel, Of_connection, refusal, refusal_of_large, is_of_connection}
+use Rattle.model.specs.declared.methods.Method.{Method}
+use Rattle.model.specs.declared.methods.Method.TheVariants as method
+use Rattle.model.specs.declared.events.Event.{Event}
+use Rattle.model.specs.declared.events.Event.TheVariants as event
+use Rattle.channels.specs.declared.consumers.SeatRefusal.{SeatRefusal}
+use Rattle.channels.specs.declared.consumers.SeatRefusal.TheVariants as unseated
+use Rattle.exchange_graph.specs.Marks.{queue_name}
+use Rattle.commands.specs.declared.refusals.Refusal.{Refusal}
+use Rattle.commands.specs.declared.refusals.Refusal.TheVariants as refused
+use Rattle.commands.specs.declared.refusals.Stop.{Stop}
+use Rattle.commands.specs.declared.refusals.Stop.TheVariants.{Refused, Memory}
+
+-- a refusal of the code, as one of the model
+abbrev pub refusal_seen : Refusal → step.Refusal
+refusal_seen refused.Ignored = step.Ignored
+refusal_seen (refused.Channel code) = Of_channel code
+refusal_seen (refused.Connection code) = Of_connection code
+
+-- why something is refused, if it is
+abbrev pub refused_by : {A : Type 0} → Result A Refusal → Option step.Refusal
+refused_by (Ok x) = None
+refused_by (Err r) = Some (refusal_seen r)
+
+-- why a consume is not performed, where its consumer was not made for this
+abbrev pub stop_of : SeatRefusal → Stop
+stop_of unseated.InUse = Refused (refused.Connection 530)
+stop_of unseated.TooMany = Refused (refused.Connection 506)
+stop_of unseated.Spent = Refused (refused.Connection 541)
+stop_of unseated.Memory = Memory
+
+-- nothing stands against it where it is done, and this does where it is refused; memory is wanting only where nothing does
+abbrev pub IsStoppedBy : {A : Type 0} → Option step.Refusal → Result A Stop → Type 0
+IsStoppedBy against (Ok x) = against ≡ None
+IsStoppedBy against (Err (Refused r)) = against ≡ Some (refusal_seen r)
+IsStoppedBy against (Err Memory) = against ≡ None
+
+-- a channel that a refusal closes is there
+abbrev pub HasChannel : Refusal → Option Channel → Type 0
+HasChannel refused.Ignored ch = Unit {0}
+HasChannel (refused.Channel code) ch = IsSome ch
+HasChannel (refused.Connection code) ch = Unit {0}
+
+-- nothing is done for this command: its connection doesn't run, or its channel awaits close-ok
+abbrev pub IsIgnored : Topology → Broker → ℕ → ℕ → Method → Option Connection → Type 0
+IsIgnored t b c h m None = Unit {0}
+IsIgnored t b c h m (Some conn) = refusal t b conn h m (b.channel c h) ≡ Some step.Ignored
+
+-- the same of a publish whose content is too large
+abbrev pub IsLargeIgnored : Broker → ℕ → ℕ → Option Connection → Type 0
+IsLargeIgnored b c h None = Unit {0}
+IsLargeIgnored b c h (Some conn) = refusal_of_large conn h (b.channel c h) ≡ step.Ignored
+
+-- what stands against a method for the number of its channel, which is not 0, where this is the greatest number that was agreed on
+abbrev pub refusal_of_number : ℕ → ℕ → Method → Option step.Refusal
+refusal_of_number max h m = if is_of_connection m then Some (Of_connection 503) else if nat_lt max h then Some (Of_connection 504) else None
+
+-- a method that an open channel takes, and that may be refused for what it asks
+abbrev pub is_taken : Method → Bool
+is_taken (method.ChannelFlow active) = true
+is_taken (method.ChannelClose m) = true
+is_taken (method.ExchangeDeclare m) = true
+is_taken (method.QueueDeclare m) = true
+is_taken (method.QueuePurge m) = true
+is_taken (method.BasicQos m) = true
+is_taken (method.BasicConsume m) = true
+is_taken (method.BasicCancel m) = true
+is_taken (method.BasicPublish m) = true
+is_taken (method.BasicGet m) = true
+is_taken (method.BasicAck m) = true
+is_taken (method.BasicReject m) = true
+is_taken (method.BasicNack m) = true
+is_taken (method.BasicRecover requeue) = true
+is_taken (method.ConfirmSelect no_wait) = true
+is_taken _ = false
+
+-- a rejection that requeues
+abbrev pub is_requeueing : Method → Bool
+is_requeueing (method.BasicReject m) = m.requeue
+is_requeueing (method.BasicNack m) = m.requeue
+is_requeueing _ = false
+
+-- a rejection that requeues, and nothing stands against it
+abbrev pub IsRequeued : Topology → Broker → ℕ → ℕ → Method → Option Connection → Type 0
+IsRequeued t b c h m None = ⊥
+IsRequeued t b c h m (Some conn) = (is_requeueing m ≡ true) × (refusal t b conn h m (b.channel c h) ≡ None)
+
+-- an event that wants no memory: an opening, a loss, a pause and its end, what is ignored, and a rejection that requeues
+abbrev pub WantsNoMemory : Topology → Broker → Event → Type 0
+WantsNoMemory t b (event.Open c) = Unit {0}
+WantsNoMemory t b (event.First c bytes) = Unit {0}
+WantsNoMemory t b (event.Running c max k) = ⊥
+WantsNoMemory t b (event.Command c h m content) = IsIgnored t b c h m (b.connection c) ⊎ IsRequeued t b c h m (b.connection c)
+WantsNoMemory t b (event.TooLarge c h) = IsLargeIgnored b c h (b.connection c)
+WantsNoMemory t b (event.Fault c code) = ⊥
+WantsNoMemory t b (event.Lose c) = Unit {0}
+WantsNoMemory t b (event.Pause c) = Unit {0}
+WantsNoMemory t b (event.Resume c) = Unit {0}
+WantsNoMemory t b (event.Deliver c) = ⊥
+
+-- it comes from a connection or from what becomes of one; a delivery is the broker's own (own)
+abbrev pub IsAsked : Event → Type 0
+IsAsked (event.Deliver c) = ⊥
+IsAsked e = Unit {0}
+
+-- the queue of this name stands at this place of the file
+pub record IsQueuePlace (t : Topology) (name : Text) (place : ℕ) : Type 0 where
+  pub within : place < length t.queues
+  pub named : queue_name t place ≡ name
+
+-- A publish whose content is too large is refused as the model says, and nothing is said where its connection doesn't run.
+abbrev pub JudgesLarge : Broker → ℕ → ℕ → Option Refusal → Type 0
+JudgesLarge b c h None = b.connection c ≡ None
+JudgesLarge b c h (Some r) =
+    (conn : Connection) × (b.connection c ≡ Some conn) × (refusal_seen r ≡ refusal_of_large conn h (b.channel c h)) × HasChannel r (b.channel c h)

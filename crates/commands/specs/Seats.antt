@@ -1,0 +1,54 @@
+-- Seats of consumers: of those that are there, and of one that is to be made.
+use Rattle.std.specs.Prelude.{◌≡◌, ◌<◌, ℕ, Bool, true, false, if◌then◌else◌, Option, Some, None, is_some, option_map, length}
+use Rattle.model.specs.Words.{Text}
+use Rattle.model.specs.Topology.{Topology}
+use Rattle.model.specs.declared.methods.Method.{Method}
+use Rattle.model.specs.declared.methods.Method.TheVariants.{BasicConsume}
+use Rattle.model.specs.declared.events.Event.{Event}
+use Rattle.model.specs.declared.events.Event.TheVariants.{Command}
+use Rattle.exchange_graph.specs.Marks.{queue_name}
+use Rattle.channels.specs.Links.{Linked, linked_in, channel_in, channel_of}
+use Rattle.channels.specs.Consumers.{consumer_numbered, next_number}
+use Rattle.channels.specs.declared.consumers.Consumer.{Consumer}
+use Rattle.commands.specs.State.{Kept}
+use Rattle.commands.specs.declared.picks.Pick.{Pick}
+
+-- the consumer of these numbers, if it is kept
+abbrev pub consumer_kept : Kept → Pick → Option Consumer
+consumer_kept kept p = consumer_numbered (channel_of kept.links p.connection p.channel) p.number
+
+-- it is kept
+abbrev pub has_consumer : Kept → Pick → Bool
+has_consumer kept p = is_some (consumer_kept kept p)
+
+-- ---- the seat of a consumer that is to be made
+
+-- the method is a consume
+abbrev pub is_consume : Method → Bool
+is_consume (BasicConsume m) = true
+is_consume _ = false
+
+-- its seat, on a connection that runs
+abbrev pub next_seat : ℕ → ℕ → Option Linked → Option Pick
+next_seat c h None = None
+next_seat c h (Some l) = option_map (λ (n : ℕ). record { connection = c; channel = h; number = n }) (next_number (channel_in l h))
+
+-- the seat of the consumer that this event is to make
+abbrev pub seat_of : Kept → Event → Option Pick
+seat_of kept (Command c h m content) = if is_consume m then next_seat c h (linked_in kept.links c) else None
+seat_of kept e = None
+
+-- the queue from which a consume asks to consume
+abbrev pub consumed_by : Method → Option Text
+consumed_by (BasicConsume m) = Some m.queue
+consumed_by _ = None
+
+-- and an event
+abbrev pub consumed : Event → Option Text
+consumed (Command c h m content) = consumed_by m
+consumed e = None
+
+-- The event is a consume from the queue at this place.
+pub record IsConsumed (t : Topology) (e : Event) (place : ℕ) : Type 0 where
+  pub within : place < length t.queues
+  pub named : consumed e ≡ Some (queue_name t place)

@@ -1,0 +1,61 @@
+//! Consumers that are made and cancelled. Source: AMQP 0-9-1, basic.consume and basic.cancel.
+
+ghost use Rattle.std.specs.Prelude.{◌≡◌, IfOk, OnErr, Option};
+ghost use Rattle.model.specs.Grammar.{IsMethod};
+ghost use Rattle.model.specs.Topology.{Topology};
+ghost use Rattle.model.specs.declared.contents.Content.{Content};
+ghost use Rattle.model.specs.declared.methods.Method.TheVariants.{BasicConsume, BasicCancel};
+ghost use Rattle.depot.specs.Store.{Store};
+ghost use Rattle.channels.specs.Placed.{IsPlaced};
+ghost use Rattle.replies.specs.Sent.{AreAddressed};
+ghost use Rattle.commands.specs.Commands.{Commands};
+
+use crate::refusals::{Stop, check_consume};
+use channels::Channel;
+use depot::Depot;
+use model::{Cancel, ChannelId, Consume};
+use replies::{Step, answer_cancel, answer_consume};
+use std::alloc::Global;
+
+/// A consumer of the queue is made, which is answered by its tag where an answer is wanted. All that takes memory is made before
+/// the first change, and behind the last test.
+pub(crate) fn consume(
+    alloc: Global,
+    id: ChannelId,
+    channel: &mut Channel,
+    depot: &Depot,
+    consume: &Consume,
+) -> Result<Step, Stop>
+    requires { IsPlaced depot.now.topology channel.old }
+    ensures commands { (content : Option Content)
+        → Commands id.connection id.number depot.now channel.old (BasicConsume consume.now) content result depot.now channel.new }
+    ensures addressed { IfOk result (λ s. IsMethod (BasicConsume consume.now) → AreAddressed id.connection s.sends.items) }
+    ensures placed { IsPlaced depot.now.topology channel.new }
+    ensures err { OnErr result (channel.new ≡ channel.old) }
+{
+    let place = check_consume(depot.topology(), channel, consume)?;
+    let mut step = Step::nothing(alloc);
+    step.sends.reserve_exact(1)?;
+    let tag = channel.consume(alloc, place, consume)?;
+    answer_consume(&mut step, id.connection, id.number, consume.no_wait, tag);
+    Ok(step)
+}
+
+/// The consumer of this tag, if there is one, is the channel's no more; what it was given stays outstanding. That is answered where
+/// an answer is wanted. No queue is looked at.
+pub(crate) fn cancel(
+    alloc: Global,
+    id: ChannelId,
+    channel: &mut Channel,
+    cancel: &Cancel,
+) -> Result<Step, Stop>
+    ensures commands { (s : Store) (content : Option Content)
+        → Commands id.connection id.number s channel.old (BasicCancel cancel.now) content result s channel.new }
+    ensures addressed { IfOk result (λ s. IsMethod (BasicCancel cancel.now) → AreAddressed id.connection s.sends.items) }
+    ensures placed { (t : Topology) → IsPlaced t channel.old → IsPlaced t channel.new }
+    ensures err { OnErr result (channel.new ≡ channel.old) }
+{
+    let step = answer_cancel(alloc, id.connection, id.number, cancel)?;
+    channel.cancel(cancel.consumer_tag.as_bytes());
+    Ok(step)
+}

@@ -1,0 +1,32 @@
+//! What a client may ask of what is declared. Source: AMQP 0-9-1, exchange.declare, "passive".
+
+ghost use Rattle.std.specs.Prelude.{IfOk, Option};
+ghost use Rattle.model.specs.declared.contents.Content.{Content};
+ghost use Rattle.model.specs.declared.methods.Method.TheVariants.{ExchangeDeclare as DeclaresExchange};
+ghost use Rattle.channels.specs.Open.{Open};
+ghost use Rattle.replies.specs.Sent.{AreAddressed};
+ghost use Rattle.commands.specs.Commands.{Commands};
+
+use crate::refusals::{Stop, check_exchange};
+use depot::Depot;
+use model::{ChannelId, ExchangeDeclare};
+use replies::{Step, exchange_ok};
+use std::alloc::Global;
+
+/// The exchange is there, and that is answered where an answer is wanted. Nothing else changes.
+pub(crate) fn find_exchange(
+    alloc: Global,
+    id: ChannelId,
+    depot: &Depot,
+    declare: &ExchangeDeclare,
+) -> Result<Step, Stop>
+    ensures commands { (ch : Open) (content : Option Content)
+        → Commands id.connection id.number depot.now ch (DeclaresExchange declare.now) content result depot.now ch }
+    ensures addressed { IfOk result (λ s. AreAddressed id.connection s.sends.items) }
+{
+    check_exchange(depot.topology(), declare)?;
+    if declare.no_wait {
+        return Ok(Step::nothing(alloc));
+    }
+    Ok(Step::sending(alloc, exchange_ok(id.connection, id.number))?)
+}

@@ -1,0 +1,46 @@
+//! Messages that are taken one by one. Source: AMQP 0-9-1, basic.get.
+
+ghost use Rattle.std.specs.Prelude.{◌≡◌, IfOk, OnErr, Option};
+ghost use Rattle.model.specs.declared.contents.Content.{Content};
+ghost use Rattle.model.specs.declared.methods.Method.TheVariants.{BasicGet};
+ghost use Rattle.channels.specs.Placed.{IsPlaced};
+ghost use Rattle.replies.specs.Sent.{AreAddressed};
+ghost use Rattle.commands.specs.Commands.{CanCommand, Commands, HasSpelling};
+
+use crate::giving::give_out;
+use crate::refusals::{Stop, check_queue, check_tag};
+use channels::Channel;
+use depot::Depot;
+use model::{ChannelId, Get, Taker};
+use replies::{Step, answer_get, get_empty};
+use std::alloc::Global;
+
+/// The first ready message of the queue is given out, and leaves the queue where it needs no acknowledgement; or it is answered
+/// that there is none. All that takes memory is made before the first change.
+pub(crate) fn get(
+    alloc: Global,
+    id: ChannelId,
+    channel: &mut Channel,
+    depot: &mut Depot,
+    get: &Get,
+) -> Result<Step, Stop>
+    requires { CanCommand id.connection id.number depot.old channel.old }
+    ensures commands { (content : Option Content)
+        → Commands id.connection id.number depot.old channel.old (BasicGet get.now) content result depot.new channel.new }
+    ensures addressed { IfOk result (λ s. HasSpelling depot.old (BasicGet get.now) → AreAddressed id.connection s.sends.items) }
+    ensures topology { depot.new.topology ≡ depot.old.topology }
+    ensures placed { IsPlaced depot.old.topology channel.new }
+    ensures err { OnErr result ((depot.new ≡ depot.old) × (channel.new ≡ channel.old)) }
+{
+    let place = check_queue(depot.topology(), &get.queue)?;
+    depot.is_named(place);
+    let remaining = depot.ready_at(place).saturating_sub(1);
+    let Some(entry) = depot.first_ready(place) else {
+        return Ok(Step::sending(alloc, get_empty(id.connection, id.number))?);
+    };
+    check_tag(channel)?;
+    let tag = channel.next_tag();
+    let step = answer_get(alloc, id.connection, id.number, tag, get, entry, remaining)?;
+    give_out(id, channel, depot, place, Taker::Get, get.no_ack)?;
+    Ok(step)
+}

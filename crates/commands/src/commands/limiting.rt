@@ -1,0 +1,34 @@
+//! The limits of a channel. Source: AMQP 0-9-1, basic.qos; RabbitMQ, "Consumer Prefetch".
+
+ghost use Rattle.std.specs.Prelude.{◌≡◌, IfOk, OnErr, Option};
+ghost use Rattle.model.specs.Topology.{Topology};
+ghost use Rattle.model.specs.declared.contents.Content.{Content};
+ghost use Rattle.model.specs.declared.methods.Method.TheVariants.{BasicQos};
+ghost use Rattle.depot.specs.Store.{Store};
+ghost use Rattle.channels.specs.Placed.{IsPlaced};
+ghost use Rattle.replies.specs.Sent.{AreAddressed};
+ghost use Rattle.commands.specs.Commands.{Commands};
+
+use crate::refusals::{Stop, check_qos};
+use channels::Channel;
+use model::{ChannelId, Qos};
+use replies::{Step, qos_ok};
+use std::alloc::Global;
+
+/// The channel is limited as this qos says, and that is answered.
+pub(crate) fn limit(
+    alloc: Global,
+    id: ChannelId,
+    channel: &mut Channel,
+    qos: &Qos,
+) -> Result<Step, Stop>
+    ensures commands { (s : Store) (content : Option Content) → Commands id.connection id.number s channel.old (BasicQos qos.now) content result s channel.new }
+    ensures addressed { IfOk result (λ s. AreAddressed id.connection s.sends.items) }
+    ensures placed { (t : Topology) → IsPlaced t channel.old → IsPlaced t channel.new }
+    ensures err { OnErr result (channel.new ≡ channel.old) }
+{
+    check_qos(qos)?;
+    let step = Step::sending(alloc, qos_ok(id.connection, id.number))?;
+    channel.limit(qos);
+    Ok(step)
+}

@@ -1,0 +1,36 @@
+//! The ready messages of a queue are taken out. Source: AMQP 0-9-1, queue.purge.
+
+ghost use Rattle.std.specs.Prelude.{◌≡◌, IfOk, OnErr, Option};
+ghost use Rattle.model.specs.declared.contents.Content.{Content};
+ghost use Rattle.model.specs.declared.methods.Method.TheVariants.{QueuePurge};
+ghost use Rattle.channels.specs.Open.{Open};
+ghost use Rattle.replies.specs.Sent.{AreAddressed};
+ghost use Rattle.commands.specs.Commands.{Commands};
+
+use crate::refusals::{Stop, check_queue};
+use depot::Depot;
+use model::{ChannelId, Purge};
+use replies::{Step, answer_purge};
+use std::alloc::Global;
+
+/// The ready messages of a queue leave it, in the order in which they arrived. That is noted of each of them, and their count is
+/// answered where an answer is wanted. All that takes memory is made before the first change, and the channel stays as it is.
+pub(crate) fn purge(
+    alloc: Global,
+    id: ChannelId,
+    depot: &mut Depot,
+    purge: &Purge,
+) -> Result<Step, Stop>
+    ensures commands { (ch : Open) (content : Option Content)
+        → Commands id.connection id.number depot.old ch (QueuePurge purge.now) content result depot.new ch }
+    ensures addressed { IfOk result (λ s. AreAddressed id.connection s.sends.items) }
+    ensures topology { depot.new.topology ≡ depot.old.topology }
+    ensures err { OnErr result (depot.new ≡ depot.old) }
+{
+    let place = check_queue(depot.topology(), &purge.queue)?;
+    let count = depot.ready_at(place);
+    let mut step = answer_purge(alloc, id.connection, id.number, purge.no_wait, count)?;
+    depot.is_named(place);
+    depot.purge(alloc, place, &mut step.notes)?;
+    Ok(step)
+}

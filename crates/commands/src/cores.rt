@@ -1,0 +1,263 @@
+//! What the broker keeps, and its step, case by case.
+
+mod closing;
+mod declaring;
+mod delivering;
+mod opening;
+mod reloads;
+mod running;
+mod seating;
+mod standing;
+
+use crate::commands::{Done, Left, on_channel, on_none};
+use crate::refusals::{Refusal, Stop, judge_large};
+use channels::{Links, lent_channels_are_put};
+use depot::Depot;
+use exchange_graph::Topology;
+use model::{ChannelId, Content, Event, Ids, Method};
+use replies::{Step, connection_close, connection_close_ok};
+use std::alloc::{AllocError, Global};
+use std::marker::Model;
+
+/// What names a publish in the close that answers it.
+const PUBLISH: Ids = Ids {
+    class: 60,
+    method: 40,
+};
+
+/// Queues, and the connections that run with their channels.
+pub struct Core {
+    depot: Depot,
+    links: Links,
+}
+
+/// Written out, so that a drop is one call.
+impl Drop for Core {
+    fn drop(self) {
+        let Core { depot: _, links: _ } = self;
+    }
+}
+
+impl Model for Core {
+    ghost use Rattle.commands.specs.State.{Kept};
+    ghost use Rattle.commands.specs.State.{ArePlaced};
+
+    ghost Value = { Kept };
+
+    ghost view = { λ b. record { store = b.depot; links = b.links } };
+
+    ghost invariant = { λ b. ArePlaced (record { store = b.depot; links = b.links }) };
+}
+
+impl Core {
+    ghost use Rattle.std.specs.Prelude.{◌≡◌, [], true, Option, IsSome, IfSome, IfOk, IsOk, OnErr};
+    ghost use Rattle.model.specs.Agreement.{IsAgreed};
+    ghost use Rattle.model.specs.Arrivals.{IsSaid};
+    ghost use Rattle.model.specs.Sending.{AreCarried};
+    ghost use Rattle.model.specs.Grammar.{IsMethod};
+    ghost use Rattle.model.specs.Step.{Acts, Is, OnConnection, OnLarge};
+    ghost use Rattle.model.specs.declared.contents.Content.{Content as Whole};
+    ghost use Rattle.model.specs.declared.methods.Method.{Method as Seen};
+    ghost use Rattle.commands.specs.State.{broker_of, topology_kept, nothing};
+    ghost use Rattle.commands.specs.Steps.{PerformsOn};
+    ghost use Rattle.commands.specs.Commands.{AnswersOn, IsAddressedBy, UnlessPerformed, WantsNone};
+    ghost use Rattle.commands.specs.Commands.{AsksLeft, CanFinish};
+    ghost use Rattle.commands.specs.Judged.{is_requeueing, IsAsked, IsRequeued, IsIgnored, IsLargeIgnored, WantsNoMemory, JudgesLarge};
+    ghost use Rattle.replies.specs.Sent.{AreAddressed, connection_of_event};
+
+    /// The broker of this topology: its queues are empty, and no connection runs.
+    pub fn new(alloc: Global, topology: Topology) -> Result<Core, AllocError>
+        ensures topology { IfOk result (λ b. topology_kept b ≡ topology) }
+        ensures empty { IfOk result (λ b. Is nothing (broker_of b)) }
+    {
+        Ok(Core {
+            depot: Depot::new(alloc, topology)?,
+            links: Links::new(alloc),
+        })
+    }
+
+    /// What becomes of a command whose connection runs: that, and its channel, are found once. What a command does on its channel
+    /// alone is done then; what else it asks for is told.
+    fn decide<'a>(
+        &mut self,
+        alloc: Global,
+        id: ChannelId,
+        method: &'a Method,
+        content: &Option<Content>,
+    ) -> Option<Result<Done<'a>, Stop>>
+        requires { IsAgreed (broker_of self.old) }
+        ensures answers { AnswersOn self.old id.connection id.number method.now content.now result self.new }
+        ensures addressed { IsMethod method.now → AreCarried (broker_of self.old) → IfSome result (IsAddressedBy id.connection) }
+        ensures topology { topology_kept self.new ≡ topology_kept self.old }
+        ensures kept { IfSome result (λ r. UnlessPerformed r (self.new ≡ self.old)) }
+        ensures quiet { is_requeueing method.now ≡ true → IfSome result WantsNone }
+    {
+        lent_channels_are_put();
+        let link = self.links.link_mut(id.connection)?;
+        let channel_max = link.channel_max();
+        match link.channel_mut(id.number) {
+            Some(channel) => Some(on_channel(
+                alloc,
+                id,
+                channel_max,
+                channel,
+                &mut self.depot,
+                method,
+                content,
+            )),
+            None => Some(on_none(channel_max, id.number, method)),
+        }
+    }
+
+    /// What is decided of a publish whose content is too large, or none where its connection doesn't run.
+    fn judge_large(&self, connection: u64, channel: u16) -> Option<Refusal>
+        ensures { JudgesLarge (broker_of self.now) connection channel result }
+    {
+        match self.links.get(connection) {
+            None => None,
+            Some(link) => Some(judge_large(link, channel)),
+        }
+    }
+
+    /// What is left to be done of a command that is not refused is done.
+    fn finish(&mut self, alloc: Global, id: ChannelId, left: Left<'_>) -> Result<Step, AllocError>
+        requires agreed { IsAgreed (broker_of self.old) }
+        requires runs { IsSome ((broker_of self.old).connection id.connection) }
+        requires can { CanFinish (topology_kept self.old) ((broker_of self.old).channel id.connection id.number) left }
+        ensures ok { IfOk result (λ s. (m : Seen) (content : Option Whole)
+            → AsksLeft (topology_kept self.old) ((broker_of self.old).channel id.connection id.number) m left.entry
+            → PerformsOn self.old id.connection id.number m content s.sends.items s.notes.items self.new) }
+        ensures addressed { IfOk result (λ s. (m : Seen)
+            → AsksLeft (topology_kept self.old) ((broker_of self.old).channel id.connection id.number) m left.entry
+            → IsMethod m → AreCarried (broker_of self.old) → AreAddressed id.connection s.sends.items) }
+        ensures topology { topology_kept self.new ≡ topology_kept self.old }
+        ensures err { OnErr result (self.new ≡ self.old) }
+    {
+        let ChannelId { connection, number } = id;
+        match left {
+            Left::OpenChannel => self.open_channel(alloc, connection, number),
+            Left::AnswerClose => self.answer_close(alloc, connection, number),
+            Left::AnswerClosing => self.answer_closing(alloc, connection, number),
+            Left::EndChannel => Ok(self.end_channel(alloc, connection, number)),
+            Left::CloseConnection => {
+                self.close_connection(alloc, connection, connection_close_ok(connection))
+            }
+            Left::FindQueue(place, declare) => {
+                self.find_queue(alloc, connection, number, place, declare)
+            }
+        }
+    }
+
+    /// A command: nothing where its connection doesn't run, else it is refused or performed.
+    fn command(
+        &mut self,
+        alloc: Global,
+        id: ChannelId,
+        method: &Method,
+        content: &Option<Content>,
+    ) -> Result<Step, AllocError>
+        requires { IsAgreed (broker_of self.old) }
+        ensures ok { IfOk result (λ s. OnConnection (topology_kept self.old) (broker_of self.old) id.connection id.number
+            method.now content.now s.sends.items s.notes.items (broker_of self.new) ((broker_of self.old).connection id.connection)) }
+        ensures requeued { IsRequeued (topology_kept self.old) (broker_of self.old) id.connection id.number method.now
+            ((broker_of self.old).connection id.connection) → IsOk result }
+        ensures ignored { IsIgnored (topology_kept self.old) (broker_of self.old) id.connection id.number method.now
+            ((broker_of self.old).connection id.connection) → IsOk result }
+        ensures addressed { IfOk result (λ s. IsMethod method.now → AreCarried (broker_of self.old) → AreAddressed id.connection s.sends.items) }
+        ensures topology { topology_kept self.new ≡ topology_kept self.old }
+        ensures err { OnErr result (self.new ≡ self.old) }
+    {
+        match self.decide(alloc, id, method, content) {
+            None => Ok(Step::nothing(alloc)),
+            Some(Ok(Done::Performed(step))) => Ok(step),
+            Some(Ok(Done::Left(left))) => self.finish(alloc, id, left),
+            Some(Err(Stop::Refused(refusal))) => {
+                self.refuse(alloc, id.connection, id.number, method.ids(), refusal)
+            }
+            Some(Err(Stop::Memory)) => Err(AllocError),
+        }
+    }
+
+    /// A publish whose content is too large: nothing where its connection doesn't run, else it is refused.
+    fn refuse_large(
+        &mut self,
+        alloc: Global,
+        connection: u64,
+        channel: u16,
+    ) -> Result<Step, AllocError>
+        requires { IsAgreed (broker_of self.old) }
+        ensures ok { IfOk result (λ s. OnLarge (broker_of self.old) connection channel s.sends.items s.notes.items
+            (broker_of self.new) ((broker_of self.old).connection connection)) }
+        ensures ignored { IsLargeIgnored (broker_of self.old) connection channel ((broker_of self.old).connection connection) → IsOk result }
+        ensures addressed { IfOk result (λ s. AreAddressed connection s.sends.items) }
+        ensures topology { topology_kept self.new ≡ topology_kept self.old }
+        ensures err { OnErr result (self.new ≡ self.old) }
+    {
+        match self.judge_large(connection, channel) {
+            None => Ok(Step::nothing(alloc)),
+            Some(refusal) => self.refuse(alloc, connection, channel, PUBLISH, refusal),
+        }
+    }
+
+    /// One event: what it sends, what it notes, and the state after it. Where the event's method has a spelling, each send
+    /// is for the event's own connection, by a method with a spelling. Where memory is wanting, nothing has changed; an opening,
+    /// a loss, a pause and its end, a command that is ignored, and a rejection that requeues want none.
+    pub fn step(&mut self, alloc: Global, event: &Event) -> Result<Step, AllocError>
+        requires agreed { IsAgreed (broker_of self.old) }
+        requires asked { IsAsked event.now }
+        ensures ok { IfOk result (λ s. Acts (topology_kept self.old) (broker_of self.old) event.now s.sends.items s.notes.items (broker_of self.new)) }
+        ensures addressed { IfOk result (λ s. IsSaid event.now → AreCarried (broker_of self.old) → AreAddressed (connection_of_event event.now) s.sends.items) }
+        ensures topology { topology_kept self.new ≡ topology_kept self.old }
+        ensures err { OnErr result (self.new ≡ self.old) }
+        ensures quiet { WantsNoMemory (topology_kept self.old) (broker_of self.old) event.now → IsOk result }
+    {
+        match event {
+            Event::Open { .. } | Event::First { .. } => Ok(Step::nothing(alloc)),
+            Event::Running {
+                connection,
+                channel_max,
+                channels,
+            } => {
+                self.open(alloc, *connection, *channel_max, *channels)?;
+                Ok(Step::nothing(alloc))
+            }
+            Event::Command {
+                connection,
+                channel,
+                method,
+                content,
+            } => {
+                let id = ChannelId {
+                    connection: *connection,
+                    number: *channel,
+                };
+                self.command(alloc, id, method, content)
+            }
+            Event::TooLarge {
+                connection,
+                channel,
+            } => self.refuse_large(alloc, *connection, *channel),
+            Event::Fault { connection, code } => {
+                let cause = Ids {
+                    class: 0,
+                    method: 0,
+                };
+                let send = connection_close(*connection, *code, cause);
+                self.close_connection(alloc, *connection, send)
+            }
+            Event::Lose { connection } => {
+                self.go(*connection);
+                Ok(Step::nothing(alloc))
+            }
+            Event::Pause { connection } => {
+                self.pause(*connection);
+                Ok(Step::nothing(alloc))
+            }
+            Event::Resume { connection } => {
+                self.resume(*connection);
+                Ok(Step::nothing(alloc))
+            }
+            Event::Deliver { .. } => unreachable!(),
+        }
+    }
+}

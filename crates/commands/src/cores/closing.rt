@@ -1,0 +1,159 @@
+//! Closes of channels and connections, from both sides.
+
+use crate::cores::Core;
+use crate::refusals::Refusal;
+use channels::Channel;
+use model::{ChannelId, Ids, Send};
+use replies::{Step, channel_close, channel_close_ok, connection_close};
+use std::alloc::{AllocError, Global};
+
+impl Core {
+    ghost use Rattle.std.specs.Prelude.{◌≡◌, ◌∷◌, [], None, Some, true, false, IsSome, IfOk, IsOk, OnErr, option_map};
+    ghost use Rattle.model.specs.Agreement.{IsAgreed};
+    ghost use Rattle.model.specs.Grammar.{ids};
+    ghost use Rattle.model.specs.Sending.{IsAddressed};
+    ghost use Rattle.model.specs.Step as said;
+    ghost use Rattle.model.specs.Entries.{by_channel};
+    ghost use Rattle.model.specs.Step.{Does, Is, Refuses, with_gone, with_closing, with_channel, after_close, reply};
+    ghost use Rattle.model.specs.declared.methods.Method.TheVariants.{ChannelCloseOk};
+    ghost use Rattle.commands.specs.State.{broker_of, channel_on, topology_kept, names_of};
+    ghost use Rattle.commands.specs.Steps.{PerformsOn};
+    ghost use Rattle.channels.specs.Open.{Open, open_in};
+    ghost use Rattle.commands.specs.Judged.{refusal_seen, HasChannel};
+    ghost use Rattle.replies.specs.Sent.{AreAddressed};
+
+    /// This close, or answer to a close, is sent, and the connection runs no more.
+    pub(crate) fn close_connection(
+        &mut self,
+        alloc: Global,
+        connection: u64,
+        send: Send,
+    ) -> Result<Step, AllocError>
+        requires agreed { IsAgreed (broker_of self.old) }
+        requires addressed { IsAddressed connection send }
+        ensures ok { IfOk result (λ s. Does s.sends.items s.notes.items (broker_of self.new) (send ∷ []) (with_gone (broker_of self.old) connection)) }
+        ensures addressed { IfOk result (λ s. AreAddressed connection s.sends.items) }
+        ensures topology { topology_kept self.new ≡ topology_kept self.old }
+        ensures err { OnErr result (self.new ≡ self.old) }
+    {
+        let step = Step::sending(alloc, send)?;
+        self.go(connection);
+        Ok(step)
+    }
+
+    /// What the channel held is ready again, and this stands in its place.
+    fn clear(&mut self, connection: u64, number: u16, channel: Option<Channel>)
+        requires agreed { IsAgreed (broker_of self.old) }
+        requires there { IsSome ((broker_of self.old).channel connection number) }
+        requires nothing { (k : Open) → channel ≡ Some k → k.given.outstanding ≡ [] }
+        requires free { (k : Open) → channel ≡ Some k → k.given.consumers ≡ [] }
+        ensures cleared { Is (said.with_freed
+            (with_channel (broker_of self.old) connection number (option_map (open_in (names_of self.old)) channel))
+            (by_channel connection number)) (broker_of self.new) }
+        ensures topology { topology_kept self.new ≡ topology_kept self.old }
+    {
+        let held = self.links.outstanding(connection, number);
+        self.depot.requeue(ChannelId { connection, number }, held);
+        self.links.put(connection, number, channel);
+    }
+
+    /// This close is sent on the channel, which awaits close-ok from now on.
+    fn close_channel(
+        &mut self,
+        alloc: Global,
+        connection: u64,
+        channel: u16,
+        send: Send,
+    ) -> Result<Step, AllocError>
+        requires agreed { IsAgreed (broker_of self.old) }
+        requires there { IsSome ((broker_of self.old).channel connection channel) }
+        requires addressed { IsAddressed connection send }
+        ensures ok { IfOk result (λ s. Does s.sends.items s.notes.items (broker_of self.new) (send ∷ [])
+            (with_closing (broker_of self.old) connection channel)) }
+        ensures addressed { IfOk result (λ s. AreAddressed connection s.sends.items) }
+        ensures topology { topology_kept self.new ≡ topology_kept self.old }
+        ensures err { OnErr result (self.new ≡ self.old) }
+    {
+        let step = Step::sending(alloc, send)?;
+        self.clear(connection, channel, Some(Channel::closing(alloc)));
+        Ok(step)
+    }
+
+    /// The client's close of a channel is answered, and the channel is gone.
+    pub(crate) fn answer_close(
+        &mut self,
+        alloc: Global,
+        connection: u64,
+        channel: u16,
+    ) -> Result<Step, AllocError>
+        requires agreed { IsAgreed (broker_of self.old) }
+        requires there { IsSome ((broker_of self.old).channel connection channel) }
+        requires closing { (channel_on self.old connection channel).is_closing ≡ false }
+        ensures ok { IfOk result (λ s. Does s.sends.items s.notes.items (broker_of self.new) (reply connection channel ChannelCloseOk ∷ [])
+            (after_close (broker_of self.old) connection channel (channel_on self.old connection channel))) }
+        ensures addressed { IfOk result (λ s. AreAddressed connection s.sends.items) }
+        ensures topology { topology_kept self.new ≡ topology_kept self.old }
+        ensures err { OnErr result (self.new ≡ self.old) }
+    {
+        let step = Step::sending(alloc, channel_close_ok(connection, channel))?;
+        self.clear(connection, channel, None);
+        Ok(step)
+    }
+
+    /// The client's close of a channel that awaits close-ok is answered. The channel goes on waiting for it.
+    pub(crate) fn answer_closing(
+        &self,
+        alloc: Global,
+        connection: u64,
+        channel: u16,
+    ) -> Result<Step, AllocError>
+        requires { (channel_on self.now connection channel).is_closing ≡ true }
+        ensures ok { IfOk result (λ s. Does s.sends.items s.notes.items (broker_of self.now) (reply connection channel ChannelCloseOk ∷ [])
+            (after_close (broker_of self.now) connection channel (channel_on self.now connection channel))) }
+        ensures addressed { IfOk result (λ s. AreAddressed connection s.sends.items) }
+    {
+        Step::sending(alloc, channel_close_ok(connection, channel))
+    }
+
+    /// The client agrees to the close of the channel, which is gone.
+    pub(crate) fn end_channel(&mut self, alloc: Global, connection: u64, channel: u16) -> Step
+        requires { IsSome ((broker_of self.old).channel connection channel) }
+        ensures does { PerformsOn self.old connection channel ChannelCloseOk None result.sends.items result.notes.items self.new }
+        ensures topology { topology_kept self.new ≡ topology_kept self.old }
+    {
+        self.links.put(connection, channel, None);
+        Step::nothing(alloc)
+    }
+
+    /// What is refused does nothing, or closes its channel or its connection with the code of the refusal; the close names
+    /// the method that caused it.
+    pub(crate) fn refuse(
+        &mut self,
+        alloc: Global,
+        connection: u64,
+        channel: u16,
+        cause: Ids,
+        refusal: Refusal,
+    ) -> Result<Step, AllocError>
+        requires agreed { IsAgreed (broker_of self.old) }
+        requires there { HasChannel refusal ((broker_of self.old).channel connection channel) }
+        ensures ok { IfOk result (λ s. Refuses (broker_of self.old) connection channel
+            (ids cause.class cause.method) (refusal_seen refusal) s.sends.items s.notes.items (broker_of self.new)) }
+        ensures ignored { refusal_seen refusal ≡ said.Ignored → IsOk result }
+        ensures addressed { IfOk result (λ s. AreAddressed connection s.sends.items) }
+        ensures topology { topology_kept self.new ≡ topology_kept self.old }
+        ensures err { OnErr result (self.new ≡ self.old) }
+    {
+        match refusal {
+            Refusal::Ignored => Ok(Step::nothing(alloc)),
+            Refusal::Channel(code) => {
+                let send = channel_close(connection, channel, code, cause);
+                self.close_channel(alloc, connection, channel, send)
+            }
+            Refusal::Connection(code) => {
+                let send = connection_close(connection, code, cause);
+                self.close_connection(alloc, connection, send)
+            }
+        }
+    }
+}

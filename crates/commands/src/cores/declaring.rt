@@ -1,0 +1,37 @@
+//! What a client may ask of a queue that is declared. Source: AMQP 0-9-1, queue.declare, "passive".
+
+use crate::cores::Core;
+use model::QueueDeclare;
+use replies::{Step, answer_queue_declare};
+use std::alloc::{AllocError, Global};
+
+impl Core {
+    ghost use Rattle.std.specs.Prelude.{IfOk};
+    ghost use Rattle.model.specs.Step.{Finds};
+    ghost use Rattle.model.specs.declared.methods.Method.TheVariants.{QueueDeclare as DeclaresQueue};
+    ghost use Rattle.model.specs.Grammar.{IsMethod};
+    ghost use Rattle.commands.specs.State.{broker_of, topology_kept};
+    ghost use Rattle.commands.specs.Judged.{IsQueuePlace};
+    ghost use Rattle.replies.specs.Sent.{AreAddressed};
+
+    /// The queue at this place is there, and that is answered where an answer is wanted: by the numbers of its ready messages
+    /// and of its consumers, on all channels together.
+    pub(crate) fn find_queue(
+        &self,
+        alloc: Global,
+        connection: u64,
+        channel: u16,
+        place: usize,
+        declare: &QueueDeclare,
+    ) -> Result<Step, AllocError>
+        requires { IsQueuePlace (topology_kept self.now) declare.now.queue place }
+        ensures ok { IfOk result (λ s. Finds (broker_of self.now) connection channel declare.now s.sends.items s.notes.items (broker_of self.now)) }
+        ensures addressed { IfOk result (λ s. IsMethod (DeclaresQueue declare.now) → AreAddressed connection s.sends.items) }
+    {
+        self.depot.is_whole();
+        self.depot.is_named(place);
+        let ready = self.depot.ready_at(place);
+        let consumers = self.links.count_consumers(place);
+        answer_queue_declare(alloc, connection, channel, declare, ready, consumers)
+    }
+}

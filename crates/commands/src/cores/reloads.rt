@@ -1,0 +1,47 @@
+//! Another topology is put in force.
+
+use crate::cores::Core;
+use channels::moves_are_unseen;
+use depot::Depot;
+use exchange_graph::Topology;
+use std::alloc::{AllocError, Global};
+use std::mem;
+
+impl Core {
+    ghost use Rattle.std.specs.Prelude.{◌≡◌, IfOk, OnOk, OnErr};
+    ghost use Rattle.model.specs.Topology.{queue_names};
+    ghost use Rattle.model.specs.Agreement.{IsAgreed};
+    ghost use Rattle.model.specs.Reloading.{NoneIsStranded, with_all_stood};
+    ghost use Rattle.model.specs.Step.{Is};
+    ghost use Rattle.depot.specs.Store.{IsStoreWhole};
+    ghost use Rattle.depot.specs.Moving.{AreMoved};
+    ghost use Rattle.commands.specs.State.{broker_of, topology_kept, names_of, ArePlaced};
+
+    /// What every core keeps.
+    pub fn is_kept(&self)
+        ensures whole { IsStoreWhole self.now.store }
+        ensures placed { ArePlaced self.now }
+    {
+        self.depot.is_whole();
+    }
+
+    /// This topology is in force from now on, where no queue in use is gone: each message stands in the queue of its name, is
+    /// marked, and is else as it was, and so are connections and channels. Tells of each queue at which place it stands now.
+    /// Where memory is wanting, nothing has changed.
+    pub fn reload(&mut self, alloc: Global, topology: Topology) -> Result<Vec<usize>, AllocError>
+        requires agreed { IsAgreed (broker_of self.old) }
+        requires kept { NoneIsStranded (topology_kept self.old) topology (broker_of self.old) }
+        ensures topology { OnOk result (topology_kept self.new ≡ topology) }
+        ensures stood { OnOk result (Is (with_all_stood (broker_of self.old)) (broker_of self.new)) }
+        ensures moved { IfOk result (λ places. AreMoved (names_of self.old) (queue_names topology.queues) places.items) }
+        ensures err { OnErr result (self.new ≡ self.old) }
+    {
+        let places = self.depot.places_in(alloc, &topology)?;
+        let depot = Depot::new(alloc, topology)?;
+        moves_are_unseen();
+        let old = mem::replace(&mut self.depot, depot);
+        self.depot.take_over(old, &places);
+        self.links.renumber(&places);
+        Ok(places)
+    }
+}

@@ -1,0 +1,76 @@
+//! Connections that run, and their pauses.
+
+use crate::cores::Core;
+use crate::freeing::requeue_all;
+use std::alloc::{AllocError, Global};
+
+impl Core {
+    ghost use Rattle.std.specs.Prelude.{◌≡◌, [], true, false, OnOk, OnErr};
+    ghost use Rattle.model.specs.Agreement.{IsAgreed};
+    ghost use Rattle.model.specs.Step.{Acts, Is, with_gone, with_paused};
+    ghost use Rattle.model.specs.declared.events.Event.TheVariants as event_is;
+    ghost use Rattle.commands.specs.State.{broker_of, topology_kept};
+
+    /// The connection runs from now on, with channels 1 to `channels` open and new. What one of its number held is ready
+    /// again. Where memory is wanting, nothing has changed.
+    pub fn open(
+        &mut self,
+        alloc: Global,
+        connection: u64,
+        channel_max: u16,
+        channels: u16,
+    ) -> Result<(), AllocError>
+        requires { IsAgreed (broker_of self.old) }
+        ensures ok { OnOk result (Acts (topology_kept self.old) (broker_of self.old) (event_is.Running connection channel_max channels) [] []
+            (broker_of self.new)) }
+        ensures topology { topology_kept self.new ≡ topology_kept self.old }
+        ensures err { OnErr result (self.new ≡ self.old) }
+    {
+        let before = self.links.open(alloc, connection, channel_max, channels)?;
+        requeue_all(&mut self.depot, connection, before.as_ref());
+        Ok(())
+    }
+
+    /// The connection runs no more: what it held is ready again.
+    pub(crate) fn go(&mut self, connection: u64)
+        requires { IsAgreed (broker_of self.old) }
+        ensures gone { Is (with_gone (broker_of self.old) connection) (broker_of self.new) }
+        ensures topology { topology_kept self.new ≡ topology_kept self.old }
+    {
+        requeue_all(&mut self.depot, connection, self.links.get(connection));
+        self.links.remove(connection);
+    }
+
+    /// The connection is paused from now on, or is not.
+    pub(crate) fn set_paused(&mut self, connection: u64, is_paused: bool)
+        ensures paused { Is (with_paused (broker_of self.old) connection is_paused) (broker_of self.new) }
+        ensures topology { topology_kept self.new ≡ topology_kept self.old }
+    {
+        self.links.set_paused(connection, is_paused);
+    }
+
+    /// The connection is lost: what it held is ready again, and it is gone with its channels. It takes no memory.
+    pub fn lose(&mut self, connection: u64)
+        requires { IsAgreed (broker_of self.old) }
+        ensures acts { Acts (topology_kept self.old) (broker_of self.old) (event_is.Lose connection) [] [] (broker_of self.new) }
+        ensures topology { topology_kept self.new ≡ topology_kept self.old }
+    {
+        self.go(connection);
+    }
+
+    /// The output of the connection holds 1,048,576 bytes or more from now on. It takes no memory.
+    pub fn pause(&mut self, connection: u64)
+        ensures acts { Acts (topology_kept self.old) (broker_of self.old) (event_is.Pause connection) [] [] (broker_of self.new) }
+        ensures topology { topology_kept self.new ≡ topology_kept self.old }
+    {
+        self.set_paused(connection, true);
+    }
+
+    /// It holds fewer again. It takes no memory.
+    pub fn resume(&mut self, connection: u64)
+        ensures acts { Acts (topology_kept self.old) (broker_of self.old) (event_is.Resume connection) [] [] (broker_of self.new) }
+        ensures topology { topology_kept self.new ≡ topology_kept self.old }
+    {
+        self.set_paused(connection, false);
+    }
+}

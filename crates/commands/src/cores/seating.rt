@@ -1,0 +1,102 @@
+//! Seats of consumers: of those that are there, and of one that is to be made.
+
+ghost use Rattle.std.specs.Prelude.{◌≡◌, option_map};
+ghost use Rattle.commands.specs.Seats.{is_consume, consumed_by, consumed};
+
+use crate::cores::Core;
+use crate::picks::Pick;
+use model::{Event, Method, Text};
+
+/// Whether the method is a consume.
+fn is_consume(method: &Method) -> bool
+    ensures { result ≡ is_consume method.now }
+{
+    matches!(method, Method::BasicConsume(_))
+}
+
+/// The queue from which a consume asks to consume.
+fn consumed_by(method: &Method) -> Option<&Text>
+    ensures { option_map (λ q. q.now) result ≡ consumed_by method.now }
+{
+    match method {
+        Method::BasicConsume(consume) => Some(&consume.queue),
+        _ => None,
+    }
+}
+
+/// The queue from which an event asks to consume.
+fn consumed(event: &Event) -> Option<&Text>
+    ensures { option_map (λ q. q.now) result ≡ consumed event.now }
+{
+    match event {
+        Event::Command { method, .. } => consumed_by(method),
+        _ => None,
+    }
+}
+
+impl Core {
+    ghost use Rattle.std.specs.Prelude.{◌≡◌, ◌<◌, ℕ, Some, IfSome, is_some, length};
+    ghost use Rattle.channels.specs.Links.{linked_in};
+    ghost use Rattle.commands.specs.State.{topology_kept};
+    ghost use Rattle.commands.specs.Seats.{has_consumer, next_seat, seat_of, IsConsumed};
+
+    /// Whether the connection of this number runs.
+    pub fn runs(&self, connection: u64) -> bool
+        ensures { result ≡ is_some (linked_in self.now.links connection) }
+    {
+        self.links.get(connection).is_some()
+    }
+
+    /// Whether the consumer of these numbers is there.
+    pub fn has_consumer(&self, pick: Pick) -> bool
+        ensures { result ≡ has_consumer self.now pick }
+    {
+        match self.links.channel(pick.connection, pick.channel) {
+            Some(channel) => channel.consumer(pick.number).is_some(),
+            None => false,
+        }
+    }
+
+    /// The seat of the next consumer of this channel; none where a consume does nothing there.
+    fn next_seat(&self, connection: u64, channel: u16) -> Option<Pick>
+        ensures { result ≡ next_seat connection channel (linked_in self.now.links connection) }
+    {
+        let link = self.links.get(connection)?;
+        let number = link.next_number(channel)?;
+        Some(Pick {
+            connection,
+            channel,
+            number,
+        })
+    }
+
+    /// The seat of the consumer that this event is to make.
+    pub fn seat_of(&self, event: &Event) -> Option<Pick>
+        ensures { result ≡ seat_of self.now event.now }
+    {
+        let Event::Command {
+            connection,
+            channel,
+            method,
+            ..
+        } = event
+        else {
+            return None;
+        };
+        if is_consume(method) {
+            self.next_seat(*connection, *channel)
+        } else {
+            None
+        }
+    }
+
+    /// The place of the queue from which an event asks to consume, where it is there.
+    pub fn queue_consumed(&self, event: &Event) -> Option<usize>
+        ensures within { IfSome result (λ i. i < length (topology_kept self.now).queues) }
+        ensures told { (place : ℕ) → IsConsumed (topology_kept self.now) event.now place → result ≡ Some place }
+    {
+        let name = consumed(event)?;
+        self.depot.is_whole();
+        self.depot.topology().queue_at(name.as_bytes())
+    }
+}

@@ -1,0 +1,52 @@
+//! What stands against a reload.
+
+use crate::cores::Core;
+use depot::places_are_named;
+use exchange_graph::Topology;
+use guarantees::Guarantee;
+use model::Obstacle;
+use queue::Walk;
+use reloading::{Standing, obstacle};
+use std::alloc::{AllocError, Global};
+
+impl Standing for Core {
+    ghost use Rattle.channels.specs.Counting.{is_consumed};
+    ghost use Rattle.depot.specs.Store.{queue_at};
+
+    ghost entries = { λ kept place. queue_at kept.store place };
+
+    ghost consumed = { λ kept place. is_consumed kept.links place };
+
+    fn walk(&self, queue: usize) -> Walk<'_> {
+        self.depot.walk(queue)
+    }
+
+    fn is_consumed(&self, queue: usize) -> bool {
+        self.links.is_consumed(queue)
+    }
+}
+
+impl Core {
+    ghost use Rattle.std.specs.Prelude.{IfOk, OnErr};
+    ghost use Rattle.commands.specs.State.{broker_of, topology_kept};
+    ghost use Rattle.commands.specs.Obstacles.{TellsObstacle};
+    ghost use Rattle.reloading.specs.Wanting.{MayWant};
+
+    /// The first thing that stands against a reload to this topology and these guarantees, or nothing where nothing does,
+    /// whoever may log in from then on. Where memory is wanting nothing is told; it may be only where no queue in use is gone, or
+    /// where the first that is has a name of more than 22 bytes.
+    pub fn obstacle(
+        &self,
+        alloc: Global,
+        topology: &Topology,
+        guarantees: &[Guarantee],
+    ) -> Result<Option<Obstacle>, AllocError>
+        ensures told { IfOk result (TellsObstacle (topology_kept self.now) (broker_of self.now) topology.now guarantees.now) }
+        ensures wants { OnErr result (MayWant (topology_kept self.now) topology.now (broker_of self.now)) }
+    {
+        self.depot.is_whole();
+        places_are_named();
+        self.links.takers_are_found();
+        obstacle(alloc, self, self.depot.topology(), topology, guarantees)
+    }
+}

@@ -1,0 +1,205 @@
+//! What stands against a command, leaf by leaf: what it asks for is done beside.
+//!
+//! Source: AMQP 0-9-1, section 1.1, "reply-code", and the rules of its XML.
+
+ghost use Rattle.std.specs.Prelude.{◌≡◌, List, Some, true, false, Option, IsSome, IfOk, OnOk, option_map};
+ghost use Rattle.std.specs.Option.{option_copied};
+ghost use Rattle.model.specs.Words.{Text as Name};
+ghost use Rattle.model.specs.Broker.{Broker};
+ghost use Rattle.model.specs.Broker.{Channel as Seen};
+ghost use Rattle.model.specs.Topology.{Topology as Handed};
+ghost use Rattle.model.specs.Step as said;
+ghost use Rattle.model.specs.Prefetch.{has_tag_left};
+ghost use Rattle.model.specs.declared.messages.Entry.{Entry};
+ghost use Rattle.commands.specs.Judged.{refusal_seen, refused_by, refusal_of_number, is_taken, HasChannel, IsQueuePlace};
+ghost use Rattle.channels.specs.Open.{open_in};
+ghost use Rattle.channels.specs.Links.{limits_of, channel_seen};
+
+mod consumers;
+mod declares;
+mod publishes;
+mod settlements;
+
+pub use crate::refusals::consumers::check_consume;
+pub use crate::refusals::declares::{check_exchange, check_flow, check_queue_declare};
+pub use crate::refusals::publishes::check_publish;
+pub use crate::refusals::settlements::{check_recover, check_settling};
+use channels::{Channel, Link, SeatRefusal};
+use exchange_graph::Topology;
+use model::{Method, Qos, Text};
+use std::alloc::AllocError;
+
+/// Why a command is not performed.
+#[derive(Clone, Copy, Drop)]
+pub enum Refusal {
+    /// Nothing is done: the channel awaits close-ok.
+    Ignored,
+    /// The channel is closed with this reply code.
+    Channel(u16),
+    /// The connection is closed with this reply code.
+    Connection(u16),
+}
+
+/// Why a command was not performed.
+#[derive(Clone, Copy, Drop)]
+pub enum Stop {
+    /// This stands against it.
+    Refused(Refusal),
+    /// Memory was wanting.
+    Memory,
+}
+
+impl From<Refusal> for Stop {
+    ghost use Rattle.std.specs.Prelude.{◌≡◌};
+    ghost use Rattle.commands.specs.declared.refusals.Stop.TheVariants.{Refused};
+
+    ghost from_gives = { λ refusal stop. stop ≡ Refused refusal };
+
+    fn from(refusal: Refusal) -> Stop {
+        Stop::Refused(refusal)
+    }
+}
+
+impl From<AllocError> for Stop {
+    ghost use Rattle.std.specs.Prelude.{◌≡◌};
+    ghost use Rattle.commands.specs.declared.refusals.Stop.TheVariants.{Memory};
+
+    ghost from_gives = { λ _ stop. stop ≡ Memory };
+
+    fn from(_: AllocError) -> Stop {
+        Stop::Memory
+    }
+}
+
+impl From<SeatRefusal> for Stop {
+    ghost use Rattle.std.specs.Prelude.{◌≡◌};
+    ghost use Rattle.commands.specs.Judged.{stop_of};
+
+    ghost from_gives = { λ refusal stop. stop ≡ stop_of refusal };
+
+    fn from(refusal: SeatRefusal) -> Stop {
+        match refusal {
+            SeatRefusal::InUse => Stop::Refused(Refusal::Connection(530)),
+            SeatRefusal::TooMany => Stop::Refused(Refusal::Connection(506)),
+            SeatRefusal::Spent => Stop::Refused(Refusal::Connection(541)),
+            SeatRefusal::Memory => Stop::Memory,
+        }
+    }
+}
+
+/// A limit by the size of messages is not implemented.
+pub fn check_qos(qos: &Qos) -> Result<(), Refusal>
+    ensures { refused_by result ≡ said.refusal_of_qos qos.now }
+{
+    if qos.prefetch_size == 0 {
+        Ok(())
+    } else {
+        Err(Refusal::Connection(540))
+    }
+}
+
+/// What stands against a method that no open channel takes. One that is not built yet is not implemented.
+pub fn refusal_of_other(method: &Method) -> Refusal
+    requires { is_taken method.now ≡ false }
+    ensures { (t : Handed) (b : Broker) (ch : Seen) → said.refusal_of t b ch method.now ≡ Some (refusal_seen result) }
+{
+    match method {
+        Method::ChannelOpen { .. } => Refusal::Connection(504),
+        Method::ExchangeDelete
+        | Method::ExchangeBind
+        | Method::ExchangeUnbind
+        | Method::QueueBind
+        | Method::QueueDelete
+        | Method::QueueUnbind => Refusal::Channel(403),
+        Method::ChannelCloseOk
+        | Method::ChannelOpenOk { .. }
+        | Method::ChannelFlowOk { .. }
+        | Method::ExchangeDeclareOk
+        | Method::QueueDeclareOk(_)
+        | Method::QueuePurgeOk { .. }
+        | Method::BasicQosOk
+        | Method::BasicConsumeOk { .. }
+        | Method::BasicCancelOk { .. }
+        | Method::BasicReturn(_)
+        | Method::BasicDeliver(_)
+        | Method::BasicGetOk(_)
+        | Method::BasicGetEmpty { .. }
+        | Method::BasicRecoverOk
+        | Method::ConfirmSelectOk => Refusal::Connection(503),
+        _ => Refusal::Connection(540),
+    }
+}
+
+/// The connection class.
+fn is_of_connection(method: &Method) -> bool
+    ensures { result ≡ said.is_of_connection method.now }
+{
+    method.ids().class == 10
+}
+
+/// Elsewhere than on channel 0 no method of the connection class is known, and no channel has a number greater than this, which
+/// was agreed on.
+pub fn check_number(channel_max: u16, number: u16, method: &Method) -> Result<(), Refusal>
+    ensures { refused_by result ≡ refusal_of_number channel_max number method.now }
+{
+    if is_of_connection(method) {
+        return Err(Refusal::Connection(503));
+    }
+    if number > channel_max {
+        return Err(Refusal::Connection(504));
+    }
+    Ok(())
+}
+
+/// The place of the queue of this name, which must be there.
+pub fn check_queue(topology: &Topology, name: &Text) -> Result<usize, Refusal>
+    ensures place { IfOk result (IsQueuePlace topology.now name.now) }
+    ensures refusal { refused_by result ≡ said.refusal_in topology.now name.now }
+{
+    match topology.queue_at(name.as_bytes()) {
+        Some(place) => Ok(place),
+        None => Err(Refusal::Channel(404)),
+    }
+}
+
+/// A delivery tag must be left where a message is given out.
+pub fn check_tag(channel: &Channel) -> Result<(), Refusal>
+    ensures left { OnOk result (has_tag_left channel.now.given.next_tag ≡ true) }
+    ensures refusal { (names : List Name) (e : Entry) → refused_by result ≡ said.refusal_of_tags (open_in names channel.now) (Some e) }
+{
+    if channel.has_tag_left() {
+        Ok(())
+    } else {
+        Err(Refusal::Connection(541))
+    }
+}
+
+/// Whether a close was sent on the channel and close-ok is awaited.
+fn is_awaiting(channel: Option<&Channel>) -> bool
+    ensures { (names : List Name) → result ≡ said.is_awaiting (option_map (open_in names) (option_copied channel.entry)) }
+{
+    match channel {
+        None => false,
+        Some(channel) => channel.is_closing(),
+    }
+}
+
+/// A publish whose content is too large, of a connection that runs: no channel takes it, and one that is open is closed.
+pub fn judge_large(link: &Link, number: u16) -> Refusal
+    ensures is { (names : List Name) → refusal_seen result ≡ said.refusal_of_large (limits_of link.now) number (channel_seen names link.now number) }
+    ensures channel { (names : List Name) → HasChannel result (channel_seen names link.now number) }
+{
+    if is_awaiting(link.channel(number)) {
+        return Refusal::Ignored;
+    }
+    if number == 0 {
+        return Refusal::Connection(503);
+    }
+    if link.channel_max() < number {
+        return Refusal::Connection(504);
+    }
+    match link.channel(number) {
+        None => Refusal::Connection(504),
+        Some(_) => Refusal::Channel(311),
+    }
+}

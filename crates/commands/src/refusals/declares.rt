@@ -1,0 +1,53 @@
+//! What is decided of a flow, and of what would declare or bind for a client.
+
+ghost use Rattle.std.specs.Prelude.{◌≡◌, Some, None, IfOk, if◌then◌else◌};
+ghost use Rattle.model.specs.Step as said;
+ghost use Rattle.model.specs.Step.{Of_channel};
+ghost use Rattle.commands.specs.Judged.{refused_by, IsQueuePlace};
+
+use crate::refusals::{Refusal, check_queue};
+use exchange_graph::Topology;
+use model::{ExchangeDeclare, QueueDeclare};
+
+/// A flow that stops is not implemented.
+pub fn check_flow(active: bool) -> Result<(), Refusal>
+    ensures { refused_by result ≡ said.refusal_of_flow active }
+{
+    if active {
+        Ok(())
+    } else {
+        Err(Refusal::Connection(540))
+    }
+}
+
+/// Whether an exchange of this name is there. The default exchange always is.
+fn is_exchange(topology: &Topology, name: &[u8]) -> bool
+    ensures { said.refusal_of_exchange topology.now name.now ≡ (if result then None else Some (Of_channel 404)) }
+{
+    name.is_empty() || topology.exchange(name).is_some()
+}
+
+/// A declare of an exchange may only ask whether the exchange is there.
+pub fn check_exchange(topology: &Topology, declare: &ExchangeDeclare) -> Result<(), Refusal>
+    ensures { refused_by result ≡ said.refusal_of_exchange_declare topology.now declare.now }
+{
+    if !declare.passive {
+        return Err(Refusal::Channel(403));
+    }
+    if is_exchange(topology, declare.exchange.as_bytes()) {
+        Ok(())
+    } else {
+        Err(Refusal::Channel(404))
+    }
+}
+
+/// A declare of a queue may only ask whether the queue is there. The place of that queue.
+pub fn check_queue_declare(topology: &Topology, declare: &QueueDeclare) -> Result<usize, Refusal>
+    ensures place { IfOk result (IsQueuePlace topology.now declare.now.queue) }
+    ensures refusal { refused_by result ≡ said.refusal_of_queue_declare topology.now declare.now }
+{
+    if !declare.passive {
+        return Err(Refusal::Channel(403));
+    }
+    check_queue(topology, &declare.queue)
+}

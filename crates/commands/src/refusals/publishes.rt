@@ -1,0 +1,65 @@
+//! What is decided of a publish. Source: AMQP 0-9-1, basic.publish.
+
+ghost use Rattle.std.specs.Prelude.{◌≡◌, ◌<◌, false, List, OnOk, IfOk, IfSome};
+ghost use Rattle.std.specs.Arc.{arc_value};
+ghost use Rattle.model.specs.Words.{Text as Name};
+ghost use Rattle.model.specs.Broker.{Broker};
+ghost use Rattle.model.specs.Topology.{Topology as Handed, queue_names};
+ghost use Rattle.model.specs.Step as said;
+ghost use Rattle.model.specs.Step.{greatest};
+ghost use Rattle.kept_routes.specs.Routers.{access_to, IsRoute};
+ghost use Rattle.channels.specs.Open.{open_in};
+ghost use Rattle.commands.specs.Judged.{refused_by};
+
+use crate::refusals::Refusal;
+use channels::Channel;
+use depot::Depot;
+use kept_routes::{Access, Route};
+use model::Publish;
+use std::sync::Arc;
+
+/// Clients may publish to no internal exchange, and to none that is not there.
+fn check_access(access: Access) -> Result<(), Refusal>
+    ensures { (t : Handed) (exchange : Name) → access ≡ access_to t exchange → refused_by result ≡ said.refusal_to t exchange }
+{
+    match access {
+        Access::Open => Ok(()),
+        Access::Internal => Err(Refusal::Channel(403)),
+        Access::Absent => Err(Refusal::Channel(404)),
+    }
+}
+
+/// A number must be left for the publish, and one for its confirm where the channel confirms.
+fn check_counters(published: u64, channel: &Channel) -> Result<(), Refusal>
+    ensures refusal { (b : Broker) (names : List Name) → b.published ≡ published → refused_by result ≡ said.refusal_of_count b (open_in names channel.now) }
+    ensures published { OnOk result (published < greatest) }
+    ensures confirm { OnOk result (said.is_spent channel.now.confirm ≡ false) }
+{
+    if published == u64::MAX || channel.confirm() == Some(u64::MAX) {
+        Err(Refusal::Connection(541))
+    } else {
+        Ok(())
+    }
+}
+
+/// A publish is refused where it asks for `immediate`, which is not implemented, then for its exchange, then for its counters.
+/// Tells its route, where that is known. It takes no memory.
+pub fn check_publish<'a>(
+    depot: &'a Depot,
+    channel: &Channel,
+    publish: &Publish,
+) -> Result<Option<&'a Arc<Route>>, Refusal>
+    ensures refusal { (b : Broker) → b.published ≡ depot.now.published
+        → refused_by result ≡ said.refusal_of_publish depot.now.topology b (open_in (queue_names depot.now.topology.queues) channel.now) publish.now }
+    ensures route { IfOk result (λ known. IfSome known (λ r. IsRoute depot.now.topology publish.now.exchange publish.now.routing_key (arc_value r.now))) }
+    ensures published { OnOk result (depot.now.published < greatest) }
+    ensures confirm { OnOk result (said.is_spent channel.now.confirm ≡ false) }
+{
+    if publish.immediate {
+        return Err(Refusal::Connection(540));
+    }
+    let found = depot.router().find(&publish.exchange, &publish.routing_key);
+    check_access(found.access)?;
+    check_counters(depot.published(), channel)?;
+    Ok(found.route)
+}

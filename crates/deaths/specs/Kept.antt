@@ -1,9 +1,0 @@
--- What is kept of the last death (own).
-use Rattle.std.specs.Prelude.{Option, Some, None}
-use Rattle.deaths.specs.declared.markers.Marking.{Marking}
-use Rattle.deaths.specs.Marked.{ArePropertiesMarked}
-
--- what is kept here, if anything, is what became of its own properties
-abbrev pub IsRight : Option Marking → Type 0
-IsRight None = Unit {0}
-IsRight (Some m) = ArePropertiesMarked m.queue m.exchange m.before m.after

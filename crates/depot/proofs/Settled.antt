@@ -1,0 +1,219 @@
+-- What is done by the places of queues settles deliveries in the queues of their names.
+use Rattle.std.proofs.Common.{◌≡◌, ℕ, zero, suc, ◌+◌, ◌<◌, List, [], ◌∷◌, ◌++◌, Bool, true, false, cond, refl, sym, ap, subst, ◌∙◌, map, filter, length, get_or, not, drop, arith, append_assoc, Result, Ok, Err, OnOk}
+use Rattle.std.specs.Prelude.{find, if◌then◌else◌}
+use Rattle.std.specs.Str.{bytes_eq}
+use Rattle.std.proofs.lemmas.List.{append-nil, length-set}
+use Rattle.model.specs.Words.{Text}
+use Rattle.model.specs.Topology.{Topology, queue_names, IsWellFormed}
+use Rattle.model.specs.Entries.{is_under, is_held_as, freed, without_first}
+use Rattle.model.specs.Deliveries as given
+use Rattle.model.specs.Deliveries.{Leaves, Returns, left_note}
+use Rattle.model.specs.declared.messages.Entry.{Entry}
+use Rattle.model.specs.declared.notes.Cause.{Cause}
+use Rattle.model.specs.declared.notes.Cause.TheVariants.{Acked}
+use Rattle.model.specs.declared.notes.Note.{Note}
+use Rattle.exchange_graph.specs.Marks.{queue_name}
+use Rattle.model.specs.declared.deliveries.Delivery.{Delivery}
+use Rattle.model.specs.Placed.{is_waiting, waiting, holder_of_delivery, outstanding_in, AreWithin}
+use Rattle.depot.specs.declared.departures.Departure.{Departure}
+use Rattle.depot.specs.Store.{Store, entries_named, IsStoreWhole}
+use Rattle.depot.specs.Dying.{given_at}
+use Rattle.depot.specs.Settled.{AreSettledBy, store_of, left_at, returned_at, departure_in, AreOf}
+use Rattle.depot.proofs.Firsts.{one_passes, count-filter}
+use Rattle.depot.proofs.Named.{queue_of-changed, queue_of-place}
+use Rattle.depot.proofs.Waiting.{nothing, next_waiting}
+use Rattle.depot.proofs.Rejected.{AreApartBy, fewer-set}
+
+-- ---- one delivery
+
+-- the queues without its message, by their names
+left_named : (s : Store) (c h : ℕ) (d : Delivery) (q : Text) → IsStoreWhole s → AreApartBy s.queues → d.queue < length s.topology.queues
+    → entries_named (record s { queues = left_at c h s.queues d }) q ≡ given.without_given c h (entries_named s) (outstanding_in (queue_names s.topology.queues) d) q
+left_named s c h d q whole apart lt =
+    let p = is_held_as (holder_of_delivery c h d) in
+    let here = get_or s.queues d.queue [] in
+    queue_of-changed s d.queue (filter (λ (e : Entry). not (p e)) here) q whole lt
+    ∙ ap (λ (es : List Entry). if bytes_eq (queue_name s.topology d.queue) q then es else entries_named s q)
+    (one_passes p here (apart d.queue (holder_of_delivery c h d)) ∙ ap (without_first p) (sym (queue_of-place s d.queue whole lt)))
+
+-- what is held is still apart without it
+apart_left : (c h : ℕ) (lists : List (List Entry)) (d : Delivery) → AreApartBy lists → AreApartBy (left_at c h lists d)
+apart_left c h lists d apart k a =
+    let p = is_held_as (holder_of_delivery c h d) in
+    let kept = filter (λ (e : Entry). not (p e)) (get_or lists d.queue []) in
+    let fewer = fewer-set (is_held_as a) lists d.queue k kept (count-filter (is_held_as a) (λ (e : Entry). not (p e)) (get_or lists d.queue [])) in
+    let one = apart k a in
+    omega (arith, fewer, one)
+
+-- the queues with it ready again, by their names
+returned_named : (s : Store) (c h : ℕ) (d : Delivery) (q : Text) → IsStoreWhole s → d.queue < length s.topology.queues
+    → entries_named (record s { queues = returned_at c h s.queues d }) q ≡ given.with_returned c h (entries_named s) (outstanding_in (queue_names s.topology.queues) d) q
+returned_named s c h d q whole lt =
+    let free = map (freed (is_under (holder_of_delivery c h d))) in
+    queue_of-changed s d.queue (free (get_or s.queues d.queue [])) q whole lt
+    ∙ ap (λ (es : List Entry). if bytes_eq (queue_name s.topology d.queue) q then free es else entries_named s q) (sym (queue_of-place s d.queue whole lt))
+
+-- ---- one after another
+
+-- none is settled
+pub none_leaves : (cause : Cause) (s : Store) (c h : ℕ) (notes : List Note) → AreSettledBy (Leaves cause) s c h [] notes notes s
+none_leaves cause s c h notes = record { noted = []; appended = sym (append-nil notes); settled = (refl, λ q. refl); counted = refl; topology = refl }
+
+pub none_returns : (s : Store) (c h : ℕ) → AreSettledBy Returns s c h [] [] [] s
+none_returns s c h = record { noted = []; appended = refl; settled = (refl, λ q. refl); counted = refl; topology = refl }
+
+-- one leaves its queue, and then others do
+pub leaves_first : (cause : Cause) (s : Store) (c h : ℕ) (d : Delivery) (ds : List Delivery) (lists : List (List Entry)) (before middle after : List Note) (new : Store)
+    → IsStoreWhole s → AreApartBy s.queues → d.queue < length s.topology.queues
+    → lists ≡ left_at c h s.queues d → middle ≡ before ++ left_note cause (queue_name s.topology d.queue) (given_at c h s.queues d)
+    → AreSettledBy (Leaves cause) (record s { queues = lists }) c h ds middle after new → AreSettledBy (Leaves cause) s c h (d ∷ ds) before after new
+leaves_first cause s c h d ds lists before middle after new whole apart lt moved noted rest =
+    let name = queue_name s.topology d.queue in
+    let note = left_note cause name (given_at c h s.queues d) in
+    record {
+      noted = note ++ rest.noted;
+      appended = rest.appended ∙ ap (λ (ns : List Note). ns ++ rest.noted) noted ∙ append_assoc before note rest.noted;
+      settled = (
+        entries_named (record s { queues = lists }),
+        rest.noted,
+        (λ q. ap (λ (ls : List (List Entry)). entries_named (record s { queues = ls }) q) moved ∙ left_named s c h d q whole apart lt),
+        ap (λ (es : List Entry). left_note cause name (find (is_held_as (holder_of_delivery c h d)) es) ++ rest.noted) (sym (queue_of-place s d.queue whole lt)),
+        rest.settled,
+      );
+      counted = rest.counted;
+      topology = rest.topology;
+    }
+
+-- one is ready again, and then others are
+pub returns_first : (s : Store) (c h : ℕ) (d : Delivery) (ds : List Delivery) (lists : List (List Entry)) (new : Store) → IsStoreWhole s → d.queue < length s.topology.queues → lists ≡ returned_at c h s.queues d
+    → AreSettledBy Returns (record s { queues = lists }) c h ds [] [] new → AreSettledBy Returns s c h (d ∷ ds) [] [] new
+returns_first s c h d ds lists new whole lt moved rest = record {
+  noted = [];
+  appended = refl;
+  settled = (
+    refl,
+    (
+      entries_named (record s { queues = lists }),
+      (λ q. ap (λ (ls : List (List Entry)). entries_named (record s { queues = ls }) q) moved ∙ returned_named s c h d q whole lt),
+      rest.settled.1,
+    ),
+  );
+  counted = rest.counted;
+  topology = rest.topology;
+}
+
+-- ---- loops over what is settled
+
+-- What is still to leave leaves; then all of these have left.
+pub record AreLeaving (t : Topology) (c h : ℕ) (old now : List (List Entry)) (gone : List Delivery) (rest : List Departure) (before noted : List Note) : Type 0 where
+  pub still : List Delivery
+  pub rest_are : rest ≡ map (departure_in t) still
+  pub within : AreWithin t still
+  pub len : length now ≡ length t.queues
+  pub apart : AreApartBy now
+  pub all : (n : ℕ) (after : List Note) (new : Store) → AreSettledBy (Leaves Acked) (store_of t now n) c h still noted after new → AreSettledBy (Leaves Acked) (store_of t old n) c h gone before after new
+
+pub leaving_begins : (t : Topology) (c h : ℕ) (old : List (List Entry)) (gone : List Delivery) (rest : List Departure) (before : List Note) → rest ≡ map (departure_in t) gone → AreWithin t gone → length old ≡ length t.queues → AreApartBy old
+    → AreLeaving t c h old old gone rest before before
+leaving_begins t c h old gone rest before are within len apart = record { still = gone; rest_are = are; within = within; len = len; apart = apart; all = λ n after new settled. settled }
+
+pub leaving_within : (t : Topology) (c h : ℕ) (old now : List (List Entry)) (gone : List Delivery) (rest later : List Departure) (d : Departure) (before noted : List Note)
+    → AreLeaving t c h old now gone rest before noted → rest ≡ d ∷ later → d.given.queue < length now
+leaving_within t c h old now gone rest later d before noted leaving next = go leaving.still leaving.within (sym next ∙ leaving.rest_are)
+  where
+    go : (ds : List Delivery) → AreWithin t ds → d ∷ later ≡ map (departure_in t) ds → d.given.queue < length now
+    go [] within e = absurd (cc)
+    go (x ∷ xs) within e =
+        let lt = within 0 x (omega arith) in
+        let len = leaving.len in
+        let same : d.given.queue ≡ x.queue = cc (e) in
+        omega (arith, lt, len, same)
+
+pub leaving_ends : (t : Topology) (c h n : ℕ) (old now : List (List Entry)) (gone : List Delivery) (rest : List Departure) (before noted : List Note)
+    → AreLeaving t c h old now gone rest before noted → length rest ≡ 0 → AreSettledBy (Leaves Acked) (store_of t old n) c h gone before noted (store_of t now n)
+leaving_ends t c h n old now gone rest before noted leaving none = go leaving.still (sym none ∙ ap length leaving.rest_are) leaving.all
+  where
+    go : (ds : List Delivery) → 0 ≡ length (map (departure_in t) ds)
+        → ((n : ℕ) (after : List Note) (new : Store) → AreSettledBy (Leaves Acked) (store_of t now n) c h ds noted after new → AreSettledBy (Leaves Acked) (store_of t old n) c h gone before after new)
+        → AreSettledBy (Leaves Acked) (store_of t old n) c h gone before noted (store_of t now n)
+    go [] e all = all n noted (store_of t now n) (none_leaves Acked (store_of t now n) c h noted)
+    go (x ∷ xs) e all = absurd (omega (arith, e))
+
+pub leaving_next : (t : Topology) (c h : ℕ) (old now new : List (List Entry)) (gone : List Delivery) (rest later : List Departure) (d : Departure) (before noted more : List Note) → IsWellFormed t
+    → AreLeaving t c h old now gone rest before noted → rest ≡ d ∷ later → new ≡ left_at c h now d.given → more ≡ noted ++ left_note Acked d.queue (given_at c h now d.given)
+    → AreLeaving t c h old new gone later before more
+leaving_next t c h old now new gone rest later d before noted more formed leaving next moved told = go leaving.still leaving.within leaving.all (sym next ∙ leaving.rest_are)
+  where
+    go : (ds : List Delivery) → AreWithin t ds
+        → ((n : ℕ) (after : List Note) (last : Store) → AreSettledBy (Leaves Acked) (store_of t now n) c h ds noted after last → AreSettledBy (Leaves Acked) (store_of t old n) c h gone before after last)
+        → d ∷ later ≡ map (departure_in t) ds → AreLeaving t c h old new gone later before more
+    go [] within all e = absurd (cc)
+    go (x ∷ xs) within all e =
+        let first : d ≡ departure_in t x = cc (e) in
+        let at : d.given ≡ x = ap (λ (y : Departure). y.given) first in
+        let name : d.queue ≡ queue_name t x.queue = ap (λ (y : Departure). y.queue) first in
+        let lists : new ≡ left_at c h now x = moved ∙ ap (left_at c h now) at in
+        let notes : more ≡ noted ++ left_note Acked (queue_name t x.queue) (given_at c h now x)
+        = told ∙ ap (λ (q : Text). noted ++ left_note Acked q (given_at c h now d.given)) name ∙ ap (λ (y : Delivery). noted ++ left_note Acked (queue_name t x.queue) (given_at c h now y)) at in
+        let lt = within 0 x (omega arith) in
+        record {
+          still = xs;
+          rest_are = cc (e);
+          within = λ k y l. within (suc k) y (omega (arith, l));
+          len = ap length lists ∙ length-set now x.queue (filter (λ (y : Entry). not (is_held_as (holder_of_delivery c h x) y)) (get_or now x.queue [])) ∙ leaving.len;
+          apart = subst AreApartBy (sym lists) (apart_left c h now x leaving.apart);
+          all = λ n after last settled.
+              all n after last (leaves_first Acked (store_of t now n) c h x xs new noted more after last (record { formed = formed; len = leaving.len }) leaving.apart lt lists notes settled);
+        }
+
+-- where there is one, it leaves if it waits
+pub one_left : (t : Topology) (c h n : ℕ) (gone : List Delivery) (d : Delivery) (old new : List (List Entry)) (before after : List Note) → IsWellFormed t → length old ≡ length t.queues → AreApartBy old → AreWithin t (waiting gone)
+    → length gone ≡ 1 → d ≡ get_or gone 0 nothing
+    → (is_waiting d ≡ true → (new ≡ left_at c h old d) × (after ≡ before ++ left_note Acked (queue_name t d.queue) (given_at c h old d))) → (is_waiting d ≡ false → (new ≡ old) × (after ≡ before))
+    → AreSettledBy (Leaves Acked) (store_of t old n) c h (waiting gone) before after (store_of t new n)
+one_left t c h n [] d old new before after formed len apart within one is waits waits_not = absurd (omega (arith, one))
+one_left t c h n (x ∷ y ∷ zs) d old new before after formed len apart within one is waits waits_not = absurd (omega (arith, one))
+one_left t c h n (x ∷ []) d old new before after formed len apart within one is waits waits_not = go (is_waiting x) refl within
+  where
+    s : Store
+    s = store_of t old n
+
+    go : (b : Bool) → is_waiting x ≡ b → AreWithin t (cond b (x ∷ []) []) → AreSettledBy (Leaves Acked) s c h (cond b (x ∷ []) []) before after (store_of t new n)
+    go true w all =
+        let made = waits (ap is_waiting is ∙ w) in
+        leaves_first Acked s c h x [] new before after after (store_of t new n) (record { formed = formed; len = len }) apart (all 0 x (omega arith))
+        (made.0 ∙ ap (left_at c h old) is) (made.1 ∙ ap (λ (y : Delivery). before ++ left_note Acked (queue_name t y.queue) (given_at c h old y)) is)
+        (none_leaves Acked (store_of t new n) c h after)
+    go false w all =
+        let made = waits_not (ap is_waiting is ∙ w) in
+        subst (λ (ls : List (List Entry)). AreSettledBy (Leaves Acked) s c h [] before after (store_of t ls n)) (sym made.0)
+        (subst (λ (ns : List Note). AreSettledBy (Leaves Acked) s c h [] before ns s) (sym made.1) (none_leaves Acked s c h before))
+
+-- those that wait from this place on are ready again
+pub returned_next : (t : Topology) (n c h : ℕ) (gone : List Delivery) (i : ℕ) (d : Delivery) (old new : List (List Entry)) (last : Store) → IsWellFormed t → length old ≡ length t.queues → i < length gone
+    → (is_waiting (get_or gone i d) ≡ true → (get_or gone i d).queue < length old) → (is_waiting (get_or gone i d) ≡ true → new ≡ returned_at c h old (get_or gone i d)) → (is_waiting (get_or gone i d) ≡ false → new ≡ old)
+    → AreSettledBy Returns (store_of t new n) c h (waiting (drop (i + 1) gone)) [] [] last → AreSettledBy Returns (store_of t old n) c h (waiting (drop i gone)) [] [] last
+returned_next t n c h gone i d old new last formed len lt within changes stays rest = go (is_waiting (get_or gone i d)) refl
+  where
+    go : (b : Bool) → is_waiting (get_or gone i d) ≡ b → AreSettledBy Returns (store_of t old n) c h (waiting (drop i gone)) [] [] last
+    go true w =
+        subst (λ (ds : List Delivery). AreSettledBy Returns (store_of t old n) c h ds [] [] last) (sym (next_waiting gone i d true lt w))
+        (returns_first (store_of t old n) c h (get_or gone i d) (waiting (drop (i + 1) gone)) new last (record { formed = formed; len = len }) (let l = within w in omega (arith, l, len)) (changes w) rest)
+    go false w =
+        subst (λ (ds : List Delivery). AreSettledBy Returns (store_of t old n) c h ds [] [] last) (sym (next_waiting gone i d false lt w))
+        (subst (λ (ls : List (List Entry)). AreSettledBy Returns (store_of t ls n) c h (waiting (drop (i + 1) gone)) [] [] last) (stays w) rest)
+
+-- what was so, where it was done, gives this
+pub on_both : {X E : Type 0} (r : Result X E) (A B C : Type 0) → (A → B → C) → OnOk r A → OnOk r B → OnOk r C
+on_both (Ok x) A B C f a b = f a b
+on_both (Err e) A B C f a b = a
+
+-- one that waits was given out from one of so many queues, if all that wait were
+pub of_next : (first count : ℕ) (gone : List Delivery) (i : ℕ) (d : Delivery) → AreOf first (waiting gone) → count ≡ first → i < length gone → is_waiting (get_or gone i d) ≡ true → (get_or gone i d).queue < count
+of_next first count [] i d within same lt w = absurd (omega arith)
+of_next first count (x ∷ xs) zero d within same lt w = let at = subst (λ (ys : List Delivery). AreOf first ys) (ap (λ (b : Bool). cond b (x ∷ waiting xs) (waiting xs)) w) within zero d (omega arith) in omega (arith, at, same)
+of_next first count (x ∷ xs) (suc i) d within same lt w = of_next first count xs i d (rest (is_waiting x) within) same (omega arith) w
+  where
+    rest : (b : Bool) → AreOf first (cond b (x ∷ waiting xs) (waiting xs)) → AreOf first (waiting xs)
+    rest true all = λ k e l. all (suc k) e (omega arith)
+    rest false all = all

@@ -1,0 +1,14 @@
+use Rattle.std.proofs.Common.{[], subst}
+use Rattle.model.specs.Deliveries.{Returns}
+use Rattle.model.specs.Topology.{IsWellFormed}
+use Rattle.model.specs.Placed.{waiting}
+use Rattle.depot.specs.Store.{Store, entries_of}
+use Rattle.depot.specs.Settled.{AreSettledBy, store_of}
+use Rattle.depot.proofs.depots.Depot.requeue.Goals as goal
+
+pub returns : goal.returns
+returns c =
+    let t = c.self.inside.router in
+    let new : Store = store_of t (entries_of c.requeue_in.new.queues) c.self.inside.published in
+    subst (λ (s : Store). AreSettledBy Returns s c.args.id.connection c.args.id.number (waiting c.args.gone.now) [] [] new) c.self.view_is
+    (c.requeue_in.ensures.settled t c.self.inside.published (subst IsWellFormed c.topology.ensures c.is_well_formed.ensures) c.self.invariant)

@@ -1,0 +1,16 @@
+use Rattle.std.proofs.Common.{◌≡◌, ℕ, [], length, drop}
+use Rattle.model.specs.Topology.{Topology, IsWellFormed}
+use Rattle.model.specs.Deliveries.{Returns}
+use Rattle.model.specs.Placed.{waiting}
+use Rattle.depot.specs.Store.{Store, entries_of}
+use Rattle.depot.specs.Settled.{AreSettledBy, store_of}
+use Rattle.depot.proofs.settling.requeue_in.Given as goal
+
+-- once what is from here on is ready again, all is
+abbrev pub invariant-loop-given : goal.invariant-loop-given
+invariant-loop-given l = record {
+  len : length l.queues ≡ length l.fn.queues;
+  returned : (t : Topology) (n : ℕ) (last : Store) → IsWellFormed t → length l.fn.queues ≡ length t.queues
+      → AreSettledBy Returns (store_of t (entries_of l.queues) n) l.id.connection l.id.number (waiting (drop l.given-index l.gone)) [] [] last
+      → AreSettledBy Returns (store_of t (entries_of l.fn.queues) n) l.id.connection l.id.number (waiting l.gone) [] [] last;
+}

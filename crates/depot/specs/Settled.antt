@@ -1,0 +1,51 @@
+-- Messages that were given out and are settled, by the places of their queues and by their names.
+use Rattle.std.specs.Prelude.{◌≡◌, ◌<◌, ◌≤◌, ◌++◌, ℕ, List, [], map, filter, not, count_by, All, slice_index_or, slice_set}
+use Rattle.model.specs.Words.{Text}
+use Rattle.model.specs.Topology.{Topology, queue_names}
+use Rattle.model.specs.Entries.{is_under, is_held_as, freed}
+use Rattle.model.specs.Deliveries.{Settlement, AreSettled}
+use Rattle.model.specs.declared.messages.Entry.{Entry}
+use Rattle.model.specs.declared.messages.Holder.{Holder}
+use Rattle.model.specs.declared.notes.Note.{Note}
+use Rattle.exchange_graph.specs.Marks.{queue_name}
+use Rattle.model.specs.Placed.{holder_of_delivery, outstanding_in}
+use Rattle.model.specs.declared.deliveries.Delivery.{Delivery}
+use Rattle.depot.specs.declared.departures.Departure.{Departure}
+use Rattle.depot.specs.Store.{Store, entries_named}
+
+-- These deliveries of channel h of connection c are settled so, one after another; the notes are those of before with what is noted of
+-- that behind them, and all else stays.
+pub record AreSettledBy (how : Settlement) (old : Store) (c h : ℕ) (gone : List Delivery) (before after : List Note) (new : Store) : Type 0 where
+  pub noted : List Note
+  pub appended : after ≡ before ++ noted
+  pub settled : AreSettled old.topology how c h
+      (map (outstanding_in (queue_names old.topology.queues)) gone) (entries_named old) noted (entries_named new)
+  pub counted : new.published ≡ old.published
+  pub topology : new.topology ≡ old.topology
+
+-- at most one message of each queue is held under one tag
+abbrev pub IsApart : Store → Type 0
+IsApart s = (q : Text) (holder : Holder) → count_by (is_held_as holder) (entries_named s q) ≤ 1
+
+-- ---- by places
+
+-- the queues of a topology with these entries, after so many publishes
+abbrev pub store_of : Topology → List (List Entry) → ℕ → Store
+store_of t entries n = record { topology = t; queues = entries; published = n }
+
+-- the queues without the message of this delivery
+abbrev pub left_at : ℕ → ℕ → List (List Entry) → Delivery → List (List Entry)
+left_at c h entries d =
+    slice_set entries d.queue (filter (λ (e : Entry). not (is_held_as (holder_of_delivery c h d) e)) (slice_index_or entries d.queue []))
+
+-- the queues with it ready again, in its place
+abbrev pub returned_at : ℕ → ℕ → List (List Entry) → Delivery → List (List Entry)
+returned_at c h entries d = slice_set entries d.queue (map (freed (is_under (holder_of_delivery c h d))) (slice_index_or entries d.queue []))
+
+-- each of these was given out from one of so many queues
+abbrev pub AreOf : ℕ → List Delivery → Type 0
+AreOf count ds = All (λ (d : Delivery). d.queue < count) ds
+
+-- a delivery from a queue of this topology, with the queue's name
+abbrev pub departure_in : Topology → Delivery → Departure
+departure_in t d = record { given = d; queue = queue_name t d.queue }

@@ -1,0 +1,129 @@
+//! Contents of dead letters, made one after another.
+
+ghost use Rattle.std.specs.Prelude.{◌≡◌, IfOk, IfSome, IsTrue};
+ghost use Rattle.model.specs.declared.contents.Fields.{Fields as Seen};
+ghost use Rattle.depot.specs.Marked.{ArePropertiesMarked};
+ghost use Rattle.depot.specs.Kept.{IsRight};
+
+use crate::marking::marked;
+use headers::one_header;
+use model::{Content, Form, Properties, Text};
+use std::alloc::{AllocError, Global};
+use std::marker::Model;
+
+/// What became of the properties of a message that died in a queue, when it was last sent to an exchange.
+#[derive(Drop)]
+struct Marking {
+    queue: Text,
+    exchange: Text,
+    before: Properties,
+    after: Properties,
+}
+
+/// Whether these are spelled, and spelled alike.
+fn are_alike(some: &Properties, others: &Properties) -> bool
+    ensures { IsTrue result → some.now ≡ others.now }
+{
+    one_header();
+    match (some.form(), others.form()) {
+        (Form::Spelled(some), Form::Spelled(others)) => some == others,
+        _ => false,
+    }
+}
+
+/// What becomes of these properties, if it is kept here.
+fn kept<'a>(
+    last: &'a Option<Marking>,
+    queue: &Text,
+    exchange: &Text,
+    properties: &Properties,
+) -> Option<&'a Properties>
+    requires { IsRight last.now }
+    ensures { IfSome result (λ p. ArePropertiesMarked queue.now exchange.now properties.now p.now) }
+{
+    let Some(last) = last else {
+        return None;
+    };
+    if last.queue.as_bytes() == queue.as_bytes()
+        && last.exchange.as_bytes() == exchange.as_bytes()
+        && are_alike(&last.before, properties)
+    {
+        return Some(&last.after);
+    }
+    None
+}
+
+/// What becomes of these properties, which is kept here from now on.
+fn marked_once(
+    alloc: Global,
+    last: &mut Option<Marking>,
+    queue: &Text,
+    exchange: &Text,
+    properties: &Properties,
+) -> Result<Properties, AllocError>
+    requires { IsRight last.old }
+    ensures right { IsRight last.new }
+    ensures marked { IfOk result (ArePropertiesMarked queue.now exchange.now properties.now) }
+{
+    if let Some(after) = kept(last, queue, exchange, properties) {
+        return after.clone();
+    }
+    let after = marked(alloc, queue, exchange, properties)?;
+    *last = Some(Marking {
+        queue: queue.clone()?,
+        exchange: exchange.clone()?,
+        before: properties.clone()?,
+        after: after.clone()?,
+    });
+    Ok(after)
+}
+
+/// Makes the contents of dead letters. What was made last is kept, so that properties that are spelled alike are marked once.
+/// What it answers is the same whatever it keeps.
+pub struct Marker {
+    last: Option<Marking>,
+}
+
+/// Written out, so that a drop is one call.
+impl Drop for Marker {
+    fn drop(self) {
+        let Marker { last: _ } = self;
+    }
+}
+
+impl Model for Marker {
+    ghost use Rattle.depot.specs.Kept.{IsRight};
+
+    ghost Value = { Unit {0} };
+
+    ghost view = { λ _. tt };
+
+    ghost invariant = { λ m. IsRight m.last };
+}
+
+impl Marker {
+    ghost use Rattle.std.specs.Prelude.{IfOk};
+    ghost use Rattle.depot.specs.Marked.{IsMarked};
+
+    /// A marker that keeps nothing yet. It takes no memory.
+    pub fn new() -> Marker {
+        Marker { last: None }
+    }
+
+    /// The content of a message that dies in this queue, when it was last sent to this exchange: its headers tell of its first
+    /// death, in whatever queue that was. The body is shared, and the headers too where they told of a death before.
+    pub fn marked(
+        &mut self,
+        alloc: Global,
+        queue: &Text,
+        exchange: &Text,
+        content: &Content,
+    ) -> Result<Content, AllocError>
+        ensures { IfOk result (IsMarked queue.now exchange.now content.now) }
+    {
+        Ok(Content {
+            properties: marked_once(alloc, &mut self.last, queue, exchange, &content.properties)?,
+            body: content.body.clone()?,
+        })
+    }
+}

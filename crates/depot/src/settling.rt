@@ -1,0 +1,218 @@
+//! What was given out is acknowledged, or is ready again in its queue.
+
+ghost use Rattle.std.specs.Prelude.{◌≡◌, ◌+◌, ◌<◌, ◌≤◌, ◌++◌, ◌∷◌, ℕ, [], true, false, length, map, IfOk, OnOk, OnErr, vec_len, vec_capacity};
+ghost use Rattle.model.specs.Topology.{Topology as Declared, IsWellFormed};
+ghost use Rattle.model.specs.Deliveries.{Leaves, Returns, left_note};
+ghost use Rattle.model.specs.Placed.{is_waiting, waiting, AreWithin};
+ghost use Rattle.model.specs.declared.notes.Cause.TheVariants.{Acked};
+ghost use Rattle.depot.specs.Store.{entries_of};
+ghost use Rattle.depot.specs.Dying.{given_at};
+ghost use Rattle.depot.specs.Settled.{AreSettledBy, AreOf, IsApart, departure_in, left_at, returned_at, store_of};
+
+use crate::departures::Departure;
+use crate::queues::Queues;
+use exchange_graph::Topology;
+use model::{Cause, ChannelId, Delivery, Entry, Note, Text};
+use queue::Store;
+use std::alloc::{AllocError, Global};
+
+/// The name of the queue from which this was given out.
+fn name_of(topology: &Topology, given: &Delivery) -> Result<Text, AllocError>
+    requires { given.now.queue < length topology.now.queues }
+    ensures { IfOk result (λ name. name ≡ (departure_in topology.now given.now).queue) }
+{
+    topology.queue(given.queue).name.clone()
+}
+
+/// Puts this delivery behind the others, if it waits. There is room for it.
+fn add_departure(
+    topology: &Topology,
+    given: &Delivery,
+    departures: &mut Vec<Departure>,
+) -> Result<(), AllocError>
+    requires within { is_waiting given.now ≡ true → given.now.queue < length topology.now.queues }
+    requires room { vec_len departures.old < vec_capacity departures.old }
+    ensures yes { OnOk result (is_waiting given.now ≡ true
+        → departures.new.items ≡ departures.old.items ++ departure_in topology.now given.now ∷ []) }
+    ensures no { OnOk result (is_waiting given.now ≡ false → departures.new.items ≡ departures.old.items) }
+    ensures len { vec_len departures.new ≤ vec_len departures.old + 1 }
+    ensures capacity { vec_capacity departures.new ≡ vec_capacity departures.old }
+{
+    if !given.is_waiting() {
+        return Ok(());
+    }
+    let queue = name_of(topology, given)?;
+    departures.push_reserved(Departure {
+        given: *given,
+        queue,
+    });
+    Ok(())
+}
+
+/// Those of these messages that wait, each with the name of its queue.
+fn departures_of(
+    alloc: Global,
+    topology: &Topology,
+    gone: &[Delivery],
+) -> Result<Vec<Departure>, AllocError>
+    requires { AreWithin topology.now (waiting gone.now) }
+    ensures { IfOk result (λ departures. departures.items ≡ map (departure_in topology.now) (waiting gone.now)) }
+{
+    let mut departures = Vec::new(alloc);
+    departures.reserve_exact(gone.len())?;
+    for given in gone {
+        add_departure(topology, given, &mut departures)?;
+    }
+    Ok(departures)
+}
+
+/// Takes this message out of its queue, if it is there.
+fn take_out(queues: &mut Queues, id: ChannelId, given: &Delivery) -> Option<Entry>
+    requires { given.now.queue < length queues.old }
+    ensures taken { result ≡ given_at id.connection id.number (entries_of queues.old) given.now }
+    ensures entries { entries_of queues.new ≡ left_at id.connection id.number (entries_of queues.old) given.now }
+    ensures len { length queues.new ≡ length queues.old }
+{
+    let holder = given.holder(id);
+    queues.queue_mut(given.queue).remove(&holder, given.arrival)
+}
+
+/// This message leaves its queue, which has this name, and that is noted, if it is there. There is room for the note.
+fn leave(queues: &mut Queues, id: ChannelId, given: &Delivery, queue: Text, notes: &mut Vec<Note>)
+    requires within { given.now.queue < length queues.old }
+    requires room { vec_len notes.old < vec_capacity notes.old }
+    ensures entries { entries_of queues.new ≡ left_at id.connection id.number (entries_of queues.old) given.now }
+    ensures len { length queues.new ≡ length queues.old }
+    ensures notes { notes.new.items ≡ notes.old.items
+        ++ left_note Acked queue (given_at id.connection id.number (entries_of queues.old) given.now) }
+    ensures notes_len { vec_len notes.new ≤ vec_len notes.old + 1 }
+    ensures capacity { vec_capacity notes.new ≡ vec_capacity notes.old }
+{
+    if let Some(entry) = take_out(queues, id, given) {
+        notes.push_reserved(Note::Left {
+            number: entry.message.number(),
+            queue,
+            cause: Cause::Acked,
+        });
+    }
+}
+
+/// This message leaves its queue, if it waits.
+fn ack_one(
+    topology: &Topology,
+    queues: &mut Queues,
+    id: ChannelId,
+    given: &Delivery,
+    notes: &mut Vec<Note>,
+) -> Result<(), AllocError>
+    requires len { length queues.old ≡ length topology.now.queues }
+    requires within { is_waiting given.now ≡ true → given.now.queue < length topology.now.queues }
+    ensures yes { OnOk result (is_waiting given.now ≡ true
+        → (entries_of queues.new ≡ left_at id.connection id.number (entries_of queues.old) given.now)
+        × (notes.new.items ≡ notes.old.items
+        ++ left_note Acked (departure_in topology.now given.now).queue (given_at id.connection id.number (entries_of queues.old) given.now))) }
+    ensures no { OnOk result (is_waiting given.now ≡ false
+        → (entries_of queues.new ≡ entries_of queues.old) × (notes.new.items ≡ notes.old.items)) }
+    ensures len { length queues.new ≡ length queues.old }
+    ensures queues { OnErr result (entries_of queues.new ≡ entries_of queues.old) }
+    ensures notes { OnErr result (notes.new.items ≡ notes.old.items) }
+{
+    if !given.is_waiting() {
+        return Ok(());
+    }
+    let queue = name_of(topology, given)?;
+    notes.reserve_exact(1)?;
+    leave(queues, id, given, queue, notes);
+    Ok(())
+}
+
+/// Those of these messages that wait leave their queues, one after another. All that takes memory is made before the first leaves.
+fn ack_all(
+    alloc: Global,
+    topology: &Topology,
+    queues: &mut Queues,
+    id: ChannelId,
+    gone: &[Delivery],
+    notes: &mut Vec<Note>,
+) -> Result<(), AllocError>
+    requires formed { IsWellFormed topology.now }
+    requires len { length queues.old ≡ length topology.now.queues }
+    requires within { AreWithin topology.now (waiting gone.now) }
+    requires apart { IsApart (store_of topology.now (entries_of queues.old) 0) }
+    ensures ok { OnOk result ((n : ℕ) → AreSettledBy (Leaves Acked) (store_of topology.now (entries_of queues.old) n)
+        id.connection id.number (waiting gone.now) notes.old.items notes.new.items (store_of topology.now (entries_of queues.new) n)) }
+    ensures len { length queues.new ≡ length queues.old }
+    ensures queues { OnErr result (entries_of queues.new ≡ entries_of queues.old) }
+    ensures notes { OnErr result (notes.new.items ≡ notes.old.items) }
+{
+    let departures = departures_of(alloc, topology, gone)?;
+    notes.reserve_exact(departures.len())?;
+    for departure in departures {
+        let Departure { given, queue } = departure;
+        leave(queues, id, &given, queue, notes);
+    }
+    Ok(())
+}
+
+/// Those of these messages that wait, which the channel holds, are acknowledged. One alone wants no list.
+pub(crate) fn ack_in(
+    alloc: Global,
+    topology: &Topology,
+    queues: &mut Queues,
+    id: ChannelId,
+    gone: &[Delivery],
+    notes: &mut Vec<Note>,
+) -> Result<(), AllocError>
+    requires formed { IsWellFormed topology.now }
+    requires len { length queues.old ≡ length topology.now.queues }
+    requires within { AreWithin topology.now (waiting gone.now) }
+    requires apart { IsApart (store_of topology.now (entries_of queues.old) 0) }
+    ensures ok { OnOk result ((n : ℕ) → AreSettledBy (Leaves Acked) (store_of topology.now (entries_of queues.old) n)
+        id.connection id.number (waiting gone.now) notes.old.items notes.new.items (store_of topology.now (entries_of queues.new) n)) }
+    ensures len { length queues.new ≡ length queues.old }
+    ensures queues { OnErr result (entries_of queues.new ≡ entries_of queues.old) }
+    ensures notes { OnErr result (notes.new.items ≡ notes.old.items) }
+{
+    if gone.len() == 1 {
+        return ack_one(topology, queues, id, &gone[0], notes);
+    }
+    ack_all(alloc, topology, queues, id, gone, notes)
+}
+
+/// This message is ready again, in its place and marked redelivered.
+fn release(queues: &mut Queues, id: ChannelId, given: &Delivery)
+    requires { given.now.queue < length queues.old }
+    ensures entries { entries_of queues.new ≡ returned_at id.connection id.number (entries_of queues.old) given.now }
+    ensures len { length queues.new ≡ length queues.old }
+{
+    let holder = given.holder(id);
+    queues
+        .queue_mut(given.queue)
+        .release(&holder, given.arrival);
+}
+
+/// The same, if it waits.
+fn put_back(queues: &mut Queues, id: ChannelId, given: &Delivery)
+    requires { is_waiting given.now ≡ true → given.now.queue < length queues.old }
+    ensures yes { is_waiting given.now ≡ true
+        → entries_of queues.new ≡ returned_at id.connection id.number (entries_of queues.old) given.now }
+    ensures no { is_waiting given.now ≡ false → entries_of queues.new ≡ entries_of queues.old }
+    ensures len { length queues.new ≡ length queues.old }
+{
+    if given.is_waiting() {
+        release(queues, id, given);
+    }
+}
+
+/// Those of these messages that wait, which the channel holds, are ready again, each in its place.
+pub(crate) fn requeue_in(queues: &mut Queues, id: ChannelId, gone: &[Delivery])
+    requires { AreOf (length queues.old) (waiting gone.now) }
+    ensures settled { (t : Declared) (n : ℕ) → IsWellFormed t → length queues.old ≡ length t.queues
+        → AreSettledBy Returns (store_of t (entries_of queues.old) n) id.connection id.number (waiting gone.now) [] []
+        (store_of t (entries_of queues.new) n) }
+    ensures len { length queues.new ≡ length queues.old }
+{
+    for given in gone {
+        put_back(queues, id, given);
+    }
+}

@@ -1,0 +1,140 @@
+-- What the calls of an engine leave of turns to be served.
+use Rattle.std.proofs.Common.{◌≡◌, ◌∙◌, ◌<◌, ℕ, List, Bool, false, Option, Some, None, Result, Ok, Err, get_or, length, refl, sym, ap, subst, arith}
+use Rattle.std.specs.Prelude.{IfOk, OnOk}
+use Rattle.std.proofs.lemmas.List.{get_or_default}
+use Rattle.std.proofs.lemmas.Option.{same_Some}
+use Rattle.model.specs.Broker.{Broker}
+use Rattle.model.specs.Commands.{Stream, Ends}
+use Rattle.model.specs.Arrivals.{Wire, Reads, fault, is_ended}
+use Rattle.model.specs.declared.events.Event.{Event}
+use Rattle.model.specs.declared.events.Event.TheVariants as event
+use Rattle.commands.specs.Picked.{IsPick, IsPickFrom}
+use Rattle.commands.specs.declared.picks.Pick.{Pick}
+use Rattle.broker.specs.Turns.{WithTurn, topology_kept, broker_of}
+use Rattle.broker.specs.Waiting.{NoneIsLater, OneComesIn, IsToldInTurn, IsPassedOver, ServesSoon}
+use Rattle.broker.specs.Waiting.Waits.{passed, other}
+use Rattle.engine.specs.Performing.{Rules, rules_of}
+use Rattle.engine.specs.Reading.{kept_of}
+use Rattle.engine.specs.Turning.{DidEvent}
+use Rattle.engine.specs.World.{Parts, link_in, wire_in, wire_of, world_of, IsEngine}
+use Rattle.engine.specs.Engines.{IsLinkPlace, LinksTook}
+use Rattle.engine.specs.Waiting.{KeepsTurns, PerformsNext, TurnLeaves, KeepsTold, ServesOne}
+use Rattle.engine.specs.declared.connected.Connected.{Connected}
+use Rattle.engine.specs.declared.turning.Turn.{Turn}
+use Rattle.engine.specs.declared.turning.Turn.TheVariants as turn
+use Rattle.engine.proofs.Tooks.{found_at, number_is}
+
+-- ---- one thing after another
+
+pub same_later : (b : WithTurn) → NoneIsLater b b
+same_later b = record { next = refl; took = λ place p takes. takes; lines = λ place p takes. omega arith }
+
+pub later_then : (old mid new : WithTurn) → NoneIsLater old mid → NoneIsLater mid new → NoneIsLater old new
+later_then old mid new first last = record {
+  next = last.next ∙ first.next;
+  took = λ place p takes. first.took place p (last.took place p takes);
+  lines = λ place p takes.
+      let one = first.lines place p (last.took place p takes) in
+      let two = last.lines place p takes in
+      omega (arith, one, two);
+}
+
+pub turns_same : (b : WithTurn) → KeepsTurns b b
+turns_same b = record { turn = refl; topology = refl; later = same_later b }
+
+pub turns_if : (old new : WithTurn) → new ≡ old → KeepsTurns old new
+turns_if old new same = subst (λ (b : WithTurn). KeepsTurns old b) (sym same) (turns_same old)
+
+pub later_is_one : (e : Event) (old new : WithTurn) → NoneIsLater old new → OneComesIn e old new
+later_is_one e old new later = record {
+  next = later.next;
+  lines = λ place p none takes. later.lines place p takes;
+  one = λ place p takes. let le = later.lines place p takes in omega (arith, le);
+}
+
+pub one_then : (e : Event) (old mid new : WithTurn) → OneComesIn e old mid → NoneIsLater mid new → OneComesIn e old new
+one_then e old mid new first last = record {
+  next = last.next ∙ first.next;
+  lines = λ place p none takes.
+      let one = first.lines place p none (last.took place p takes) in
+      let two = last.lines place p takes in
+      omega (arith, one, two);
+  one = λ place p takes.
+      let one = first.one place p (last.took place p takes) in
+      let two = last.lines place p takes in
+      omega (arith, one, two);
+}
+
+-- ---- a turn
+
+-- what is performed is what the connection says next
+did_next : (c : ℕ) (w : Wire) (next : Stream) (e : Event) (r : Rules) (l l' : Connected) (what : Turn) (old new : WithTurn) → Reads c w.kept w.stream e next
+    → DidEvent r (broker_of old) l e what (broker_of new) l' → new.turn ≡ old.turn → topology_kept new ≡ topology_kept old → OneComesIn e old new → TurnLeaves c w old what new
+did_next c w next e r l l' (turn.Did notes) old new read did same topology later =
+    record { event = e; next = next; read = read; turn = same; topology = topology; later = later }
+did_next c w next e r l l' turn.Idle old new read did same topology later = absurd did
+did_next c w next e r l l' turn.Paused old new read did same topology later = absurd did
+did_next c w next e r l l' turn.Over old new read did same topology later = absurd did
+
+pub leaves_next : {E : Type 0} (result : Result Turn E) (c : ℕ) (w : Wire) (next : Stream) (e : Event) (r : Rules) (l l' : Connected) (old new : WithTurn) → Reads c w.kept w.stream e next
+    → IfOk result (λ t. DidEvent r (broker_of old) l e t (broker_of new) l') → new.turn ≡ old.turn → topology_kept new ≡ topology_kept old → OnOk result (OneComesIn e old new)
+    → IfOk result (λ t. TurnLeaves c w old t new)
+leaves_next (Ok t) c w next e r l l' old new read did same topology later = did_next c w next e r l l' t old new read did same topology later
+leaves_next (Err x) c w next e r l l' old new read did same topology later = tt
+
+-- so where the event is the one that is kept
+pub leaves_kept : {E : Type 0} (result : Result Turn E) (c : ℕ) (w : Wire) (next : Stream) (k : Option Event) (e : Event) (r : Rules) (l l' : Connected) (old new : WithTurn) → Reads c w.kept w.stream e next → k ≡ Some e
+    → IfOk result (λ t. (x : Event) → k ≡ Some x → DidEvent r (broker_of old) l x t (broker_of new) l') → new.turn ≡ old.turn → topology_kept new ≡ topology_kept old
+    → OnOk result ((x : Event) → k ≡ Some x → OneComesIn x old new) → IfOk result (λ t. TurnLeaves c w old t new)
+leaves_kept (Ok t) c w next k e r l l' old new read is did same topology later = did_next c w next e r l l' t old new read (did e is) same topology (later e is)
+leaves_kept (Err x) c w next k e r l l' old new read is did same topology later = tt
+
+pub fault_read : (c code : ℕ) (k : Option Event) (s : Stream) → k ≡ None → Ends s (Some code) → Reads c (kept_of k) s (event.Fault c code) s
+fault_read c code k s none ends = subst (λ (o : Option Event). Reads c (kept_of o) s (event.Fault c code) s) (sym none) (fault ends)
+
+pub same_at : (ls : List Connected) (i : ℕ) (l m : Connected) → i < length ls → get_or ls i l ≡ l → get_or ls i m ≡ m → l ≡ m
+same_at ls i l m lt here there = sym here ∙ get_or_default ls i l m lt ∙ there
+
+-- what one that is not over has to say is what its wire has
+wire_found : (p : Parts) (c : ℕ) (l : Connected) → link_in p.links c ≡ Some l → is_ended l.session.phase ≡ false → wire_in false l ≡ (world_of p).wire c
+wire_found p c l found going = sym (ap wire_of found ∙ ap (λ (v : Bool). wire_in v l) going)
+
+-- from the connection at a place to the world
+pub leaves_at : {E : Type 0} (result : Result Turn E) (p : Parts) (c i : ℕ) (b : Broker) (ls : List Connected) (new : WithTurn) → IsEngine p → IsLinkPlace p.links c (Some i)
+    → LinksTook (rules_of (topology_kept p.broker) p.users) (broker_of p.broker) p.links i result b ls
+    → ((l : Connected) → get_or p.links i l ≡ l → IfOk result (λ t. TurnLeaves l.number (wire_in false l) p.broker t new)) → IfOk result (λ t. TurnLeaves c ((world_of p).wire c) p.broker t new)
+leaves_at (Ok (turn.Did notes)) p c i b ls new e place t leaves =
+    let l = t.old in
+    let here = t.changes.here in
+    let found = found_at p.links c i l e.links.rising place here in
+    subst (λ (w : Wire). PerformsNext c w p.broker new) (wire_found p c l found t.took.0)
+    (subst (λ (n : ℕ). PerformsNext n (wire_in false l) p.broker new) (number_is p.links c i l place here) (leaves l here))
+leaves_at (Ok turn.Idle) p c i b ls new e place t leaves = leaves t.old t.changes.here
+leaves_at (Ok turn.Paused) p c i b ls new e place t leaves = leaves t.old t.changes.here
+leaves_at (Ok turn.Over) p c i b ls new e place t leaves = leaves t.old t.changes.here
+leaves_at (Err x) p c i b ls new e place t leaves = tt
+
+-- ---- a delivery
+
+pub told_again : (old : WithTurn) (told : Pick) → ((p : Pick) → old.turn ≡ Some p → IsPick (broker_of old) p → Some told ≡ Some p) → KeepsTold old told
+told_again old told again p had could = same_Some told p (again p had could)
+
+-- another is told
+passes : (old mid : WithTurn) (told : Pick) (place : ℕ) (p : Pick) → mid.kept ≡ old.kept → IsToldInTurn old (Some told) mid → IsPickFrom old.kept place p → (p ≡ told → ⊥) → IsPassedOver old mid place p
+passes old mid told place p kept turns could far = record { told = Some told; could = could; other = λ same. far (sym (same_Some told p same)); turns = turns; kept = kept }
+
+pub serves_one : (old mid new : WithTurn) (told : Pick) → mid.kept ≡ old.kept → IsToldInTurn old (Some told) mid → mid.turn ≡ Some told
+    → ((p : Pick) → old.turn ≡ Some p → IsPick (broker_of old) p → Some told ≡ Some p) → NoneIsLater mid new → topology_kept new ≡ topology_kept mid → new.turn ≡ None → ServesSoon mid told
+    → ServesOne old told.connection new
+serves_one old mid new told kept turns has again later topology over soon = record {
+  told = told;
+  its = refl;
+  again = told_again old told again;
+  over = over;
+  others = λ place p could far.
+      let by = passes old mid told place p kept turns could far in
+      record {
+        soon = λ start served came stands w. soon place p start served came stands (passed w by) has far;
+        on = λ start served came w still. other (passed w by) (record { told = told; owed = has; other = far; over = over; later = later; topology = topology; still = still });
+      };
+}

@@ -1,4 +1,0 @@
-mod Exchanges
-pub mod Judging
-mod Settling
-mod Consuming

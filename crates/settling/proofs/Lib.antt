@@ -1,4 +1,0 @@
-mod Marked
-mod Purging
-mod Rejections
-pub mod Settlements
