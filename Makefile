@@ -135,7 +135,7 @@ edits:
 widths:
 	@python3 tools/widths
 
-# the calls that docs/inside/ARCHITECTURE.md lists are where it says, and made by one another
+# the calls that docs/inside/ARCHITECTURE.md lists are where it says, and made by one another; its tables have all crates
 map:
 	@python3 tools/map
 

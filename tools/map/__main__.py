@@ -1,5 +1,6 @@
 #!/usr/bin/env python3
-"""Checks the paths of docs/inside/ARCHITECTURE.md: each call in their lists is where the list says, and the call before it makes it. Proves nothing.
+"""Checks docs/inside/ARCHITECTURE.md: each call in its paths is where the list says, and the call before it makes it; and its tables have the crates
+of crates.txt, group by group, in the order of that file. Proves nothing.
 
 A path is a part "## The path of .." with a numbered list. An item begins with its call, `crate::module::Type::function`, as many of modules and
 types as tell it apart; what is said of it follows a colon, and may name further calls. A list has at most 20 items below its first.
@@ -11,6 +12,7 @@ import re
 import sys
 
 PAGE = "docs/inside/ARCHITECTURE.md"
+CRATES = "crates.txt"
 MOST = 20
 CALL = re.compile(r"`([a-z_0-9]+(?:::[A-Za-z_0-9]+)+)`")
 ITEM = re.compile(r"^(\d+)\. (.*)$")
@@ -87,11 +89,39 @@ def wrong_in(root, name, items):
         before = here
 
 
+def groups_of(text, heading, crate):
+    """Each group with its crates, as lines of these two forms name them."""
+    found = {}
+    for line in text.splitlines():
+        if re.match(heading, line):
+            crates = found.setdefault(re.match(heading, line).group(1), [])
+        elif found and re.match(crate, line):
+            crates.append(re.match(crate, line).group(1))
+    return found
+
+
+def wrong_groups(listed, page):
+    """What differs between the groups of crates.txt and the tables of the page."""
+    groups = groups_of(listed, r"# (.*)$", r"(\w+)[^:#]*:")
+    tables = groups_of(page.partition("## Crates\n")[2].partition("\n## ")[0], r"### (.*)$", r"\| (?!crate \|)(\w+) \|")
+    if list(groups) != list(tables):
+        yield f"{CRATES} has the groups {', '.join(groups)}, and the page {', '.join(tables)}"
+    for name in groups:
+        if name in tables and groups[name] != tables[name]:
+            yield f"{name}: {CRATES} has {', '.join(groups[name])}, and the page {', '.join(tables[name])}"
+
+
+def text_of(root, name):
+    with open(os.path.join(root, name), encoding="utf-8") as file:
+        return file.read()
+
+
 def main(words):
     root = words[1] if len(words) > 1 else "."
-    with open(os.path.join(root, PAGE), encoding="utf-8") as file:
-        paths = paths_of(file.read())
+    page = text_of(root, PAGE)
+    paths = paths_of(page)
     wrong = [it for name, items in paths.items() for it in wrong_in(root, name, items)]
+    wrong += wrong_groups(text_of(root, CRATES), page)
     if not paths:
         wrong.append(f"{PAGE} has no path")
     print("\n".join(wrong), end="\n" if wrong else "")

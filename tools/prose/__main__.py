@@ -21,13 +21,17 @@ MOST_AT_95 = 30
 MOST_LINES = 150
 BEGINS = re.compile(r"^\s*([-*]|\d+\.) ")
 LINK = re.compile(r"\]\(([^)]+)\)")
+# a link by a name, [`name`], leads where a line of the page says
+NAMED_LINK = re.compile(r"\[(`[^`]+`)\](?![(:])")
+LEADS = re.compile(r"^\[(`[^`]+`)\]: (\S+)$", re.MULTILINE)
+PLACE = re.compile(r'<a id="([a-z-]+)"></a>')
 # a sentence ends with its stop, also where that stands in brackets or in a heading in bold
 ENDS = re.compile(r"(?:(?<=[.!?])|(?<=[.!?]\*\*)|(?<=[.!?]\))|(?<=[.!?]\)\*))\s+(?=[A-Z*\"(\[]|code\b|warren\b)")
 NAMED = re.compile(r"\bdocs/[A-Za-z/]+\.md\b")
 
 
 def without_code(text):
-    return re.sub(r"^```.*?^```", "\n", text, flags=re.MULTILINE | re.DOTALL)
+    return LEADS.sub("", re.sub(r"^```.*?^```", "\n", text, flags=re.MULTILINE | re.DOTALL))
 
 
 def parts(text):
@@ -50,10 +54,11 @@ def sentences(text):
 
 
 def headings_of(path):
-    """The headings of a page, as links name them."""
+    """The headings of a page, and its rows that have a name, as links name them."""
     with open(path, encoding="utf-8") as file:
-        lines = re.findall(r"^#+ (.*)$", without_code(file.read()), re.MULTILINE)
-    return [re.sub(r"[^a-z0-9 _-]", "", it.lower()).replace(" ", "-") for it in lines]
+        text = without_code(file.read())
+    lines = re.findall(r"^#+ (.*)$", text, re.MULTILINE)
+    return [re.sub(r"[^a-z0-9 _-]", "", it.lower()).replace(" ", "-") for it in lines] + PLACE.findall(text)
 
 
 def text_of(root, page):
@@ -80,7 +85,9 @@ def wrong_in(root, page):
         yield f"{page}: 95 of 100 sentences have up to {at_95(counts)} words; {MOST_AT_95} are the most"
     if page in PAGES:
         yield from (f"{page}: {count} words: {it[:70]} .." for count, it in counts if count > MOST_WORDS)
-    for target in LINK.findall(text):
+    leads = dict(LEADS.findall(text))
+    yield from (f"{page}: no line says where {it} leads" for it in NAMED_LINK.findall(text) if it not in leads)
+    for target in [*LINK.findall(text), *leads.values()]:
         name, _, heading = target.partition("#")
         path = os.path.join(root, os.path.dirname(page), name) if name else os.path.join(root, page)
         if "://" not in target and not (os.path.exists(path) and (not heading or heading in headings_of(path))):

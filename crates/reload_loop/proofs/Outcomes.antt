@@ -9,7 +9,7 @@ use Rattle.runs.specs.Reloaded.{IsPutInForce, TellsReload}
 use Rattle.model.specs.declared.obstacles.Obstacle.TheVariants as obstacle
 use Rattle.runs.specs.declared.faults.ReloadFault.{ReloadFault}
 use Rattle.runs.specs.declared.faults.ReloadFault.TheVariants.{InUse, Breaks, Memory}
-use Rattle.named_files.specs.Files.{Known, Holds, Absent, Unknown, AreKept, HasText}
+use Rattle.server.specs.Files.{Known, Holds, Absent, Unknown, AreKept, HasText}
 use Rattle.scripts.specs.FileNames.{FileNames}
 use Rattle.server.specs.declared.refusals.Told.{Told}
 use Rattle.server.specs.Program.{TellsLine, refusal_line}

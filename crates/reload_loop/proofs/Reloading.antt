@@ -1,12 +1,12 @@
 -- What comes of serving with looks at the files.
 use Rattle.std.proofs.Common.{◌≡◌, ℕ, Bool, true, List, [], Option, Some, ap, subst}
-use Rattle.command_line.specs.CommandLine.{Wanted, Serve, AsksFor}
+use Rattle.server.specs.CommandLine.{Wanted, Serve, AsksFor}
 use Rattle.server.proofs.Beginning.{asked_once}
 use Rattle.model.specs.Words.{Text}
 use Rattle.model.specs.State.{Config}
 use Rattle.model.specs.Arrivals.{new_world}
 use Rattle.engine.specs.Wanting.{engine_lacks}
-use Rattle.named_files.specs.Files.{Known, AreKept}
+use Rattle.server.specs.Files.{Known, AreKept}
 use Rattle.scripts.specs.FileNames.{FileNames}
 use Rattle.serving.specs.Wire.{Told}
 use Rattle.serving.specs.Story.{Served}

@@ -1,4 +1,4 @@
-pub mod Snapshots
 pub mod Looks
-pub mod ServesOn
 pub mod Program
+pub mod ServesOn
+pub mod Snapshots

@@ -8,7 +8,7 @@ use Rattle.model.specs.declared.obstacles.Obstacle.{Obstacle}
 use Rattle.runs.specs.Reloaded.{IsPutInForce}
 use Rattle.runs.specs.Faults.{obstacle_in}
 use Rattle.runs.specs.declared.faults.ReloadFault.{ReloadFault}
-use Rattle.named_files.specs.Files.{Known}
+use Rattle.server.specs.Files.{Known}
 use Rattle.scripts.specs.FileNames.{FileNames}
 use Rattle.scripts.specs.Transcript.{obstacle_line}
 use Rattle.server.specs.declared.refusals.CommandRefusal.{CommandRefusal}

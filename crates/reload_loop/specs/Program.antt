@@ -8,9 +8,9 @@ use Rattle.serving.specs.Wire.{Told}
 use Rattle.serving.specs.Story.{Served, served}
 use Rattle.serving.specs.Whole.{IsServed}
 use Rattle.engine.specs.Wanting.{engine_lacks}
-use Rattle.command_line.specs.CommandLine.{Wanted, Check, Verify, Replay, Serve, Route, AsksFor}
-use Rattle.named_files.specs.Files.{Known, AreKept}
-use Rattle.named_files.specs.Stated.{file_named}
+use Rattle.server.specs.CommandLine.{Wanted, Check, Verify, Replay, Serve, Route, AsksFor}
+use Rattle.server.specs.Files.{Known, AreKept}
+use Rattle.server.specs.Stated.{file_named}
 use Rattle.scripts.specs.FileNames.{FileNames}
 use Rattle.server.specs.Streams.{OutputStream, TriesPut, change, tried}
 use Rattle.server.specs.declared.clients.ServeArguments.{ServeArguments}

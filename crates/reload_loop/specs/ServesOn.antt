@@ -1,7 +1,7 @@
 -- Turns, with looks at files between them (own).
 use Rattle.std.specs.Prelude.{◌≡◌, ◌<◌, ◌≤◌, ◌-◌, ◌&&◌, ℕ, Bool, Option}
 use Rattle.model.specs.Words.{Text}
-use Rattle.named_files.specs.Files.{Known}
+use Rattle.server.specs.Files.{Known}
 use Rattle.scripts.specs.FileNames.{FileNames}
 use Rattle.serving.specs.Story.{Served, served}
 use Rattle.serving.specs.Rounds.{Rounds}

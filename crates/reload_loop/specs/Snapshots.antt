@@ -3,9 +3,9 @@ use Rattle.std.specs.Prelude.{◌≡◌, ℕ, Result, Ok, Err, if◌then◌else�
 use Rattle.std.specs.Global.{Vec}
 use Rattle.std.specs.Str.{bytes_eq}
 use Rattle.model.specs.Words.{Text}
-use Rattle.named_files.specs.Files.{Known, Unknown, Absent, Holds, HasText, IsFileRead, IsUnreadable}
-use Rattle.named_files.specs.declared.storage.Unread.{Unread}
-use Rattle.named_files.specs.declared.storage.Unread.TheVariants as unread
+use Rattle.server.specs.Files.{Known, Unknown, Absent, Holds, HasText, IsFileRead, IsUnreadable}
+use Rattle.server.specs.declared.storage.Unread.{Unread}
+use Rattle.server.specs.declared.storage.Unread.TheVariants as unread
 use Rattle.scripts.specs.FileNames.{FileNames}
 use Rattle.reload_loop.specs.declared.snapshots.Names.{Names}
 

@@ -1,7 +1,7 @@
 //! What the files that are looked at had when they were read.
 
 ghost use Rattle.std.specs.Prelude.{◌≡◌, Decides, MatchResult, true};
-ghost use Rattle.named_files.specs.Files.{AreKept, IsFileRead, IsUnread};
+ghost use Rattle.server.specs.Files.{AreKept, IsFileRead, IsUnread};
 ghost use Rattle.reload_loop.specs.Snapshots.{
   AllRead,
   AreHeld,
@@ -15,7 +15,7 @@ ghost use Rattle.reload_loop.specs.Snapshots.{
 };
 
 use model::limits;
-use named_files::{Files, NotWritten, Unread};
+use server::{Files, NotWritten, Unread};
 use std::alloc::Global;
 use std::marker::Model;
 

@@ -1,8 +1,7 @@
 //! The program over the files and the sockets of the machine: files lie in the folder that the run has, and sockets are those of
 //! 127.0.0.1.
 
-use host::{Disk, System};
-use reload_loop::program_with_sockets;
+use reload_loop::{Disk, System, program_with_sockets};
 use scenario_parts::{Unmet, expect, expect_bytes, expect_number, value_of};
 use server::{Files as _, Unread};
 use std::alloc::Global;

@@ -4,9 +4,9 @@ use Rattle.model.specs.Words.{Text}
 use Rattle.model.specs.Topology.{Topology}
 use Rattle.model.specs.Guarantee.{Guarantee}
 use Rattle.model.specs.Certificates.{Certificate as Shown}
-use Rattle.named_files.specs.Files.{Known}
-use Rattle.named_files.specs.declared.refusals.FileRefusal.{FileRefusal}
-use Rattle.named_files.specs.declared.refusals.FileRefusal.TheVariants as file
+use Rattle.server.specs.Files.{Known}
+use Rattle.server.specs.declared.file_refusals.FileRefusal.{FileRefusal}
+use Rattle.server.specs.declared.file_refusals.FileRefusal.TheVariants as file
 use Rattle.server.specs.declared.refusals.CommandRefusal.{CommandRefusal}
 use Rattle.server.specs.declared.refusals.CommandRefusal.TheVariants.{Line, Refused, TooLong, Unread, Unwritten, NoExchange, Certificate, NotListening, Memory}
 use Rattle.server.specs.Refusals.{of_refused}

@@ -14,12 +14,12 @@ use Rattle.server.specs.declared.refusals.CommandRefusal.{CommandRefusal}
 use Rattle.server.specs.declared.refusals.CommandRefusal.TheVariants.{Line, Refused, TooLong, Unread, Unwritten, NoExchange, Certificate as OfCertificate, NotListening, Memory}
 use Rattle.certificate.specs.Drafts.{Adds}
 use Rattle.certificate.specs.declared.drafts.Draft.{Draft}
-use Rattle.command_line.specs.CommandLine.{Wanted}
-use Rattle.named_files.specs.Files.{Known, AreKept}
-use Rattle.named_files.specs.Stated.{SetsUp, FailsToSetUp, FailsToCertify, IsWhyUncertified}
-use Rattle.named_files.proofs.Kept.{kept_then, kept_but_then, why_kept}
-use Rattle.verdicts.specs.Verdicts.{JudgesAll}
-use Rattle.named_files.specs.declared.refusals.FileRefusal.{FileRefusal}
+use Rattle.server.specs.CommandLine.{Wanted}
+use Rattle.server.specs.Files.{Known, AreKept}
+use Rattle.server.specs.Stated.{SetsUp, FailsToSetUp, FailsToCertify, IsWhyUncertified}
+use Rattle.server.proofs.FilesKept.{kept_then, kept_but_then, why_kept}
+use Rattle.server.specs.Verdicts.{JudgesAll}
+use Rattle.server.specs.declared.file_refusals.FileRefusal.{FileRefusal}
 use Rattle.server.specs.Refusals.{of_refused, IsOfFile}
 use Rattle.server.specs.Program.{wanting, Drafts, IsJudgedUnfiled, IsNotAnswered, FilesAreLeft, IsUnfiled, IsFiled, WritesOut, unnamed, doubtful, filed}
 

@@ -1,6 +1,12 @@
-pub mod Listed
-pub mod Outcomes
-pub mod Kept
 pub mod Beginning
+pub mod Faults
+pub mod FilesKept
 pub mod Judged
+pub mod Kept
+pub mod Listed
+pub mod Meaning
+pub mod Outcomes
+pub mod Passing
+pub mod Paths
 pub mod Reloads
+pub mod Verdicts

@@ -3,9 +3,9 @@ use Rattle.std.proofs.Common.{◌≡◌, ◌++◌, ℕ, Bool, true, false, List,
 use Rattle.std.specs.Io.KnownBytes.{Appends, Keeps}
 use Rattle.clap.specs.Words.{kind_of}
 use Rattle.clap.specs.declared.error.Error.{Error}
-use Rattle.command_line.specs.CommandLine.{Wanted, AsksFor, AreWordsRefused}
+use Rattle.server.specs.CommandLine.{Wanted, AsksFor, AreWordsRefused}
 use Rattle.model.specs.Words.{Text}
-use Rattle.named_files.specs.Files.{Known, AreKept}
+use Rattle.server.specs.Files.{Known, AreKept}
 use Rattle.server.specs.Streams.{OutputStream, GetsNothing, PutsOut, TriesPut, change, tried}
 use Rattle.server.specs.declared.refusals.CommandRefusal.{CommandRefusal}
 use Rattle.server.specs.declared.refusals.Told.{Told}

@@ -8,7 +8,7 @@ use Rattle.model.specs.State.{Config}
 use Rattle.model.specs.declared.events.Arrival.{Arrival}
 use Rattle.model.specs.declared.events.Arrival.TheVariants as arrival
 use Rattle.scripts.specs.Script.{ScriptArrival}
-use Rattle.named_files.specs.Files.{Known, AreKept}
+use Rattle.server.specs.Files.{Known, AreKept}
 use Rattle.server.specs.declared.refusals.CommandRefusal.{CommandRefusal}
 use Rattle.server.specs.Program.{AreSetUp, IsSetUp, IsWhyNotSetUp, FailsToReload, at, no_room}
 use Rattle.server.proofs.Kept.{same_known}

@@ -1,6 +1,11 @@
-pub mod Routes
-pub mod Streams
-pub mod Refusals
-pub mod Program
-pub use Rattle.named_files.specs.Files
 pub mod Clients
+pub mod CommandLine
+pub mod FileRefusals
+pub mod Files
+pub mod Outcomes
+pub mod Program
+pub mod Refusals
+pub mod Routes
+pub mod Stated
+pub mod Streams
+pub mod Verdicts

@@ -18,7 +18,7 @@ use Rattle.certificate.specs.declared.drafts.Draft.{Draft}
 use Rattle.certificate.specs.Certified.{AreCertified, FailsFirst}
 use Rattle.guarantee_search.specs.declared.verdicts.Verdict.{Verdict}
 use Rattle.model.specs.Headline.{CertifiedDelivery}
-use Rattle.command_line.specs.CommandLine.{Wanted, Check, Verify, Replay, Serve, Route, AsksFor, AsksNothing}
+use Rattle.server.specs.CommandLine.{Wanted, Check, Verify, Replay, Serve, Route, AsksFor, AsksNothing}
 use Rattle.server.specs.declared.refusals.CommandRefusal.{CommandRefusal}
 use Rattle.server.specs.declared.refusals.Told.{Told}
 use Rattle.server.specs.declared.replaying.BrokerFiles.{BrokerFiles}
@@ -28,11 +28,11 @@ use Rattle.scripts.specs.FileNames.{FileNames}
 use Rattle.scripts.specs.Script.{ScriptArrival, script}
 use Rattle.scripts.specs.Transcript.{transcript_text}
 use Rattle.server.specs.Routes.{ListsExchange}
-use Rattle.named_files.specs.Files.{Known, HasText, IsTooLong, IsUnreadable, AreKept, AreKeptBut, most_bytes}
+use Rattle.server.specs.Files.{Known, HasText, IsTooLong, IsUnreadable, AreKept, AreKeptBut, most_bytes}
 use Rattle.server.specs.Streams.{OutputStream, GetsNothing, PutsOut, TriesPut, tried}
-use Rattle.named_files.specs.Stated.{file_named, States, HoldsCertificates, CertifiesAt, SetsUp, FailsToSetUp, FailsToCertify}
-use Rattle.verdicts.specs.Verdicts.{JudgesAll, certificates_in, status_of_verdicts}
-use Rattle.verdicts.specs.Outcomes.{Verifies, fault_number}
+use Rattle.server.specs.Stated.{file_named, States, HoldsCertificates, CertifiesAt, SetsUp, FailsToSetUp, FailsToCertify}
+use Rattle.server.specs.Verdicts.{JudgesAll, certificates_in, status_of_verdicts}
+use Rattle.server.specs.Outcomes.{Verifies, fault_number}
 
 -- ---- what is in force
 

@@ -1,10 +1,10 @@
 -- How a command is refused for a file that it names.
 use Rattle.std.specs.Prelude.{◌≡◌}
 use Rattle.model.specs.Words.{Text}
-use Rattle.named_files.specs.declared.refusals.FileRefusal.{FileRefusal}
-use Rattle.named_files.specs.declared.refusals.FileRefusal.TheVariants as file
-use Rattle.named_files.specs.declared.storage.Unread.{Unread as Why}
-use Rattle.named_files.specs.declared.storage.Unread.TheVariants as why
+use Rattle.server.specs.declared.file_refusals.FileRefusal.{FileRefusal}
+use Rattle.server.specs.declared.file_refusals.FileRefusal.TheVariants as file
+use Rattle.server.specs.declared.storage.Unread.{Unread as Why}
+use Rattle.server.specs.declared.storage.Unread.TheVariants as why
 use Rattle.server.specs.declared.refusals.CommandRefusal.{CommandRefusal}
 use Rattle.server.specs.declared.refusals.CommandRefusal.TheVariants.{Refused, TooLong, Unread, Memory}
 

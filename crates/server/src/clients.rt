@@ -2,8 +2,8 @@
 
 ghost use Rattle.std.specs.Prelude.{◌≡◌, [], option_map, IfOk, MatchResult, string_bytes};
 ghost use Rattle.engine.specs.World.{world_of};
-ghost use Rattle.named_files.specs.Files.{AreKept};
-ghost use Rattle.named_files.specs.Stated.{file_named};
+ghost use Rattle.server.specs.Files.{AreKept};
+ghost use Rattle.server.specs.Stated.{file_named};
 ghost use Rattle.serving.specs.Story.{served};
 ghost use Rattle.server.specs.Program.{IsStarted};
 ghost use Rattle.server.specs.Clients.{
@@ -23,9 +23,9 @@ ghost use Rattle.server.specs.Streams.{change};
 
 use crate::refusals::{CommandRefusal, Told, refuse_memory, tell};
 use crate::starting::started;
+use crate::storage::Files;
 use crate::streams::put;
 use engine::Engine;
-use named_files::Files;
 use serving::{Server, Wire, new_is_served, serve};
 use std::alloc::{AllocError, Global};
 use std::io::Write;

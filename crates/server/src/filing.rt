@@ -4,13 +4,13 @@ ghost use Rattle.std.specs.Prelude.{◌≡◌, [], List, MatchResult, Some};
 ghost use Rattle.certificate.specs.Drafts.{IsDraft};
 ghost use Rattle.guarantee_search.specs.declared.verdicts.Verdict.{Verdict};
 ghost use Rattle.model.specs.Certificates.{Certificate as Shown};
-ghost use Rattle.named_files.specs.Stated.{file_named};
+ghost use Rattle.server.specs.Stated.{file_named};
 ghost use Rattle.server.specs.Program.{Drafts, IsFiled, IsUnfiled, IsUnwritten, ReadsBack, WritesOut};
-ghost use Rattle.verdicts.specs.Verdicts.{certificates_in, status_of_verdicts};
+ghost use Rattle.server.specs.Verdicts.{certificates_in, status_of_verdicts};
 
 use crate::refusals::{CommandRefusal, Told};
+use crate::storage::Files;
 use certificate::{Draft, Unwritten};
-use named_files::Files;
 use std::alloc::Global;
 
 /// A draft of no certificates, if a file is named.

@@ -1,24 +1,35 @@
 //! The program, but for its process: what a command answers, refuses, prints and tells.
 #![tactic(auto)]
 
+mod answering;
+mod asked;
+mod builtin;
 mod clients;
-mod commands;
+mod command_words;
+mod file_refusals;
 mod filing;
+mod judging;
+mod parts;
 mod refusals;
 mod replaying;
 mod routes;
 mod starting;
+mod stated;
+mod storage;
 mod streams;
+mod verifying;
 
+pub use answering::{answer_asked, program, refuse_words};
+pub use asked::Asked;
 pub use clients::{
     Ended, Listener, Listening, ServeArguments, Service, begin, serve_clients, turns_of,
 };
-pub use command_line::command;
-pub use commands::{answer_asked, program, refuse_words};
-pub use named_files::{Files, NotWritten, Unread, has_bytes_left};
+pub use command_words::command;
+pub use parts::has_bytes_left;
 pub use refusals::{CommandRefusal, Told, put_out_of_memory, put_refusal};
 pub use replaying::{BrokerFiles, in_force};
 pub use routes::routed;
 pub use serving::{Server, Wire, serve};
 pub use starting::started;
+pub use storage::{Files, NotWritten, Unread};
 pub use streams::put;

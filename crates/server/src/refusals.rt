@@ -5,8 +5,9 @@ ghost use Rattle.server.specs.Refusals.{of_refused};
 ghost use Rattle.server.specs.Program.{refusal_line, out_of_memory, status_of, told, RefusesWith, TellsLine};
 ghost use Rattle.server.specs.Streams.{PutsOut, TriesPut, change};
 
+use crate::file_refusals::{FileRefusal, RefusedFile};
+use crate::storage::Unread;
 use crate::streams::{put, tried};
-use named_files::{RefusedFile, Unread};
 use std::alloc::{AllocError, Global};
 use std::io;
 use std::io::Write;
@@ -78,18 +79,18 @@ impl From<Unread> for CommandRefusal {
     }
 }
 
-impl From<named_files::FileRefusal> for CommandRefusal {
+impl From<FileRefusal> for CommandRefusal {
     ghost use Rattle.std.specs.Prelude.{◌≡◌};
     ghost use Rattle.server.specs.Refusals.{of_refused};
 
     ghost from_gives = { λ why r. r ≡ of_refused why };
 
-    fn from(why: named_files::FileRefusal) -> CommandRefusal {
+    fn from(why: FileRefusal) -> CommandRefusal {
         match why {
-            named_files::FileRefusal::Refused(number) => CommandRefusal::Refused(number),
-            named_files::FileRefusal::TooLong => CommandRefusal::TooLong,
-            named_files::FileRefusal::Unread => CommandRefusal::Unread,
-            named_files::FileRefusal::Memory => CommandRefusal::Memory,
+            FileRefusal::Refused(number) => CommandRefusal::Refused(number),
+            FileRefusal::TooLong => CommandRefusal::TooLong,
+            FileRefusal::Unread => CommandRefusal::Unread,
+            FileRefusal::Memory => CommandRefusal::Memory,
         }
     }
 }
@@ -109,7 +110,7 @@ impl<'a> From<AllocError> for Told<'a> {
 }
 
 /// What is told of a file that is refused.
-pub fn told_of(refused: RefusedFile<'_>) -> Told<'_>
+pub(crate) fn told_of(refused: RefusedFile<'_>) -> Told<'_>
     ensures file { result.file.now ≡ refused.entry.file.now }
     ensures why { result.why ≡ of_refused refused.entry.why }
 {

@@ -2,10 +2,10 @@
 
 ghost use Rattle.std.specs.Prelude.{◌≡◌, ◌≤◌, length, IfOk, MatchResult, Ok, Some};
 ghost use Rattle.certificate.specs.Certified.{AreCertified};
-ghost use Rattle.command_line.specs.CommandLine.{Replay};
+ghost use Rattle.server.specs.CommandLine.{Replay};
 ghost use Rattle.engine.specs.InForce.{in_force};
-ghost use Rattle.named_files.specs.Files.{AreKept};
-ghost use Rattle.verdicts.specs.Outcomes.{fault_number};
+ghost use Rattle.server.specs.Files.{AreKept};
+ghost use Rattle.server.specs.Outcomes.{fault_number};
 ghost use Rattle.server.specs.Program.{
   AreSetUp,
   FailsOver,
@@ -28,17 +28,18 @@ ghost use Rattle.server.specs.Program.{
 ghost use Rattle.scripts.specs.Script.{script};
 ghost use Rattle.server.specs.Streams.{GetsNothing, change};
 
+use crate::judging::Output;
 use crate::refusals::{CommandRefusal, Told, refuse_memory, tell, told_of};
+use crate::stated::{self, certificates_of, set_up};
+use crate::storage::Files;
 use certificate::{CertFault, Certificate, Checked, admit};
 use engine::Setup;
 use exchange_graph::Topology;
 use guarantees::Guarantee;
 use model::{Arrival, User};
-use named_files::{Files, certificates_of, set_up};
 use scripts::{BadScript, ReloadFiles, read_script, transcript_text};
 use std::alloc::{AllocError, Global};
 use std::io::Write;
-use verdicts::Output;
 
 /// The number of a fault.
 fn number_of(fault: &CertFault) -> u8
@@ -97,7 +98,7 @@ pub fn in_force<'a, F: Files>(
         (λ told. OverNamed (λ d g c. FailsOver (F.holds files.old) d g c told.file.now told.why) named.entry) }
     ensures files { AreKept (F.holds files.old) (F.holds files.new) }
 {
-    let named_files::Setup {
+    let stated::Setup {
         topology,
         users,
         guarantees,

@@ -2,14 +2,14 @@
 
 ghost use Rattle.std.specs.Prelude.{MatchResult};
 ghost use Rattle.engine.specs.World.{world_of};
-ghost use Rattle.named_files.specs.Files.{AreKept};
+ghost use Rattle.server.specs.Files.{AreKept};
 ghost use Rattle.server.specs.Program.{IsStarted};
 ghost use Rattle.server.specs.Clients.{FailsToStart};
 
 use crate::refusals::Told;
 use crate::replaying::{BrokerFiles, in_force};
+use crate::storage::Files;
 use engine::Engine;
-use named_files::Files;
 use std::alloc::Global;
 
 /// A broker with no connection over what is in force by these files, which are judged in this order.

@@ -1,8 +1,7 @@
 //! The program `warren`: its words and its streams are those of the process, its files and sockets those of the machine.
 #![tactic(auto)]
 
-use host::{Disk, System};
-use reload_loop::program_with_sockets;
+use reload_loop::{Disk, System, program_with_sockets};
 use std::io::Write;
 use std::process::ExitCode;
 use std::{env, io};

@@ -1,39 +1,27 @@
 """The tests of edits, which want Python 3 alone: python3 tools/edits/tests/test.py"""
 
 import os
-import subprocess
 import sys
-import tempfile
 import unittest
 
 TOOL = os.path.dirname(os.path.dirname(os.path.abspath(__file__)))
+sys.path.insert(0, os.path.join(os.path.dirname(TOOL), "shared"))
+
+from trees import TreeTest
+
 SOURCE = "fn f() {\n    a < b;\n    c\n}\n"
 EDIT = "file: src/lib.rt\nold:     a < b;\nnew:     a <= b;\n"
 PAGE = "| a wrong body | where |\n|---|---|\n| it counts one more | one, `counts_one_more` |\n"
 
 
-class Edits(unittest.TestCase):
+class Edits(TreeTest):
+    tool = TOOL
+
     def setUp(self):
-        self.work = tempfile.TemporaryDirectory()
-        self.root = self.work.name
+        super().setUp()
         self.write("crates/one/src/lib.rt", SOURCE)
         self.write("crates/one/must-fail/counts_one_more.edit", EDIT)
         self.write("docs/inside/TESTING.md", PAGE)
-
-    def tearDown(self):
-        self.work.cleanup()
-
-    def write(self, name, text):
-        path = os.path.join(self.root, name)
-        os.makedirs(os.path.dirname(path), exist_ok=True)
-        with open(path, "w", encoding="utf-8") as file:
-            file.write(text)
-
-    def told(self):
-        done = subprocess.run([sys.executable, TOOL, self.root], capture_output=True, text=True)
-        self.assertEqual(done.stderr, "")
-        self.assertEqual(done.returncode, 1 if done.stdout else 0)
-        return done.stdout
 
     def test_all_apply(self):
         self.assertEqual(self.told(), "")

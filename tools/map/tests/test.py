@@ -1,41 +1,32 @@
 """The tests of map, which want Python 3 alone: python3 tools/map/tests/test.py"""
 
 import os
-import subprocess
 import sys
-import tempfile
 import unittest
 
 TOOL = os.path.dirname(os.path.dirname(os.path.abspath(__file__)))
-PAGE = "# A map\n\n## The path of a letter\n\nIn words.\n\n1. `post::Office::take`: **the box**\n2. `post::sorting::sort`:\n   by its street\n3. `bag::put`\n\nBehind.\n"
+sys.path.insert(0, os.path.join(os.path.dirname(TOOL), "shared"))
+
+from trees import TreeTest
+
+TABLES = "## Crates\n\n### Letters\n\nIn words.\n\n| crate | does |\n|---|---|\n| bag | holds |\n| post | sorts |\n\n"
+LISTED = "# Letters\nbag:\npost: bag\n"
+PAGE = "# A map\n\n" + TABLES + "## The path of a letter\n\nIn words.\n\n1. `post::Office::take`: **the box**\n2. `post::sorting::sort`:\n   by its street\n3. `bag::put`\n\nBehind.\n"
 OFFICE = "impl Office {\n    pub fn take(&self) {\n        sort(self);\n    }\n}\n\nimpl Other {\n    fn take(&self) {}\n}\n"
 SORTING = "pub(crate) fn sort(office: &Office) {\n    let bag = Bag::new();\n    bag.put(1);\n}\n"
 BAG = "impl Bag {\n    pub fn put(&mut self, one: u64) {}\n}\n"
 
 
-class Map(unittest.TestCase):
+class Map(TreeTest):
+    tool = TOOL
+
     def setUp(self):
-        self.work = tempfile.TemporaryDirectory()
-        self.root = self.work.name
+        super().setUp()
         self.write("docs/inside/ARCHITECTURE.md", PAGE)
+        self.write("crates.txt", LISTED)
         self.write("crates/post/src/lib.rt", OFFICE)
         self.write("crates/post/src/sorting.rt", SORTING)
         self.write("crates/bag/src/lib.rt", BAG)
-
-    def tearDown(self):
-        self.work.cleanup()
-
-    def write(self, name, text):
-        path = os.path.join(self.root, name)
-        os.makedirs(os.path.dirname(path), exist_ok=True)
-        with open(path, "w", encoding="utf-8") as file:
-            file.write(text)
-
-    def told(self):
-        done = subprocess.run([sys.executable, TOOL, self.root], capture_output=True, text=True)
-        self.assertEqual(done.stderr, "")
-        self.assertEqual(done.returncode, 1 if done.stdout else 0)
-        return done.stdout
 
     def test_each_is_there(self):
         self.assertEqual(self.told(), "")
@@ -64,6 +55,18 @@ class Map(unittest.TestCase):
         rest = "".join(f"{it}. `bag::put`\n" for it in range(4, 23))
         self.write("docs/inside/ARCHITECTURE.md", PAGE.replace("3. `bag::put`\n", "3. `bag::put`\n" + rest))
         self.assertIn("21 items below the first, and not 20 at most", self.told())
+
+    def test_a_crate_without_a_row(self):
+        self.write("crates.txt", LISTED + "stamps may_abort=2:\n")
+        self.assertEqual(self.told(), "Letters: crates.txt has bag, post, stamps, and the page bag, post\n")
+
+    def test_another_order(self):
+        self.write("crates.txt", "# Letters\npost:\nbag: post\n")
+        self.assertEqual(self.told(), "Letters: crates.txt has post, bag, and the page bag, post\n")
+
+    def test_another_group(self):
+        self.write("crates.txt", LISTED.replace("bag:", "bag:\n# Offices"))
+        self.assertIn("crates.txt has the groups Letters, Offices, and the page Letters\n", self.told())
 
     def test_a_page_without_paths(self):
         self.write("docs/inside/ARCHITECTURE.md", "# A map\n")

@@ -97,6 +97,23 @@ class Pages(unittest.TestCase):
         self.add("docs/CLIENTS.md", "See [this](LIMITS.md#every-limit) and [that](LIMITS.md#no-limit).")
         self.assertSays("docs/CLIENTS.md: LIMITS.md#no-limit leads nowhere")
 
+    def test_a_link_by_a_name(self):
+        self.add("docs/CLIENTS.md", "See [`this`] and [`that`].\n\n[`this`]: LIMITS.md\n[`that`]: NOWHERE.md")
+        self.assertSays("docs/CLIENTS.md: NOWHERE.md leads nowhere")
+
+    def test_a_name_that_leads_nowhere(self):
+        self.add("docs/CLIENTS.md", "See [`this`].")
+        self.assertSays("docs/CLIENTS.md: no line says where `this` leads")
+
+    def test_a_row_with_a_name(self):
+        self.add("docs/LIMITS.md", '| <a id="a-row"></a>a row |')
+        self.add("docs/CLIENTS.md", "See [this](LIMITS.md#a-row).")
+        self.assertEqual(self.said()[0], 0)
+
+    def test_lines_that_say_where_names_lead_are_no_sentence(self):
+        self.add("docs/LIMITS.md", "See [`this`].\n\n" + "[`this`]: CLIENTS.md\n" * 60)
+        self.assertEqual(self.said()[0], 0)
+
     def test_a_page_that_is_named_and_not_there(self):
         self.add("docs/inside/TESTING.md", "As docs/PROOFS.md says.")
         self.assertSays("docs/inside/TESTING.md: there is no docs/PROOFS.md")

@@ -1,6 +1,6 @@
 use Rattle.std.proofs.Common.{Option, Some, None, Bor, ap, refl, ◌∙◌}
 use Rattle.model.specs.Words.{Text}
-use Rattle.named_files.specs.Stated.{file_named}
+use Rattle.server.specs.Stated.{file_named}
 use Rattle.server.proofs.Outcomes.{untouched, shows}
 use Rattle.server.proofs.Beginning.{asks_same, memory_told}
 use Rattle.reload_loop.specs.Program.{asked_by, names_in, without, serves, reloads}

@@ -1,7 +1,7 @@
 use Rattle.std.proofs.Common.{◌∙◌, ◌&&◌, is_ok, Bool, List, Option, ap, refl, subst, arith}
 use Rattle.model.specs.Words.{Text}
 use Rattle.engine.specs.World.{world_of}
-use Rattle.named_files.specs.Files.{Known}
+use Rattle.server.specs.Files.{Known}
 use Rattle.serving.specs.Story.{served}
 use Rattle.serving.specs.declared.peers.Peer.{Peer}
 use Rattle.server.specs.Streams.{change}

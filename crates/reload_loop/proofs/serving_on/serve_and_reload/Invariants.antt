@@ -2,7 +2,7 @@ use Rattle.std.specs.Prelude.{true}
 use Rattle.model.specs.State.{Config}
 use Rattle.engine.specs.World.{world_of}
 use Rattle.engine.specs.Wanting.{engine_lacks}
-use Rattle.named_files.specs.Files.{AreKept}
+use Rattle.server.specs.Files.{AreKept}
 use Rattle.serving.specs.Wire.{Told}
 use Rattle.serving.specs.Story.{served}
 use Rattle.serving.specs.Whole.{IsServed}

@@ -1,5 +1,5 @@
 use Rattle.std.proofs.Common.{take}
-use Rattle.named_files.specs.Files.{AreKept}
+use Rattle.server.specs.Files.{AreKept}
 use Rattle.server.specs.Program.{AreSetUp}
 use Rattle.server.proofs.replaying.arrivals_of.Given as goal
 

@@ -1,6 +1,6 @@
 use Rattle.std.proofs.Common.{[], inl, subst}
 use Rattle.model.specs.Words.{Text}
-use Rattle.named_files.specs.Files.{Known}
+use Rattle.server.specs.Files.{Known}
 use Rattle.server.specs.declared.refusals.CommandRefusal.TheVariants.{Memory}
 use Rattle.server.specs.Program.{AreSetUp, FailsToReload, unread_script, unloaded, no_run}
 use Rattle.server.proofs.Kept.{same_known}

@@ -1,7 +1,0 @@
-use Rattle.named_files.proofs.Passing.{ArePassed}
-use Rattle.named_files.proofs.parts.has_bytes_left.Given as goal
-
-abbrev pub invariant-parts : goal.invariant-parts
-invariant-parts g l =
-    let left = g.R.Read.remaining in
-    ArePassed (left l.fn.reader) (left l.reader) l.bytes l.rest

@@ -1,0 +1,14 @@
+-- The words of a path.
+use Rattle.std.proofs.Common.{◌≡◌, ◌∙◌, List, [], ◌∷◌, ◌++◌, refl, sym, ap, map, append_assoc}
+use Rattle.std.specs.Prelude.{codes}
+use Rattle.model.specs.Words.{Text}
+use Rattle.scripts.specs.Transcript.{more_words, name_word}
+use Rattle.server.specs.Verdicts.{names_text, path_text, path_words}
+
+names_end : (ns : List Text) → more_words (map name_word ns) ≡ names_text ns ++ 10 ∷ []
+names_end [] = refl
+names_end (n ∷ ns) = ap (λ (z : Text). 32 ∷ (name_word n ++ z)) (names_end ns) ∙ ap (λ (z : Text). 32 ∷ z) (sym (append_assoc (name_word n) (names_text ns) (10 ∷ [])))
+
+pub path_end : (path : List Text) → more_words (path_words path) ≡ path_text path ++ 10 ∷ []
+path_end [] = refl
+path_end (n ∷ ns) = ap (λ (z : Text). 32 ∷ (codes "path" ++ z)) (names_end (n ∷ ns))

@@ -1,0 +1,7 @@
+use Rattle.std.proofs.Common.{take}
+use Rattle.server.specs.Verdicts.{EachWith}
+use Rattle.server.specs.Outcomes.{TellsOutcome}
+use Rattle.server.proofs.verifying.own_outcomes.Given as goal
+
+abbrev pub invariant-loop-place : goal.invariant-loop-place
+invariant-loop-place l = EachWith (TellsOutcome l.topology l.certificates) 0 (take l.place l.guarantees) l.outcomes.items

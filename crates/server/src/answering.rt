@@ -1,0 +1,310 @@
+//! The program, but for the sockets: what a command answers is decided first, and printed then.
+
+ghost use Rattle.std.specs.Prelude.{◌≡◌, List, Some, map, option_map, MatchResult};
+ghost use Rattle.model.specs.Words.{Text};
+ghost use Rattle.clap.specs.Words.{kind_of};
+ghost use Rattle.server.specs.CommandLine.{AsksFor, Check, Route, Verify, wanted_of};
+ghost use Rattle.server.specs.Files.{AreKept};
+ghost use Rattle.server.specs.Stated.{FailsToState, file_named};
+ghost use Rattle.server.specs.Streams.{GetsNothing, change};
+ghost use Rattle.server.specs.Program.{
+  AnswersBut,
+  RunsAs,
+  Fails,
+  IsNotAnswered,
+  IsRouted,
+  IsVerified,
+  IsWhyTold,
+  ListsFile,
+  PutsBoth,
+  ShowsError,
+};
+
+use crate::asked::Asked;
+use crate::command_words::command;
+use crate::file_refusals::RefusedFile;
+use crate::filing::{draft_for, write_out};
+use crate::judging::{Output, judge};
+use crate::refusals::{CommandRefusal, Told, refuse_memory, tell, told_of};
+use crate::replaying::{BrokerFiles, replay};
+use crate::routes::routed;
+use crate::stated::{certificates_of, definitions_of, set_up};
+use crate::storage::Files;
+use crate::streams::{put, tried};
+use crate::verifying::verify;
+use clap::Error;
+use clap::error::ErrorKind;
+use std::alloc::Global;
+use std::convert::AsStr;
+use std::io::Write;
+
+/// What a command prints, with its status; and what is told of a file that it was to write, where it could not.
+#[derive(Drop)]
+struct Answered<'a> {
+    output: Output,
+    unwritten: Option<Told<'a>>,
+}
+
+impl<'a> From<Output> for Answered<'a> {
+    ghost use Rattle.std.specs.Prelude.{◌≡◌, None};
+
+    ghost from_gives = { λ output answered. (answered.output ≡ output) × (answered.unwritten ≡ None) };
+
+    fn from(output: Output) -> Answered<'a> {
+        Answered {
+            output,
+            unwritten: None,
+        }
+    }
+}
+
+/// `check DEFS GUARANTEES`: the verdict on each guarantee; the certificates are written where a file is named and all
+/// guarantees hold. Where they can't be written the verdicts are answered all the same.
+fn check<'a, F: Files>(
+    alloc: Global,
+    definitions: &'a str,
+    guarantees: &'a str,
+    out: Option<&'a str>,
+    files: &mut F,
+) -> Result<Answered<'a>, Told<'a>>
+    ensures { MatchResult result
+        (λ a. AnswersBut (F.holds files.old) (F.holds files.new)
+        (Check definitions.now guarantees.now (file_named out.entry)) a.output.text.items a.output.status a.unwritten)
+        (λ told. IsNotAnswered (F.holds files.old) (F.holds files.new)
+        (Check definitions.now guarantees.now (file_named out.entry)) told.file.now told.why) }
+{
+    let setup = match set_up(alloc, Some(definitions), Some(guarantees), files) {
+        Ok(setup) => setup,
+        Err(refused) => return Err(told_of(refused)),
+    };
+    let draft = draft_for(alloc, out);
+    let (output, draft) = match judge(alloc, &setup.topology, setup.guarantees.as_slice(), draft) {
+        Ok(judged) => judged,
+        Err(error) => return Err(Told::from(error)),
+    };
+    match write_out(out, output.status, draft, files) {
+        Ok(_) => Ok(Answered::from(output)),
+        Err(told) => Ok(Answered {
+            output,
+            unwritten: Some(told),
+        }),
+    }
+}
+
+/// `verify DEFS GUARANTEES CERTS`: whether the certificate of each guarantee is accepted.
+fn verify_files<'a, F: Files>(
+    alloc: Global,
+    definitions: &'a str,
+    guarantees: &'a str,
+    certificates: &'a str,
+    files: &mut F,
+) -> Result<Output, Told<'a>>
+    ensures answers { MatchResult result
+        (λ o. IsVerified (F.holds files.old) definitions.now guarantees.now certificates.now o.text.items o.status)
+        (λ told. Fails (F.holds files.old) (Verify definitions.now guarantees.now certificates.now)
+        told.file.now told.why) }
+    ensures files { AreKept (F.holds files.old) (F.holds files.new) }
+{
+    let setup = match set_up(alloc, Some(definitions), Some(guarantees), files) {
+        Ok(setup) => setup,
+        Err(refused) => return Err(told_of(refused)),
+    };
+    let certificates = match certificates_of(alloc, Some(certificates), files) {
+        Ok(certificates) => certificates,
+        Err(refused) => return Err(told_of(refused)),
+    };
+    match verify(
+        alloc,
+        &setup.topology,
+        setup.guarantees.as_slice(),
+        certificates.as_slice(),
+    ) {
+        Ok(output) => Ok(output),
+        Err(error) => Err(Told::from(error)),
+    }
+}
+
+/// The lines of the queues to which a key leads from an exchange, by the definitions of a file.
+fn routed_file<'a, F: Files>(
+    alloc: Global,
+    file: &'a str,
+    exchange: &str,
+    key: &str,
+    files: &mut F,
+) -> Result<Option<Vec<u8>>, RefusedFile<'a>>
+    ensures lists { MatchResult result
+        (λ listed. ListsFile (F.holds files.old file.now) exchange.now key.now (option_map (λ t. t.items) listed))
+        (λ refused. FailsToState (F.holds files.old) (Some file.now) refused.file.now refused.why) }
+    ensures files { AreKept (F.holds files.old) (F.holds files.new) }
+{
+    let definitions = match definitions_of(alloc, file, files) {
+        Ok(definitions) => definitions,
+        Err(refused) => return Err(refused),
+    };
+    match routed(
+        alloc,
+        definitions.topology(),
+        exchange.as_bytes(),
+        key.as_bytes(),
+    ) {
+        Ok(listed) => Ok(listed),
+        Err(error) => Err(RefusedFile::from(error)),
+    }
+}
+
+/// `route DEFS EXCHANGE KEY`: the queues to which the key leads from the exchange.
+fn route<'a, F: Files>(
+    alloc: Global,
+    definitions: &'a str,
+    exchange: &str,
+    key: &str,
+    files: &mut F,
+) -> Result<Output, Told<'a>>
+    ensures answers { MatchResult result
+        (λ o. IsRouted (F.holds files.old) definitions.now exchange.now key.now o.text.items o.status)
+        (λ told. Fails (F.holds files.old) (Route definitions.now exchange.now key.now) told.file.now told.why) }
+    ensures files { AreKept (F.holds files.old) (F.holds files.new) }
+{
+    match routed_file(alloc, definitions, exchange, key, files) {
+        Ok(Some(text)) => Ok(Output { text, status: 0 }),
+        Ok(None) => Err(Told {
+            file: definitions,
+            why: CommandRefusal::NoExchange,
+        }),
+        Err(refused) => Err(told_of(refused)),
+    }
+}
+
+/// What a command answers; or the status, once it is told why it prints nothing. To serve takes sockets, of which this has
+/// none.
+fn answer<'a, F: Files, E: Write>(
+    alloc: Global,
+    asked: Asked<'a>,
+    files: &mut F,
+    err: &mut E,
+) -> Result<Answered<'a>, u8>
+    ensures { MatchResult result
+        (λ a. AnswersBut (F.holds files.old) (F.holds files.new) (wanted_of asked.entry)
+        a.output.text.items a.output.status a.unwritten
+        × GetsNothing (change (E.contents err.old) (E.contents err.new)))
+        (λ status. IsWhyTold (F.holds files.old) (F.holds files.new) (wanted_of asked.entry)
+        (change (E.contents err.old) (E.contents err.new)) status) }
+{
+    match asked {
+        Asked::Check {
+            definitions,
+            guarantees,
+            out,
+        } => match check(alloc, definitions, guarantees, out, files) {
+            Ok(answered) => Ok(answered),
+            Err(told) => Err(tell(alloc, err, told)),
+        },
+        Asked::Verify {
+            definitions,
+            guarantees,
+            certificates,
+        } => match verify_files(alloc, definitions, guarantees, certificates, files) {
+            Ok(output) => Ok(Answered::from(output)),
+            Err(told) => Err(tell(alloc, err, told)),
+        },
+        Asked::Replay {
+            script,
+            definitions,
+            guarantees,
+            certificates,
+        } => {
+            let named = BrokerFiles {
+                definitions,
+                guarantees,
+                certificates,
+            };
+            match replay(alloc, script, named, files, err) {
+                Ok(output) => Ok(Answered::from(output)),
+                Err(status) => Err(status),
+            }
+        }
+        Asked::Serve { .. } => {
+            let why = CommandRefusal::NotListening;
+            Err(tell(alloc, err, Told { file: "", why }))
+        }
+        Asked::Route {
+            definitions,
+            exchange,
+            key,
+        } => match route(alloc, definitions, exchange, key, files) {
+            Ok(output) => Ok(Answered::from(output)),
+            Err(told) => Err(tell(alloc, err, told)),
+        },
+    }
+}
+
+/// Puts out what a command answers, and then tells of a file that it could not write; and gives the status.
+fn put_answer<O: Write, E: Write>(
+    alloc: Global,
+    answered: Answered<'_>,
+    out: &mut O,
+    err: &mut E,
+) -> u8
+    ensures { PutsBoth (change (O.contents out.old) (O.contents out.new))
+        (change (E.contents err.old) (E.contents err.new)) answered.entry.output.text.items answered.entry.output.status
+        answered.entry.unwritten result }
+{
+    let Answered { output, unwritten } = answered;
+    let status = tried(put(out, output.text.as_slice()), output.status);
+    match unwritten {
+        None => status,
+        Some(told) => tell(alloc, err, told),
+    }
+}
+
+/// Shows why a command line was refused, and gives the status.
+pub fn refuse_words<E: Write>(err: &mut E, error: &Error) -> u8
+    ensures { ShowsError (kind_of error.now) (change (E.contents err.old) (E.contents err.new)) result }
+{
+    match error.kind() {
+        ErrorKind::OutOfMemory => refuse_memory(err),
+        _ => tried(write!(err, "{error}"), 3),
+    }
+}
+
+/// Does what was asked for, and gives the exit status. To serve takes sockets, of which this has none.
+pub fn answer_asked<F: Files, O: Write, E: Write>(
+    alloc: Global,
+    asked: Asked<'_>,
+    files: &mut F,
+    out: &mut O,
+    err: &mut E,
+) -> u8
+    ensures { (words : List Text) → AsksFor words (wanted_of asked.entry)
+        → RunsAs words (F.holds files.old) (F.holds files.new) (change (O.contents out.old) (O.contents out.new))
+        (change (E.contents err.old) (E.contents err.new)) result }
+{
+    match answer(alloc, asked, files, err) {
+        Ok(answered) => put_answer(alloc, answered, out, err),
+        Err(status) => status,
+    }
+}
+
+/// Does what the words ask for, and gives the exit status.
+///
+/// The first word is the program's name. 0 is good; 1 is a guarantee that is broken, or a certificate that is not
+/// accepted by `verify`; 2 is a guarantee that is not decided, where none is broken; 3 is a refused file, certificate or
+/// command line, or an exchange that is not there; 4 is want of memory, or input or output that failed. What a command
+/// prints goes to `out`, what is refused to `err`. Where `check` can't write its file it prints the verdicts, and tells so
+/// then. It has no sockets, so `serve` is answered as where it cannot listen: `reload_loop::program_with_sockets` serves.
+pub fn program<S: AsStr, F: Files, O: Write, E: Write>(
+    alloc: Global,
+    words: &[S],
+    files: &mut F,
+    out: &mut O,
+    err: &mut E,
+) -> u8
+    ensures { RunsAs (map S.text words.now) (F.holds files.old) (F.holds files.new)
+        (change (O.contents out.old) (O.contents out.new)) (change (E.contents err.old) (E.contents err.new)) result }
+{
+    let asked = match command(alloc, words) {
+        Ok(asked) => asked,
+        Err(error) => return refuse_words(err, &error),
+    };
+    answer_asked(alloc, asked, files, out, err)
+}

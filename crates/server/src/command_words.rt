@@ -1,0 +1,467 @@
+//! The words of a command line.
+
+ghost use Rattle.std.specs.Prelude.{
+  ◌≡◌,
+  map,
+  codes,
+  false,
+  true,
+  IfOk,
+  MatchResult,
+  Some,
+  option_map,
+  option_and_then,
+};
+ghost use Rattle.clap.specs.Words.{
+  app_of,
+  first_of,
+  found_of,
+  new_app,
+  rows_of,
+  rule_of,
+  subcommand_rows_of,
+  with_rule,
+  with_subcommand,
+};
+ghost use Rattle.clap.specs.declared.Command.TheViews.{out-Command as fields_of};
+ghost use Rattle.server.specs.CommandLine.{
+  Asks,
+  AreWordsRefused,
+  check,
+  check_of,
+  judging,
+  needed,
+  needed_option,
+  number_option,
+  option,
+  over_guarantees,
+  replay,
+  replay_of,
+  replay_over,
+  route,
+  route_of,
+  running,
+  serve,
+  serve_at,
+  serve_for,
+  serve_of,
+  verify,
+  verify_of,
+  wanted_by,
+  wanted_of,
+  warren,
+  with_subcommands,
+};
+
+use crate::asked::Asked;
+use clap::builder::ValueParser;
+use clap::error::ErrorKind;
+use clap::{Arg, ArgAction, ArgMatches, Command, Error};
+use std::alloc::{AllocError, Global};
+use std::convert::AsStr;
+
+/// What `--version` shows behind the name.
+const VERSION: &str = "0.1.0";
+
+/// A text that has to be given, with what help says of it.
+fn needed<'a>(alloc: Global, id: &'a str, help: &'a str) -> Arg<'a>
+    ensures rule { rule_of result ≡ needed id.entry.now }
+    ensures local { result.global ≡ false }
+{
+    Arg::new(alloc, id)
+        .help(help)
+        .required(true)
+        .action(ArgAction::Set)
+}
+
+/// A file that may be named, by `--` and the option's name, with what help says of it.
+fn option<'a>(alloc: Global, id: &'a str, help: &'a str) -> Arg<'a>
+    ensures rule { rule_of result ≡ option id.entry.now }
+    ensures local { result.global ≡ false }
+{
+    Arg::new(alloc, id)
+        .help(help)
+        .long(id)
+        .value_name("FILE")
+        .action(ArgAction::Set)
+}
+
+/// A text that has to be given, by `--` and the option's name, with what help says of it.
+fn needed_option<'a>(alloc: Global, id: &'a str, value: &'a str, help: &'a str) -> Arg<'a>
+    ensures rule { rule_of result ≡ needed_option id.entry.now }
+    ensures local { result.global ≡ false }
+{
+    Arg::new(alloc, id)
+        .help(help)
+        .long(id)
+        .value_name(value)
+        .required(true)
+        .action(ArgAction::Set)
+}
+
+/// A number that may be given, by `--` and the option's name, no smaller than this, with what help says of it.
+fn number_option<'a>(alloc: Global, least: u64, id: &'a str, help: &'a str) -> Arg<'a>
+    ensures rule { rule_of result ≡ number_option least id.entry.now }
+    ensures local { result.global ≡ false }
+{
+    Arg::new(alloc, id)
+        .help(help)
+        .long(id)
+        .value_name("N")
+        .value_parser(ValueParser::Unsigned(least, u64::MAX))
+        .action(ArgAction::Set)
+}
+
+/// A command without arguments, with what help says of it.
+fn bare<'a>(alloc: Global, name: &'a str, about: &'a str) -> Command<'a>
+    ensures app { app_of result ≡ new_app name.entry.now }
+    ensures local { (fields_of result).has_globals ≡ false }
+{
+    Command::new(alloc, name).about(about)
+}
+
+/// The command with one more argument.
+fn with_argument<'a>(command: Command<'a>, argument: Arg<'a>) -> Result<Command<'a>, AllocError>
+    requires command { (fields_of command).has_globals ≡ false }
+    requires argument { argument.global ≡ false }
+    ensures app { IfOk result (λ c. app_of c ≡ with_rule (app_of command.entry) (rule_of argument.entry)) }
+    ensures local { IfOk result (λ c. (fields_of c).has_globals ≡ false) }
+{
+    command.arg(argument)
+}
+
+/// A command that looks at a definitions file and a guarantees file, with what help says of it.
+fn over_guarantees<'a>(
+    alloc: Global,
+    name: &'a str,
+    about: &'a str,
+) -> Result<Command<'a>, AllocError>
+    ensures app { IfOk result (λ c. app_of c ≡ over_guarantees name.entry.now) }
+    ensures local { IfOk result (λ c. (fields_of c).has_globals ≡ false) }
+{
+    let command = bare(alloc, name, about);
+    let definitions = needed(alloc, "DEFS", "The definitions file");
+    let command = with_argument(command, definitions)?;
+    let guarantees = needed(alloc, "GUARANTEES", "The guarantees file");
+    with_argument(command, guarantees)
+}
+
+/// `check DEFS GUARANTEES [--out FILE]`.
+fn check_command<'a>(alloc: Global) -> Result<Command<'a>, AllocError>
+    ensures app { IfOk result (λ c. app_of c ≡ check) }
+    ensures local { IfOk result (λ c. (fields_of c).has_globals ≡ false) }
+{
+    let command = over_guarantees(
+        alloc,
+        "check",
+        "Tells of each guarantee whether it holds, or a key that breaks it",
+    )?;
+    let out = option(
+        alloc,
+        "out",
+        "The file to write the certificates to, where every guarantee holds",
+    );
+    with_argument(command, out)
+}
+
+/// `verify DEFS GUARANTEES CERTS`.
+fn verify_command<'a>(alloc: Global) -> Result<Command<'a>, AllocError>
+    ensures app { IfOk result (λ c. app_of c ≡ verify) }
+    ensures local { IfOk result (λ c. (fields_of c).has_globals ≡ false) }
+{
+    let command = over_guarantees(
+        alloc,
+        "verify",
+        "Tells of each guarantee whether its certificate is accepted",
+    )?;
+    let certificates = needed(
+        alloc,
+        "CERTS",
+        "The certificates file, a certificate for each guarantee in the same order",
+    );
+    with_argument(command, certificates)
+}
+
+/// `serve DEFS GUARANTEES CERTS --listen IP:PORT`.
+fn serve_at<'a>(alloc: Global) -> Result<Command<'a>, AllocError>
+    ensures app { IfOk result (λ c. app_of c ≡ serve_at) }
+    ensures local { IfOk result (λ c. (fields_of c).has_globals ≡ false) }
+{
+    let command = over_guarantees(
+        alloc,
+        "serve",
+        "Serves clients under guarantees that are shown by their certificates",
+    )?;
+    let certificates = needed(
+        alloc,
+        "CERTS",
+        "The certificates file, a certificate for each guarantee in the same order",
+    );
+    let command = with_argument(command, certificates)?;
+    let listen = needed_option(
+        alloc,
+        "listen",
+        "IP:PORT",
+        "The address at which clients connect",
+    );
+    with_argument(command, listen)
+}
+
+/// `serve DEFS GUARANTEES CERTS --listen IP:PORT [--turns N]`.
+fn serve_for<'a>(alloc: Global) -> Result<Command<'a>, AllocError>
+    ensures app { IfOk result (λ c. app_of c ≡ serve_for) }
+    ensures local { IfOk result (λ c. (fields_of c).has_globals ≡ false) }
+{
+    let command = serve_at(alloc)?;
+    let turns = number_option(
+        alloc,
+        0,
+        "turns",
+        "How many turns to serve; without it, until the process is ended",
+    );
+    with_argument(command, turns)
+}
+
+/// `serve DEFS GUARANTEES CERTS --listen IP:PORT [--turns N] [--reload N]`.
+fn serve_command<'a>(alloc: Global) -> Result<Command<'a>, AllocError>
+    ensures app { IfOk result (λ c. app_of c ≡ serve) }
+    ensures local { IfOk result (λ c. (fields_of c).has_globals ≡ false) }
+{
+    let command = serve_for(alloc)?;
+    let reload = number_option(
+        alloc,
+        1,
+        "reload",
+        "After how many turns the three files are read again; without it, never",
+    );
+    with_argument(command, reload)
+}
+
+/// `replay SCRIPT [--definitions FILE]`.
+fn replay_over<'a>(alloc: Global) -> Result<Command<'a>, AllocError>
+    ensures app { IfOk result (λ c. app_of c ≡ replay_over) }
+    ensures local { IfOk result (λ c. (fields_of c).has_globals ≡ false) }
+{
+    let command = bare(alloc, "replay", "Runs a script and prints what it puts out");
+    let script = needed(alloc, "SCRIPT", "The script file");
+    let command = with_argument(command, script)?;
+    let definitions = option(
+        alloc,
+        "definitions",
+        "The definitions file to run over, in place of the built-in topology",
+    );
+    with_argument(command, definitions)
+}
+
+/// `replay SCRIPT [--definitions FILE] [--guarantees FILE] [--certificates FILE]`.
+fn replay_command<'a>(alloc: Global) -> Result<Command<'a>, AllocError>
+    ensures app { IfOk result (λ c. app_of c ≡ replay) }
+    ensures local { IfOk result (λ c. (fields_of c).has_globals ≡ false) }
+{
+    let command = replay_over(alloc)?;
+    let guarantees = option(
+        alloc,
+        "guarantees",
+        "The guarantees file to run under; without it there are none",
+    );
+    let command = with_argument(command, guarantees)?;
+    let certificates = option(
+        alloc,
+        "certificates",
+        "The certificates file of the guarantees; without it there are none",
+    );
+    with_argument(command, certificates)
+}
+
+/// `route DEFS EXCHANGE KEY`.
+fn route_command<'a>(alloc: Global) -> Result<Command<'a>, AllocError>
+    ensures app { IfOk result (λ c. app_of c ≡ route) }
+    ensures local { IfOk result (λ c. (fields_of c).has_globals ≡ false) }
+{
+    let command = bare(
+        alloc,
+        "route",
+        "Prints the queues to which a key leads from an exchange",
+    );
+    let definitions = needed(alloc, "DEFS", "The definitions file");
+    let command = with_argument(command, definitions)?;
+    let exchange = needed(
+        alloc,
+        "EXCHANGE",
+        "The exchange that a message is sent to; \"\" is the default exchange",
+    );
+    let command = with_argument(command, exchange)?;
+    let key = needed(alloc, "KEY", "The routing key that it is sent under");
+    with_argument(command, key)
+}
+
+/// The program before its subcommands.
+fn program<'a>(alloc: Global) -> Command<'a>
+    ensures { app_of result ≡ with_subcommands (codes "warren") }
+{
+    Command::new(alloc, "warren")
+        .version(VERSION)
+        .about("A message broker for AMQP 0-9-1 whose routing is certified")
+        .subcommand_required(true)
+}
+
+/// The command with one more subcommand.
+fn with_command<'a>(program: Command<'a>, command: Command<'a>) -> Result<Command<'a>, AllocError>
+    requires { (fields_of command).has_globals ≡ false }
+    ensures { IfOk result (λ c. app_of c ≡ with_subcommand (app_of program.entry) (app_of command.entry).top) }
+{
+    program.subcommand(command)
+}
+
+/// The program with the commands that judge guarantees.
+fn with_judging<'a>(alloc: Global) -> Result<Command<'a>, AllocError>
+    ensures { IfOk result (λ c. app_of c ≡ judging) }
+{
+    let check = check_command(alloc)?;
+    let warren = with_command(program(alloc), check)?;
+    with_command(warren, verify_command(alloc)?)
+}
+
+/// The program with these and the commands that run a broker.
+fn with_running<'a>(alloc: Global) -> Result<Command<'a>, AllocError>
+    ensures { IfOk result (λ c. app_of c ≡ running) }
+{
+    let warren = with_judging(alloc)?;
+    let warren = with_command(warren, replay_command(alloc)?)?;
+    with_command(warren, serve_command(alloc)?)
+}
+
+/// The program with its subcommands.
+fn warren_command<'a>(alloc: Global) -> Result<Command<'a>, AllocError>
+    ensures { IfOk result (λ c. app_of c ≡ warren) }
+{
+    let warren = with_running(alloc)?;
+    with_command(warren, route_command(alloc)?)
+}
+
+/// The text that was given for an argument.
+fn text_of<'a>(given: &ArgMatches<'a>, id: &str) -> Option<&'a str>
+    ensures { option_map (λ s. s.now) result ≡ first_of id.now (rows_of (found_of given.now)) }
+{
+    given.get_str(id)
+}
+
+/// What the arguments of `check` ask for.
+fn check<'a>(given: &ArgMatches<'a>) -> Option<Asked<'a>>
+    ensures { option_map wanted_of result ≡ check_of (rows_of (found_of given.now)) }
+{
+    let definitions = text_of(given, "DEFS")?;
+    let guarantees = text_of(given, "GUARANTEES")?;
+    Some(Asked::Check {
+        definitions,
+        guarantees,
+        out: text_of(given, "out"),
+    })
+}
+
+/// What the arguments of `verify` ask for.
+fn verify<'a>(given: &ArgMatches<'a>) -> Option<Asked<'a>>
+    ensures { option_map wanted_of result ≡ verify_of (rows_of (found_of given.now)) }
+{
+    let definitions = text_of(given, "DEFS")?;
+    let guarantees = text_of(given, "GUARANTEES")?;
+    let certificates = text_of(given, "CERTS")?;
+    Some(Asked::Verify {
+        definitions,
+        guarantees,
+        certificates,
+    })
+}
+
+/// What the arguments of `replay` ask for.
+fn replay<'a>(given: &ArgMatches<'a>) -> Option<Asked<'a>>
+    ensures { option_map wanted_of result ≡ replay_of (rows_of (found_of given.now)) }
+{
+    let script = text_of(given, "SCRIPT")?;
+    Some(Asked::Replay {
+        script,
+        definitions: text_of(given, "definitions"),
+        guarantees: text_of(given, "guarantees"),
+        certificates: text_of(given, "certificates"),
+    })
+}
+
+/// What the arguments of `serve` ask for.
+fn serve<'a>(given: &ArgMatches<'a>) -> Option<Asked<'a>>
+    ensures { option_map wanted_of result ≡ serve_of (rows_of (found_of given.now)) }
+{
+    let definitions = text_of(given, "DEFS")?;
+    let guarantees = text_of(given, "GUARANTEES")?;
+    let certificates = text_of(given, "CERTS")?;
+    let listen = text_of(given, "listen")?;
+    Some(Asked::Serve {
+        definitions,
+        guarantees,
+        certificates,
+        listen,
+        turns: text_of(given, "turns"),
+        reload: text_of(given, "reload"),
+    })
+}
+
+/// What the arguments of `route` ask for.
+fn route<'a>(given: &ArgMatches<'a>) -> Option<Asked<'a>>
+    ensures { option_map wanted_of result ≡ route_of (rows_of (found_of given.now)) }
+{
+    let definitions = text_of(given, "DEFS")?;
+    let exchange = text_of(given, "EXCHANGE")?;
+    let key = text_of(given, "KEY")?;
+    Some(Asked::Route {
+        definitions,
+        exchange,
+        key,
+    })
+}
+
+/// What the command of this name asks for.
+fn named<'a>(name: &str, given: &ArgMatches<'a>) -> Option<Asked<'a>>
+    ensures { option_map wanted_of result ≡ wanted_by (name.now, rows_of (found_of given.now)) }
+{
+    match name {
+        "check" => check(given),
+        "verify" => verify(given),
+        "replay" => replay(given),
+        "serve" => serve(given),
+        "route" => route(given),
+        _ => None,
+    }
+}
+
+/// What the subcommand that was named asks for.
+fn asked<'a>(matches: &ArgMatches<'a>) -> Option<Asked<'a>>
+    ensures { option_map wanted_of result ≡ option_and_then wanted_by (subcommand_rows_of matches.now) }
+{
+    let (name, given) = matches.subcommand()?;
+    named(name, given)
+}
+
+/// What the words ask of the program.
+fn ask<'a, S: AsStr>(program: &mut Command<'a>, words: &'a [S]) -> Result<Asked<'a>, Error>
+    requires { app_of program.old ≡ warren }
+    ensures { MatchResult result (λ asked. Asks (map S.text words.entry.now) asked) (λ e. AreWordsRefused (map S.text words.entry.now) e) }
+{
+    let matches = program.try_get_matches_from_mut(words)?;
+    let asked = asked(&matches);
+    drop(matches);
+    match asked {
+        Some(asked) => Ok(asked),
+        None => Err(program.error(ErrorKind::MissingSubcommand, "a command is missing")?),
+    }
+}
+
+/// What the words ask for. The first of them is the program's name.
+///
+/// An error is shown by its own text, help among them; its kind is `OutOfMemory` where a growth was refused.
+pub fn command<'a, S: AsStr>(alloc: Global, words: &'a [S]) -> Result<Asked<'a>, Error>
+    ensures { MatchResult result (λ asked. Asks (map S.text words.entry.now) asked) (λ e. AreWordsRefused (map S.text words.entry.now) e) }
+{
+    let mut program = warren_command(alloc)?;
+    let asked = ask(&mut program, words);
+    drop(program);
+    asked
+}

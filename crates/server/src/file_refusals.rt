@@ -1,0 +1,97 @@
+//! Why a file is refused.
+
+use crate::storage;
+use definitions::BadDefinitions;
+use std::alloc::AllocError;
+
+/// Why a file is refused.
+#[derive(Clone, Copy, PartialEq, Eq, Debug, Drop)]
+pub(crate) enum FileRefusal {
+    /// The cause of this number stands in the file, and none of a smaller one.
+    Refused(u8),
+    /// The file is too long.
+    TooLong,
+    /// The file cannot be read.
+    Unread,
+    /// A growth was refused.
+    Memory,
+}
+
+/// A file that is refused, and why.
+#[derive(Clone, Copy, PartialEq, Eq, Debug, Drop)]
+pub(crate) struct RefusedFile<'a> {
+    /// The name of the file; empty where memory was wanting and no file is named.
+    pub(crate) file: &'a str,
+    pub(crate) why: FileRefusal,
+}
+
+impl From<storage::Unread> for FileRefusal {
+    ghost use Rattle.std.specs.Prelude.{◌≡◌};
+    ghost use Rattle.server.specs.FileRefusals.{of_file};
+
+    ghost from_gives = { λ why r. r ≡ of_file why };
+
+    fn from(why: storage::Unread) -> FileRefusal {
+        match why {
+            storage::Unread::Failed => FileRefusal::Unread,
+            storage::Unread::TooLong => FileRefusal::TooLong,
+            storage::Unread::Memory => FileRefusal::Memory,
+        }
+    }
+}
+
+impl From<BadDefinitions> for FileRefusal {
+    ghost use Rattle.std.specs.Prelude.{◌≡◌};
+    ghost use Rattle.server.specs.FileRefusals.{of_cause};
+
+    ghost from_gives = { λ cause r. r ≡ of_cause cause };
+
+    fn from(cause: BadDefinitions) -> FileRefusal {
+        match cause.number() {
+            14 => FileRefusal::Memory,
+            number => FileRefusal::Refused(number),
+        }
+    }
+}
+
+impl From<guarantees::BadGuarantees> for FileRefusal {
+    ghost use Rattle.std.specs.Prelude.{◌≡◌};
+    ghost use Rattle.server.specs.FileRefusals.{of_guarantees};
+
+    ghost from_gives = { λ cause r. r ≡ of_guarantees cause };
+
+    fn from(cause: guarantees::BadGuarantees) -> FileRefusal {
+        match cause.number() {
+            14 => FileRefusal::Memory,
+            number => FileRefusal::Refused(number),
+        }
+    }
+}
+
+impl From<certificate::BadCertificates> for FileRefusal {
+    ghost use Rattle.std.specs.Prelude.{◌≡◌};
+    ghost use Rattle.server.specs.FileRefusals.{of_certificates};
+
+    ghost from_gives = { λ cause r. r ≡ of_certificates cause };
+
+    fn from(cause: certificate::BadCertificates) -> FileRefusal {
+        match cause.number() {
+            14 => FileRefusal::Memory,
+            number => FileRefusal::Refused(number),
+        }
+    }
+}
+
+impl<'a> From<AllocError> for RefusedFile<'a> {
+    ghost use Rattle.std.specs.Prelude.{◌≡◌};
+    ghost use Rattle.server.specs.declared.file_refusals.FileRefusal.TheVariants.{Memory};
+
+    ghost from_gives = { λ _ r. r.why ≡ Memory };
+
+    fn from(_: AllocError) -> RefusedFile<'a> {
+        RefusedFile {
+            file: "",
+            why: FileRefusal::Memory,
+        }
+    }
+}

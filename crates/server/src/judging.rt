@@ -1,0 +1,185 @@
+//! The verdicts on guarantees, as `check` prints them.
+
+ghost use Rattle.std.specs.Prelude.{◌≡◌, ◌++◌, ◌∷◌, [], codes, decimal, IfOk, OnOk, string_bytes};
+ghost use Rattle.certificate.specs.Drafts.{Adds};
+ghost use Rattle.scripts.specs.Transcript.{line, name_word};
+ghost use Rattle.server.specs.Verdicts.{
+  certificates_in,
+  undecided_word,
+  is_no,
+  is_undecided,
+  Judges,
+  path_text,
+  path_words,
+  status_by,
+  verdict_line,
+};
+
+use certificate::Draft;
+use exchange_graph::Topology;
+use guarantee_search::{UndecidedCause, Verdict, search};
+use guarantees::Guarantee;
+use model::Text;
+use scripts::{name_word, put_line};
+use std::alloc::{AllocError, Global};
+
+/// What a command prints, and the status that it leaves.
+#[derive(Drop)]
+pub(crate) struct Output {
+    pub(crate) text: Vec<u8>,
+    pub(crate) status: u8,
+}
+
+/// The line of a guarantee that holds.
+fn yes_line(alloc: Global, number: u64, states: usize) -> Result<String, AllocError>
+    ensures { IfOk result (λ text. string_bytes text ≡ line (decimal number ∷ codes "yes states" ∷ decimal states ∷ [])) }
+{
+    format!(in alloc; "{number} yes states {states}\n")
+}
+
+/// Appends a name behind a space.
+fn put_name(alloc: Global, text: &mut String, name: &Text) -> Result<(), AllocError>
+    ensures { OnOk result (string_bytes text.new ≡ string_bytes text.old ++ 32 ∷ name_word name.now) }
+{
+    let word = name_word(alloc, name.as_bytes())?;
+    text.push_str(" ")?;
+    text.push_str(&word)?;
+    Ok(())
+}
+
+/// A path as it is shown behind a key; where there is none, nothing.
+fn path_text(alloc: Global, path: &[Text]) -> Result<String, AllocError>
+    ensures { IfOk result (λ text. string_bytes text ≡ path_text path.now) }
+{
+    if path.is_empty() {
+        return Ok(String::new(alloc));
+    }
+    let mut text = String::from_str(alloc, " path")?;
+    for name in path {
+        put_name(alloc, &mut text, name)?;
+    }
+    Ok(text)
+}
+
+/// The line of a guarantee that a key breaks, with what is shown behind the key.
+fn no_line_with(alloc: Global, number: u64, key: &[u8], shown: &str) -> Result<String, AllocError>
+    ensures { IfOk result (λ text. string_bytes text ≡ decimal number ++ 32 ∷ (codes "no key" ++ 32 ∷ (name_word key.now ++ (shown.now ++ 10 ∷ [])))) }
+{
+    let key = name_word(alloc, key)?;
+    format!(in alloc; "{number} no key {key}{shown}\n")
+}
+
+/// The line of a guarantee that a key breaks, with the path that shows it, if it needs one.
+fn no_line(alloc: Global, number: u64, key: &[u8], path: &[Text]) -> Result<String, AllocError>
+    ensures { IfOk result (λ text. string_bytes text ≡ line (decimal number ∷ codes "no key" ∷ name_word key.now ∷ path_words path.now)) }
+{
+    let shown = path_text(alloc, path)?;
+    no_line_with(alloc, number, key, &shown)
+}
+
+/// Why a guarantee is not decided, in a word.
+fn undecided_word(cause: UndecidedCause) -> &'static str
+    ensures { result.now ≡ undecided_word cause }
+{
+    match cause {
+        UndecidedCause::TooManyStates => "states",
+        UndecidedCause::KeyTooLong => "key",
+    }
+}
+
+/// The line of a guarantee that is not decided.
+fn undecided_line(alloc: Global, number: u64, cause: UndecidedCause) -> Result<String, AllocError>
+    ensures { IfOk result (λ text. string_bytes text ≡ line (decimal number ∷ codes "undecided" ∷ undecided_word cause ∷ [])) }
+{
+    let cause = undecided_word(cause);
+    format!(in alloc; "{number} undecided {cause}\n")
+}
+
+/// The line of a verdict.
+fn verdict_line(alloc: Global, number: u64, verdict: &Verdict) -> Result<String, AllocError>
+    ensures { IfOk result (λ text. string_bytes text ≡ verdict_line number verdict.now) }
+{
+    match verdict {
+        Verdict::Yes(certificate) => yes_line(alloc, number, certificate.states().len()),
+        Verdict::No(refutation) => no_line(
+            alloc,
+            number,
+            refutation.key().as_bytes(),
+            refutation.path(),
+        ),
+        Verdict::Undecided(cause) => undecided_line(alloc, number, *cause),
+    }
+}
+
+fn is_no(verdict: &Verdict) -> bool
+    ensures { result ≡ is_no verdict.now }
+{
+    match verdict {
+        Verdict::No(_) => true,
+        _ => false,
+    }
+}
+
+fn is_undecided(verdict: &Verdict) -> bool
+    ensures { result ≡ is_undecided verdict.now }
+{
+    match verdict {
+        Verdict::Undecided(_) => true,
+        _ => false,
+    }
+}
+
+/// The status that verdicts leave of which some are broken, or some undecided.
+fn status_of(broken: bool, undecided: bool) -> u8
+    ensures { result ≡ status_by broken undecided }
+{
+    if broken {
+        return 1;
+    }
+    if undecided {
+        return 2;
+    }
+    0
+}
+
+/// The draft with the certificate of a verdict, if a file is wanted and it has one.
+fn filed(alloc: Global, file: Option<Draft>, verdict: &Verdict) -> Option<Draft>
+    ensures { Adds file result (certificates_in (verdict.now ∷ [])) }
+{
+    let draft = match file {
+        Some(draft) => draft,
+        None => return None,
+    };
+    match verdict {
+        Verdict::Yes(certificate) => Some(draft.with_certificate(alloc, certificate)),
+        _ => Some(draft),
+    }
+}
+
+/// What is printed of guarantees, a line each, numbered from 1, with the status; and the draft with their certificates, if
+/// a file is wanted. The status is 0 only where all guarantees hold, and 1 only where one of them fails. No verdict is kept
+/// once its line is made. The one error is want of memory.
+pub(crate) fn judge(
+    alloc: Global,
+    topology: &Topology,
+    guarantees: &[Guarantee],
+    draft: Option<Draft>,
+) -> Result<(Output, Option<Draft>), AllocError>
+    ensures { IfOk result (λ r. Judges topology.now guarantees.now draft r.1 r.0.text.items r.0.status) }
+{
+    let mut file = draft;
+    let mut text = Vec::new(alloc);
+    let mut number = 1;
+    let mut broken = false;
+    let mut undecided = false;
+    for guarantee in guarantees {
+        let verdict = search(alloc, topology, guarantee)?;
+        put_line(&mut text, verdict_line(alloc, number, &verdict)?)?;
+        broken = broken | is_no(&verdict);
+        undecided = undecided | is_undecided(&verdict);
+        file = filed(alloc, file, &verdict);
+        number += 1;
+    }
+    let status = status_of(broken, undecided);
+    Ok((Output { text, status }, file))
+}

@@ -1,0 +1,46 @@
+//! Files that are compared in parts.
+
+ghost use Rattle.std.specs.Prelude.{◌≡◌, ◌++◌, IfOk, MatchOption};
+ghost use Rattle.model.specs.Words.{Text};
+ghost use Rattle.server.specs.Files.{TellsLeft};
+
+use std::io;
+use std::io::{ErrorKind, Read};
+
+/// How many bytes are read at once.
+const PART: usize = 16_384;
+
+/// What is behind this part, where the bytes begin with it.
+fn behind<'a>(bytes: &'a [u8], part: &[u8]) -> Option<&'a [u8]>
+    ensures { MatchOption result ((rest : Text) → bytes.now ≡ part.now ++ rest → ⊥) (λ rest. bytes.now ≡ part.now ++ rest.now) }
+{
+    if bytes.len() < part.len() {
+        return None;
+    }
+    let (front, rest) = bytes.split_at(part.len());
+    if front == part { Some(rest) } else { None }
+}
+
+/// Whether what is left to read is these bytes. They are compared as they are read, in parts of 16,384 bytes, up to where they
+/// differ; it takes no memory. A read that was interrupted is made again.
+pub fn has_bytes_left<R: Read>(reader: &mut R, bytes: &[u8]) -> io::Result<bool>
+    ensures { IfOk result (TellsLeft (R.remaining reader.old) bytes.now) }
+{
+    let mut part = [0; PART];
+    let mut rest = bytes;
+    'parts: for _ in 0..u64::MAX {
+        match reader.read(&mut part) {
+            Ok(0) => return Ok(rest.is_empty()),
+            Ok(count) => match behind(rest, &part[..count]) {
+                Some(left) => rest = left,
+                None => return Ok(false),
+            },
+            Err(error) => {
+                if error.kind() != ErrorKind::Interrupted {
+                    return Err(error);
+                }
+            }
+        }
+    }
+    Err(io::Error::from(ErrorKind::Interrupted))
+}

@@ -1,0 +1,197 @@
+//! What the files that a command names state.
+
+ghost use Rattle.std.specs.Prelude.{◌≡◌, MatchResult};
+ghost use Rattle.server.specs.Files.{AreKept};
+ghost use Rattle.server.specs.Stated.{
+  HoldsCertificates,
+  CertifiesAt,
+  FailsToCertify,
+  FailsToPromise,
+  FailsToSetUp,
+  FailsToState,
+  IsWhyUncertified,
+  IsWhyUnpromised,
+  IsWhyUnstated,
+  Promises,
+  PromisesAt,
+  SetsUp,
+  States,
+  StatesAt,
+  file_named,
+};
+
+use crate::builtin::builtin;
+use crate::file_refusals::{FileRefusal, RefusedFile};
+use crate::storage::Files;
+use certificate::Certificate;
+use definitions::{Definitions, read_definitions};
+use exchange_graph::Topology;
+use guarantees::{Guarantee, read_guarantees};
+use model::User;
+use std::alloc::Global;
+
+/// A topology with those who may log in, and what is wanted of it.
+#[derive(Drop)]
+pub(crate) struct Setup {
+    pub(crate) topology: Topology,
+    pub(crate) users: Vec<User>,
+    pub(crate) guarantees: Vec<Guarantee>,
+}
+
+/// The definitions of a file.
+fn read_definitions_of<F: Files>(
+    alloc: Global,
+    file: &str,
+    files: &mut F,
+) -> Result<Definitions, FileRefusal>
+    ensures states { MatchResult result (λ stated. States (F.holds files.old file.now) stated) (λ why. IsWhyUnstated why (F.holds files.old file.now)) }
+    ensures files { AreKept (F.holds files.old) (F.holds files.new) }
+{
+    let text = files.read(alloc, file)?;
+    Ok(read_definitions(alloc, text.as_slice())?)
+}
+
+/// What the definitions of a file state. The file is read whole, and none is changed.
+///
+/// Refused, with the name of the file, where it cannot be read or is too long, by the least cause that stands in it, or for
+/// want of memory.
+pub(crate) fn definitions_of<'a, F: Files>(
+    alloc: Global,
+    file: &'a str,
+    files: &mut F,
+) -> Result<Definitions, RefusedFile<'a>>
+    ensures states { MatchResult result
+        (λ stated. States (F.holds files.old file.now) stated)
+        (λ refused. (refused.file.now ≡ file.now) × IsWhyUnstated refused.why (F.holds files.old file.now)) }
+    ensures files { AreKept (F.holds files.old) (F.holds files.new) }
+{
+    match read_definitions_of(alloc, file, files) {
+        Ok(definitions) => Ok(definitions),
+        Err(why) => Err(RefusedFile { file, why }),
+    }
+}
+
+/// The guarantees of a file.
+fn read_guarantees_of<F: Files>(
+    alloc: Global,
+    file: &str,
+    topology: &Topology,
+    files: &mut F,
+) -> Result<Vec<Guarantee>, FileRefusal>
+    ensures states { MatchResult result
+        (λ gs. Promises (F.holds files.old file.now) topology.now gs.items)
+        (λ why. IsWhyUnpromised topology.now why (F.holds files.old file.now)) }
+    ensures files { AreKept (F.holds files.old) (F.holds files.new) }
+{
+    let text = files.read(alloc, file)?;
+    Ok(read_guarantees(alloc, text.as_slice(), topology)?)
+}
+
+/// The guarantees of a file, where one is named.
+fn guarantees_of<'a, F: Files>(
+    alloc: Global,
+    file: Option<&'a str>,
+    topology: &Topology,
+    files: &mut F,
+) -> Result<Vec<Guarantee>, RefusedFile<'a>>
+    ensures states { MatchResult result
+        (λ gs. PromisesAt (F.holds files.old) (file_named file.entry) topology.now gs.items)
+        (λ refused. FailsToPromise (F.holds files.old) (file_named file.entry)
+        topology.now refused.file.now refused.why) }
+    ensures files { AreKept (F.holds files.old) (F.holds files.new) }
+{
+    let file = match file {
+        Some(file) => file,
+        None => return Ok(Vec::new(alloc)),
+    };
+    match read_guarantees_of(alloc, file, topology, files) {
+        Ok(guarantees) => Ok(guarantees),
+        Err(why) => Err(RefusedFile { file, why }),
+    }
+}
+
+/// The topology and the users of the definitions that are named, or the built-in ones.
+fn topology_of<'a, F: Files>(
+    alloc: Global,
+    file: Option<&'a str>,
+    files: &mut F,
+) -> Result<(Topology, Vec<User>), RefusedFile<'a>>
+    ensures states { MatchResult result
+        (λ stated. StatesAt (F.holds files.old) (file_named file.entry)
+        (record { topology = stated.0; users = stated.1.items }))
+        (λ refused. FailsToState (F.holds files.old) (file_named file.entry) refused.file.now refused.why) }
+    ensures files { AreKept (F.holds files.old) (F.holds files.new) }
+{
+    match file {
+        Some(file) => Ok(definitions_of(alloc, file, files)?.into_parts()),
+        None => Ok((builtin(alloc)?, Vec::new(alloc))),
+    }
+}
+
+/// What definitions and guarantees state together, where each is named or not. No file is changed.
+///
+/// Where no definitions are named, the built-in topology is taken, and nobody may log in; where no guarantees are, there are
+/// none. The definitions are judged first: the guarantees are refused only over definitions that are good. Where memory is
+/// wanting the file may be left unnamed.
+pub(crate) fn set_up<'a, F: Files>(
+    alloc: Global,
+    definitions: Option<&'a str>,
+    guarantees: Option<&'a str>,
+    files: &mut F,
+) -> Result<Setup, RefusedFile<'a>>
+    ensures states { MatchResult result
+        (λ s. SetsUp (F.holds files.old) (file_named definitions.entry) (file_named guarantees.entry)
+        (record { topology = s.topology; users = s.users.items }) s.guarantees.items)
+        (λ refused. FailsToSetUp (F.holds files.old) (file_named definitions.entry) (file_named guarantees.entry)
+        refused.file.now refused.why) }
+    ensures files { AreKept (F.holds files.old) (F.holds files.new) }
+{
+    let (topology, users) = match topology_of(alloc, definitions, files) {
+        Ok(stated) => stated,
+        Err(refused) => return Err(refused),
+    };
+    match guarantees_of(alloc, guarantees, &topology, files) {
+        Ok(guarantees) => Ok(Setup {
+            topology,
+            users,
+            guarantees,
+        }),
+        Err(refused) => Err(refused),
+    }
+}
+
+/// The certificates of a file.
+fn read_certificates_of<F: Files>(
+    alloc: Global,
+    file: &str,
+    files: &mut F,
+) -> Result<Vec<Certificate>, FileRefusal>
+    ensures states { MatchResult result
+        (λ cs. HoldsCertificates (F.holds files.old file.now) cs.items)
+        (λ why. IsWhyUncertified why (F.holds files.old file.now)) }
+    ensures files { AreKept (F.holds files.old) (F.holds files.new) }
+{
+    let text = files.read(alloc, file)?;
+    Ok(Certificate::read(alloc, text.as_slice())?)
+}
+
+/// The certificates of a file, where one is named, and else none. No file is changed. Refused as definitions are.
+pub(crate) fn certificates_of<'a, F: Files>(
+    alloc: Global,
+    file: Option<&'a str>,
+    files: &mut F,
+) -> Result<Vec<Certificate>, RefusedFile<'a>>
+    ensures states { MatchResult result
+        (λ cs. CertifiesAt (F.holds files.old) (file_named file.entry) cs.items)
+        (λ refused. FailsToCertify (F.holds files.old) (file_named file.entry) refused.file.now refused.why) }
+    ensures files { AreKept (F.holds files.old) (F.holds files.new) }
+{
+    let file = match file {
+        Some(file) => file,
+        None => return Ok(Vec::new(alloc)),
+    };
+    match read_certificates_of(alloc, file, files) {
+        Ok(certificates) => Ok(certificates),
+        Err(why) => Err(RefusedFile { file, why }),
+    }
+}

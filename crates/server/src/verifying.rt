@@ -1,0 +1,177 @@
+//! Whether certificates are accepted, as `verify` prints it.
+
+ghost use Rattle.std.specs.Prelude.{◌≡◌, ◌++◌, ◌∷◌, [], codes, decimal, IfOk, OnOk, string_bytes};
+ghost use Rattle.std.specs.List.{list_any};
+ghost use Rattle.scripts.specs.Transcript.{line};
+ghost use Rattle.server.specs.Outcomes.{
+  AreOutcomes,
+  is_fault,
+  letter_word,
+  outcome_line,
+  outcome_lines,
+  status_of_outcomes,
+  TellsOutcome,
+  Verifies,
+};
+ghost use Rattle.server.specs.Verdicts.{EachWith};
+
+use crate::judging::Output;
+use certificate::{CertFault, Certificate, check};
+use exchange_graph::Topology;
+use guarantees::Guarantee;
+use model::Text;
+use scripts::{name_word, put_line};
+use std::alloc::{AllocError, Global};
+
+/// That a certificate is accepted, or its first fault.
+type Outcome = Result<(), CertFault>;
+
+/// What is told of the certificate at this place, if there is one.
+fn outcome_at(
+    alloc: Global,
+    topology: &Topology,
+    guarantee: &Guarantee,
+    certificates: &[Certificate],
+    place: usize,
+) -> Result<Outcome, AllocError>
+    ensures { IfOk result (TellsOutcome topology.now certificates.now place guarantee.now) }
+{
+    if place >= certificates.len() {
+        return Ok(Err(CertFault::Form));
+    }
+    match check(alloc, topology, guarantee, &certificates[place]) {
+        Err(CertFault::Memory) => Err(AllocError),
+        outcome => Ok(outcome),
+    }
+}
+
+/// What is told of the certificate of each guarantee, in their order.
+fn own_outcomes(
+    alloc: Global,
+    topology: &Topology,
+    guarantees: &[Guarantee],
+    certificates: &[Certificate],
+) -> Result<Vec<Outcome>, AllocError>
+    ensures { IfOk result (λ outcomes. EachWith (TellsOutcome topology.now certificates.now) 0 guarantees.now outcomes.items) }
+{
+    let mut outcomes = Vec::new(alloc);
+    for place in 0..guarantees.len() {
+        outcomes.push(outcome_at(alloc, topology, &guarantees[place], certificates, place)?)?;
+    }
+    Ok(outcomes)
+}
+
+/// The same, and fault 5 once more where there is a certificate too many.
+fn outcomes_of(
+    alloc: Global,
+    topology: &Topology,
+    guarantees: &[Guarantee],
+    certificates: &[Certificate],
+) -> Result<Vec<Outcome>, AllocError>
+    ensures { IfOk result (λ outcomes. AreOutcomes topology.now guarantees.now certificates.now outcomes.items) }
+{
+    let mut outcomes = own_outcomes(alloc, topology, guarantees, certificates)?;
+    if guarantees.len() < certificates.len() {
+        outcomes.push(Err(CertFault::Form))?;
+    }
+    Ok(outcomes)
+}
+
+/// A letter as it is shown.
+fn letter_word(alloc: Global, word: &Option<Text>) -> Result<String, AllocError>
+    ensures { IfOk result (λ text. string_bytes text ≡ letter_word word.now) }
+{
+    match word {
+        Some(word) => name_word(alloc, word.as_bytes()),
+        None => String::from_str(alloc, "other"),
+    }
+}
+
+/// The line of a letter that leads out of a state.
+fn open_line(
+    alloc: Global,
+    number: u64,
+    state: usize,
+    word: &Option<Text>,
+) -> Result<String, AllocError>
+    ensures { IfOk result (λ text. string_bytes text
+        ≡ line (decimal number ∷ codes "fault 2 state" ∷ decimal state ∷ codes "letter" ∷ letter_word word.now ∷ [])) }
+{
+    let letter = letter_word(alloc, word)?;
+    format!(in alloc; "{number} fault 2 state {state} letter {letter}\n")
+}
+
+/// The line of what is told of a certificate.
+fn outcome_line(alloc: Global, number: u64, outcome: &Outcome) -> Result<String, AllocError>
+    ensures { IfOk result (λ text. string_bytes text ≡ outcome_line number outcome.now) }
+{
+    match outcome {
+        Ok(_) => format!(in alloc; "{number} ok\n"),
+        Err(CertFault::Start) => format!(in alloc; "{number} fault 1\n"),
+        Err(CertFault::Open { state, word }) => open_line(alloc, number, *state, word),
+        Err(CertFault::Missed { state }) => format!(in alloc; "{number} fault 3 state {state}\n"),
+        Err(CertFault::Forbidden { state }) => {
+            format!(in alloc; "{number} fault 4 state {state}\n")
+        }
+        Err(CertFault::Form) => format!(in alloc; "{number} fault 5\n"),
+        Err(CertFault::Memory) => format!(in alloc; "{number} fault 6\n"),
+    }
+}
+
+/// Appends the lines of the outcomes, numbered from 1.
+fn put_outcomes(alloc: Global, text: &mut Vec<u8>, outcomes: &[Outcome]) -> Result<(), AllocError>
+    ensures { OnOk result (text.new.items ≡ text.old.items ++ outcome_lines 1 outcomes.now) }
+{
+    let mut number = 1;
+    for outcome in outcomes {
+        put_line(text, outcome_line(alloc, number, outcome)?)?;
+        number += 1;
+    }
+    Ok(())
+}
+
+fn is_fault(outcome: &Outcome) -> bool
+    ensures { result ≡ is_fault outcome.now }
+{
+    match outcome {
+        Ok(_) => false,
+        Err(_) => true,
+    }
+}
+
+fn has_fault(outcomes: &[Outcome]) -> bool
+    ensures { result ≡ list_any is_fault outcomes.now }
+{
+    outcomes.iter().any(|outcome| is_fault(outcome))
+}
+
+/// The status that the outcomes leave.
+fn status_of(outcomes: &[Outcome]) -> u8
+    ensures { result ≡ status_of_outcomes outcomes.now }
+{
+    if has_fault(outcomes) {
+        return 1;
+    }
+    0
+}
+
+/// What is printed of the certificates of guarantees, a line each, numbered from 1, with the status. The certificate of a
+/// guarantee is the one at its place; where it has none that is fault 5, and fault 5 is told once more where there are
+/// certificates too many. The status is 0 only where each has its certificate, and so holds. The one error is want of memory.
+#[tactic(auto, using(crate::proofs::Meaning::outcomes_mean))]
+pub(crate) fn verify(
+    alloc: Global,
+    topology: &Topology,
+    guarantees: &[Guarantee],
+    certificates: &[Certificate],
+) -> Result<Output, AllocError>
+    ensures { IfOk result (λ o. Verifies topology.now guarantees.now certificates.now o.text.items o.status) }
+{
+    let outcomes = outcomes_of(alloc, topology, guarantees, certificates)?;
+    let mut text = Vec::new(alloc);
+    put_outcomes(alloc, &mut text, outcomes.as_slice())?;
+    Ok(Output {
+        text,
+        status: status_of(outcomes.as_slice()),
+    })
+}

@@ -1,7 +1,0 @@
-use Rattle.std.proofs.Common.{◌≡◌, ◌++◌, ◌∷◌, drop}
-use Rattle.std.specs.Prelude.{codes, string_bytes}
-use Rattle.verdicts.specs.Verdicts.{names_text}
-use Rattle.verdicts.proofs.judging.path_text.Given as goal
-
-abbrev pub invariant-loop-name : goal.invariant-loop-name
-invariant-loop-name l = string_bytes l.text ++ names_text (drop l.name-index l.path) ≡ 32 ∷ (codes "path" ++ names_text l.path)

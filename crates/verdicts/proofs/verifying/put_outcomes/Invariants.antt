@@ -1,9 +1,0 @@
-use Rattle.std.proofs.Common.{◌≡◌, ◌+◌, ◌++◌, drop}
-use Rattle.verdicts.specs.Outcomes.{outcome_lines}
-use Rattle.verdicts.proofs.verifying.put_outcomes.Given as goal
-
-abbrev pub invariant-loop-outcome : goal.invariant-loop-outcome
-invariant-loop-outcome l = record {
-  number : l.number ≡ l.outcome-index + 1;
-  text : l.text.items ++ outcome_lines l.number (drop l.outcome-index l.outcomes) ≡ l.fn.text.items ++ outcome_lines 1 l.outcomes;
-}
