@@ -1,6 +1,5 @@
 mod Among
 mod Desks
-mod Ending
 mod Later
 mod Lining
 mod Marked
@@ -14,6 +13,7 @@ mod Reloading
 mod Seated
 mod Sleeping
 mod Standing
+mod Stepped
 mod Takers
 mod Turning
 mod Waits

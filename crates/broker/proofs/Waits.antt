@@ -165,19 +165,3 @@ later_then old mid new first last = record {
       let two = last.lines place p takes in
       omega (arith, one, two);
 }
-
-pub serves_in_turn : (old mid new : WithTurn) (told : Pick) → IsToldInTurn old (Some told) mid → mid.turn ≡ Some told → NoneIsLater mid new → topology_kept new ≡ topology_kept mid → new.turn ≡ None → ServesInTurn old new told
-serves_in_turn old mid new told turns turn later topology over = record { over = over; nearer = λ place p could takes. nearer place p takes (turns place p could) }
-  where
-    nearer : (place : ℕ) (p : Pick) → TakesAt new place p → (Some told ≡ Some p) ⊎ (before mid place p ≤ before old place p) → (told ≡ p) ⊎ (before new place p < before old place p)
-    nearer place p takes (inl same) = inl (same_Some told p same)
-    nearer place p takes (inr le) = go (is_consumer p told) refl
-      where
-        go : (v : Bool) → is_consumer p told ≡ v → (told ≡ p) ⊎ (before new place p < before old place p)
-        go true e = inl (sym (same_consumer p told e))
-        go false e =
-            let less = before_some mid new place p topology later.next 0 (let lines = later.lines place p takes in omega (arith, lines)) in
-            let one = owed_one p told mid.turn turn (λ same. false≢true (sym e ∙ ap (is_consumer p) (sym same) ∙ one_consumer p)) in
-            let none = ap (λ (o : Option Pick). owed o p) over in
-            let zero_rounds = no_round (queues mid) in
-            inr (omega (arith, le, less, one, none, zero_rounds))

@@ -1,8 +1,11 @@
 //! The broker as its callers have it.
 
+ghost use Rattle.std.specs.Prelude.{◌≡◌};
+ghost use Rattle.replies.specs.Sent.{connection_of_event};
+
 use crate::roster::Roster;
 use crate::turns::turn_kept;
-use commands::{Core, Pick};
+use commands::{Acted, Core, Pick};
 use exchange_graph::Topology;
 use guarantees::Guarantee;
 use laws::{brokers_stay_agreed, consumers_are_made};
@@ -11,6 +14,24 @@ use replies::Step;
 use std::alloc::{AllocError, Global};
 use std::marker::Model;
 use std::mem;
+
+/// The connection that an event is of.
+fn connection_of(event: &Event) -> u64
+    ensures { result ≡ connection_of_event event.now }
+{
+    match event {
+        Event::Open { connection }
+        | Event::First { connection, .. }
+        | Event::Running { connection, .. }
+        | Event::Command { connection, .. }
+        | Event::TooLarge { connection, .. }
+        | Event::Fault { connection, .. }
+        | Event::Lose { connection }
+        | Event::Pause { connection }
+        | Event::Resume { connection }
+        | Event::Deliver { connection } => *connection,
+    }
+}
 
 /// Queues, and the connections that run with their channels and consumers.
 pub struct Broker {
@@ -94,8 +115,11 @@ impl Broker {
         consumers_are_made();
         self.roster.seat_next(alloc, &self.core, event)?;
         self.roster.wake_for(event);
-        let step = self.core.step(alloc, event)?;
-        self.roster.forget_ended(&self.core, event);
+        let Acted { step, has_ended } = self.core.step(alloc, event)?;
+        if !has_ended {
+            return Ok(step);
+        }
+        self.roster.forget(connection_of(event));
         Ok(step)
     }
 
@@ -189,7 +213,7 @@ impl Broker {
         brokers_stay_agreed();
         consumers_are_made();
         self.core.lose(connection);
-        self.roster.forget(&self.core, connection);
+        self.roster.forget(connection);
     }
 
     /// The output of the connection holds 1,048,576 bytes or more from now on. It takes no memory.

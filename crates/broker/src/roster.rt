@@ -13,7 +13,6 @@ mod seating;
 mod seats;
 
 ghost use Rattle.std.specs.Prelude.{◌≡◌};
-ghost use Rattle.replies.specs.Sent.{connection_of_event};
 ghost use Rattle.broker.specs.Roster.{wakes_on};
 
 use crate::roster::desk::{Desks, empty_desks, forget_desk, open_list, wake_desk};
@@ -29,24 +28,6 @@ fn wakes_on(method: &Method) -> bool
     ensures { result ≡ wakes_on method.now }
 {
     !matches!(method, Method::BasicPublish(_) | Method::BasicGet(_))
-}
-
-/// The connection that an event is of.
-fn connection_of(event: &Event) -> u64
-    ensures { result ≡ connection_of_event event.now }
-{
-    match event {
-        Event::Open { connection }
-        | Event::First { connection, .. }
-        | Event::Running { connection, .. }
-        | Event::Command { connection, .. }
-        | Event::TooLarge { connection, .. }
-        | Event::Fault { connection, .. }
-        | Event::Lose { connection }
-        | Event::Pause { connection }
-        | Event::Resume { connection }
-        | Event::Deliver { connection } => *connection,
-    }
 }
 
 /// The rings of all queues, in the order of the file, and the desks of the connections.
@@ -78,9 +59,8 @@ impl Model for Roster {
 
 impl Roster {
     ghost use Rattle.std.specs.Prelude.{◌≡◌, [], ℕ, true, None, Option, IfSome, IfOk, IsOk, OnOk, length};
-    ghost use Rattle.replies.specs.Sent.{connection_of_event};
     ghost use Rattle.commands.specs.declared.picks.Pick.{Pick as Consumer};
-    ghost use Rattle.commands.specs.State.{broker_of, topology_kept};
+    ghost use Rattle.commands.specs.State.{Kept, broker_of, topology_kept};
     ghost use Rattle.commands.specs.Picked.{IsPickFrom};
     ghost use Rattle.commands.specs.Seats.{seat_of};
     ghost use Rattle.broker.specs.Roster.{wakes, IsAt, IsSeated, SeatsNext, HasNoList, MakesNoList, ListsRunning};
@@ -166,26 +146,15 @@ impl Roster {
         }
     }
 
-    /// What is known of this connection's seats is gone if it runs no more. It takes no memory.
-    pub fn forget(&mut self, core: &Core, connection: u64)
-        ensures kept { KeepsSeats core.now self.old self.new }
-        ensures gone { (broker_of core.now).connection connection ≡ None → HasNoList self.new.lists connection }
+    /// What is listed of this connection, which runs no more, is gone. It takes no memory.
+    pub fn forget(&mut self, connection: u64)
+        ensures kept { (k : Kept) → (broker_of k).connection connection ≡ None → KeepsSeats k self.old self.new }
+        ensures gone { HasNoList self.new.lists connection }
         ensures none { MakesNoList self.old.lists self.new.lists }
         ensures len { length self.new.rings ≡ length self.old.rings }
         ensures on { GoesOn self.old self.new }
     {
-        forget_desk(&mut self.desks, core, connection);
-    }
-
-    /// What is known of the seats of this event's connection is gone if it runs no more. It takes no memory.
-    pub fn forget_ended(&mut self, core: &Core, event: &Event)
-        ensures kept { KeepsSeats core.now self.old self.new }
-        ensures gone { (broker_of core.now).connection (connection_of_event event.now) ≡ None → HasNoList self.new.lists (connection_of_event event.now) }
-        ensures none { MakesNoList self.old.lists self.new.lists }
-        ensures len { length self.new.rings ≡ length self.old.rings }
-        ensures on { GoesOn self.old self.new }
-    {
-        self.forget(core, connection_of(event));
+        forget_desk(&mut self.desks, connection);
     }
 
     /// The seats of `old` stand from now on in the rings of their queues at the places that the table has for these, and all are

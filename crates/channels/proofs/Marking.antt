@@ -40,10 +40,6 @@ marked_rises os i tag o at e rises j k d lt within =
     let r = rises j k d lt (omega arith) in
     omega arith
 
--- behind the start, as everywhere
-pub marked_behind : (xs : List Delivery) (start i : ℕ) (d : Delivery) → set xs (start + i) (marked (get_or xs (start + i) d)) ≡ set xs (start + i) (marked (get_or (drop start xs) i d))
-marked_behind xs start i d = ap (λ (o : Delivery). set xs (start + i) (marked o)) (sym (get_or-drop start xs i d))
-
 pub drop_marked : (xs : List Delivery) (start i : ℕ) (o : Delivery) → drop start (set xs (start + i) (marked o)) ≡ set (drop start xs) i (marked o)
 drop_marked xs start i o = drop-set-add start xs i (marked o)
 
@@ -121,14 +117,6 @@ taken_count os tag multiple = go (is_refused tag_of tag multiple os)
     go false = length-filter_both t (λ o. not (t o)) (λ o. refl) os
 
 -- ---- what is kept
-
-pub kept_nothing : AreKept [] 0 0 0
-kept_nothing = record {
-  within = omega arith;
-  order = record { rises = λ i j d lt within. absurd (omega arith); most = λ k d lt. absurd (omega arith) };
-  counted = refl;
-  few = omega arith;
-}
 
 -- one more at the end
 end_or_before : (P : Delivery → Type 0) (os : List Delivery) (o : Delivery) → ((k : ℕ) (d : Delivery) → k < length os → P (get_or os k d)) → P o → (k : ℕ) (d : Delivery) → k < length (os ++ o ∷ []) → P (get_or (os ++ o ∷ []) k d)

@@ -1,6 +1,6 @@
 -- Consumers by their numbers, and what they may be given.
 use Rattle.std.proofs.Common.{◌≡◌, inl, inr, ℕ, ◌+◌, ◌<◌, List, [], ◌∷◌, ◌++◌, length, map, filter, find, Bool, true, false, cond, Option, Some, None, count_by, refl, sym, ap, subst, ◌∙◌, arith}
-use Rattle.std.specs.Prelude.{◌==◌, ◌&&◌, ◌||◌, option_map, is_some, if◌then◌else◌}
+use Rattle.std.specs.Prelude.{◌==◌, ◌&&◌, ◌||◌, option_map, is_some, if◌then◌else◌, IfSome}
 use Rattle.std.specs.List.{AllByRecursion}
 use Rattle.std.proofs.lemmas.Bool.{eq-eqb, eqb-true, false≢true}
 use Rattle.std.proofs.lemmas.List.Sums.{length-filter}
@@ -12,7 +12,7 @@ use Rattle.model.specs.Consuming as said
 use Rattle.channels.specs.Outstanding.{taker_of}
 use Rattle.channels.specs.Seats.{consumers_of, is_numbered, AreNumbered}
 use Rattle.channels.specs.Deliveries.{Given, may_of, taker_among, may_be_given, consumer_at, taker_at}
-use Rattle.channels.specs.Open.{Open, consumer_in, open_in, IsTaker, HasNoTaker, TellsTaker}
+use Rattle.channels.specs.Open.{Open, consumer_in, open_in, IsOne, IsTaker, HasNoTaker, TellsTaker}
 use Rattle.model.specs.Placed.{outstanding_in}
 use Rattle.model.specs.declared.deliveries.Delivery.{Delivery}
 use Rattle.channels.specs.declared.consumers.Consumer.{Consumer}
@@ -65,7 +65,7 @@ seat_is number (s ∷ ss) = go (s.consumer.number == number) (seat_is number ss)
     go false e = e
 
 -- What is found of a number: it has the number, is one of the list, and no other of the list has it.
-record IsOne (number : ℕ) (cs : List Consumer) (k : Consumer) : Type 0 where
+record IsAlone (number : ℕ) (cs : List Consumer) (k : Consumer) : Type 0 where
   numbered : k.number ≡ number
   seat : IsIn k cs
   only : (x : Consumer) → IsIn x cs → x.number ≡ number → x ≡ k
@@ -76,12 +76,12 @@ some_is x y h = cc
 not_none : {X : Type 0} (x : X) → Some x ≡ None → ⊥
 not_none x h = false≢true (sym (ap is_some h))
 
-found : (next number : ℕ) (cs : List Consumer) (k : Consumer) → AreNumbered next cs → find (λ (c : Consumer). c.number == number) cs ≡ Some k → IsOne number cs k
+found : (next number : ℕ) (cs : List Consumer) (k : Consumer) → AreNumbered next cs → find (λ (c : Consumer). c.number == number) cs ≡ Some k → IsAlone number cs k
 found next number [] k h e = absurd (not_none k (sym e))
 found next number (c ∷ cs) k (lt, (above, rest)) e = go (c.number == number) refl (found next number cs k rest) e
   where
-    go : (b : Bool) → (c.number == number) ≡ b → (find (λ (d : Consumer). d.number == number) cs ≡ Some k → IsOne number cs k) → cond b (Some c) (find (λ (d : Consumer). d.number == number) cs) ≡ Some k
-        → IsOne number (c ∷ cs) k
+    go : (b : Bool) → (c.number == number) ≡ b → (find (λ (d : Consumer). d.number == number) cs ≡ Some k → IsAlone number cs k) → cond b (Some c) (find (λ (d : Consumer). d.number == number) cs) ≡ Some k
+        → IsAlone number (c ∷ cs) k
     go true t more f =
         let is : c ≡ k = some_is c k f in
         let n = eqb-true c.number number t in
@@ -98,7 +98,7 @@ found next number (c ∷ cs) k (lt, (above, rest)) e = go (c.number == number) r
         let one = more f in
         record { numbered = one.numbered; seat = inr one.seat; only = λ x i m. later one x i m }
       where
-        later : IsOne number cs k → (x : Consumer) → IsIn x (c ∷ cs) → x.number ≡ number → x ≡ k
+        later : IsAlone number cs k → (x : Consumer) → IsIn x (c ∷ cs) → x.number ≡ number → x ≡ k
         later one x (inl s) m = absurd (false≢true (sym t ∙ eq-eqb c.number number (ap (λ (d : Consumer). d.number) (sym s) ∙ m)))
         later one x (inr i) m = one.only x i m
 
@@ -156,6 +156,20 @@ may_at g number k e = ap (λ (o : Option Consumer). has_tag_left g.next_tag && m
 -- where a tag is left it is the one that may be given one message more
 pub taker_left : (g : Given) (number : ℕ) (r : Option Consumer) → has_tag_left g.next_tag ≡ true → r ≡ taker_among g.limit g.outstanding (consumer_at g number) → r ≡ taker_at g number
 taker_left g number r left e = e ∙ sym (ap (λ (b : Bool). if (b && may_of g.limit g.outstanding (consumer_at g number)) then consumer_at g number else None) left)
+
+pub is_one : (ch : Open) (number : ℕ) (k : Consumer) → AreNumbered ch.given.next_number ch.given.consumers → consumer_at ch.given number ≡ Some k → IsOne ch number k
+is_one ch number k rise e = let one = found ch.given.next_number number ch.given.consumers k rise e in record {
+  numbered = one.numbered;
+  seat = one.seat;
+  its = λ names. in_names names k ch.given.consumers one.seat;
+  only = λ names other i m. let o = of_names names other ch.given.consumers i in
+      o.same ∙ ap (consumer_in names) (one.only o.consumer o.seat (ap (λ (x : seen.Consumer). x.number) (sym o.same) ∙ m));
+}
+
+-- where one is told it is the only one
+pub tells_one : {B : Type 0} (f : B → Consumer) (ch : Open) (number : ℕ) (r : Option B) → AreNumbered ch.given.next_number ch.given.consumers → option_map f r ≡ consumer_at ch.given number → IfSome r (λ k. IsOne ch number (f k))
+tells_one f ch number None rise e = tt
+tells_one f ch number (Some k) rise e = is_one ch number (f k) rise (sym e)
 
 is_taker : (ch : Open) (number : ℕ) (k : Consumer) → AreNumbered ch.given.next_number ch.given.consumers → consumer_at ch.given number ≡ Some k → may_be_given ch.given number ≡ true → IsTaker ch number k
 is_taker ch number k rise e may = let one = found ch.given.next_number number ch.given.consumers k rise e in record {

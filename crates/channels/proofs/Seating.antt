@@ -14,10 +14,12 @@ use Rattle.laws.specs.Consumers.{NextTagsAreFound}
 use Rattle.channels.specs.Seats.{is_named}
 use Rattle.channels.specs.Names.{server_name, IsNextName, AreNamesSpent}
 use Rattle.channels.specs.Deliveries.{Given, with_consumer_added, MaySeat, JudgesSeat, JudgesUnnamed, AddsConsumer, RefusesUnnamed, ConsumesUnnamed, IsMadeUnder}
-use Rattle.channels.specs.Open.{Open, consumer_in, open_in, places_of, IsConsumerSeated, IsUnseated, JudgesConsumer, SeatsConsumer}
+use Rattle.channels.specs.Open.{Open, consumer_in, open_in, places_of, IsConsumerSeated, JudgesConsumer, SeatsConsumer}
 use Rattle.channels.specs.declared.consumers.Consumer.{Consumer}
 use Rattle.channels.specs.declared.consumers.SeatRefusal.{SeatRefusal}
-use Rattle.channels.specs.declared.consumers.SeatRefusal.TheVariants.{InUse, TooMany, Spent, Memory}
+use Rattle.channels.specs.declared.consumers.SeatRefusal.TheVariants.{InUse, TooMany, Spent}
+use Rattle.channels.specs.declared.consumers.Unseated.{Unseated}
+use Rattle.channels.specs.declared.consumers.Unseated.TheVariants.{Refused, Memory}
 
 -- ---- consumers, where queues have names
 
@@ -135,7 +137,7 @@ named_seated old given queue m h may (made, seats) = record {
   places = ap (λ (g : Given). places_of g.consumers) made ∙ places_more old.given.consumers _;
 }
 
-pub named_refused : (old : Open) (m : Consume) (r : SeatRefusal) → (length m.consumer_tag ≡ 0 → ⊥) → JudgesSeat old.given m.consumer_tag (Some r) → IsUnseated old m r
+pub named_refused : (old : Open) (m : Consume) (r : SeatRefusal) → (length m.consumer_tag ≡ 0 → ⊥) → JudgesSeat old.given m.consumer_tag (Some r) → JudgesConsumer old m (Some r)
 named_refused old m InUse h used = λ names.
     decides (open_in names old) m true _ _ (given_taken (open_in names old) m.consumer_tag h ∙ any_tagged names m.consumer_tag old.given.consumers ∙ used) refl refl
 named_refused old m TooMany h (free, many) = λ names.
@@ -143,7 +145,6 @@ named_refused old m TooMany h (free, many) = λ names.
 named_refused old m Spent h (free, (few, spent)) = λ names.
     decides (open_in names old) m false false true (given_taken (open_in names old) m.consumer_tag h ∙ any_tagged names m.consumer_tag old.given.consumers ∙ free) (few_in names old.given.consumers few)
     (or_spent old.given.next_number (is_tag_wanting (open_in names old) m.consumer_tag) spent)
-named_refused old m Memory h why = absurd why
 
 pub named_judged : (old : Open) (m : Consume) (o : Option SeatRefusal) → (length m.consumer_tag ≡ 0 → ⊥) → JudgesSeat old.given m.consumer_tag o → JudgesConsumer old m o
 named_judged old m None h may = named_free old m h may
@@ -202,7 +203,7 @@ pub unnamed_seated : NextTagsAreFound → (old : Open) (given : Given) (queue : 
     → ConsumesUnnamed old.given queue m.no_ack (Ok tag) given → IsConsumerSeated old queue m tag (record old { given = given })
 unnamed_seated laws old given queue m tag h (few, (left, (seats, (n, is)))) = unnamed_made laws old given queue m tag n (no_tag m.consumer_tag h) few left is
 
-pub unnamed_refused : NextTagsAreFound → (old : Open) (m : Consume) (r : SeatRefusal) → length m.consumer_tag ≡ 0 → RefusesUnnamed old.given r → IsUnseated old m r
+pub unnamed_refused : NextTagsAreFound → (old : Open) (m : Consume) (r : SeatRefusal) → length m.consumer_tag ≡ 0 → RefusesUnnamed old.given r → JudgesConsumer old m (Some r)
 unnamed_refused laws old m InUse h why = absurd why
 unnamed_refused laws old m TooMany h many = λ names. let none = no_tag m.consumer_tag h in
     decides (open_in names old) m false true _ (no_tag_taken (open_in names old) m.consumer_tag none) (many_in names old.given.consumers many) refl
@@ -215,13 +216,13 @@ unnamed_refused laws old m Spent h (few, spent) = λ names. let none = no_tag m.
     wanting names none (inr s) =
         ap (λ (b : Bool). (old.given.next_number == greatest) || b) (no_tag_wanting (open_in names old) m.consumer_tag none ∙ ap (nat_le greatest) (none_is laws names old s))
         ∙ or_true (old.given.next_number == greatest)
-unnamed_refused laws old m Memory h (few, (left, (n, next))) = unnamed_free laws old m n (no_tag m.consumer_tag h) few left next
 
 pub unnamed_judged : NextTagsAreFound → (old : Open) (m : Consume) (o : Option SeatRefusal) → length m.consumer_tag ≡ 0 → JudgesUnnamed old.given o → JudgesConsumer old m o
 unnamed_judged laws old m None h (few, (left, (n, next))) = unnamed_free laws old m n (no_tag m.consumer_tag h) few left next
 unnamed_judged laws old m (Some r) h why = unnamed_refused laws old m r h why
 
-pub unnamed_seats : NextTagsAreFound → (old : Open) (given : Given) (queue : ℕ) (m : Consume) (r : Result Text SeatRefusal) → length m.consumer_tag ≡ 0
+pub unnamed_seats : NextTagsAreFound → (old : Open) (given : Given) (queue : ℕ) (m : Consume) (r : Result Text Unseated) → length m.consumer_tag ≡ 0
     → ConsumesUnnamed old.given queue m.no_ack r given → SeatsConsumer old queue m r (record old { given = given })
 unnamed_seats laws old given queue m (Ok tag) h is = unnamed_seated laws old given queue m tag h is
-unnamed_seats laws old given queue m (Err r) h (why, same) = (unnamed_refused laws old m r h why, ap (λ (g : Given). record old { given = g }) same)
+unnamed_seats laws old given queue m (Err (Refused r)) h (why, same) = (unnamed_refused laws old m r h why, ap (λ (g : Given). record old { given = g }) same)
+unnamed_seats laws old given queue m (Err Memory) h (why, same) = (unnamed_judged laws old m None h why, ap (λ (g : Given). record old { given = g }) same)

@@ -1,7 +1,7 @@
 -- Consumers of a channel, by their numbers.
-use Rattle.std.specs.Prelude.{◌≡◌, ℕ, Bool, false, Option, Some, None, is_some, if◌then◌else◌}
+use Rattle.std.specs.Prelude.{◌≡◌, ℕ, Bool, false, Option, Some, None, is_some, if◌then◌else◌, length}
 use Rattle.channels.specs.Deliveries.{consumer_at}
-use Rattle.channels.specs.Open.{Open, IsTaker, HasNoTaker}
+use Rattle.channels.specs.Open.{Open, IsOne, IsTaker, HasNoTaker}
 use Rattle.channels.specs.declared.consumers.Consumer.{Consumer}
 use Rattle.channels.specs.Links.{Linked, channel_in}
 
@@ -13,6 +13,17 @@ consumer_numbered (Some ch) number = consumer_at ch.given number
 -- the channel is open and has it
 abbrev pub has_consumer_numbered : Option Open → ℕ → Bool
 has_consumer_numbered ch number = is_some (consumer_numbered ch number)
+
+-- how many consumers it has
+abbrev pub count_on : Option Open → ℕ
+count_on None = 0
+count_on (Some ch) = length ch.given.consumers
+
+-- The consumer of this number is one of the channel h of a connection, and the only one of this number.
+pub record IsOneOn (l : Linked) (h number : ℕ) (k : Consumer) : Type 0 where
+  pub channel : Open
+  pub there : channel_in l h ≡ Some channel
+  pub one : IsOne channel number k
 
 -- the number of the next consumer on this channel, 1 where it is not open; none where close-ok is awaited, for then a consume does nothing
 abbrev pub next_number : Option Open → Option ℕ

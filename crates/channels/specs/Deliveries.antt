@@ -13,7 +13,9 @@ use Rattle.channels.specs.declared.names.Name.{Name}
 use Rattle.model.specs.declared.deliveries.Delivery.{Delivery}
 use Rattle.channels.specs.declared.consumers.Consumer.{Consumer}
 use Rattle.channels.specs.declared.consumers.SeatRefusal.{SeatRefusal}
-use Rattle.channels.specs.declared.consumers.SeatRefusal.TheVariants.{InUse, TooMany, Spent, Memory}
+use Rattle.channels.specs.declared.consumers.SeatRefusal.TheVariants.{InUse, TooMany, Spent}
+use Rattle.channels.specs.declared.consumers.Unseated.{Unseated}
+use Rattle.channels.specs.declared.consumers.Unseated.TheVariants.{Refused, Memory}
 
 -- delivery tags, limits, consumers, what is outstanding, and how many messages more can be given out, and how many consumers more be made, without memory
 pub record Given : Type 0 where
@@ -98,18 +100,16 @@ JudgesSeat g name None = MaySeat g name
 JudgesSeat g name (Some InUse) = list_any (is_named name) g.consumers ≡ true
 JudgesSeat g name (Some TooMany) = (list_any (is_named name) g.consumers ≡ false) × (256 ≤ length g.consumers)
 JudgesSeat g name (Some Spent) = (list_any (is_named name) g.consumers ≡ false) × ((length g.consumers < 256) × (g.next_number ≡ greatest))
-JudgesSeat g name (Some Memory) = ⊥
 
 -- a consumer was made, for which there is room for one fewer now
 abbrev pub AddsConsumer : Given → Text → ℕ → Bool → Given → Type 0
 AddsConsumer old name queue no_ack new = (new ≡ with_consumer_added old name queue no_ack new.seats) × (old.seats ≤ new.seats + 1)
 
--- why a consumer without a tag of its own was refused, in this order: there are 256; the numbers or the names are spent; memory was wanting, and a name is left
+-- why a consumer without a tag of its own was refused, in this order: there are 256; the numbers or the names are spent
 abbrev pub RefusesUnnamed : Given → SeatRefusal → Type 0
 RefusesUnnamed g InUse = ⊥
 RefusesUnnamed g TooMany = 256 ≤ length g.consumers
 RefusesUnnamed g Spent = (length g.consumers < 256) × ((g.next_number ≡ greatest) ⊎ AreNamesSpent g.consumers g.next_name)
-RefusesUnnamed g Memory = (length g.consumers < 256) × ((g.next_number < greatest) × ((n : ℕ) × IsNextName g.consumers g.next_name n))
 
 -- the next name for a consumer without a tag of its own, against which nothing stands; or why it has none
 abbrev pub NamesUnnamed : Given → Result Name SeatRefusal → Type 0
@@ -128,8 +128,10 @@ pub record IsMadeUnder (old : Given) (queue : ℕ) (no_ack : Bool) (tag : Text) 
   pub named : tag ≡ server_name n
   pub made : new ≡ record (with_consumer_added old (server_name n) queue no_ack new.seats) { next_name = n + 1 }
 
--- A consumer was made under the next name that is not in use, which is told, or refused: then nothing changed.
-abbrev pub ConsumesUnnamed : Given → ℕ → Bool → Result Text SeatRefusal → Given → Type 0
+-- A consumer was made under the next name that is not in use, which is told, or refused; or memory was wanting, and nothing stands
+-- against it. If none was made nothing changed.
+abbrev pub ConsumesUnnamed : Given → ℕ → Bool → Result Text Unseated → Given → Type 0
 ConsumesUnnamed old queue no_ack (Ok tag) new =
     (length old.consumers < 256) × ((old.next_number < greatest) × ((old.seats ≤ new.seats + 1) × ((n : ℕ) × IsMadeUnder old queue no_ack tag new n)))
-ConsumesUnnamed old queue no_ack (Err refusal) new = RefusesUnnamed old refusal × (new ≡ old)
+ConsumesUnnamed old queue no_ack (Err (Refused refusal)) new = JudgesUnnamed old (Some refusal) × (new ≡ old)
+ConsumesUnnamed old queue no_ack (Err Memory) new = JudgesUnnamed old None × (new ≡ old)

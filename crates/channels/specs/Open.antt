@@ -1,12 +1,12 @@
 -- An open channel as it is kept, with queues by their places in the file, and as the model has it, with queues by their names.
 use Rattle.std.specs.Prelude.{◌≡◌, ℕ, ◌+◌, ◌-◌, List, [], ◌∷◌, ◌++◌, map, filter, count_by, slice_index_or}
-use Rattle.std.specs.Prelude.{not, Bool, true, false, Option, Some, None, Result, Ok, Err}
+use Rattle.std.specs.Prelude.{not, Bool, true, false, Option, Some, None, option_map, Result, Ok, Err}
 use Rattle.model.specs.Words.{Text}
 use Rattle.model.specs.Topology.{IsIn}
 use Rattle.model.specs.Broker as seen
 use Rattle.model.specs.Settling.{kept}
 use Rattle.model.specs.Consuming.{tag_for, with_consumer, may_take}
-use Rattle.model.specs.Step.{Of_connection, refusal_of_seat}
+use Rattle.model.specs.Step.{Refusal, Of_connection, refusal_of_seat}
 use Rattle.model.specs.declared.methods.Consume.{Consume}
 use Rattle.model.specs.declared.methods.Qos.{Qos}
 use Rattle.model.specs.declared.messages.Taker.{Taker}
@@ -16,7 +16,9 @@ use Rattle.channels.specs.Deliveries.{Given, with_limit, with_given}
 use Rattle.model.specs.Placed.{outstanding_in}
 use Rattle.channels.specs.declared.consumers.Consumer.{Consumer}
 use Rattle.channels.specs.declared.consumers.SeatRefusal.{SeatRefusal}
-use Rattle.channels.specs.declared.consumers.SeatRefusal.TheVariants.{InUse, TooMany, Spent, Memory}
+use Rattle.channels.specs.declared.consumers.SeatRefusal.TheVariants.{InUse, TooMany, Spent}
+use Rattle.channels.specs.declared.consumers.Unseated.{Unseated}
+use Rattle.channels.specs.declared.consumers.Unseated.TheVariants.{Refused, Memory}
 
 -- an open channel
 pub record Open : Type 0 where
@@ -83,22 +85,22 @@ pub record IsConsumerSeated (old : Open) (queue : ℕ) (m : Consume) (tag : Text
   pub outstanding : new.given.outstanding ≡ old.given.outstanding
   pub places : places_of new.given.consumers ≡ places_of old.given.consumers ++ queue ∷ []
 
--- why none was made: as the model says, or for want of memory where nothing stands against it
-abbrev pub IsUnseated : Open → Consume → SeatRefusal → Type 0
-IsUnseated old m InUse = (names : List Text) → refusal_of_seat (open_in names old) m ≡ Some (Of_connection 530)
-IsUnseated old m TooMany = (names : List Text) → refusal_of_seat (open_in names old) m ≡ Some (Of_connection 506)
-IsUnseated old m Spent = (names : List Text) → refusal_of_seat (open_in names old) m ≡ Some (Of_connection 541)
-IsUnseated old m Memory = (names : List Text) → refusal_of_seat (open_in names old) m ≡ None
+-- what stands against it, as the model has it
+abbrev pub seat_refusal : SeatRefusal → Refusal
+seat_refusal InUse = Of_connection 530
+seat_refusal TooMany = Of_connection 506
+seat_refusal Spent = Of_connection 541
 
 -- what stands against one consumer more, or that nothing does
 abbrev pub JudgesConsumer : Open → Consume → Option SeatRefusal → Type 0
-JudgesConsumer ch m None = (names : List Text) → refusal_of_seat (open_in names ch) m ≡ None
-JudgesConsumer ch m (Some refusal) = IsUnseated ch m refusal
+JudgesConsumer ch m against = (names : List Text) → refusal_of_seat (open_in names ch) m ≡ option_map seat_refusal against
 
--- A consumer was made under this tag, or refused: then nothing changed.
-abbrev pub SeatsConsumer : Open → ℕ → Consume → Result Text SeatRefusal → Open → Type 0
+-- A consumer was made under this tag; or it was refused for what stands against it; or memory was wanting, and nothing does. If none
+-- was made nothing changed.
+abbrev pub SeatsConsumer : Open → ℕ → Consume → Result Text Unseated → Open → Type 0
 SeatsConsumer old queue m (Ok tag) new = IsConsumerSeated old queue m tag new
-SeatsConsumer old queue m (Err refusal) new = IsUnseated old m refusal × (new ≡ old)
+SeatsConsumer old queue m (Err (Refused refusal)) new = JudgesConsumer old m (Some refusal) × (new ≡ old)
+SeatsConsumer old queue m (Err Memory) new = JudgesConsumer old m None × (new ≡ old)
 
 -- The consumer of this number is the channel's, the only one of this number, and may be given one message more.
 pub record IsTaker (ch : Open) (number : ℕ) (k : Consumer) : Type 0 where
@@ -108,6 +110,14 @@ pub record IsTaker (ch : Open) (number : ℕ) (k : Consumer) : Type 0 where
   pub its : (names : List Text) → IsIn (consumer_in names k) (open_in names ch).consumers
   pub only : (names : List Text) (other : seen.Consumer) → IsIn other (open_in names ch).consumers → other.number ≡ number → other ≡ consumer_in names k
   pub may : (names : List Text) → may_take (open_in names ch) (consumer_in names k) ≡ true
+
+-- The consumer of this number is the channel's, and the only one of this number.
+pub record IsOne (ch : Open) (number : ℕ) (k : Consumer) : Type 0 where
+  pub numbered : k.number ≡ number
+  pub seat : IsIn k ch.given.consumers
+  -- so the model has it, where queues have these names
+  pub its : (names : List Text) → IsIn (consumer_in names k) (open_in names ch).consumers
+  pub only : (names : List Text) (other : seen.Consumer) → IsIn other (open_in names ch).consumers → other.number ≡ number → other ≡ consumer_in names k
 
 -- No consumer of this number may be given one message more.
 abbrev pub HasNoTaker : Open → ℕ → Type 0

@@ -1,6 +1,6 @@
 //! What is kept of an open channel.
 
-ghost use Rattle.std.specs.Prelude.{◌≡◌, ◌+◌, ◌*◌, ◌<◌, ◌≤◌, List, length, None, true, false, OnOk, OnErr, option_map};
+ghost use Rattle.std.specs.Prelude.{◌≡◌, ◌+◌, ◌*◌, ◌<◌, ◌≤◌, List, length, None, true, false, IfSome, OnOk, OnErr, option_map};
 ghost use Rattle.model.specs.Words.{Text as Name};
 ghost use Rattle.model.specs.Consuming.{without_consumer};
 ghost use Rattle.model.specs.Step.{started, next_of, is_spent};
@@ -9,10 +9,10 @@ ghost use Rattle.model.specs.Placed.{waiting};
 ghost use Rattle.channels.specs.Spans.{settled_by, TellsSpan};
 ghost use Rattle.channels.specs.Deliveries.{nothing_given, may_be_given, consumer_at};
 ghost use Rattle.channels.specs.Open.{with_qos, given_on, settled_on, without_settled, without_named, consumers_from, open_in};
-ghost use Rattle.channels.specs.Open.{JudgesConsumer, SeatsConsumer, TellsTaker};
+ghost use Rattle.channels.specs.Open.{JudgesConsumer, SeatsConsumer, IsOne, TellsTaker};
 ghost use Rattle.channels.specs.Moving.{open_moved};
 
-use crate::consumers::{Consumer, SeatRefusal};
+use crate::consumers::{Consumer, SeatRefusal, Unseated};
 use crate::deliveries::Deliveries;
 use crate::spans::Span;
 use laws::next_tags_are_found;
@@ -134,7 +134,7 @@ impl Channel {
         alloc: Global,
         queue: usize,
         consume: &Consume,
-    ) -> Result<Text, SeatRefusal>
+    ) -> Result<Text, Unseated>
         ensures { SeatsConsumer self.old queue consume.now result self.new }
     {
         if consume.consumer_tag.len() == 0 {
@@ -144,7 +144,7 @@ impl Channel {
                 .consume_unnamed(alloc, queue, consume.no_ack);
         }
         if let Some(refusal) = self.deliveries.refusal(consume.consumer_tag.as_bytes()) {
-            return Err(refusal);
+            return Err(Unseated::Refused(refusal));
         }
         let tag = consume.consumer_tag.clone()?;
         self.deliveries
@@ -186,9 +186,17 @@ impl Channel {
 
     /// The consumer of this number, if the channel has it.
     pub fn consumer(&self, number: u64) -> Option<&Consumer>
-        ensures { option_map (λ k. k.now) result ≡ consumer_at self.now.given number }
+        ensures found { option_map (λ k. k.now) result ≡ consumer_at self.now.given number }
+        ensures one { IfSome result (λ k. IsOne self.now number k.now) }
     {
         self.deliveries.consumer(number)
+    }
+
+    /// How many consumers it has.
+    pub fn consumer_count(&self) -> usize
+        ensures { result ≡ length self.now.given.consumers }
+    {
+        self.deliveries.consumer_count()
     }
 
     /// How many of its consumers take from the queue at this place.

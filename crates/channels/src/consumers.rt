@@ -34,7 +34,7 @@ pub struct CountedConsumer {
     pub(crate) held: usize,
 }
 
-/// Why a consumer was not made.
+/// What stands against a consumer.
 #[derive(Clone, Copy, PartialEq, Eq, Debug, Drop)]
 pub enum SeatRefusal {
     /// Its tag is in use on the channel: 530.
@@ -43,16 +43,33 @@ pub enum SeatRefusal {
     TooMany,
     /// The numbers of consumers are spent: 541.
     Spent,
+}
+
+/// Why a consumer was not made.
+#[derive(Clone, Copy, PartialEq, Eq, Debug, Drop)]
+pub enum Unseated {
+    /// This stands against it.
+    Refused(SeatRefusal),
     Memory,
 }
 
-impl From<AllocError> for SeatRefusal {
-    ghost use Rattle.channels.specs.declared.consumers.SeatRefusal.TheVariants.{Memory};
+impl From<SeatRefusal> for Unseated {
+    ghost use Rattle.channels.specs.declared.consumers.Unseated.TheVariants.{Refused};
 
-    ghost from_gives = { λ _ r. r ≡ Memory };
+    ghost from_gives = { λ refusal why. why ≡ Refused refusal };
 
-    fn from(_: AllocError) -> SeatRefusal {
-        SeatRefusal::Memory
+    fn from(refusal: SeatRefusal) -> Unseated {
+        Unseated::Refused(refusal)
+    }
+}
+
+impl From<AllocError> for Unseated {
+    ghost use Rattle.channels.specs.declared.consumers.Unseated.TheVariants.{Memory};
+
+    ghost from_gives = { λ _ why. why ≡ Memory };
+
+    fn from(_: AllocError) -> Unseated {
+        Unseated::Memory
     }
 }
 

@@ -1,6 +1,6 @@
 //! Delivery tags, what is outstanding under them, and the consumers with their limits.
 
-use crate::consumers::{Consumer, CountedConsumer, SeatRefusal, given_to};
+use crate::consumers::{Consumer, CountedConsumer, SeatRefusal, Unseated, given_to};
 use crate::names::{Name, next_name};
 use crate::pending::Unsettled;
 use crate::seats::Seats;
@@ -199,9 +199,17 @@ impl Deliveries {
 
     /// The consumer of this number, if there is one.
     pub fn consumer(&self, number: u64) -> Option<&Consumer>
-        ensures { option_map (λ k. k.now) result ≡ consumer_at self.now number }
+        ensures consumer { option_map (λ k. k.now) result ≡ consumer_at self.now number }
+        ensures numbered { AreNumbered self.now.next_number self.now.consumers }
     {
         self.seats.numbered(number)
+    }
+
+    /// How many consumers there are.
+    pub fn consumer_count(&self) -> usize
+        ensures { result ≡ length self.now.consumers }
+    {
+        self.seats.len()
     }
 
     /// How many of the consumers take from the queue at this place.
@@ -288,7 +296,7 @@ impl Deliveries {
         alloc: Global,
         queue: usize,
         no_ack: bool,
-    ) -> Result<Text, SeatRefusal>
+    ) -> Result<Text, Unseated>
         ensures { ConsumesUnnamed self.old queue no_ack result self.new }
     {
         let name = self.next_unnamed()?;

@@ -19,7 +19,7 @@ mod spans;
 mod tags;
 
 pub use channels::Channel;
-pub use consumers::{Consumer, CountedConsumer, SeatRefusal};
+pub use consumers::{Consumer, CountedConsumer, SeatRefusal, Unseated};
 pub use deliveries::Deliveries;
 pub use link::Link;
 pub use links::{Links, lent_channels_are_put, moves_are_unseen};

@@ -38,7 +38,7 @@ impl Link {
     ghost use Rattle.model.specs.Step.{channels_up_to, greatest};
     ghost use Rattle.model.specs.Placed.{waiting};
     ghost use Rattle.channels.specs.Open.{open_in};
-    ghost use Rattle.channels.specs.Consumers.{TellsOn, consumer_numbered, next_number};
+    ghost use Rattle.channels.specs.Consumers.{TellsOn, IsOneOn, consumer_numbered, next_number};
     ghost use Rattle.channels.specs.Counting.{consumers_counted};
     ghost use Rattle.channels.specs.LinksMoving.{linked_moved};
     ghost use Rattle.channels.specs.Links.{channel_in, outstanding_on, PutsIn};
@@ -117,7 +117,8 @@ impl Link {
 
     /// The consumer of this number on the channel, if that is open and has it.
     pub fn consumer(&self, channel: u16, number: u64) -> Option<&Consumer>
-        ensures { option_map (λ k. k.now) result ≡ consumer_numbered (channel_in self.now channel) number }
+        ensures found { option_map (λ k. k.now) result ≡ consumer_numbered (channel_in self.now channel) number }
+        ensures one { IfSome result (λ k. IsOneOn self.now channel number k.now) }
     {
         match self.channel(channel) {
             Some(channel) => channel.consumer(number),

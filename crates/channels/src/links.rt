@@ -53,7 +53,6 @@ impl Links {
     ghost use Rattle.model.specs.Broker.{with_one, with_row};
     ghost use Rattle.model.specs.Step.{paused};
     ghost use Rattle.model.specs.Placed.{waiting};
-    ghost use Rattle.channels.specs.Open.{Open};
     ghost use Rattle.channels.specs.Counting.{CountsConsumers, HasTaker, is_consumed};
     ghost use Rattle.channels.specs.LinksMoving.{links_moved};
     ghost use Rattle.channels.specs.Links.{linked_in, connection_of, channel_of, outstanding_on, PutsChannel, OpensLink, HoldsConnections};
@@ -172,16 +171,6 @@ impl Links {
     {
         if let Some(link) = self.links.get_mut(&connection) {
             link.set_paused(is_paused);
-        }
-    }
-
-    /// The delivery tag under which the next message is given out on this channel.
-    pub fn next_tag(&self, connection: u64, channel: u16) -> u64
-        ensures { (ch : Open) → channel_of self.now connection channel ≡ Some ch → result ≡ ch.given.next_tag }
-    {
-        match self.channel(connection, channel) {
-            Some(channel) => channel.next_tag(),
-            None => 0,
         }
     }
 

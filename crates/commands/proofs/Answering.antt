@@ -4,7 +4,7 @@ use Rattle.std.proofs.Common.{◌≡◌, ℕ, Option, Some, Result, Ok, Err, ref
 use Rattle.model.specs.Topology.{Topology}
 use Rattle.model.specs.Broker.{Broker, Channel}
 use Rattle.model.specs.Step as step
-use Rattle.model.specs.Step.{Performs}
+use Rattle.model.specs.Step.{Performs, refusal_of}
 use Rattle.model.specs.declared.contents.Content.{Content}
 use Rattle.model.specs.declared.methods.Method.{Method}
 use Rattle.commands.specs.Judged.{HasChannel}
@@ -14,7 +14,9 @@ use Rattle.commands.specs.declared.refusals.Stop.{Stop}
 use Rattle.commands.specs.declared.refusals.Stop.TheVariants.{Refused, Memory}
 use Rattle.replies.specs.Sent.{AreAddressed}
 use Rattle.replies.specs.declared.steps.Step.{Step}
-use Rattle.commands.specs.Commands.{ComesTo, Answers, Asks, UnlessPerformed, IsAddressedBy, WantsNone, done_of, left_of}
+use Rattle.commands.specs.Commands.{Commands, ComesTo, Answers, AnswersOpen, Asks, UnlessPerformed, IsAddressedBy, WantsNone, done_of, left_of, seen, state_of}
+use Rattle.channels.specs.Open.{Open}
+use Rattle.depot.specs.Store.{Store}
 use Rattle.commands.specs.declared.commands.asking.Left as asked
 use Rattle.commands.specs.declared.commands.Done.{Done}
 
@@ -24,7 +26,7 @@ has_open refusal_is.Ignored ch = tt
 has_open (refusal_is.Channel code) ch = refl
 has_open (refusal_is.Connection code) ch = tt
 
-pub performed_answers : (against : Option step.Refusal) (t : Topology) (old : Broker) (c h : ℕ) (ch : Channel) (m : Method) (content : Option Content) (new : Broker) (r : Result Step Stop) (d : Result Done Stop) → d ≡ done_of r
+performed_answers : (against : Option step.Refusal) (t : Topology) (old : Broker) (c h : ℕ) (ch : Channel) (m : Method) (content : Option Content) (new : Broker) (r : Result Step Stop) (d : Result Done Stop) → d ≡ done_of r
     → ComesTo against (λ s. Performs t old c h ch m content s.sends.items s.notes.items new) r → Answers against t old c h (Some ch) m content d new
 performed_answers against t old c h ch m content new r d e comes = subst (λ (x : Result Done Stop). Answers against t old c h (Some ch) m content x new) (sym e) (go r comes)
   where
@@ -32,6 +34,12 @@ performed_answers against t old c h ch m content new r d e comes = subst (λ (x 
     go (Ok s) p = p
     go (Err (Refused stop)) p = (p, has_open stop ch)
     go (Err Memory) p = p
+
+-- what a command came to on an open channel it came to there
+pub done_open : (c h : ℕ) (s s' : Store) (ch ch' : Open) (m : Method) (content : Option Content) (r : Result Step Stop) (d : Result Done Stop) → d ≡ done_of r
+    → Commands c h s ch m content r s' ch' → AnswersOpen c h s ch m content d s' ch'
+done_open c h s s' ch ch' m content r d e comes old new turns =
+    performed_answers (refusal_of s.topology (state_of s old) (seen s ch) m) s.topology (state_of s old) c h (seen s ch) m content (state_of s' new) r d e (comes old new turns)
 
 pub performed_addressed : (c : ℕ) (X : Type 0) (r : Result Step Stop) (d : Result Done Stop) → d ≡ done_of r → X → IfOk r (λ s. X → AreAddressed c s.sends.items) → IsAddressedBy c d
 performed_addressed c X r d e x own = subst (IsAddressedBy c) (sym e) (go r own)

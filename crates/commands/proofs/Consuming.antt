@@ -11,13 +11,11 @@ use Rattle.model.specs.declared.events.Send.{Send}
 use Rattle.model.specs.declared.methods.Cancel.{Cancel}
 use Rattle.model.specs.declared.methods.Consume.{Consume}
 use Rattle.model.specs.declared.notes.Note.{Note}
-use Rattle.channels.specs.Open.{Open, open_in, IsConsumerSeated, IsUnseated}
-use Rattle.channels.specs.declared.consumers.SeatRefusal.{SeatRefusal}
-use Rattle.channels.specs.declared.consumers.SeatRefusal.TheVariants.{InUse, TooMany, Spent, Memory as WantsMemory}
+use Rattle.channels.specs.Open.{Open, open_in, IsConsumerSeated, SeatsConsumer}
+use Rattle.channels.specs.declared.consumers.Unseated.{Unseated}
+use Rattle.channels.specs.declared.consumers.Unseated.TheVariants.{Refused, Memory as WantsMemory}
 use Rattle.depot.specs.Store.{Store}
-use Rattle.commands.specs.Judged.{IsQueuePlace, IsStoppedBy, stop_of}
-use Rattle.commands.specs.declared.refusals.Stop.{Stop}
-use Rattle.commands.specs.declared.refusals.Stop.TheVariants.{Refused, Memory}
+use Rattle.commands.specs.Judged.{IsQueuePlace, stop_of}
 use Rattle.replies.specs.declared.steps.Step.{Step}
 use Rattle.commands.specs.Commands.{Side, Turns, ComesTo, seen, state_of}
 use Rattle.commands.proofs.Turning.{does_here}
@@ -48,18 +46,11 @@ tag_short ch m free short = go m.consumer_tag (none_wanting (ch.next_number == g
 pub seat_free : (t : Topology) (ch : Channel) (m : Consume) → refusal_of_consume t ch m ≡ None → refusal_of_seat ch m ≡ None
 seat_free t ch m free = second_none (refusal_of_asking m) (refusal_of_seat ch m) (second_none (refusal_in t m.queue) (or_else (refusal_of_asking m) (refusal_of_seat ch m)) free)
 
--- what was stopped comes to that
-pub stopped : (A : Type 0) (against : Option Refusal) (Does : Step → Type 0) (stop : Stop) → IsStoppedBy {A = A} against (Err stop) → ComesTo against Does (Err stop)
-stopped A against Does (Refused r) is = is
-stopped A against Does Memory is = is
-
 -- and a consumer that was not made, though nothing stood against it, wanted memory
-pub unseated : (t : Topology) (names : List Text) (ch : Open) (m : Consume) (why : SeatRefusal) (Does : Step → Type 0) → refusal_of_consume t (open_in names ch) m ≡ None → IsUnseated ch m why
-    → ComesTo (refusal_of_consume t (open_in names ch) m) Does (Err (stop_of why))
-unseated t names ch m InUse Does free is = absurd (false≢true (ap is_some (sym (seat_free t (open_in names ch) m free) ∙ is names)))
-unseated t names ch m TooMany Does free is = absurd (false≢true (ap is_some (sym (seat_free t (open_in names ch) m free) ∙ is names)))
-unseated t names ch m Spent Does free is = absurd (false≢true (ap is_some (sym (seat_free t (open_in names ch) m free) ∙ is names)))
-unseated t names ch m WantsMemory Does free is = free
+pub unseated : (t : Topology) (names : List Text) (ch new : Open) (m : Consume) (place : ℕ) (why : Unseated) (Does : Step → Type 0) → refusal_of_consume t (open_in names ch) m ≡ None
+    → SeatsConsumer ch place m (Err why) new → ComesTo (refusal_of_consume t (open_in names ch) m) Does (Err (stop_of why))
+unseated t names ch new m place (Refused r) Does free (is, same) = absurd (false≢true (ap is_some (sym (seat_free t (open_in names ch) m free) ∙ is names)))
+unseated t names ch new m place WantsMemory Does free is = free
 
 -- ---- what is done
 

@@ -19,12 +19,12 @@ use Rattle.exchange_graph.specs.Marks.{queue_name}
 use Rattle.channels.specs.Open.{Open, IsTaker, open_in, consumer_in}
 use Rattle.depot.specs.Store.{Store, entries_named}
 use Rattle.channels.specs.declared.consumers.Consumer.{Consumer}
-use Rattle.channels.specs.Links.{Linked, linked_in, limits_of, connection_at, channel_at}
+use Rattle.channels.specs.Links.{Linked, linked_in, limits_of, connection_at, channel_in, channel_at}
 use Rattle.commands.specs.State.{ArePlaced}
 use Rattle.commands.specs.Commands.{Side, DeliversHere, GivesHere, seen, state_of}
-use Rattle.commands.specs.Picked.{IsPick, IsPickFrom, TakesAs, TellsConsumer, TellsTaking, CannotTake}
+use Rattle.commands.specs.Picked.{IsPick, IsPickFrom, IsKeptAs, TakesAs, TellsConsumer, TellsTaking, CannotTake}
 use Rattle.commands.specs.declared.picks.Taking.TheVariants.{From}
-use Rattle.channels.specs.Consumers.{TellsOn}
+use Rattle.channels.specs.Consumers.{TellsOn, IsOneOn, consumer_numbered}
 use Rattle.commands.specs.State.{Kept, broker_of, topology_kept, names_of}
 use Rattle.commands.specs.declared.picks.Pick.{Pick}
 use Rattle.commands.proofs.GivenOut.{all_in}
@@ -68,6 +68,18 @@ none_told f kept p (Some k) e t = absurd (false≢true (sym e))
 -- one that may take one on the connection that stands there takes it from its queue
 pub takes_from : (kept : Kept) (p : Pick) (l : Linked) (k : Consumer) → linked_in kept.links p.connection ≡ Some l → ArePlaced kept → TellsOn l p.channel p.number (Some k) → TellsTaking kept p (From k.queue)
 takes_from kept p l k e placed t = (k, tells_is kept p l (Some k) e placed t, refl)
+
+-- and one that is there is kept, of its queue
+pub keeps_one : (kept : Kept) (p : Pick) (l : Linked) (k : Consumer) → linked_in kept.links p.connection ≡ Some l → ArePlaced kept → consumer_numbered (channel_in l p.channel) p.number ≡ Some k → IsOneOn l p.channel p.number k → IsKeptAs kept p k
+keeps_one kept p l k e placed found t = record {
+  found = ap (λ (o : Option Linked). consumer_numbered (channel_at o p.channel) p.number) e ∙ found;
+  channel = open_in (names_of kept) t.channel;
+  there = ap (λ (o : Option Linked). option_map (open_in (names_of kept)) (channel_at o p.channel)) e ∙ ap (option_map (open_in (names_of kept))) t.there;
+  its = t.one.its (names_of kept);
+  numbered = t.one.numbered;
+  only = t.one.only (names_of kept);
+  within = takes_within (topology_kept kept) k t.channel.given.consumers (placed p.connection p.channel t.channel (ap (λ (o : Option Linked). channel_at o p.channel) e ∙ t.there)).consumers t.one.seat;
+}
 
 -- ---- which delivery can be made
 

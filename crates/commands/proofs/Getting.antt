@@ -92,10 +92,3 @@ gotten old new c h ch get q e tag remaining sends notes named found tagged count
 -- the first message that is ready can be given out, where each can
 pub first_carried : (es : List Entry) (e : Entry) → AllByRecursion (λ (x : Entry). IsCarried x.message) es → first_ready es ≡ Some e → IsCarried e.message
 first_carried es e carried found = all_in (λ (x : Entry). IsCarried x.message) e es carried (find_in is_ready e es found).0
-
--- there was no message to give out
-pub nothing_gotten : (old new : Broker) (c h : ℕ) (ch : Channel) (get : Get) (sends : List Send) (notes : List Note)
-    → first_ready (old.queue get.queue) ≡ None → sends ≡ reply c h (BasicGetEmpty []) ∷ [] → notes ≡ [] → Is old new
-    → Gets old c h ch get (first_ready (old.queue get.queue)) sends notes new
-nothing_gotten old new c h ch get sends notes none sent noted left =
-    subst (λ (o : Option Entry). Gets old c h ch get o sends notes new) (sym none) (record { sent = sent; noted = noted; left = left })

@@ -33,11 +33,6 @@ number_is t b conn max h m ch e n same =
     chosen false true = refl
     chosen false false = refl
 
--- so what stands against the number stands against the method
-pub number_refused : (t : Topology) (b : Broker) (conn : Connection) (max h : ℕ) (m : Method) (ch : Option Channel) (r : Refusal) → is_awaiting ch ≡ false → h ≢ 0 → conn.channel_max ≡ max
-    → refusal_of_number max h m ≡ Some r → refusal t b conn h m ch ≡ Some r
-number_refused t b conn max h m ch r e n same is = number_is t b conn max h m ch e n same ∙ ap (λ (x : Option Refusal). or_else x (refusal_on t b ch m)) is
-
 -- and where nothing does it is what stands against it on the channel
 pub number_passed : (t : Topology) (b : Broker) (conn : Connection) (max h : ℕ) (m : Method) (ch : Option Channel) → is_awaiting ch ≡ false → h ≢ 0 → conn.channel_max ≡ max
     → refusal_of_number max h m ≡ None → refusal t b conn h m ch ≡ refusal_on t b ch m

@@ -1,6 +1,7 @@
 pub mod Consuming
 mod Declaring
 mod Delivered
+pub mod Ending
 mod Freed
 mod Getting
 mod GivenOut

@@ -24,10 +24,6 @@ use Rattle.channels.specs.Placed.{TakeWithin, IsPlaced}
 use Rattle.commands.specs.State.{ArePlaced}
 use Rattle.commands.specs.State.{Kept, topology_kept}
 
--- the channels are as they were
-pub placed_same : (old new : Kept) → topology_kept new ≡ topology_kept old → ((c h : ℕ) → channel_of new.links c h ≡ channel_of old.links c h) → ArePlaced old → ArePlaced new
-placed_same old new e same placed c h ch is = subst (λ (t : Topology). IsPlaced t ch) (sym e) (placed c h ch (sym (same c h) ∙ is))
-
 -- one channel is another
 pub placed_put : (old new : Kept) (c h : ℕ) (ch : Option Open) → topology_kept new ≡ topology_kept old → PutsChannel old.links c h ch new.links
     → ((k : Open) → ch ≡ Some k → IsPlaced (topology_kept old) k) → ArePlaced old → ArePlaced new
@@ -56,10 +52,6 @@ placed_as t ch new placed e f = record { outstanding = subst (AreWithin t) (sym 
 -- this is the channel that is there
 pub placed_some : (t : Topology) (new : Open) → IsPlaced t new → (k : Open) → Some new ≡ Some k → IsPlaced t k
 placed_some t new placed k e = subst (IsPlaced t) (same_Some new k e) placed
-
-pub placed_at : (kept : Kept) (c h : ℕ) (ch : Open) (new : Open) → ArePlaced kept → channel_of kept.links c h ≡ Some ch → new.given.outstanding ≡ ch.given.outstanding → new.given.consumers ≡ ch.given.consumers
-    → (k : Open) → Some new ≡ Some k → IsPlaced (topology_kept kept) k
-placed_at kept c h ch new placed is same_given same_consumers = placed_some (topology_kept kept) new (placed_as (topology_kept kept) ch new (placed c h ch is) same_given same_consumers)
 
 -- the channels of one connection are gone
 pub placed_gone : (old new : Kept) (c : ℕ) → topology_kept new ≡ topology_kept old → ((d k : ℕ) → channel_of new.links d k ≡ with_row (channel_of old.links) c (λ h. None) d k) → ArePlaced old → ArePlaced new

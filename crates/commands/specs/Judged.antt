@@ -10,7 +10,9 @@ use Rattle.model.specs.declared.methods.Method.TheVariants as method
 use Rattle.model.specs.declared.events.Event.{Event}
 use Rattle.model.specs.declared.events.Event.TheVariants as event
 use Rattle.channels.specs.declared.consumers.SeatRefusal.{SeatRefusal}
-use Rattle.channels.specs.declared.consumers.SeatRefusal.TheVariants as unseated
+use Rattle.channels.specs.declared.consumers.SeatRefusal.TheVariants as seat
+use Rattle.channels.specs.declared.consumers.Unseated.{Unseated}
+use Rattle.channels.specs.declared.consumers.Unseated.TheVariants as unseated
 use Rattle.exchange_graph.specs.Marks.{queue_name}
 use Rattle.commands.specs.declared.refusals.Refusal.{Refusal}
 use Rattle.commands.specs.declared.refusals.Refusal.TheVariants as refused
@@ -28,18 +30,16 @@ abbrev pub refused_by : {A : Type 0} → Result A Refusal → Option step.Refusa
 refused_by (Ok x) = None
 refused_by (Err r) = Some (refusal_seen r)
 
--- why a consume is not performed, where its consumer was not made for this
-abbrev pub stop_of : SeatRefusal → Stop
-stop_of unseated.InUse = Refused (refused.Connection 530)
-stop_of unseated.TooMany = Refused (refused.Connection 506)
-stop_of unseated.Spent = Refused (refused.Connection 541)
-stop_of unseated.Memory = Memory
+-- how a consume is refused, against whose consumer this stands
+abbrev pub refusal_by : SeatRefusal → Refusal
+refusal_by seat.InUse = refused.Connection 530
+refusal_by seat.TooMany = refused.Connection 506
+refusal_by seat.Spent = refused.Connection 541
 
--- nothing stands against it where it is done, and this does where it is refused; memory is wanting only where nothing does
-abbrev pub IsStoppedBy : {A : Type 0} → Option step.Refusal → Result A Stop → Type 0
-IsStoppedBy against (Ok x) = against ≡ None
-IsStoppedBy against (Err (Refused r)) = against ≡ Some (refusal_seen r)
-IsStoppedBy against (Err Memory) = against ≡ None
+-- why it is not performed, where its consumer was not made for this
+abbrev pub stop_of : Unseated → Stop
+stop_of (unseated.Refused r) = Refused (refusal_by r)
+stop_of unseated.Memory = Memory
 
 -- a channel that a refusal closes is there
 abbrev pub HasChannel : Refusal → Option Channel → Type 0

@@ -1,4 +1,5 @@
 pub mod Commands
+pub mod Ended
 pub mod Freed
 pub mod Judged
 pub mod Obstacles

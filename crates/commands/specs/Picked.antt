@@ -53,9 +53,19 @@ abbrev pub TellsConsumer : Kept → Pick → Option Consumer → Type 0
 TellsConsumer kept p (Some k) = TakesAs kept p k
 TellsConsumer kept p None = CannotTake (broker_of kept) p
 
+-- The consumer of these numbers is there, of a queue that is there, and no other has its numbers.
+pub record IsKeptAs (kept : Kept) (p : Pick) (k : Consumer) : Type 0 where
+  pub found : consumer_kept kept p ≡ Some k
+  pub channel : seen.Channel
+  pub there : (broker_of kept).channel p.connection p.channel ≡ Some channel
+  pub its : IsIn (consumer_in (names_of kept) k) channel.consumers
+  pub numbered : k.number ≡ p.number
+  pub only : (other : seen.Consumer) → IsIn other channel.consumers → other.number ≡ p.number → other ≡ consumer_in (names_of kept) k
+  pub within : k.queue < length (topology_kept kept).queues
+
 -- The consumer of these numbers is not there; or it is one of the queue at this place, and may take nothing now; or it may take a
 -- message, from the queue at this place.
 abbrev pub TellsTaking : Kept → Pick → Taking → Type 0
 TellsTaking kept p Gone = (has_consumer kept p ≡ false) × CannotTake (broker_of kept) p
-TellsTaking kept p (Nothing place) = (k : Consumer) × (consumer_kept kept p ≡ Some k) × (k.queue ≡ place) × CannotTake (broker_of kept) p
+TellsTaking kept p (Nothing place) = (k : Consumer) × IsKeptAs kept p k × (k.queue ≡ place) × CannotTake (broker_of kept) p
 TellsTaking kept p (From place) = (k : Consumer) × TakesAs kept p k × (k.queue ≡ place)

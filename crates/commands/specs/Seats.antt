@@ -8,7 +8,7 @@ use Rattle.model.specs.declared.events.Event.{Event}
 use Rattle.model.specs.declared.events.Event.TheVariants.{Command}
 use Rattle.exchange_graph.specs.Marks.{queue_name}
 use Rattle.channels.specs.Links.{Linked, linked_in, channel_in, channel_of}
-use Rattle.channels.specs.Consumers.{consumer_numbered, next_number}
+use Rattle.channels.specs.Consumers.{consumer_numbered, count_on, next_number}
 use Rattle.channels.specs.declared.consumers.Consumer.{Consumer}
 use Rattle.commands.specs.State.{Kept}
 use Rattle.commands.specs.declared.picks.Pick.{Pick}
@@ -20,6 +20,10 @@ consumer_kept kept p = consumer_numbered (channel_of kept.links p.connection p.c
 -- it is kept
 abbrev pub has_consumer : Kept → Pick → Bool
 has_consumer kept p = is_some (consumer_kept kept p)
+
+-- how many consumers the channel of these numbers has
+abbrev pub consumers_on : Kept → ℕ → ℕ → ℕ
+consumers_on kept c h = count_on (channel_of kept.links c h)
 
 -- ---- the seat of a consumer that is to be made
 

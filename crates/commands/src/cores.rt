@@ -9,6 +9,7 @@ mod running;
 mod seating;
 mod standing;
 
+use crate::acted::Acted;
 use crate::commands::{Done, Left, on_channel, on_none};
 use crate::refusals::{Refusal, Stop, judge_large};
 use channels::{Links, lent_channels_are_put};
@@ -62,6 +63,7 @@ impl Core {
     ghost use Rattle.commands.specs.Steps.{PerformsOn};
     ghost use Rattle.commands.specs.Commands.{AnswersOn, IsAddressedBy, UnlessPerformed, WantsNone};
     ghost use Rattle.commands.specs.Commands.{AsksLeft, CanFinish};
+    ghost use Rattle.commands.specs.Ended.{AllRunStill, TellsEnd};
     ghost use Rattle.commands.specs.Judged.{is_requeueing, IsAsked, IsRequeued, IsIgnored, IsLargeIgnored, WantsNoMemory, JudgesLarge};
     ghost use Rattle.replies.specs.Sent.{AreAddressed, connection_of_event};
 
@@ -89,6 +91,7 @@ impl Core {
         ensures answers { AnswersOn self.old id.connection id.number method.now content.now result self.new }
         ensures addressed { IsMethod method.now → AreCarried (broker_of self.old) → IfSome result (IsAddressedBy id.connection) }
         ensures topology { topology_kept self.new ≡ topology_kept self.old }
+        ensures running { AllRunStill (broker_of self.old) (broker_of self.new) }
         ensures kept { IfSome result (λ r. UnlessPerformed r (self.new ≡ self.old)) }
         ensures quiet { is_requeueing method.now ≡ true → IfSome result WantsNone }
     {
@@ -120,30 +123,59 @@ impl Core {
     }
 
     /// What is left to be done of a command that is not refused is done.
-    fn finish(&mut self, alloc: Global, id: ChannelId, left: Left<'_>) -> Result<Step, AllocError>
+    fn finish(&mut self, alloc: Global, id: ChannelId, left: Left<'_>) -> Result<Acted, AllocError>
         requires agreed { IsAgreed (broker_of self.old) }
         requires runs { IsSome ((broker_of self.old).connection id.connection) }
         requires can { CanFinish (topology_kept self.old) ((broker_of self.old).channel id.connection id.number) left }
-        ensures ok { IfOk result (λ s. (m : Seen) (content : Option Whole)
+        ensures ok { IfOk result (λ a. (m : Seen) (content : Option Whole)
             → AsksLeft (topology_kept self.old) ((broker_of self.old).channel id.connection id.number) m left.entry
-            → PerformsOn self.old id.connection id.number m content s.sends.items s.notes.items self.new) }
-        ensures addressed { IfOk result (λ s. (m : Seen)
+            → PerformsOn self.old id.connection id.number m content a.step.sends.items a.step.notes.items self.new) }
+        ensures addressed { IfOk result (λ a. (m : Seen)
             → AsksLeft (topology_kept self.old) ((broker_of self.old).channel id.connection id.number) m left.entry
-            → IsMethod m → AreCarried (broker_of self.old) → AreAddressed id.connection s.sends.items) }
+            → IsMethod m → AreCarried (broker_of self.old) → AreAddressed id.connection a.step.sends.items) }
+        ensures ended { IfOk result (λ a. TellsEnd id.connection a.has_ended (broker_of self.old) (broker_of self.new)) }
         ensures topology { topology_kept self.new ≡ topology_kept self.old }
         ensures err { OnErr result (self.new ≡ self.old) }
     {
         let ChannelId { connection, number } = id;
         match left {
-            Left::OpenChannel => self.open_channel(alloc, connection, number),
-            Left::AnswerClose => self.answer_close(alloc, connection, number),
-            Left::AnswerClosing => self.answer_closing(alloc, connection, number),
-            Left::EndChannel => Ok(self.end_channel(alloc, connection, number)),
+            Left::OpenChannel => {
+                let step = self.open_channel(alloc, connection, number)?;
+                Ok(Acted {
+                    step,
+                    has_ended: false,
+                })
+            }
+            Left::AnswerClose => {
+                let step = self.answer_close(alloc, connection, number)?;
+                Ok(Acted {
+                    step,
+                    has_ended: false,
+                })
+            }
+            Left::AnswerClosing => {
+                let step = self.answer_closing(alloc, connection, number)?;
+                Ok(Acted {
+                    step,
+                    has_ended: false,
+                })
+            }
+            Left::EndChannel => {
+                let step = self.end_channel(alloc, connection, number);
+                Ok(Acted {
+                    step,
+                    has_ended: false,
+                })
+            }
             Left::CloseConnection => {
                 self.close_connection(alloc, connection, connection_close_ok(connection))
             }
             Left::FindQueue(place, declare) => {
-                self.find_queue(alloc, connection, number, place, declare)
+                let step = self.find_queue(alloc, connection, number, place, declare)?;
+                Ok(Acted {
+                    step,
+                    has_ended: false,
+                })
             }
         }
     }
@@ -155,21 +187,29 @@ impl Core {
         id: ChannelId,
         method: &Method,
         content: &Option<Content>,
-    ) -> Result<Step, AllocError>
+    ) -> Result<Acted, AllocError>
         requires { IsAgreed (broker_of self.old) }
-        ensures ok { IfOk result (λ s. OnConnection (topology_kept self.old) (broker_of self.old) id.connection id.number
-            method.now content.now s.sends.items s.notes.items (broker_of self.new) ((broker_of self.old).connection id.connection)) }
+        ensures ok { IfOk result (λ a. OnConnection (topology_kept self.old) (broker_of self.old) id.connection id.number
+            method.now content.now a.step.sends.items a.step.notes.items (broker_of self.new) ((broker_of self.old).connection id.connection)) }
         ensures requeued { IsRequeued (topology_kept self.old) (broker_of self.old) id.connection id.number method.now
             ((broker_of self.old).connection id.connection) → IsOk result }
         ensures ignored { IsIgnored (topology_kept self.old) (broker_of self.old) id.connection id.number method.now
             ((broker_of self.old).connection id.connection) → IsOk result }
-        ensures addressed { IfOk result (λ s. IsMethod method.now → AreCarried (broker_of self.old) → AreAddressed id.connection s.sends.items) }
+        ensures addressed { IfOk result (λ a. IsMethod method.now → AreCarried (broker_of self.old)
+            → AreAddressed id.connection a.step.sends.items) }
+        ensures ended { IfOk result (λ a. TellsEnd id.connection a.has_ended (broker_of self.old) (broker_of self.new)) }
         ensures topology { topology_kept self.new ≡ topology_kept self.old }
         ensures err { OnErr result (self.new ≡ self.old) }
     {
         match self.decide(alloc, id, method, content) {
-            None => Ok(Step::nothing(alloc)),
-            Some(Ok(Done::Performed(step))) => Ok(step),
+            None => Ok(Acted {
+                step: Step::nothing(alloc),
+                has_ended: false,
+            }),
+            Some(Ok(Done::Performed(step))) => Ok(Acted {
+                step,
+                has_ended: false,
+            }),
             Some(Ok(Done::Left(left))) => self.finish(alloc, id, left),
             Some(Err(Stop::Refused(refusal))) => {
                 self.refuse(alloc, id.connection, id.number, method.ids(), refusal)
@@ -184,42 +224,58 @@ impl Core {
         alloc: Global,
         connection: u64,
         channel: u16,
-    ) -> Result<Step, AllocError>
+    ) -> Result<Acted, AllocError>
         requires { IsAgreed (broker_of self.old) }
-        ensures ok { IfOk result (λ s. OnLarge (broker_of self.old) connection channel s.sends.items s.notes.items
+        ensures ok { IfOk result (λ a. OnLarge (broker_of self.old) connection channel a.step.sends.items a.step.notes.items
             (broker_of self.new) ((broker_of self.old).connection connection)) }
         ensures ignored { IsLargeIgnored (broker_of self.old) connection channel ((broker_of self.old).connection connection) → IsOk result }
-        ensures addressed { IfOk result (λ s. AreAddressed connection s.sends.items) }
+        ensures addressed { IfOk result (λ a. AreAddressed connection a.step.sends.items) }
+        ensures ended { IfOk result (λ a. TellsEnd connection a.has_ended (broker_of self.old) (broker_of self.new)) }
         ensures topology { topology_kept self.new ≡ topology_kept self.old }
         ensures err { OnErr result (self.new ≡ self.old) }
     {
         match self.judge_large(connection, channel) {
-            None => Ok(Step::nothing(alloc)),
+            None => Ok(Acted {
+                step: Step::nothing(alloc),
+                has_ended: false,
+            }),
             Some(refusal) => self.refuse(alloc, connection, channel, PUBLISH, refusal),
         }
     }
 
-    /// One event: what it sends, what it notes, and the state after it. Where the event's method has a spelling, each send
-    /// is for the event's own connection, by a method with a spelling. Where memory is wanting, nothing has changed; an opening,
-    /// a loss, a pause and its end, a command that is ignored, and a rejection that requeues want none.
-    pub fn step(&mut self, alloc: Global, event: &Event) -> Result<Step, AllocError>
+    /// One event: what it sends, what it notes, the state after it, and whether its connection runs no more. Where the event's
+    /// method has a spelling, each send is for the event's own connection, by a method with a spelling. Where memory is wanting,
+    /// nothing has changed; an opening, a loss, a pause and its end, a command that is ignored, and a rejection that requeues want
+    /// none.
+    pub fn step(&mut self, alloc: Global, event: &Event) -> Result<Acted, AllocError>
         requires agreed { IsAgreed (broker_of self.old) }
         requires asked { IsAsked event.now }
-        ensures ok { IfOk result (λ s. Acts (topology_kept self.old) (broker_of self.old) event.now s.sends.items s.notes.items (broker_of self.new)) }
-        ensures addressed { IfOk result (λ s. IsSaid event.now → AreCarried (broker_of self.old) → AreAddressed (connection_of_event event.now) s.sends.items) }
+        ensures ok { IfOk result (λ a. Acts (topology_kept self.old) (broker_of self.old) event.now
+            a.step.sends.items a.step.notes.items (broker_of self.new)) }
+        ensures addressed { IfOk result (λ a. IsSaid event.now → AreCarried (broker_of self.old)
+            → AreAddressed (connection_of_event event.now) a.step.sends.items) }
+        ensures ended { IfOk result (λ a. TellsEnd (connection_of_event event.now) a.has_ended (broker_of self.old) (broker_of self.new)) }
         ensures topology { topology_kept self.new ≡ topology_kept self.old }
         ensures err { OnErr result (self.new ≡ self.old) }
         ensures quiet { WantsNoMemory (topology_kept self.old) (broker_of self.old) event.now → IsOk result }
     {
         match event {
-            Event::Open { .. } | Event::First { .. } => Ok(Step::nothing(alloc)),
+            Event::Open { .. } | Event::First { .. } => {
+                Ok(Acted {
+                    step: Step::nothing(alloc),
+                    has_ended: false,
+                })
+            }
             Event::Running {
                 connection,
                 channel_max,
                 channels,
             } => {
                 self.open(alloc, *connection, *channel_max, *channels)?;
-                Ok(Step::nothing(alloc))
+                Ok(Acted {
+                    step: Step::nothing(alloc),
+                    has_ended: false,
+                })
             }
             Event::Command {
                 connection,
@@ -247,15 +303,24 @@ impl Core {
             }
             Event::Lose { connection } => {
                 self.go(*connection);
-                Ok(Step::nothing(alloc))
+                Ok(Acted {
+                    step: Step::nothing(alloc),
+                    has_ended: true,
+                })
             }
             Event::Pause { connection } => {
                 self.pause(*connection);
-                Ok(Step::nothing(alloc))
+                Ok(Acted {
+                    step: Step::nothing(alloc),
+                    has_ended: false,
+                })
             }
             Event::Resume { connection } => {
                 self.resume(*connection);
-                Ok(Step::nothing(alloc))
+                Ok(Acted {
+                    step: Step::nothing(alloc),
+                    has_ended: false,
+                })
             }
             Event::Deliver { .. } => unreachable!(),
         }

@@ -1,47 +1,19 @@
 //! A message that goes to a consumer, on the consumer's channel. Source: AMQP 0-9-1, basic.deliver.
 
-ghost use Rattle.std.specs.Prelude.{◌≡◌, ◌<◌, ◌∷◌, [], Some, IfOk, OnErr, length};
-ghost use Rattle.model.specs.Deliveries.{delivery_notes};
+ghost use Rattle.std.specs.Prelude.{◌≡◌, Some, IfOk, OnErr};
 ghost use Rattle.model.specs.Naming.{AreNamed};
-ghost use Rattle.model.specs.Sending.{IsCarried, AreCarried};
-ghost use Rattle.model.specs.Step as said;
-ghost use Rattle.exchange_graph.specs.Marks.{queue_name};
+ghost use Rattle.model.specs.Sending.{AreCarried};
 ghost use Rattle.channels.specs.Placed.{IsPlaced};
 ghost use Rattle.replies.specs.Sent.{AreAddressed};
 ghost use Rattle.commands.specs.Commands.{Side, CanCommand, CanDeliverHere, DeliversHere, seen, state_of};
 
 use crate::giving::give_out;
 use crate::picks::Pick;
-use channels::{Channel, Consumer};
+use channels::Channel;
 use depot::Depot;
-use model::{ChannelId, Entry, Taker, Text};
-use replies::{Step, deliver, giving};
+use model::{ChannelId, Taker};
+use replies::{Step, deliver};
 use std::alloc::{AllocError, Global};
-
-/// The name of the queue at this place.
-fn name_at(depot: &Depot, place: usize) -> &Text
-    requires { place < length depot.now.topology.queues }
-    ensures { result.now ≡ queue_name depot.now.topology place }
-{
-    &depot.topology().queue(place).name
-}
-
-/// What is sent and noted of the message that goes to this consumer, from the queue of this name, under this delivery tag.
-fn delivery(
-    alloc: Global,
-    pick: Pick,
-    tag: u64,
-    consumer: &Consumer,
-    queue: &Text,
-    entry: &Entry,
-) -> Result<Step, AllocError>
-    ensures sends { IfOk result (λ s. s.sends.items ≡ said.deliver pick.connection pick.channel tag consumer.now.tag entry.now ∷ []) }
-    ensures notes { IfOk result (λ s. s.notes.items ≡ delivery_notes consumer.now.no_ack entry.now.message.number queue.now) }
-    ensures addressed { IfOk result (λ s. length consumer.now.tag < 256 → IsCarried entry.now.message → AreAddressed pick.connection s.sends.items) }
-{
-    let send = deliver(pick.connection, pick.channel, tag, &consumer.tag, entry)?;
-    giving(alloc, send, consumer.no_ack, entry, queue)
-}
 
 /// The delivery to the consumer of these numbers, which can be made, is made on its channel: the first ready message of its queue
 /// goes to it, and leaves the queue where it needs no acknowledgement. All that takes memory is made before the first change.
@@ -70,19 +42,13 @@ pub(crate) fn deliver_on(
         unreachable!();
     };
     let tag = channel.next_tag();
-    let queue = name_at(depot, place);
-    let step = delivery(alloc, pick, tag, consumer, queue, entry)?;
+    let send = deliver(pick.connection, pick.channel, tag, &consumer.tag, entry)?;
+    let mut step = Step::sending(alloc, send)?;
     let id = ChannelId {
         connection: pick.connection,
         number: pick.channel,
     };
-    give_out(
-        id,
-        channel,
-        depot,
-        place,
-        Taker::Consumer(pick.number),
-        no_ack,
-    )?;
+    let by = Taker::Consumer(pick.number);
+    give_out(id, channel, depot, place, by, no_ack, &mut step.notes)?;
     Ok(step)
 }

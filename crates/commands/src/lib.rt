@@ -4,6 +4,7 @@
 //! (`Kept`), and `broker_of` reads the model's state from it.
 #![tactic(auto)]
 
+mod acted;
 mod commands;
 mod cores;
 mod delivering;
@@ -12,5 +13,6 @@ mod giving;
 mod picks;
 mod refusals;
 
+pub use acted::Acted;
 pub use cores::Core;
 pub use picks::{Pick, Taking};

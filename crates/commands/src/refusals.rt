@@ -24,7 +24,7 @@ pub use crate::refusals::consumers::check_consume;
 pub use crate::refusals::declares::{check_exchange, check_flow, check_queue_declare};
 pub use crate::refusals::publishes::check_publish;
 pub use crate::refusals::settlements::{check_recover, check_settling};
-use channels::{Channel, Link, SeatRefusal};
+use channels::{Channel, Link, SeatRefusal, Unseated};
 use exchange_graph::Topology;
 use model::{Method, Qos, Text};
 use std::alloc::AllocError;
@@ -71,18 +71,31 @@ impl From<AllocError> for Stop {
     }
 }
 
-impl From<SeatRefusal> for Stop {
+impl From<SeatRefusal> for Refusal {
+    ghost use Rattle.std.specs.Prelude.{◌≡◌};
+    ghost use Rattle.commands.specs.Judged.{refusal_by};
+
+    ghost from_gives = { λ seat refusal. refusal ≡ refusal_by seat };
+
+    fn from(seat: SeatRefusal) -> Refusal {
+        match seat {
+            SeatRefusal::InUse => Refusal::Connection(530),
+            SeatRefusal::TooMany => Refusal::Connection(506),
+            SeatRefusal::Spent => Refusal::Connection(541),
+        }
+    }
+}
+
+impl From<Unseated> for Stop {
     ghost use Rattle.std.specs.Prelude.{◌≡◌};
     ghost use Rattle.commands.specs.Judged.{stop_of};
 
-    ghost from_gives = { λ refusal stop. stop ≡ stop_of refusal };
+    ghost from_gives = { λ why stop. stop ≡ stop_of why };
 
-    fn from(refusal: SeatRefusal) -> Stop {
-        match refusal {
-            SeatRefusal::InUse => Stop::Refused(Refusal::Connection(530)),
-            SeatRefusal::TooMany => Stop::Refused(Refusal::Connection(506)),
-            SeatRefusal::Spent => Stop::Refused(Refusal::Connection(541)),
-            SeatRefusal::Memory => Stop::Memory,
+    fn from(why: Unseated) -> Stop {
+        match why {
+            Unseated::Refused(seat) => Stop::Refused(Refusal::from(seat)),
+            Unseated::Memory => Stop::Memory,
         }
     }
 }

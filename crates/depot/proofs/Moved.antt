@@ -231,6 +231,3 @@ all_moved old new places n le ge b = record {
   len = (let l = b.len in omega (arith, l, le, ge));
   each = λ k lt. b.each k (omega (arith, lt, le));
 }
-
-pub none_moved : (old new : List Text) → AreMovedBelow old new [] 0
-none_moved old new = record { len = refl; each = λ k lt. absurd (omega (arith, lt)) }

@@ -1,4 +1,5 @@
 pub mod Dying
+pub mod Givings
 pub mod Kept
 pub mod Lends
 pub mod Marked

@@ -3,12 +3,14 @@
 ghost use Rattle.std.specs.Prelude.{◌<◌, ℕ, length};
 ghost use Rattle.depot.specs.Store.{Store, IsStoreWhole, IsQueueNamed};
 
+use crate::givings::Giving;
 use crate::moving::places_in;
 use crate::publishing::{note_of, publish_in, route_of};
 use crate::purging::purge_in;
 use crate::queues::Queues;
 use crate::rejecting::reject_in;
 use crate::settling::{ack_in, requeue_in};
+use crate::taking::give;
 use exchange_graph::Topology;
 use kept_routes::{Route, Router};
 use model::{ChannelId, Content, Delivery, Entry, Holder, Note, Publish};
@@ -61,6 +63,7 @@ impl Depot {
       ◌+◌,
       ◌<◌,
       ◌≤◌,
+      ◌++◌,
       [],
       length,
       map,
@@ -80,9 +83,10 @@ impl Depot {
     ghost use Rattle.std.specs.Arc.{arc_value};
     ghost use Rattle.model.specs.Broker.{is_ready, queue_named};
     ghost use Rattle.model.specs.Step.{greatest};
-    ghost use Rattle.model.specs.Entries.{is_held_as, held_as, change_first, without_first};
+    ghost use Rattle.model.specs.Entries.{is_held_as};
     ghost use Rattle.queue.specs.Line.{ready_count};
     ghost use Rattle.depot.specs.Store.{entries_named, queue_at, with_entries_at, IsStoreWhole, IsQueueNamed, IsNextReady};
+    ghost use Rattle.depot.specs.Givings.{CanGive, HasRoomFor, TellsArrival, given_notes, given_so};
     ghost use Rattle.model.specs.Topology.{queue_names};
     ghost use Rattle.model.specs.Reloading.{stood_now};
     ghost use Rattle.model.specs.Words.{Text};
@@ -282,37 +286,26 @@ impl Depot {
         self.queues.queue(place).first_ready()
     }
 
-    /// Gives the first ready message of the queue at this place out, if there is one: it is held from now on. Tells the
-    /// number of its arrival there, by which it is found again at once. Nothing is held there under this tag yet. It takes
-    /// no memory.
-    pub fn hold(&mut self, place: usize, holder: Holder) -> Option<u64>
+    /// The first ready message of the queue at this place is given out, if there is one: it is held from now on, and the number
+    /// of its arrival is told, by which it is found again at once; or it leaves the queue, and the notes tell of it. Nothing is
+    /// held there under this tag yet, and there is room for the note. It takes no memory.
+    pub fn take(&mut self, place: usize, how: Giving, notes: &mut Vec<Note>) -> Option<u64>
         requires within { place < length self.old.topology.queues }
-        requires unused { find (is_held_as holder) (queue_at self.old place) ≡ None }
-        ensures told { is_some result ≡ is_some (find is_ready (queue_at self.old place)) }
-        ensures store { self.new ≡ with_entries_at self.old place (change_first is_ready (held_as holder) (queue_at self.old place)) }
+        requires free { CanGive how (queue_at self.old place) }
+        requires room { HasRoomFor how (vec_len notes.old) (vec_capacity notes.old) }
+        ensures told { TellsArrival how (find is_ready (queue_at self.old place)) result }
+        ensures store { self.new ≡ with_entries_at self.old place (given_so how (queue_at self.old place)) }
+        ensures notes { notes.new.items ≡ notes.old.items ++ given_notes how (find is_ready (queue_at self.old place)) }
     {
         let queue = self.queues.queue_mut(place);
-        let arrival = queue.hold(holder);
+        let arrival = give(queue, how, notes);
         let ready = queue.ready();
         self.queues.count_taking(place, ready);
         arrival
     }
 
-    /// Takes the first ready message of the queue at this place out, if there is one. It takes no memory.
-    pub fn take_first(&mut self, place: usize) -> Option<Entry>
-        requires { place < length self.old.topology.queues }
-        ensures taken { result ≡ find is_ready (queue_at self.old place) }
-        ensures store { self.new ≡ with_entries_at self.old place (without_first is_ready (queue_at self.old place)) }
-    {
-        let queue = self.queues.queue_mut(place);
-        let entry = queue.take_first();
-        let ready = queue.ready();
-        self.queues.count_taking(place, ready);
-        entry
-    }
-
     /// The message of the queue at this place that is held under this tag. It is found at once by the number of its arrival,
-    /// as `hold` told it.
+    /// as `take` told it.
     pub fn held(&self, place: usize, holder: &Holder, arrival: u64) -> Option<&Entry>
         requires { place < length self.now.topology.queues }
         ensures { option_map (λ e. e.now) result ≡ find (is_held_as holder.now) (queue_at self.now place) }

@@ -7,6 +7,7 @@
 mod departures;
 mod depots;
 mod entering;
+mod givings;
 mod lags;
 mod markers;
 mod marking;
@@ -18,6 +19,8 @@ mod queues;
 mod rejecting;
 mod settling;
 mod signs;
+mod taking;
 mod turns;
 
 pub use depots::{Depot, Routed, places_are_named};
+pub use givings::Giving;

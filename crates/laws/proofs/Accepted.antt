@@ -5,10 +5,11 @@ use Rattle.std.proofs.lemmas.Bool.{false≢true}
 use Rattle.model.specs.Words.{Text}
 use Rattle.model.specs.Topology.{Topology}
 use Rattle.model.specs.Broker.{Channel, Connection, Broker}
-use Rattle.model.specs.Step.{Refusal, Ignored, Of_connection, channel_or_new, is_awaiting, refusal}
+use Rattle.model.specs.Step.{Refusal, Ignored, Of_connection, channel_or_new, is_awaiting, refusal, refusal_of_consume}
+use Rattle.model.specs.declared.methods.Consume.{Consume}
 use Rattle.model.specs.declared.methods.Get.{Get}
 use Rattle.model.specs.declared.methods.Publish.{Publish}
-use Rattle.model.specs.declared.methods.Method.TheVariants.{ChannelOpen, ChannelCloseOk, BasicGet, BasicPublish}
+use Rattle.model.specs.declared.methods.Method.TheVariants.{ChannelOpen, ChannelCloseOk, BasicConsume, BasicGet, BasicPublish}
 
 module _ (t : Topology) (old : Broker) (conn : Connection) (h : ℕ) where
   refused : {r : Refusal} → ◌≡◌ {A = Option Refusal} (Some r) None → ⊥
@@ -69,3 +70,19 @@ module _ (t : Topology) (old : Broker) (conn : Connection) (h : ℕ) where
       by : (w : Bool) (rest : Option Refusal) → (if w then Some Ignored else rest) ≡ None → w ≡ false
       by true rest e = absurd (refused e)
       by false rest e = refl
+
+  -- what stands against a consume on its channel, or on a new one
+  pub consumes_on : (m : Consume) (ch : Option Channel) → refusal t old conn h (BasicConsume m) ch ≡ None → refusal_of_consume t (channel_or_new ch) m ≡ None
+  consumes_on m None e = absurd (by (h == 0) (nat_lt conn.channel_max h) e)
+    where
+      by : (u v : Bool) → (if u then Some (Of_connection 503) else if v then Some (Of_connection 504) else Some (Of_connection 504)) ≡ None → ⊥
+      by true v e = refused e
+      by false true e = refused e
+      by false false e = refused e
+  consumes_on m (Some ch) e = by ch.is_closing (h == 0) (nat_lt conn.channel_max h) (refusal_of_consume t ch m) e
+    where
+      by : (w u v : Bool) (rest : Option Refusal) → (if w then Some Ignored else if u then Some (Of_connection 503) else if v then Some (Of_connection 504) else rest) ≡ None → rest ≡ None
+      by true u v rest e = absurd (refused e)
+      by false true v rest e = absurd (refused e)
+      by false false true rest e = absurd (refused e)
+      by false false false rest e = e

@@ -17,7 +17,7 @@ use Rattle.model.specs.declared.events.Send.{Send}
 use Rattle.model.specs.declared.notes.Cause.TheVariants.{Rejected}
 use Rattle.model.specs.declared.notes.Note.{Note}
 use Rattle.laws.proofs.Agreed.{At, own, other, pair_at}
-use Rattle.laws.proofs.Channels.{Fate, keeps, frees, ends, settles, Changes, unchanged, one_channel, all_channels, step_changes}
+use Rattle.laws.proofs.Channels.{Fate, remains, is_ready_again, was_none, is_settled, Changes, unchanged, one_channel, all_channels, step_changes}
 use Rattle.laws.proofs.Returned.{freed_again, own_channel}
 use Rattle.laws.proofs.Settled.{are_settled}
 
@@ -39,16 +39,16 @@ module _ (t : Topology) (old new : Broker) (sends : List Send) (notes : List Not
 
   -- on the channel that changes
   of_fate : (c h : ℕ) (now : Option Channel) → ((d k : ℕ) → new.channel d k ≡ with_pair old.channel c h now d k) → (o : Outstanding) → IsOutstandingOn old c h o → Fate t old sends notes new c h now → Accounted c h o
-  of_fate c h now channels o was (keeps ch e stays) =
+  of_fate c h now channels o was (remains ch e stays) =
       outstanding_still (record {
         channel = ch;
         there =
             channels c h ∙ ap (λ (b : Bool). if b && (h == h) then now else old.channel c h) (eq-eqb c c refl) ∙ ap (λ (b : Bool). if b then now else old.channel c h) (eq-eqb h h refl) ∙ e;
         outstanding = stays o (subst (λ (x : Option Channel). IsIn o (channel_or_new x).outstanding) (sym was.there) was.outstanding);
       })
-  of_fate c h now channels o was (frees queues) = ready_again (freed_again old new (by_channel c h) c h o agreed queues was (own_channel c h o))
-  of_fate c h now channels o was (ends awaits) = absurd (subst (IsIn o) (agreed.closed c h was.channel was.there (sym (ap is_awaiting was.there) ∙ awaits)) was.outstanding)
-  of_fate c h now channels o was (settles how tag multiple wanted s) =
+  of_fate c h now channels o was (is_ready_again queues) = ready_again (freed_again old new (by_channel c h) c h o agreed queues was (own_channel c h o))
+  of_fate c h now channels o was (was_none awaits) = absurd (subst (IsIn o) (agreed.closed c h was.channel was.there (sym (ap is_awaiting was.there) ∙ awaits)) was.outstanding)
+  of_fate c h now channels o was (is_settled how tag multiple wanted s) =
       by_tag c h tag multiple how was.channel o was.outstanding (are_settled t how old new sends wanted notes c h was.channel tag multiple agreed was.there
       (subst (λ (x : Option Channel). Settles t how old c h (channel_or_new x) tag multiple wanted sends notes new) was.there s))
 

@@ -23,7 +23,9 @@ use Rattle.model.specs.declared.notes.Note.{Note}
 use Rattle.model.specs.declared.notes.Answer.TheVariants as answer
 use Rattle.laws.specs.Promises.{ack_of, ack_sent}
 use Rattle.laws.proofs.Counts.{filter_all, filter_map_none}
-use Rattle.laws.proofs.View.{is_answer, Publishes, Seen, seen_at, answer_all}
+use Rattle.laws.proofs.Deeds.{Publishes}
+use Rattle.laws.proofs.Replies.{is_answer, answer_all}
+use Rattle.laws.proofs.View.{Seen, seen_at}
 use Rattle.laws.proofs.Balance.{number, content, confirm, some_full, is_returned}
 use Rattle.laws.proofs.Once.{acked_if, nothing_acked, publish_acked, acked_by_answer}
 

@@ -33,6 +33,8 @@ use Rattle.model.specs.declared.methods.Method.{Method}
 use Rattle.model.specs.declared.methods.Method.TheVariants.{ConnectionClose, ChannelOpen, ChannelFlow, ChannelClose, ChannelCloseOk, ExchangeDeclare, QueueDeclare, QueuePurge, BasicQos, BasicPublish, BasicGet, BasicAck, BasicReject, BasicNack, BasicRecover, ConfirmSelect, BasicConsume, BasicCancel}
 use Rattle.model.specs.declared.notes.Note.{Note}
 use Rattle.laws.specs.Agreeing.{BrokersStayAgreed}
+use Rattle.model.specs.Alone.{event_connection}
+use Rattle.laws.proofs.Deeds.{Deed, changes, enters, gives, settles, purges, nothing, alters, ends, clears, renews, AreSame, Puts, acted, channel_at}
 use Rattle.laws.proofs.Counts.{count-append, count-cons, in-append, in_front, all_in, all-append, all_each}
 use Rattle.model.specs.declared.messages.Mark.{Mark}
 use Rattle.laws.proofs.Agreement.{Passes, number, HeldIn, Shrinks, shrinks_same, shrinks_freed, shrinks_without, shrinks_filter, left_shrinks, returned_shrinks, left_clear, returned_clear, in_freed, held_here, counted_in, find_counted, ready_not_held, same_holder, shrinks_on, AreApart, IsClear, clear_on, apart_on, count_own, at_own}
@@ -218,10 +220,6 @@ agreed_freed old new c row a is are none = agreed_by old new a (shrinks_freed (b
         go : (v : Bool) → (d == c) ≡ v → IsGood ch
         go true f = good_empty ch (none k ch (sym (mine d k f) ∙ e))
         go false f = let was = sym (other d k f) ∙ e in (a.rising d k ch was, a.before d k ch was, a.closed d k ch was)
-
--- a connection is gone, and what it held is ready again
-agreed_gone : (old new : Broker) (c : ℕ) → IsAgreed old → ((q : Text) → new.queue q ≡ map (freed (by_connection c)) (old.queue q)) → ((d k : ℕ) → new.channel d k ≡ with_row old.channel c (λ h. None) d k) → IsAgreed new
-agreed_gone old new c a is are = agreed_freed old new c (λ h. None) a is are (λ k ch e. absurd (false≢true (ap is_some e)))
 
 -- ---- what a publish brings
 
@@ -619,25 +617,6 @@ agreed_alone : (old new : Broker) (c h : ℕ) (ch : Channel) → IsAgreed old �
 agreed_alone old new c h ch a queues = agreed_record old new c h ch a (shrinks_same old.queue new.queue queues) (keeps_same Any old.queue new.queue queues)
 
 module _ (t : Topology) (old new : Broker) (a : IsAgreed old) where
-  nothing : (sends wanted : List Send) (notes : List Note) → Does sends notes new wanted old → IsAgreed new
-  nothing sends wanted notes p = agreed_still old new a p.left.queues p.left.channels
-
-  goes : (sends wanted : List Send) (notes : List Note) (c : ℕ) → Does sends notes new wanted (Rattle.model.specs.Step.with_gone old c) → IsAgreed new
-  goes sends wanted notes c p = agreed_gone old new c a p.left.queues p.left.channels
-
-  closes : (sends : List Send) (notes : List Note) (c h : ℕ) (v : Bool) → Does sends notes new (reply c h Rattle.model.specs.declared.methods.Method.TheVariants.ChannelCloseOk ∷ []) (if v then old else with_freed (with_channel old c h None) (by_channel c h)) → IsAgreed new
-  closes sends notes c h true p = nothing sends _ notes p
-  closes sends notes c h false p = agreed_cleared old new c h None a p.left.queues p.left.channels (λ ch e. absurd (false≢true (ap is_some e)))
-
-  gets : (sends : List Send) (notes : List Note) (c h : ℕ) (m : Get) (o : Option Entry) → first_ready (old.queue m.queue) ≡ o → (channel_or_new (old.channel c h)).is_closing ≡ false → Gets old c h (channel_or_new (old.channel c h)) m o sends notes new → IsAgreed new
-  gets sends notes c h m None found open_still p = agreed_still old new a p.left.queues p.left.channels
-  gets sends notes c h m (Some e) found open_still p = delivery_agrees old new c h m.no_ack m.queue taker.Get e found open_still a p.left
-
-  refuses : (sends : List Send) (notes : List Note) (c h : ℕ) (cause : Ids) (r : Refusal) → Refuses old c h cause r sends notes new → IsAgreed new
-  refuses sends notes c h cause Ignored p = nothing sends _ notes p
-  refuses sends notes c h cause (Of_channel code) p = agreed_cleared old new c h _ a p.left.queues p.left.channels (λ ch e. ap (λ (x : Channel). x.outstanding) (sym (same_Some _ ch e)))
-  refuses sends notes c h cause (Of_connection code) p = goes sends _ notes c p
-
   -- on a channel that awaits close-ok nothing is outstanding
   closing_has_none : (c h : ℕ) → is_awaiting (old.channel c h) ≡ true → (q : Text) (holder : Holder) → IsOutstanding old q holder → holder.connection ≡ c → holder.channel ≡ h → ⊥
   closing_has_none c h awaits q holder o e f =
@@ -645,85 +624,30 @@ module _ (t : Topology) (old new : Broker) (a : IsAgreed old) where
       let none = a.closed c h o.channel it (sym (ap is_awaiting it) ∙ awaits) in
       subst (IsIn o.delivery) none o.outstanding
 
-  -- a close-ok is taken only where it is awaited
-  ends : (sends : List Send) (notes : List Note) (c h : ℕ) → is_awaiting (old.channel c h) ≡ true → Does sends notes new [] (with_channel old c h None) → IsAgreed new
-  ends sends notes c h awaits p = agreed_by old new a (shrinks_same old.queue new.queue p.left.queues)
-      (λ q holder i o. outstanding_with old new c h None p.left.channels q holder o (λ e f there. absurd (closing_has_none c h awaits q holder o e f)))
-      (held_with Any old new c h None a (keeps_same Any old.queue new.queue p.left.queues) (λ holder other. tt) p.left.channels (λ ch o e i. absurd (false≢true (ap is_some e))))
-      (good_with old new c h None a p.left.channels (λ ch e. absurd (false≢true (ap is_some e))))
+  -- so nothing is forgotten where it ends
+  ended : (c h : ℕ) → is_awaiting (old.channel c h) ≡ true → AreSame old new → Puts old new c h None → IsAgreed new
+  ended c h awaits queues p = agreed_by old new a (shrinks_same old.queue new.queue queues)
+      (λ q holder i o. outstanding_with old new c h None p.channels q holder o (λ e f there. absurd (closing_has_none c h awaits q holder o e f)))
+      (held_with Any old new c h None a (keeps_same Any old.queue new.queue queues) (λ holder other. tt) p.channels (λ ch o e i. absurd (false≢true (ap is_some e))))
+      (good_with old new c h None a p.channels (λ ch e. absurd (false≢true (ap is_some e))))
 
-  limits : (sends wanted : List Send) (notes : List Note) (c h count : ℕ) (v : Bool) → Does sends notes new wanted (with_channel old c h (Some (if v then record (channel_or_new (old.channel c h)) { limit = count } else record (channel_or_new (old.channel c h)) { each_limit = count }))) → IsAgreed new
-  limits sends wanted notes c h count true d = agreed_alone old new c h _ a d.left.queues d.left.channels refl refl refl
-  limits sends wanted notes c h count false d = agreed_alone old new c h _ a d.left.queues d.left.channels refl refl refl
-
-  -- a channel is opened where it is not open, so nothing was outstanding there
-  opens : (sends wanted : List Send) (notes : List Note) (c h : ℕ) → old.channel c h ≡ None → Does sends notes new wanted (with_channel old c h (Some new_channel)) → IsAgreed new
-  opens sends wanted notes c h none p = agreed_by old new a (shrinks_same old.queue new.queue p.left.queues)
-      (λ q holder i o. outstanding_with old new c h (Some new_channel) p.left.channels q holder o (λ e f there. absurd (false≢true (ap is_some (sym none ∙ ap (λ (d : ℕ). old.channel d h) (sym e) ∙ ap (old.channel holder.connection) (sym f) ∙ o.there)))))
-      (held_with Any old new c h (Some new_channel) a (keeps_same Any old.queue new.queue p.left.queues) (λ holder other. tt) p.left.channels (λ ch o e i. absurd (subst (λ (x : Channel). IsIn o x.outstanding) (sym (same_Some new_channel ch e)) i)))
-      (good_with old new c h (Some new_channel) a p.left.channels (λ ch e. subst IsGood (same_Some new_channel ch e) good_new))
-
-  performs : (sends : List Send) (notes : List Note) (c h : ℕ) (m : Method) (content : Option Content) (conn : Connection) → refusal t old conn h m (old.channel c h) ≡ None → Performs t old c h (channel_or_new (old.channel c h)) m content sends notes new → IsAgreed new
-  performs sends notes c h (ConfirmSelect no_wait) content conn accepted p = agreed_alone old new c h _ a p.left.queues p.left.channels refl refl refl
-  performs sends notes c h (BasicPublish publish) content conn accepted p = agreed_record old new c h _ a (shrinks_arrivals t old.queue new.queue old.queue _ p.targets p.left.queues) (keeps_arrivals Any old.queue _ new.queue p.left.queues) p.left.channels refl refl refl
-  performs sends notes c h (ChannelOpen reserved) content conn accepted p = opens sends _ notes c h (not_open t old conn h reserved (old.channel c h) accepted) p
-  performs sends notes c h (ChannelFlow active) content conn accepted p = nothing sends _ notes p
-  performs sends notes c h (ChannelClose m) content conn accepted p = closes sends notes c h (channel_or_new (old.channel c h)).is_closing p
-  performs sends notes c h ChannelCloseOk content conn accepted p = ends sends notes c h (awaited t old conn h (old.channel c h) accepted) p
-  performs sends notes c h (ConnectionClose m) content conn accepted p = goes sends _ notes c p
-  performs sends notes c h (ExchangeDeclare m) content conn accepted p = nothing sends _ notes p
-  performs sends notes c h (QueueDeclare m) content conn accepted p = nothing sends _ notes p.does
-  performs sends notes c h (BasicQos m) content conn accepted p = limits sends _ notes c h m.prefetch_count m.global p
-  performs sends notes c h (BasicConsume m) content conn accepted p = agreed_alone old new c h _ a p.left.queues p.left.channels refl refl refl
-  performs sends notes c h (BasicCancel m) content conn accepted p = agreed_alone old new c h _ a p.left.queues p.left.channels refl refl refl
-  performs sends notes c h (BasicGet m) content conn accepted p = gets sends notes c h m (first_ready (old.queue m.queue)) refl (not_awaited t old conn h m (old.channel c h) accepted) p
-  performs sends notes c h (BasicAck m) content conn accepted p = settles_agree t _ old new c h m.delivery_tag m.multiple [] sends notes a p
-  performs sends notes c h (BasicReject m) content conn accepted p = settles_agree t _ old new c h m.delivery_tag false [] sends notes a p
-  performs sends notes c h (BasicNack m) content conn accepted p = settles_agree t _ old new c h m.delivery_tag m.multiple [] sends notes a p
-  performs sends notes c h (BasicRecover requeue) content conn accepted p = settles_agree t _ old new c h 0 true _ sends notes a p
-  performs sends notes c h (QueuePurge m) content conn accepted p =
-      agreed_same old new a (shrinks_on old.queue _ new.queue (shrinks_filter (λ e. not (is_ready e)) old.queue m.queue) (shrinks_same _ new.queue p.left.queues))
-      (keeps_on Any old.queue _ new.queue (keeps_purged old.queue m.queue) (keeps_same Any _ new.queue p.left.queues)) p.left.channels
-  performs sends notes c h _ content conn accepted p = absurd p
-
-  decides : (sends : List Send) (notes : List Note) (c h : ℕ) (m : Method) (content : Option Content) (conn : Connection) (r : Option Refusal) → refusal t old conn h m (old.channel c h) ≡ r → Decides t old c h m content r sends notes new → IsAgreed new
-  decides sends notes c h m content conn None e p = performs sends notes c h m content conn e p
-  decides sends notes c h m content conn (Some r) e p = refuses sends notes c h (ids_of m) r p
-
-  commanded : (sends : List Send) (notes : List Note) (c h : ℕ) (m : Method) (content : Option Content) (o : Option Connection) → OnConnection t old c h m content sends notes new o → IsAgreed new
-  commanded sends notes c h m content None p = nothing sends _ notes p
-  commanded sends notes c h m content (Some conn) p = decides sends notes c h m content conn (refusal t old conn h m (old.channel c h)) refl p
-
-  too_large : (sends : List Send) (notes : List Note) (c h : ℕ) (o : Option Connection) → OnLarge old c h sends notes new o → IsAgreed new
-  too_large sends notes c h None p = nothing sends _ notes p
-  too_large sends notes c h (Some conn) p = refuses sends notes c h (ids_of empty_publish) (refusal_of_large conn h (old.channel c h)) p
-
-  row_is_empty : (k n : ℕ) (ch : Channel) → channels_up_to k n ≡ Some ch → ch.outstanding ≡ []
-  row_is_empty k n ch e = by (nat_le 1 n && nat_le n k) e
-    where
-      by : (v : Bool) → (if v then Some new_channel else None) ≡ Some ch → ch.outstanding ≡ []
-      by true e = ap (λ (x : Channel). x.outstanding) (sym (same_Some new_channel ch e))
-      by false e = absurd (false≢true (ap is_some e))
-
-  delivers : (sends : List Send) (notes : List Note) (c : ℕ) → IsDelivery old c sends notes new → IsAgreed new
-  delivers sends notes c p =
-      let o = p.made in
-      let is : channel_or_new (old.channel c o.number) ≡ o.channel = ap channel_or_new o.taker.there in
-      delivery_agrees old new c o.number o.consumer.no_ack o.consumer.queue (taker.Consumer o.consumer.number) o.entry o.first (ap (λ (ch : Channel). ch.is_closing) is ∙ o.taker.open_still) a
-      (subst (λ (ch : Channel). Is (after_delivery old c o.number ch o.consumer.no_ack o.consumer.queue (taker.Consumer o.consumer.number)) new) (sym is) p.makes.left)
-
-  -- Each event keeps the agreement.
-  pub onward : (e : Event) (sends : List Send) (notes : List Note) → Acts t old e sends notes new → IsAgreed new
-  onward (Open c) sends notes p = nothing sends _ notes p
-  onward (First c bytes) sends notes p = nothing sends _ notes p
-  onward (Running c max k) sends notes p = agreed_freed old new c (channels_up_to k) a p.left.queues p.left.channels (row_is_empty k)
-  onward (Command c h m content) sends notes p = commanded sends notes c h m content (old.connection c) p
-  onward (TooLarge c h) sends notes p = too_large sends notes c h (old.connection c) p
-  onward (Fault c code) sends notes p = goes sends _ notes c p
-  onward (Lose c) sends notes p = goes sends _ notes c p
-  onward (Pause c) sends notes p = agreed_still old new a p.left.queues p.left.channels
-  onward (Resume c) sends notes p = agreed_still old new a p.left.queues p.left.channels
-  onward (Deliver c) sends notes p = delivers sends notes c p
+  -- Each deed keeps the agreement.
+  pub agreed_on : (e : Event) (c : ℕ) (sends : List Send) (notes : List Note) → Deed t old new e c sends notes → IsAgreed new
+  agreed_on e c sends notes (changes s (nothing same channels connections)) = agreed_still old new a same channels
+  agreed_on e c sends notes (changes s (alters h now same puts alike serves)) = agreed_alone old new c h now a same puts.channels alike.outstanding alike.next_tag alike.is_closing
+  agreed_on e c sends notes (changes s (ends h same puts awaits)) = ended c h awaits same puts
+  agreed_on e c sends notes (changes s (clears h now freed puts empty)) = agreed_cleared old new c h now a freed puts.channels (λ ch is. (empty ch is).outstanding)
+  agreed_on e c sends notes (changes s (renews row freed r)) = agreed_freed old new c row a freed r.channels (λ k ch is. (r.empty k ch is).outstanding)
+  agreed_on e c sends notes (enters h now p puts alike serves) =
+      agreed_record old new c h now a (shrinks_arrivals t old.queue new.queue old.queue _ p.is.targets p.is.left.queues) (keeps_arrivals Any old.queue _ new.queue p.is.left.queues) puts.channels alike.outstanding alike.next_tag alike.is_closing
+  agreed_on e c sends notes (gives g) =
+      let is : channel_at old c g.h ≡ g.ch = ap channel_or_new g.there in
+      delivery_agrees old new c g.h g.no_ack g.queue g.by g.entry g.first (ap (λ (ch : Channel). ch.is_closing) is ∙ g.open_still) a
+      (subst (λ (ch : Channel). Is (after_delivery old c g.h ch g.no_ack g.queue g.by) new) (sym is) g.left)
+  agreed_on e c sends notes (settles s) = settles_agree t s.how old new c s.h s.tag s.multiple s.wanted sends notes a s.is
+  agreed_on e c sends notes (purges p) =
+      agreed_same old new a (shrinks_on old.queue _ new.queue (shrinks_filter (λ x. not (is_ready x)) old.queue p.queue) (shrinks_same _ new.queue p.left.queues))
+      (keeps_on Any old.queue _ new.queue (keeps_purged old.queue p.queue) (keeps_same Any _ new.queue p.left.queues)) p.left.channels
 
 -- in the empty broker nothing is held
 none_held : IsAgreed empty_broker
@@ -737,4 +661,4 @@ none_held = record {
 }
 
 pub stay_agreed : BrokersStayAgreed
-stay_agreed = record { empty = none_held; acts = λ t old new e sends notes a p. onward t old new a e sends notes p }
+stay_agreed = record { empty = none_held; acts = λ t old new e sends notes a p. agreed_on t old new a e (event_connection e) sends notes (acted t old new sends notes e p).deed }

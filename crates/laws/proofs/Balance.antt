@@ -18,7 +18,8 @@ use Rattle.model.specs.declared.notes.Note.{Note}
 use Rattle.model.specs.declared.notes.Note.TheVariants.{Published, Entered, Refused, Returned, Confirmed}
 use Rattle.model.specs.declared.notes.Answer.{Answer}
 use Rattle.model.specs.declared.notes.Way.TheVariants as way
-use Rattle.laws.proofs.View.{Publishes, Seen, seen_at, quiet_notes}
+use Rattle.laws.proofs.Deeds.{Publishes}
+use Rattle.laws.proofs.View.{Seen, seen_at, quiet_notes}
 use Rattle.laws.proofs.Dying.{HasDied}
 use Rattle.laws.proofs.Entering.{entries_all, comes_as_noted}
 use Rattle.laws.proofs.Agreement.{counted_in}

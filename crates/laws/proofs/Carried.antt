@@ -1,6 +1,6 @@
 -- Each message that stands in a queue can be given out, and what is sent carries contents that are not too large.
 use Rattle.std.proofs.Common.{◌≡◌, ◌<◌, ℕ, ◌+◌, List, [], ◌∷◌, ◌++◌, Bool, true, false, cond, refl, sym, subst, map, length, not, arith, rules, Option, Some, None, inl, inr}
-use Rattle.std.specs.Prelude.{◌&&◌, if◌then◌else◌}
+use Rattle.std.specs.Prelude.{filter_map, ◌&&◌, if◌then◌else◌}
 use Rattle.std.specs.List.{AllByRecursion}
 use Rattle.std.specs.Str.{bytes_eq}
 use Rattle.model.specs.Words.{Text}
@@ -39,13 +39,15 @@ use Rattle.model.specs.declared.notes.Cause.{Cause}
 use Rattle.model.specs.declared.notes.Note.{Note}
 use Rattle.model.specs.declared.notes.Answer.{Answer}
 use Rattle.model.specs.Alone.{event_connection}
+use Rattle.model.specs.Contents.{content_in}
 use Rattle.laws.specs.Carrying.{MessagesStayCarried}
 use Rattle.laws.specs.Promises.{AreSaid, AreSound}
 use Rattle.laws.proofs.Dying.{Goes, not_found, left_only, died, goes_by}
 use Rattle.laws.proofs.Marking.{within_stored, stored_marked}
 use Rattle.laws.proofs.Counts.{all-append, all_in, filter_all}
 use Rattle.laws.proofs.Leaving.{at_queue, find_in}
-use Rattle.laws.proofs.View.{goes}
+use Rattle.laws.proofs.Deeds.{Deed, changes, enters, gives, settles, purges, acted, freed_by}
+use Rattle.laws.proofs.View.{step_deed}
 
 -- ---- lists of entries
 
@@ -181,25 +183,15 @@ confirm_light c h (Some n) answer = (tt, tt)
 published_light : (c h : ℕ) (p : Publish) (content : Content) (b : Bool) (o : Option ℕ) (answer : Answer) → IsStored content → AreLight (returned_sends c h p content b ++ confirm_sends c h o answer)
 published_light c h p content b o answer is = all-append IsLight (returned_sends c h p content b) (confirm_sends c h o answer) (returned_light c h p content b is) (confirm_light c h o answer)
 
-select_light : (c h : ℕ) (no_wait : Bool) → AreLight (select_sends c h no_wait)
-select_light c h true = tt
-select_light c h false = (tt, tt)
+-- what carries such contents alone is light
+light_if : (sends : List Send) → AllByRecursion IsStored (filter_map content_in sends) → AreLight sends
+light_if [] a = tt
+light_if (send.Greeting c ∷ sends) a = (tt, light_if sends a)
+light_if (send.Command c h m None ∷ sends) a = (tt, light_if sends a)
+light_if (send.Command c h m (Some content) ∷ sends) a = (a.0, light_if sends a.1)
 
-declare_light : (c h : ℕ) (no_wait : Bool) (answer : Method) → AreLight (declare_sends c h no_wait answer)
-declare_light c h true answer = tt
-declare_light c h false answer = (tt, tt)
-
-purge_light : (c h : ℕ) (no_wait : Bool) (count : ℕ) → AreLight (purge_sends c h no_wait count)
-purge_light c h true count = tt
-purge_light c h false count = (tt, tt)
-
-consume_light : (c h : ℕ) (no_wait : Bool) (tag : Text) → AreLight (consume_sends c h no_wait tag)
-consume_light c h true tag = tt
-consume_light c h false tag = (tt, tt)
-
-cancel_light : (c h : ℕ) (no_wait : Bool) (tag : Text) → AreLight (cancel_sends c h no_wait tag)
-cancel_light c h true tag = tt
-cancel_light c h false tag = (tt, tt)
+bare_light : (sends : List Send) → filter_map content_in sends ≡ [] → AreLight sends
+bare_light sends bare = light_if sends (subst (AllByRecursion IsStored) (sym bare) tt)
 
 -- ---- all cases
 
@@ -209,107 +201,36 @@ pub record Carries (t : Topology) (new : Broker) (sends : List Send) : Type 0 wh
   pub light : AreLight sends
 
 module _ (t : Topology) (old new : Broker) (sends : List Send) (notes : List Note) (a : AreCarried old) where
-  does : (wanted : List Send) (made : Broker) → Does sends notes new wanted made → AreLight wanted → InAll made.queue → Carries t new sends
-  does wanted made d light made_in = record { queues = λ wf. in_same made.queue new.queue d.left.queues made_in; light = subst AreLight (sym d.sent) light }
-
-  makes : (wanted : List Send) (left : List Note) (made : Broker) → Makes sends notes new wanted left made → AreLight wanted → InAll made.queue → Carries t new sends
-  makes wanted left made d light made_in = record { queues = λ wf. in_same made.queue new.queue d.left.queues made_in; light = subst AreLight (sym d.sent) light }
-
-  freed_in : (mine : Holder → Bool) → InAll (λ q. map (freed mine) (old.queue q))
-  freed_in mine q = freed_all mine (old.queue q) (a q)
-
-  closes : (c h : ℕ) (v : Bool) → Does sends notes new (reply c h ChannelCloseOk ∷ []) (if v then old else with_freed (with_channel old c h None) (by_channel c h)) → Carries t new sends
-  closes c h true d = does _ _ d (tt, tt) a
-  closes c h false d = does _ _ d (tt, tt) (freed_in (by_channel c h))
-
-  gets : (c h : ℕ) (ch : Channel) (m : Get) (o : Option Entry) → first_ready (old.queue m.queue) ≡ o → Gets old c h ch m o sends notes new → Carries t new sends
-  gets c h ch m None found d = makes _ _ _ d (tt, tt) a
-  gets c h ch m (Some e) found d =
-      makes _ _ _ d ((all_in (λ (x : Entry). IsCarried x.message) e (old.queue m.queue) (a m.queue) (find_in is_ready e (old.queue m.queue) found).0).content, tt)
-      (in_one old.queue m.queue _ (given_all m.no_ack (record { connection = c; channel = h; tag = ch.next_tag; by = taker.Get }) (old.queue m.queue) (a m.queue)) a)
-
-  settles : (how : Settlement) (c h : ℕ) (ch : Channel) (tag : ℕ) (multiple : Bool) (wanted : List Send) → Settles t how old c h ch tag multiple wanted sends notes new → AreLight wanted → Carries t new sends
-  settles how c h ch tag multiple wanted s light = record { queues = λ wf. settled_in t how c h s.gone old.queue notes new.queue wf s.queues a; light = subst AreLight (sym s.sent) light }
-
   publishes : (c h : ℕ) (ch : Channel) (p : Publish) (content : Content) → IsMethod (BasicPublish p) → IsWithin content → IsPublish t old c h ch p content sends notes new → Carries t new sends
   publishes c h ch p content said within is = record {
     queues = λ wf q. subst AreAll (sym (is.left.queues q)) (all-append _ (old.queue q) _ (a q) (comes_all t old.queue (message (old.published + 1) p content) q (record { exchange = said.1.0; key = said.1.1.0; content = within_stored content within }) is.targets));
     light = subst AreLight (sym is.sent) (published_light c h p content (p.mandatory && is_none is.targets) (next_of ch.confirm) (answer_of (is_some_full t old.queue content is.targets)) (within_stored content within));
   }
 
-  performs : (c h : ℕ) (ch : Channel) (m : Method) (content : Option Content) → IsMethod m → HasWithin content → Performs t old c h ch m content sends notes new → Carries t new sends
-  performs c h ch (ConfirmSelect no_wait) content said within p = does _ _ p (select_light c h no_wait) a
-  performs c h ch (BasicPublish publish) content said within p = publishes c h ch publish (content_or_none content) said (given_within content within) p
-  performs c h ch (ChannelOpen reserved) content said within p = does _ _ p (tt, tt) a
-  performs c h ch (ChannelFlow active) content said within p = does _ _ p (tt, tt) a
-  performs c h ch (ChannelClose m) content said within p = closes c h ch.is_closing p
-  performs c h ch ChannelCloseOk content said within p = does _ _ p tt a
-  performs c h ch (ConnectionClose m) content said within p = does _ _ p (tt, tt) (freed_in (by_connection c))
-  performs c h ch (ExchangeDeclare m) content said within p = does _ _ p (declare_light c h m.no_wait _) a
-  performs c h ch (QueueDeclare m) content said within p = does _ _ p.does (declare_light c h m.no_wait _) a
-  performs c h ch (BasicQos m) content said within p = does _ _ p (tt, tt) a
-  performs c h ch (BasicConsume m) content said within p = does _ _ p (consume_light c h m.no_wait _) a
-  performs c h ch (BasicCancel m) content said within p = does _ _ p (cancel_light c h m.no_wait _) a
-  performs c h ch (BasicGet m) content said within p = gets c h ch m (first_ready (old.queue m.queue)) refl p
-  performs c h ch (BasicAck m) content said within p = settles _ c h ch m.delivery_tag m.multiple [] p tt
-  performs c h ch (BasicReject m) content said within p = settles _ c h ch m.delivery_tag false [] p tt
-  performs c h ch (BasicNack m) content said within p = settles _ c h ch m.delivery_tag m.multiple [] p tt
-  performs c h ch (BasicRecover requeue) content said within p = settles _ c h ch 0 true _ p (tt, tt)
-  performs c h ch (QueuePurge m) content said within p =
-      makes _ _ _ p (purge_light c h m.no_wait (ready_in (old.queue m.queue))) (in_one old.queue m.queue _ (filter_all _ (λ e. not (is_ready e)) (old.queue m.queue) (a m.queue)) a)
-  performs c h ch _ content said within p = absurd p
+  carried_at : (name : Text) (e : Entry) → first_ready (old.queue name) ≡ Some e → IsCarried e.message
+  carried_at name e found = all_in (λ (x : Entry). IsCarried x.message) e (old.queue name) (a name) (find_in is_ready e (old.queue name) found).0
 
-  refuses : (c h : ℕ) (cause : Ids) (r : Refusal) → Refuses old c h cause r sends notes new → Carries t new sends
-  refuses c h cause Ignored p = does _ _ p tt a
-  refuses c h cause (Of_channel code) p = does _ _ p (tt, tt) (freed_in (by_channel c h))
-  refuses c h cause (Of_connection code) p = does _ _ p (tt, tt) (freed_in (by_connection c))
-
-  decides : (c h : ℕ) (m : Method) (content : Option Content) (r : Option Refusal) → IsMethod m → HasWithin content → Decides t old c h m content r sends notes new → Carries t new sends
-  decides c h m content None said within p = performs c h (channel_or_new (old.channel c h)) m content said within p
-  decides c h m content (Some r) said within p = refuses c h (ids_of m) r p
-
-  commanded : (c h : ℕ) (m : Method) (content : Option Content) (o : Option Connection) → IsMethod m → HasWithin content → OnConnection t old c h m content sends notes new o → Carries t new sends
-  commanded c h m content None said within p = does _ _ p tt a
-  commanded c h m content (Some conn) said within p = decides c h m content (refusal t old conn h m (old.channel c h)) said within p
-
-  too_large : (c h : ℕ) (o : Option Connection) → OnLarge old c h sends notes new o → Carries t new sends
-  too_large c h None p = does _ _ p tt a
-  too_large c h (Some conn) p = refuses c h (ids_of empty_publish) (refusal_of_large conn h (old.channel c h)) p
-
-  delivers : (c : ℕ) → IsDelivery old c sends notes new → Carries t new sends
-  delivers c p =
-      let o = p.made in
-      makes _ _ _ p.makes ((all_in (λ (x : Entry). IsCarried x.message) o.entry (old.queue o.consumer.queue) (a o.consumer.queue) (find_in is_ready o.entry (old.queue o.consumer.queue) o.first).0).content, tt)
-      (in_one old.queue o.consumer.queue _ (given_all o.consumer.no_ack _ (old.queue o.consumer.queue) (a o.consumer.queue)) a)
+  carry : (e : Event) (c : ℕ) → IsSaid e → Deed t old new e c sends notes → Carries t new sends
+  carry e c said (changes s change) = let f = freed_by change in record { queues = λ wf q. subst AreAll (sym (f.1 q)) (freed_all f.0 (old.queue q) (a q)); light = bare_light sends s.bare }
+  carry e c said (enters h now p puts alike serves) = let its = subst IsSaid p.event said in publishes p.c p.h p.ch p.publish (content_or_none p.given) its.0 (given_within p.given its.1) p.is
+  carry e c said (gives g) = record {
+    queues = λ wf. in_same _ new.queue g.left.queues (in_one old.queue g.queue _ (given_all g.no_ack _ (old.queue g.queue) (a g.queue)) a);
+    light = light_if sends (subst (AllByRecursion IsStored) (sym g.carries) ((carried_at g.queue g.entry g.first).content, tt));
+  }
+  carry e c said (settles s) = record { queues = λ wf. settled_in t s.how c s.h s.is.gone old.queue notes new.queue wf s.is.queues a; light = bare_light sends s.bare }
+  carry e c said (purges p) = record { queues = λ wf. in_same _ new.queue p.left.queues (in_one old.queue p.queue _ (filter_all _ (λ e. not (is_ready e)) (old.queue p.queue) (a p.queue)) a); light = bare_light sends p.bare }
 
   -- Each event of the broker keeps that.
   pub carries : (e : Event) → IsSaid e → Acts t old e sends notes new → Carries t new sends
-  carries (Open c) said p = does _ _ p tt a
-  carries (First c bytes) said p = does _ _ p tt a
-  carries (Running c max k) said p = does _ _ p tt (freed_in (by_connection c))
-  carries (Command c h m content) said p = commanded c h m content (old.connection c) said.0 said.1 p
-  carries (TooLarge c h) said p = too_large c h (old.connection c) p
-  carries (Fault c code) said p = does _ _ p (tt, tt) (freed_in (by_connection c))
-  carries (Lose c) said p = does _ _ p tt (freed_in (by_connection c))
-  carries (Pause c) said p = does _ _ p tt a
-  carries (Resume c) said p = does _ _ p tt a
-  carries (Deliver c) said p = delivers c p
+  carries e said p = carry e (event_connection e) said (acted t old new sends notes e p).deed
 
 pub stay_carried : MessagesStayCarried
 stay_carried = record { empty = λ q. tt; acts = λ t old new e sends notes wf said a p. (carries t old new sends notes a e said p).queues wf }
 
 -- ---- runs
 
--- where a phase answers by itself the queues stay, or what was held is ready again
-moved_in : (old made new : Broker) (v : Bool) → Is (if v then made else old) new → AreCarried made → AreCarried old → AreCarried new
-moved_in old made new true is b a = in_same made.queue new.queue is.queues b
-moved_in old made new false is b a = in_same old.queue new.queue is.queues a
-
 step_carries : (f : Config) (old new : State) (e : Event) (sends : List Send) (notes : List Note) → IsWellFormed f.topology → IsSaid e → AreCarried old.broker → Step f old e sends notes new → AreCarried new.broker
-step_carries f old new e sends notes wf said a s = elim (goes f old new sends notes e s) [
-  | inl p ↦ (carries f.topology old.broker new.broker sends notes a e said p.acts).queues wf
-  | inr p ↦ moved_in old.broker _ new.broker (is_running p.move.next.phase) p.moves.broker (λ q. freed_all (by_connection (event_connection e)) (old.broker.queue q) (a q)) a
-]
+step_carries f old new e sends notes wf said a s = (carry f.topology old.broker new.broker sends notes a e (event_connection e) said (step_deed f old new sends notes e s)).queues wf
 
 pub run_carries : (hs : List Happening) (old new : State) → AreSound hs → AreSaid hs → Run old hs new → AreCarried old.broker → AreCarried new.broker
 run_carries [] old new sound said r a = subst (λ (z : State). AreCarried z.broker) (sym r) a

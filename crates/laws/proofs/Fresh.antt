@@ -37,7 +37,8 @@ use Rattle.laws.proofs.Counts.{all-append}
 use Rattle.laws.proofs.Dying.{Goes, not_found, left_only, died, goes_by}
 use Rattle.laws.proofs.Leaving.{at_queue}
 use Rattle.laws.proofs.Ordered.{comes_as_entered, entered-append, entered_none}
-use Rattle.laws.proofs.View.{Publishes, goes}
+use Rattle.laws.proofs.Deeds.{Deed, changes, enters, gives, settles, purges, Publishes}
+use Rattle.laws.proofs.View.{deed_at}
 use Rattle.laws.proofs.Balance.{number, content, entry_part, answer_part, noted, answers_all}
 
 -- ---- lists of entries
@@ -177,17 +178,10 @@ module _ (t : Topology) (old new : Broker) (sends : List Send) (notes : List Not
   quiet : notes ≡ [] → AllEnd
   quiet none = noted_none (λ q. subst (NoneEntered q) (sym none) tt)
 
-  gets : (c h : ℕ) (ch : Channel) (m : Get) (o : Option Entry) → Gets old c h ch m o sends notes new → AllEnd
-  gets c h ch m None p = quiet p.noted
-  gets c h ch m (Some e) p = noted_none (λ q. subst (NoneEntered q) (sym p.noted) (given_none m.no_ack e.message.number m.queue q))
-
   settled : (how : Settlement) (c h : ℕ) (os : List Outstanding) → AreSettled t how c h os old.queue notes new.queue → AllEnd
   settled (Leaves cause) c h os s = noted_none (λ q. are_left_none cause c h q os old.queue notes new.queue s)
   settled Rejects c h os s = λ q. rejected_ends t c h os old.queue notes new.queue s q [] (ends_plain (old.queue q) [] refl)
   settled Returns c h os s = quiet s.0
-
-  settles : (how : Settlement) (c h tag : ℕ) (ch : Channel) (multiple : Bool) (wanted : List Send) → Settles t how old c h ch tag multiple wanted sends notes new → AllEnd
-  settles how c h tag ch multiple wanted p = settled how c h p.gone p.queues
 
   publishes : {e : Event} → Publishes t old new e sends notes → AllEnd
   publishes p q =
@@ -202,65 +196,16 @@ module _ (t : Topology) (old new : Broker) (sends : List Send) (notes : List Not
       ∙ sym (ap (entered q) (noted p))
       ) (p.is.left.queues q) (ends_plain (old.queue q) [] refl)
 
-  performs : (c h : ℕ) (m : Method) (content : Option Content) (conn : Connection) → refusal t old conn h m (old.channel c h) ≡ None → Performs t old c h (channel_or_new (old.channel c h)) m content sends notes new → AllEnd
-  performs c h (ConfirmSelect no_wait) content conn accepted p = quiet p.noted
-  performs c h (BasicPublish publish) content conn accepted p = publishes (record { c = c; h = h; ch = channel_or_new (old.channel c h); publish = publish; given = content; event = refl; connection = conn; accepted = accepted; is = p })
-  performs c h (ChannelOpen reserved) content conn accepted p = quiet p.noted
-  performs c h (ChannelFlow active) content conn accepted p = quiet p.noted
-  performs c h (ChannelClose m) content conn accepted p = quiet p.noted
-  performs c h ChannelCloseOk content conn accepted p = quiet p.noted
-  performs c h (ConnectionClose m) content conn accepted p = quiet p.noted
-  performs c h (ExchangeDeclare m) content conn accepted p = quiet p.noted
-  performs c h (QueueDeclare m) content conn accepted p = quiet p.does.noted
-  performs c h (BasicQos m) content conn accepted p = quiet p.noted
-  performs c h (BasicConsume m) content conn accepted p = quiet p.noted
-  performs c h (BasicCancel m) content conn accepted p = quiet p.noted
-  performs c h (BasicGet m) content conn accepted p = gets c h (channel_or_new (old.channel c h)) m (first_ready (old.queue m.queue)) p
-  performs c h (BasicAck m) content conn accepted p = settles _ c h _ _ _ _ p
-  performs c h (BasicReject m) content conn accepted p = settles _ c h _ _ _ _ p
-  performs c h (BasicNack m) content conn accepted p = settles _ c h _ _ _ _ p
-  performs c h (BasicRecover requeue) content conn accepted p = settles _ c h _ _ _ _ p
-  performs c h (QueuePurge m) content conn accepted p = noted_none (λ q. subst (NoneEntered q) (sym p.noted) (purged_none m.queue q (filter is_ready (old.queue m.queue))))
-  performs c h _ content conn accepted p = absurd p
-
-  refuses : (c h : ℕ) (cause : Ids) (r : Refusal) → Refuses old c h cause r sends notes new → AllEnd
-  refuses c h cause Ignored p = quiet p.noted
-  refuses c h cause (Of_channel code) p = quiet p.noted
-  refuses c h cause (Of_connection code) p = quiet p.noted
-
-  decides : (c h : ℕ) (m : Method) (content : Option Content) (conn : Connection) (r : Option Refusal) → refusal t old conn h m (old.channel c h) ≡ r → Decides t old c h m content r sends notes new → AllEnd
-  decides c h m content conn None e p = performs c h m content conn e p
-  decides c h m content conn (Some r) e p = refuses c h (ids_of m) r p
-
-  commanded : (c h : ℕ) (m : Method) (content : Option Content) (o : Option Connection) → OnConnection t old c h m content sends notes new o → AllEnd
-  commanded c h m content None p = quiet p.noted
-  commanded c h m content (Some conn) p = decides c h m content conn (refusal t old conn h m (old.channel c h)) refl p
-
-  too_large : (c h : ℕ) (o : Option Connection) → OnLarge old c h sends notes new o → AllEnd
-  too_large c h None p = quiet p.noted
-  too_large c h (Some conn) p = refuses c h (ids_of empty_publish) (refusal_of_large conn h (old.channel c h)) p
-
-  delivers : (c : ℕ) → IsDelivery old c sends notes new → AllEnd
-  delivers c p = let o = p.made in noted_none (λ q. subst (NoneEntered q) (sym p.makes.noted) (given_none o.consumer.no_ack o.entry.message.number o.consumer.queue q))
-
-  -- After each event of the broker each queue ends so.
-  all_end : (e : Event) → Acts t old e sends notes new → AllEnd
-  all_end (Open c) p = quiet p.noted
-  all_end (First c bytes) p = quiet p.noted
-  all_end (Running c max k) p = quiet p.noted
-  all_end (Command c h m content) p = commanded c h m content (old.connection c) p
-  all_end (TooLarge c h) p = too_large c h (old.connection c) p
-  all_end (Fault c code) p = quiet p.noted
-  all_end (Lose c) p = quiet p.noted
-  all_end (Pause c) p = quiet p.noted
-  all_end (Resume c) p = quiet p.noted
-  all_end (Deliver c) p = delivers c p
+  -- After each deed each queue ends so.
+  all_end : {e : Event} {c : ℕ} → Deed t old new e c sends notes → AllEnd
+  all_end (changes s change) = quiet s.noted
+  all_end (enters h now p puts alike serves) = publishes p
+  all_end (gives g) = noted_none (λ q. subst (NoneEntered q) (sym g.noted) (given_none g.no_ack g.entry.message.number g.queue q))
+  all_end {c = c} (settles s) = settled s.how c s.h s.is.gone s.is.queues
+  all_end (purges p) = noted_none (λ q. subst (NoneEntered q) (sym p.noted) (purged_none p.queue q (filter is_ready (old.queue p.queue))))
 
 pub step_fresh : (h : Happening) → Step h.config h.before h.event h.sends h.notes h.after → EnterFresh h
-step_fresh h s = elim (goes h.config h.before h.after h.sends h.notes h.event s) [
-  | inl p ↦ all_end h.config.topology h.before.broker h.after.broker h.sends h.notes h.event p.acts
-  | inr a ↦ quiet h.config.topology h.before.broker h.after.broker h.sends h.notes a.moves.noted
-]
+step_fresh h s = all_end h.config.topology h.before.broker h.after.broker h.sends h.notes (deed_at h s)
 
 -- After each event of a run each queue ends with what entered it.
 pub run_fresh : (hs : List Happening) (old new : State) → Run old hs new → AllByRecursion EnterFresh hs

@@ -6,7 +6,7 @@ use Rattle.std.proofs.lemmas.Option.{same_Some}
 use Rattle.model.specs.Words.{Text}
 use Rattle.model.specs.Topology.{IsIn}
 use Rattle.model.specs.Grammar.{Ids, ids_of}
-use Rattle.model.specs.Broker.{Channel, Connection, Broker, is_ready}
+use Rattle.model.specs.Broker.{Outstanding, Broker, is_ready}
 use Rattle.model.specs.Entries.{by_channel, by_connection, freed, held_as, change_first, without_first}
 use Rattle.model.specs.Deliveries.{Settlement, Leaves, Rejects, Returns, AreSettled, with_queue, first_ready, after_giving}
 use Rattle.model.specs.Phases.{is_running}
@@ -29,7 +29,8 @@ use Rattle.laws.proofs.Agreement.{Shrinks, shrinks_same, shrinks_freed, shrinks_
 use Rattle.laws.proofs.Agreed.{shrinks_arrivals, rejected_shrinks}
 use Rattle.laws.proofs.Leaving.{at_queue}
 use Rattle.laws.proofs.Accepted.{is_open}
-use Rattle.laws.proofs.View.{goes}
+use Rattle.laws.proofs.Deeds.{Deed, changes, enters, gives, settles, purges, freed_by}
+use Rattle.laws.proofs.View.{deed_at}
 
 -- ---- one queue
 
@@ -66,15 +67,9 @@ module _ (h : Happening) where
   held_before : Shrinks old.queue new.queue → AreHeldSince
   held_before s q x holder i mark = let was = s.held q x holder i mark in before was.entry was.there was.mark
 
-  same : ((q : Text) → new.queue q ≡ old.queue q) → AreHeldSince
-  same is = held_before (shrinks_same old.queue new.queue is)
-
-  free : (mine : Holder → Bool) → ((q : Text) → new.queue q ≡ map (freed mine) (old.queue q)) → AreHeldSince
-  free mine is = held_before (shrinks_freed mine old.queue new.queue is)
-
   -- the first ready message of a queue was given out
-  gives : (name : Text) (no_ack : Bool) (g : Holder) (e : Entry) → first_ready (old.queue name) ≡ Some e → GivesOut h name e → ((q : Text) → new.queue q ≡ with_queue old.queue name (after_giving no_ack g (old.queue name)) q) → AreHeldSince
-  gives name no_ack g e found out is q x holder i mark =
+  given : (name : Text) (no_ack : Bool) (g : Holder) (e : Entry) → first_ready (old.queue name) ≡ Some e → GivesOut h name e → ((q : Text) → new.queue q ≡ with_queue old.queue name (after_giving no_ack g (old.queue name)) q) → AreHeldSince
+  given name no_ack g e found out is q x holder i mark =
       at_queue (λ (r : Text) (es : List Entry). IsIn x es → IsHeldSince h r x holder) old.queue name (after_giving no_ack g (old.queue name)) here (λ r other j. before x j mark) q (subst (IsIn x) (is q) i)
     where
       here : IsIn x (after_giving no_ack g (old.queue name)) → IsHeldSince h name x holder
@@ -83,81 +78,17 @@ module _ (h : Happening) where
         | inr s ↦ by_it out (s ∙ ap (λ (z : Holder). held_as z e) (same_holder g holder (sym (ap (λ (z : Entry). z.mark) s) ∙ mark)))
       ]
 
-  closes : (c k : ℕ) (wanted : List Send) (v : Bool) → Does h.sends h.notes new wanted (if v then old else with_freed (with_channel old c k None) (by_channel c k)) → AreHeldSince
-  closes c k wanted true p = same p.left.queues
-  closes c k wanted false p = free (by_channel c k) p.left.queues
+  shrinks : (how : Settlement) (c k : ℕ) (os : List Outstanding) → AreSettled h.config.topology how c k os old.queue h.notes new.queue → Shrinks old.queue new.queue
+  shrinks (Leaves cause) c k os a = left_shrinks cause c k os old.queue h.notes new.queue a
+  shrinks Rejects c k os a = rejected_shrinks h.config.topology c k os old.queue h.notes new.queue a
+  shrinks Returns c k os a = returned_shrinks c k os old.queue new.queue a.1
 
-  limits : (c k count : ℕ) (ch : Channel) (wanted : List Send) (v : Bool) → Does h.sends h.notes new wanted (with_channel old c k (Some (if v then record ch { limit = count } else record ch { each_limit = count }))) → AreHeldSince
-  limits c k count ch wanted v p = same p.left.queues
-
-  gets : (c k : ℕ) (ch : Channel) (m : Get) (content : Option Content) (o : Option Entry) → h.event ≡ Command c k (BasicGet m) content → old.channel c k ≡ Some ch → first_ready (old.queue m.queue) ≡ o → Gets old c k ch m o h.sends h.notes new → AreHeldSince
-  gets c k ch m content None is there found p = same p.left.queues
-  gets c k ch m content (Some e) is there found p = gives m.queue m.no_ack _ e found (to_get ch is there found p) p.left.queues
-
-  settles : (how : Settlement) (c k tag : ℕ) (ch : Channel) (multiple : Bool) (wanted : List Send) → Settles h.config.topology how old c k ch tag multiple wanted h.sends h.notes new → AreHeldSince
-  settles how c k tag ch multiple wanted p = held_before (shrinks how p.queues)
-    where
-      shrinks : (s : Settlement) → AreSettled h.config.topology s c k p.gone old.queue h.notes new.queue → Shrinks old.queue new.queue
-      shrinks (Leaves cause) a = left_shrinks cause c k p.gone old.queue h.notes new.queue a
-      shrinks Rejects a = rejected_shrinks h.config.topology c k p.gone old.queue h.notes new.queue a
-      shrinks Returns a = returned_shrinks c k p.gone old.queue new.queue a.1
-
-  performs : (c k : ℕ) (m : Method) (content : Option Content) (conn : Connection) → h.event ≡ Command c k m content → refusal h.config.topology old conn k m (old.channel c k) ≡ None → Performs h.config.topology old c k (channel_or_new (old.channel c k)) m content h.sends h.notes new → AreHeldSince
-  performs c k (ConfirmSelect no_wait) content conn is accepted p = same p.left.queues
-  performs c k (BasicPublish publish) content conn is accepted p = held_before (shrinks_arrivals h.config.topology old.queue new.queue old.queue _ p.targets p.left.queues)
-  performs c k (ChannelOpen reserved) content conn is accepted p = same p.left.queues
-  performs c k (ChannelFlow active) content conn is accepted p = same p.left.queues
-  performs c k (ChannelClose m) content conn is accepted p = closes c k _ (channel_or_new (old.channel c k)).is_closing p
-  performs c k ChannelCloseOk content conn is accepted p = same p.left.queues
-  performs c k (ConnectionClose m) content conn is accepted p = free (by_connection c) p.left.queues
-  performs c k (ExchangeDeclare m) content conn is accepted p = same p.left.queues
-  performs c k (QueueDeclare m) content conn is accepted p = same p.does.left.queues
-  performs c k (BasicQos m) content conn is accepted p = limits c k m.prefetch_count (channel_or_new (old.channel c k)) _ m.global p
-  performs c k (BasicConsume m) content conn is accepted p = same p.left.queues
-  performs c k (BasicCancel m) content conn is accepted p = same p.left.queues
-  performs c k (BasicGet m) content conn is accepted p = gets c k (channel_or_new (old.channel c k)) m content (first_ready (old.queue m.queue)) is (is_open h.config.topology old conn k m (old.channel c k) accepted) refl p
-  performs c k (BasicAck m) content conn is accepted p = settles _ c k _ _ _ _ p
-  performs c k (BasicReject m) content conn is accepted p = settles _ c k _ _ _ _ p
-  performs c k (BasicNack m) content conn is accepted p = settles _ c k _ _ _ _ p
-  performs c k (BasicRecover requeue) content conn is accepted p = settles _ c k _ _ _ _ p
-  performs c k (QueuePurge m) content conn is accepted p = held_before (shrinks_on old.queue _ new.queue (shrinks_filter (λ e. not (is_ready e)) old.queue m.queue) (shrinks_same _ new.queue p.left.queues))
-  performs c k _ content conn is accepted p = absurd p
-
-  refuses : (c k : ℕ) (cause : Ids) (r : Refusal) → Refuses old c k cause r h.sends h.notes new → AreHeldSince
-  refuses c k cause Ignored p = same p.left.queues
-  refuses c k cause (Of_channel code) p = free (by_channel c k) p.left.queues
-  refuses c k cause (Of_connection code) p = free (by_connection c) p.left.queues
-
-  decides : (c k : ℕ) (m : Method) (content : Option Content) (conn : Connection) (r : Option Refusal) → h.event ≡ Command c k m content → refusal h.config.topology old conn k m (old.channel c k) ≡ r → Decides h.config.topology old c k m content r h.sends h.notes new → AreHeldSince
-  decides c k m content conn None is accepted p = performs c k m content conn is accepted p
-  decides c k m content conn (Some r) is refused p = refuses c k (ids_of m) r p
-
-  commanded : (c k : ℕ) (m : Method) (content : Option Content) (o : Option Connection) → h.event ≡ Command c k m content → OnConnection h.config.topology old c k m content h.sends h.notes new o → AreHeldSince
-  commanded c k m content None is p = same p.left.queues
-  commanded c k m content (Some conn) is p = decides c k m content conn (refusal h.config.topology old conn k m (old.channel c k)) is refl p
-
-  too_large : (c k : ℕ) (o : Option Connection) → OnLarge old c k h.sends h.notes new o → AreHeldSince
-  too_large c k None p = same p.left.queues
-  too_large c k (Some conn) p = refuses c k (ids_of empty_publish) (refusal_of_large conn k (old.channel c k)) p
-
-  held : (e : Event) → h.event ≡ e → Acts h.config.topology old e h.sends h.notes new → AreHeldSince
-  held (Open c) is p = same p.left.queues
-  held (First c bytes) is p = same p.left.queues
-  held (Running c max k) is p = free (by_connection c) p.left.queues
-  held (Command c k m content) is p = commanded c k m content (old.connection c) is p
-  held (TooLarge c k) is p = too_large c k (old.connection c) p
-  held (Fault c code) is p = free (by_connection c) p.left.queues
-  held (Lose c) is p = free (by_connection c) p.left.queues
-  held (Pause c) is p = same p.left.queues
-  held (Resume c) is p = same p.left.queues
-  held (Deliver c) is p = gives p.made.consumer.queue p.made.consumer.no_ack _ p.made.entry p.made.first (to_consumer is p) p.makes.left.queues
-
-  moved : (c max : ℕ) (v : Bool) → Is (if v then opened old c max 0 else old) new → AreHeldSince
-  moved c max true is = free (by_connection c) is.queues
-  moved c max false is = same is.queues
+  held : (c : ℕ) → Deed h.config.topology old new h.event c h.sends h.notes → AreHeldSince
+  held c (changes s change) = let f = freed_by change in held_before (shrinks_freed f.0 old.queue new.queue f.1)
+  held c (enters k now p puts alike serves) = held_before (shrinks_arrivals h.config.topology old.queue new.queue old.queue _ p.is.targets p.is.left.queues)
+  held c (gives g) = given g.queue g.no_ack _ g.entry g.first g.out g.left.queues
+  held c (settles s) = held_before (shrinks s.how c s.h s.is.gone s.is.queues)
+  held c (purges p) = held_before (shrinks_on old.queue _ new.queue (shrinks_filter (λ e. not (is_ready e)) old.queue p.queue) (shrinks_same _ new.queue p.left.queues))
 
 pub held_are_given : HeldAreGiven
-held_are_given h s = elim (goes h.config h.before h.after h.sends h.notes h.event s) [
-  | inl p ↦ held h h.event refl p.acts
-  | inr a ↦ moved h (event_connection h.event) a.move.next.channel_max (is_running a.move.next.phase) a.moves.broker
-]
+held_are_given h s = held h (event_connection h.event) (deed_at h s)

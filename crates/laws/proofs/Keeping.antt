@@ -26,7 +26,7 @@ use Rattle.laws.proofs.Dying.{IsLetter}
 use Rattle.laws.proofs.Entering.{picked}
 use Rattle.laws.proofs.Once.{key_is_short, routed_is_there}
 use Rattle.laws.proofs.Safe.{comes_fixed, routes_after, come_here, come_later}
-use Rattle.laws.proofs.Traced.{AreSame, Came, stood, by_letter, published, AllCame, came, rooted, both_alike, step_came}
+use Rattle.laws.proofs.Traced.{AreSame, Came, stood, by_letter, published, AllCame, acts_came, rooted, both_alike, step_came}
 
 -- ---- deaths
 
@@ -94,7 +94,7 @@ module _ (f : Config) (old new : Broker) (e : Event) (sends : List Send) (notes 
 pub stay_kept : MessagesStayKept
 stay_kept = record {
   empty = λ f. record { each = λ q e i. absurd i; alike = λ q r e d i j same. absurd i };
-  acts = λ f old new e sends notes sound said counted kept a. kept_on f old new e sends notes sound said counted kept (came f.topology old new sends notes e a);
+  acts = λ f old new e sends notes sound said counted kept a. kept_on f old new e sends notes sound said counted kept (acts_came f.topology old new sends notes e a);
 }
 
 -- Each step leaves messages where they may stand.
@@ -111,7 +111,7 @@ unmarked t old new e sends notes q x none (published p i is) = ap (λ (z : Entry
 pub no_event_marks : NoEventMarks
 no_event_marks = record {
   empty = λ q e i. absurd i;
-  acts = λ t old new e sends notes none a q x i. unmarked t old new e sends notes q x none (came t old new sends notes e a q x i);
+  acts = λ t old new e sends notes none a q x i. unmarked t old new e sends notes q x none (acts_came t old new sends notes e a q x i);
 }
 
 -- so no step does

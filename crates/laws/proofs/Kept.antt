@@ -14,25 +14,17 @@ use Rattle.model.specs.Alone.{event_connection, ArePresent}
 use Rattle.model.specs.declared.events.Event.TheVariants.{Open, Running}
 use Rattle.laws.specs.Accounts.{Lasts, DeliveriesAreAccountedFor}
 use Rattle.laws.proofs.Accounted.{step_accounts}
-use Rattle.laws.proofs.Agreed.{stay_agreed}
+use Rattle.laws.proofs.Agreed.{agreed_on, stay_agreed}
 use Rattle.laws.proofs.Present.{step_present}
 use Rattle.laws.proofs.LoggedIn.{step_enters}
 use Rattle.laws.proofs.Settled.{step_settles}
 use Rattle.laws.proofs.Unrefused.{step_answers, step_purges}
 use Rattle.laws.proofs.Noted.{step_takes}
-use Rattle.laws.proofs.View.{goes}
+use Rattle.laws.proofs.View.{deed_at}
 
--- what is held and what is outstanding agree after a move of the phases
-moved_agreed : (t : Topology) (old new : Broker) (c max : ℕ) (v : Bool) → IsAgreed old → Is (if v then opened old c max 0 else old) new → IsAgreed new
-moved_agreed t old new c max true a is = stay_agreed.acts t old new (Running c max 0) [] [] a (record { sent = refl; noted = refl; left = is })
-moved_agreed t old new c max false a is = stay_agreed.acts t old new (Open c) [] [] a (record { sent = refl; noted = refl; left = is })
-
--- and so after each step
+-- what is held and what is outstanding agree after each step
 step_agreed : (h : Happening) → Step h.config h.before h.event h.sends h.notes h.after → IsAgreed h.before.broker → IsAgreed h.after.broker
-step_agreed h s a = elim (goes h.config h.before h.after h.sends h.notes h.event s) [
-  | inl p ↦ stay_agreed.acts h.config.topology h.before.broker h.after.broker h.event h.sends h.notes a p.acts
-  | inr q ↦ moved_agreed h.config.topology h.before.broker h.after.broker (event_connection h.event) q.move.next.channel_max (is_running q.move.next.phase) a q.moves.broker
-]
+step_agreed h s a = agreed_on h.config.topology h.before.broker h.after.broker a h.event (event_connection h.event) h.sends h.notes (deed_at h s)
 
 pub lasts_from : (hs : List Happening) (old new : State) → Run old hs new → IsAgreed old.broker → ArePresent old → AllByRecursion Lasts hs
 lasts_from [] old new r a p = tt

@@ -11,6 +11,8 @@ pub mod Given
 pub mod Accepted
 pub mod Agreed
 pub mod Speaking
+pub mod Replies
+pub mod Deeds
 pub mod View
 pub mod Channels
 pub mod Aside

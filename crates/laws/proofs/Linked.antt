@@ -17,7 +17,8 @@ use Rattle.model.specs.declared.events.Command.TheVariants.{Head, Plain, Full, T
 use Rattle.model.specs.declared.events.Event.{Event}
 use Rattle.model.specs.declared.events.Event.TheVariants as event
 use Rattle.model.specs.Alone.{event_connection}
-use Rattle.laws.proofs.View.{connection_after, session_after, is_read, is_opening, with_same, acted, Performed, Answered, goes}
+use Rattle.laws.proofs.Deeds.{connection_after, with_same, acted}
+use Rattle.laws.proofs.View.{session_after, is_read, is_opening, Performed, Answered, goes}
 
 -- ---- one value changed
 

@@ -4,7 +4,7 @@ use Rattle.std.specs.Prelude.{is_some, ◌==◌, ◌&&◌, if◌then◌else◌, 
 use Rattle.std.proofs.lemmas.Bool.{false≢true}
 use Rattle.std.proofs.lemmas.Option.{same_Some}
 use Rattle.model.specs.Topology.{Topology, IsIn}
-use Rattle.model.specs.Grammar.{Ids, ids_of}
+use Rattle.model.specs.Alone.{event_connection}
 use Rattle.model.specs.Broker.{Consumer, Channel, Connection, Broker, new_channel, with_pair, with_row}
 use Rattle.model.specs.Entries.{by_channel}
 use Rattle.model.specs.Deliveries.{Settlement, first_ready}
@@ -23,6 +23,7 @@ use Rattle.model.specs.declared.methods.Method.TheVariants.{ConnectionClose, Cha
 use Rattle.model.specs.declared.notes.Note.{Note}
 use Rattle.laws.specs.Consumers.{WasConsumer, IsMadeBy, ConsumersAreMade}
 use Rattle.laws.proofs.Counts.{in-append}
+use Rattle.laws.proofs.Deeds.{Deed, changes, enters, gives, settles, purges, nothing, alters, ends, clears, renews, Serves, as_before, one_more, fewer, acted}
 
 in_fewer : (p : Consumer → Bool) (k : Consumer) (ks : List Consumer) → IsIn k (filter p ks) → IsIn k ks
 in_fewer p k [] i = i
@@ -79,9 +80,6 @@ module _ (t : Topology) (old new : Broker) (e : Event) (sends : List Send) (note
   with_some : (c h : ℕ) (ch : Channel) → ((d l : ℕ) → new.channel d l ≡ with_pair old.channel c h (Some ch) d l) → ((k : Consumer) → IsIn k ch.consumers → Came c h k) → AllCame
   with_some c h ch is good = with_this c h (Some ch) is (λ x k e i. good k (subst (λ (z : Channel). IsIn k z.consumers) (sym (same_Some ch x e)) i))
 
-  with_none : (c h : ℕ) → ((d l : ℕ) → new.channel d l ≡ with_pair old.channel c h None d l) → AllCame
-  with_none c h is = with_this c h None is (λ ch k e. absurd (false≢true (ap is_some e)))
-
   -- all channels of a connection are these now, none of which has a consumer
   with_these : (c : ℕ) (row : ℕ → Option Channel) → ((d l : ℕ) → new.channel d l ≡ with_row old.channel c row d l) → ((l : ℕ) (ch : Channel) → row l ≡ Some ch → ch.consumers ≡ []) → AllCame
   with_these c row is none d l k (ch, at, i) = go (d == c) (sym (is d l) ∙ at)
@@ -90,78 +88,26 @@ module _ (t : Topology) (old new : Broker) (e : Event) (sends : List Send) (note
       go true e = absurd (subst (λ (ks : List Consumer). IsIn k ks) (none l ch e) i)
       go false e = inl (ch, e, i)
 
-  gone : (c : ℕ) → ((d l : ℕ) → new.channel d l ≡ with_row old.channel c (λ h. None) d l) → AllCame
-  gone c is = with_these c (λ h. None) is (λ l ch e. absurd (false≢true (ap is_some e)))
-
-  closes : (wanted : List Send) (c h : ℕ) (v : Bool) → Does sends notes new wanted (if v then old else with_freed (with_channel old c h None) (by_channel c h)) → AllCame
-  closes wanted c h true p = same p.left.channels
-  closes wanted c h false p = with_none c h p.left.channels
-
-  limits : (wanted : List Send) (c h : ℕ) (m : Qos) (v : Bool) → Does sends notes new wanted (with_channel old c h (Some (if v then record (mine c h) { limit = m.prefetch_count } else record (mine c h) { each_limit = m.prefetch_count }))) → AllCame
-  limits wanted c h m true p = with_some c h _ p.left.channels (in_mine c h)
-  limits wanted c h m false p = with_some c h _ p.left.channels (in_mine c h)
-
-  gets : (c h : ℕ) (m : Get) (o : Option Entry) → Gets old c h (mine c h) m o sends notes new → AllCame
-  gets c h m None p = same p.left.channels
-  gets c h m (Some x) p = with_some c h _ p.left.channels (in_mine c h)
-
-  settles : (how : Settlement) (wanted : List Send) (c h tag : ℕ) (multiple : Bool) → Settles t how old c h (mine c h) tag multiple wanted sends notes new → AllCame
-  settles how wanted c h tag multiple p = with_some c h _ p.channels (in_mine c h)
-
   consumes : (c h : ℕ) (m : Consume) (content : Option Content) → e ≡ Command c h (BasicConsume m) content → (k : Consumer) → IsIn k ((mine c h).consumers) ⊎ IsIn k (consumer_of (mine c h) m ∷ []) → Came c h k
   consumes c h m content is k (inl i) = in_mine c h k i
   consumes c h m content is k (inr (inl made)) = inr (m, content, is, ap (λ (z : Consumer). z.number) made)
   consumes c h m content is k (inr (inr none)) = absurd none
 
-  performs : (c h : ℕ) (m : Method) (content : Option Content) → e ≡ Command c h m content → Performs t old c h (mine c h) m content sends notes new → AllCame
-  performs c h (ConfirmSelect no_wait) content is p = with_some c h _ p.left.channels (in_mine c h)
-  performs c h (BasicPublish publish) content is p = with_some c h _ p.left.channels (in_mine c h)
-  performs c h (ChannelOpen reserved) content is p = with_some c h new_channel p.left.channels (λ k none. absurd none)
-  performs c h (ChannelFlow active) content is p = same p.left.channels
-  performs c h (ChannelClose m) content is p = closes _ c h (mine c h).is_closing p
-  performs c h ChannelCloseOk content is p = with_none c h p.left.channels
-  performs c h (ConnectionClose m) content is p = gone c p.left.channels
-  performs c h (ExchangeDeclare m) content is p = same p.left.channels
-  performs c h (QueueDeclare m) content is p = same p.does.left.channels
-  performs c h (BasicQos m) content is p = limits _ c h m m.global p
-  performs c h (BasicConsume m) content is p = with_some c h _ p.left.channels (λ k i. consumes c h m content is k (in-append k (mine c h).consumers (consumer_of (mine c h) m ∷ []) i))
-  performs c h (BasicCancel m) content is p = with_some c h _ p.left.channels (λ k i. in_mine c h k (in_fewer (λ (x : Consumer). not (is_tagged m.consumer_tag x)) k (mine c h).consumers i))
-  performs c h (BasicGet m) content is p = gets c h m (first_ready (old.queue m.queue)) p
-  performs c h (BasicAck m) content is p = settles _ _ c h _ _ p
-  performs c h (BasicReject m) content is p = settles _ _ c h _ _ p
-  performs c h (BasicNack m) content is p = settles _ _ c h _ _ p
-  performs c h (BasicRecover requeue) content is p = settles _ _ c h _ _ p
-  performs c h (QueuePurge m) content is p = same p.left.channels
-  performs c h _ content is p = absurd p
+  served : (c h : ℕ) (now : Channel) → Serves t e c h (mine c h) now → (k : Consumer) → IsIn k now.consumers → Came c h k
+  served c h now (as_before consumers next) k i = in_mine c h k (subst (IsIn k) consumers i)
+  served c h now (one_more m content is unrefused one) k i = consumes c h m content is k (in-append k (mine c h).consumers (consumer_of (mine c h) m ∷ []) (subst (λ (ch : Channel). IsIn k ch.consumers) one i))
+  served c h now (fewer tag one) k i = in_mine c h k (in_fewer (λ (x : Consumer). not (is_tagged tag x)) k (mine c h).consumers (subst (λ (ch : Channel). IsIn k ch.consumers) one i))
 
-  refuses : (c h : ℕ) (cause : Ids) (r : Refusal) → Refuses old c h cause r sends notes new → AllCame
-  refuses c h cause Ignored p = same p.left.channels
-  refuses c h cause (Of_channel code) p = with_some c h _ p.left.channels (λ k none. absurd none)
-  refuses c h cause (Of_connection code) p = gone c p.left.channels
-
-  decides : (c h : ℕ) (m : Method) (content : Option Content) (r : Option Refusal) → e ≡ Command c h m content → Decides t old c h m content r sends notes new → AllCame
-  decides c h m content None is p = performs c h m content is p
-  decides c h m content (Some r) is p = refuses c h (ids_of m) r p
-
-  commanded : (c h : ℕ) (m : Method) (content : Option Content) (o : Option Connection) → e ≡ Command c h m content → OnConnection t old c h m content sends notes new o → AllCame
-  commanded c h m content None is p = same p.left.channels
-  commanded c h m content (Some conn) is p = decides c h m content (refusal t old conn h m (old.channel c h)) is p
-
-  too_large : (c h : ℕ) (o : Option Connection) → OnLarge old c h sends notes new o → AllCame
-  too_large c h None p = same p.left.channels
-  too_large c h (Some conn) p = refuses c h (ids_of empty_publish) (refusal_of_large conn h (old.channel c h)) p
-
-  came : (x : Event) → e ≡ x → Acts t old x sends notes new → AllCame
-  came (Open c) is p = same p.left.channels
-  came (First c bytes) is p = same p.left.channels
-  came (Running c max n) is p = with_these c (channels_up_to n) p.left.channels (row_new n)
-  came (Command c h m content) is p = commanded c h m content (old.connection c) is p
-  came (TooLarge c h) is p = too_large c h (old.connection c) p
-  came (Fault c code) is p = gone c p.left.channels
-  came (Lose c) is p = gone c p.left.channels
-  came (Pause c) is p = same p.left.channels
-  came (Resume c) is p = same p.left.channels
-  came (Deliver c) is p = with_some c p.made.number _ p.makes.left.channels (λ k i. inl (p.made.channel, p.made.taker.there, i))
+  came : (c : ℕ) → Deed t old new e c sends notes → AllCame
+  came c (changes s (nothing same_queues channels connections)) = same channels
+  came c (changes s (alters h now same_queues puts alike serves)) = with_some c h now puts.channels (served c h now serves)
+  came c (changes s (ends h same_queues puts awaits)) = with_this c h None puts.channels (λ ch k none. absurd (false≢true (ap is_some none)))
+  came c (changes s (clears h now freed puts empty)) = with_this c h now puts.channels (λ ch k is i. absurd (subst (IsIn k) (empty ch is).consumers i))
+  came c (changes s (renews row freed r)) = with_these c row r.channels (λ l ch is. (r.empty l ch is).consumers)
+  came c (enters h now p puts alike serves) = with_some c h now puts.channels (served c h now serves)
+  came c (gives g) = with_some c g.h _ g.left.channels (λ k i. inl (g.ch, g.there, i))
+  came c (settles s) = with_some c s.h _ s.is.channels (in_mine c s.h)
+  came c (purges p) = same p.left.channels
 
 pub are_made : ConsumersAreMade
-are_made t old new e sends notes p c h k was = came t old new e sends notes e refl p c h k was
+are_made t old new e sends notes p c h k was = came t old new e sends notes (event_connection e) (acted t old new sends notes e p).deed c h k was

@@ -27,7 +27,9 @@ use Rattle.model.specs.declared.notes.Note.TheVariants.{Published}
 use Rattle.model.specs.declared.notes.Answer.TheVariants as answer
 use Rattle.laws.specs.Promises.{nack_of, nack_sent}
 use Rattle.laws.proofs.Counts.{any_none, filter_all, filter_map_none}
-use Rattle.laws.proofs.View.{is_answer, CountsNone, Publishes, Seen, seen_at, answer_all, quiet_notes}
+use Rattle.laws.proofs.Deeds.{Publishes}
+use Rattle.laws.proofs.Replies.{is_answer, answer_all}
+use Rattle.laws.proofs.View.{CountsNone, Seen, seen_at, quiet_notes}
 use Rattle.laws.proofs.Balance.{number, content, confirm, some_full, is_returned, first_note, entry_part, answer_part, noted, returned_all, entry_all, others_all}
 use Rattle.laws.proofs.Reading.{cons_append}
 

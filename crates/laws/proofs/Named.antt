@@ -18,6 +18,7 @@ use Rattle.model.specs.Prefetch.{is_to, has_tag_left}
 use Rattle.model.specs.Deliveries.{Settlement, first_ready, outstanding_after}
 use Rattle.model.specs.Consuming.{is_tagged, is_in_use, server_tag, next_free, tag_for, is_tag_taken, is_tag_wanting, consumer_of, with_consumer, without_consumer}
 use Rattle.model.specs.Step.{Is, tag_of, opened, greatest, Refusal, Ignored, Of_channel, Of_connection, Acts, Does, Gets, Settles, Performs, Refuses, Decides, OnConnection, OnLarge, IsDelivery, channel_or_new, channels_up_to, empty_publish, or_else, refusal, refusal_of, refusal_in, refusal_of_asking, refusal_of_tag, refusal_of_many, refusal_of_consume, refusal_of_large, with_freed, with_channel}
+use Rattle.model.specs.Alone.{event_connection}
 use Rattle.model.specs.Arrivals.{IsSaid}
 use Rattle.model.specs.Naming.{IsGivenBelow, AreNamedOn, AreNamed}
 use Rattle.model.specs.Sending.{IsCarried, IsAddressed}
@@ -37,6 +38,7 @@ use Rattle.model.specs.declared.notes.Note.{Note}
 use Rattle.laws.specs.Consumers.{ConsumersStayNamed, DeliveriesAreAddressed}
 use Rattle.laws.proofs.Counts.{count_none, all-append, all_each, all_in, filter_all}
 use Rattle.laws.proofs.Leaving.{find_in}
+use Rattle.laws.proofs.Deeds.{Deed, changes, enters, gives, settles, purges, nothing, alters, ends, clears, renews, Serves, as_before, one_more, fewer, HoldsAlike, IsTakerOf, acted}
 use Rattle.laws.proofs.Tags.{next_is_free}
 
 -- ---- tags of the server
@@ -223,9 +225,6 @@ module _ (t : Topology) (old new : Broker) (a : AreNamed t old) where
   with_some : (c h : ℕ) (ch : Channel) → ((d k : ℕ) → new.channel d k ≡ with_pair old.channel c h (Some ch) d k) → AreNamedOn t ch → AreNamed t new
   with_some c h ch is good = with_this c h (Some ch) is (λ x e. subst (AreNamedOn t) (same_Some ch x e) good)
 
-  with_none : (c h : ℕ) → ((d k : ℕ) → new.channel d k ≡ with_pair old.channel c h None d k) → AreNamed t new
-  with_none c h is = with_this c h None is (λ ch e. absurd (false≢true (ap is_some e)))
-
   with_these : (c : ℕ) (row : ℕ → Option Channel) → ((d k : ℕ) → new.channel d k ≡ with_row old.channel c row d k) → ((k : ℕ) (ch : Channel) → row k ≡ Some ch → AreNamedOn t ch) → AreNamed t new
   with_these c row is good d k ch e = go (d == c) (sym (is d k) ∙ e)
     where
@@ -233,114 +232,32 @@ module _ (t : Topology) (old new : Broker) (a : AreNamed t old) where
       go true e = good k ch e
       go false e = a d k ch e
 
-  gone : (c : ℕ) → ((d k : ℕ) → new.channel d k ≡ with_row old.channel c (λ h. None) d k) → AreNamed t new
-  gone c is = with_these c (λ h. None) is (λ k ch e. absurd (false≢true (ap is_some e)))
+  -- where the event makes or ends consumers of a channel
+  served : {e : Event} (c h : ℕ) (now : Channel) → IsSaid e → HoldsAlike (mine c h) now → Serves t e c h (mine c h) now → AreNamedOn t now
+  served c h now said alike (as_before consumers next) = named_as t (mine c h) now consumers next (subst (AllByRecursion (λ (o : Outstanding). IsGivenBelow (mine c h).next_number o.by)) (sym alike.outstanding) (named_mine c h).given) (named_mine c h)
+  served c h now said alike (one_more m content is unrefused one) = subst (AreNamedOn t) (sym one) (named_more t (mine c h) m (accepted t (mine c h) m unrefused) (subst IsSaid is said).0.1.1.0 (named_mine c h))
+  served c h now said alike (fewer tag one) = subst (AreNamedOn t) (sym one) (named_fewer t (mine c h) tag (named_mine c h))
 
-  closes : (sends wanted : List Send) (notes : List Note) (c h : ℕ) (v : Bool) → Does sends notes new wanted (if v then old else with_freed (with_channel old c h None) (by_channel c h)) → AreNamed t new
-  closes sends wanted notes c h true p = same p.left.channels
-  closes sends wanted notes c h false p = with_none c h p.left.channels
+  taker_below : (ch : Channel) (by : Taker) → AreNamedOn t ch → IsTakerOf ch by → IsGivenBelow ch.next_number by
+  taker_below ch taker.Get n its = tt
+  taker_below ch (taker.Consumer number) n (k, i, is) = subst (λ (m : ℕ). m < ch.next_number) is (all_in (λ (x : Consumer). x.number < ch.next_number) k ch.consumers n.before i)
 
-  limits : (sends wanted : List Send) (notes : List Note) (c h : ℕ) (m : Qos) (v : Bool) → Does sends notes new wanted (with_channel old c h (Some (if v then record (mine c h) { limit = m.prefetch_count } else record (mine c h) { each_limit = m.prefetch_count }))) → AreNamed t new
-  limits sends wanted notes c h m true p = with_some c h _ p.left.channels (named_as t (mine c h) _ refl refl (named_mine c h).given (named_mine c h))
-  limits sends wanted notes c h m false p = with_some c h _ p.left.channels (named_as t (mine c h) _ refl refl (named_mine c h).given (named_mine c h))
-
-  gets : (sends : List Send) (notes : List Note) (c h : ℕ) (m : Get) (o : Option Entry) → Gets old c h (mine c h) m o sends notes new → AreNamed t new
-  gets sends notes c h m None p = same p.left.channels
-  gets sends notes c h m (Some e) p = with_some c h _ p.left.channels (named_as t (mine c h) _ refl refl (given_more m.no_ack _ _ _ taker.Get (mine c h).outstanding tt (named_mine c h).given) (named_mine c h))
-
-  settles : (how : Settlement) (sends wanted : List Send) (notes : List Note) (c h tag : ℕ) (multiple : Bool) → Settles t how old c h (mine c h) tag multiple wanted sends notes new → AreNamed t new
-  settles how sends wanted notes c h tag multiple p = with_some c h _ p.channels (named_as t (mine c h) _ refl refl (given_kept _ tag multiple (mine c h).outstanding (named_mine c h).given) (named_mine c h))
-
-  not_refused : (ch : Channel) (m : Consume) → refusal_of t old ch (BasicConsume m) ≡ None → refusal_of_consume t ch m ≡ None
-  not_refused ch m e = e
-
-  consume_accepted : (conn : Connection) (h : ℕ) (m : Consume) (ch : Option Channel) → refusal t old conn h (BasicConsume m) ch ≡ None → refusal_of_consume t (channel_or_new ch) m ≡ None
-  consume_accepted conn h m None e = by (h == 0) (nat_lt conn.channel_max h) e
-    where
-      by : (u v : Bool) → (if u then Some (Of_connection 503) else if v then Some (Of_connection 504) else Some (Of_connection 504)) ≡ None → refusal_of_consume t new_channel m ≡ None
-      by true v e = absurd (false≢true (sym (ap is_some e)))
-      by false true e = absurd (false≢true (sym (ap is_some e)))
-      by false false e = absurd (false≢true (sym (ap is_some e)))
-  consume_accepted conn h m (Some ch) e = not_refused ch m (by ch.is_closing (h == 0) (nat_lt conn.channel_max h) (refusal_of t old ch (BasicConsume m)) e)
-    where
-      by : (w u v : Bool) (rest : Option Refusal) → (if w then Some Ignored else if u then Some (Of_connection 503) else if v then Some (Of_connection 504) else rest) ≡ None → rest ≡ None
-      by true u v rest e = absurd (false≢true (sym (ap is_some e)))
-      by false true v rest e = absurd (false≢true (sym (ap is_some e)))
-      by false false true rest e = absurd (false≢true (sym (ap is_some e)))
-      by false false false rest e = e
-
-  performs : (sends : List Send) (notes : List Note) (c h : ℕ) (m : Method) (content : Option Content) (conn : Connection) → IsMethod m → refusal t old conn h m (old.channel c h) ≡ None → Performs t old c h (mine c h) m content sends notes new → AreNamed t new
-  performs sends notes c h (ConfirmSelect no_wait) content conn said e p = with_some c h _ p.left.channels (named_as t (mine c h) _ refl refl (named_mine c h).given (named_mine c h))
-  performs sends notes c h (BasicPublish publish) content conn said e p = with_some c h _ p.left.channels (named_as t (mine c h) _ refl refl (named_mine c h).given (named_mine c h))
-  performs sends notes c h (ChannelOpen reserved) content conn said e p = with_some c h new_channel p.left.channels (named_new t new_channel refl refl)
-  performs sends notes c h (ChannelFlow active) content conn said e p = same p.left.channels
-  performs sends notes c h (ChannelClose m) content conn said e p = closes sends _ notes c h (mine c h).is_closing p
-  performs sends notes c h ChannelCloseOk content conn said e p = with_none c h p.left.channels
-  performs sends notes c h (ConnectionClose m) content conn said e p = gone c p.left.channels
-  performs sends notes c h (ExchangeDeclare m) content conn said e p = same p.left.channels
-  performs sends notes c h (QueueDeclare m) content conn said e p = same p.does.left.channels
-  performs sends notes c h (BasicQos m) content conn said e p = limits sends _ notes c h m m.global p
-  performs sends notes c h (BasicConsume m) content conn said e p = with_some c h _ p.left.channels (named_more t (mine c h) m (accepted t (mine c h) m (consume_accepted conn h m (old.channel c h) e)) said.1.1.0 (named_mine c h))
-  performs sends notes c h (BasicCancel m) content conn said e p = with_some c h _ p.left.channels (named_fewer t (mine c h) m.consumer_tag (named_mine c h))
-  performs sends notes c h (BasicGet m) content conn said e p = gets sends notes c h m (first_ready (old.queue m.queue)) p
-  performs sends notes c h (BasicAck m) content conn said e p = settles _ sends _ notes c h _ _ p
-  performs sends notes c h (BasicReject m) content conn said e p = settles _ sends _ notes c h _ _ p
-  performs sends notes c h (BasicNack m) content conn said e p = settles _ sends _ notes c h _ _ p
-  performs sends notes c h (BasicRecover requeue) content conn said e p = settles _ sends _ notes c h _ _ p
-  performs sends notes c h (QueuePurge m) content conn said e p = same p.left.channels
-  performs sends notes c h _ content conn said e p = absurd p
-
-  refuses : (sends : List Send) (notes : List Note) (c h : ℕ) (cause : Ids) (r : Refusal) → Refuses old c h cause r sends notes new → AreNamed t new
-  refuses sends notes c h cause Ignored p = same p.left.channels
-  refuses sends notes c h cause (Of_channel code) p = with_some c h _ p.left.channels (named_new t _ refl refl)
-  refuses sends notes c h cause (Of_connection code) p = gone c p.left.channels
-
-  decides : (sends : List Send) (notes : List Note) (c h : ℕ) (m : Method) (content : Option Content) (conn : Connection) (r : Option Refusal) → IsMethod m → refusal t old conn h m (old.channel c h) ≡ r → Decides t old c h m content r sends notes new → AreNamed t new
-  decides sends notes c h m content conn None said e p = performs sends notes c h m content conn said e p
-  decides sends notes c h m content conn (Some r) said e p = refuses sends notes c h (ids_of m) r p
-
-  commanded : (sends : List Send) (notes : List Note) (c h : ℕ) (m : Method) (content : Option Content) (o : Option Connection) → IsMethod m → OnConnection t old c h m content sends notes new o → AreNamed t new
-  commanded sends notes c h m content None said p = same p.left.channels
-  commanded sends notes c h m content (Some conn) said p = decides sends notes c h m content conn (refusal t old conn h m (old.channel c h)) said refl p
-
-  too_large : (sends : List Send) (notes : List Note) (c h : ℕ) (o : Option Connection) → OnLarge old c h sends notes new o → AreNamed t new
-  too_large sends notes c h None p = same p.left.channels
-  too_large sends notes c h (Some conn) p = refuses sends notes c h (ids_of empty_publish) (refusal_of_large conn h (old.channel c h)) p
-
-  row_named : (k n : ℕ) (ch : Channel) → channels_up_to k n ≡ Some ch → AreNamedOn t ch
-  row_named k n ch e = by (nat_le 1 n && nat_le n k) e
-    where
-      by : (v : Bool) → (if v then Some new_channel else None) ≡ Some ch → AreNamedOn t ch
-      by true e = subst (AreNamedOn t) (same_Some new_channel ch e) (named_new t new_channel refl refl)
-      by false e = absurd (false≢true (ap is_some e))
-
-  delivers : (sends : List Send) (notes : List Note) (c : ℕ) → IsDelivery old c sends notes new → AreNamed t new
-  delivers sends notes c p =
-      let o = p.made in
-      let n = a c o.number o.channel o.taker.there in
-      with_some c o.number _ p.makes.left.channels (named_as t o.channel _ refl refl
-      (given_more o.consumer.no_ack _ _ _ (taker.Consumer o.consumer.number) o.channel.outstanding (all_in (λ (k : Consumer). k.number < o.channel.next_number) o.consumer o.channel.consumers n.before o.taker.its) n.given) n)
-
-  -- Each event keeps the names.
-  pub onward : (e : Event) (sends : List Send) (notes : List Note) → IsSaid e → Acts t old e sends notes new → AreNamed t new
-  onward (Open c) sends notes said p = same p.left.channels
-  onward (First c bytes) sends notes said p = same p.left.channels
-  onward (Running c max k) sends notes said p = with_these c (channels_up_to k) p.left.channels (row_named k)
-  onward (Command c h m content) sends notes said p = commanded sends notes c h m content (old.connection c) said.0 p
-  onward (TooLarge c h) sends notes said p = too_large sends notes c h (old.connection c) p
-  onward (Fault c code) sends notes said p = gone c p.left.channels
-  onward (Lose c) sends notes said p = gone c p.left.channels
-  onward (Pause c) sends notes said p = same p.left.channels
-  onward (Resume c) sends notes said p = same p.left.channels
-  onward (Deliver c) sends notes said p = delivers sends notes c p
-
-  -- so does a move of the phases
-  pub moved : (c max : ℕ) (v : Bool) → Is (if v then opened old c max 0 else old) new → AreNamed t new
-  moved c max true is = with_these c (channels_up_to 0) is.channels (row_named 0)
-  moved c max false is = same is.channels
+  -- Each deed keeps the names.
+  pub named_on : (e : Event) (c : ℕ) (sends : List Send) (notes : List Note) → IsSaid e → Deed t old new e c sends notes → AreNamed t new
+  named_on e c sends notes said (changes s (nothing same_queues channels connections)) = same channels
+  named_on e c sends notes said (changes s (alters h now same_queues puts alike serves)) = with_some c h now puts.channels (served c h now said alike serves)
+  named_on e c sends notes said (changes s (ends h same_queues puts awaits)) = with_this c h None puts.channels (λ ch none. absurd (false≢true (ap is_some none)))
+  named_on e c sends notes said (changes s (clears h now freed puts empty)) = with_this c h now puts.channels (λ ch is. named_new t ch (empty ch is).consumers (empty ch is).outstanding)
+  named_on e c sends notes said (changes s (renews row freed r)) = with_these c row r.channels (λ k ch is. named_new t ch (r.empty k ch is).consumers (r.empty k ch is).outstanding)
+  named_on e c sends notes said (enters h now p puts alike serves) = with_some c h now puts.channels (served c h now said alike serves)
+  named_on e c sends notes said (gives g) =
+      let n = a c g.h g.ch g.there in
+      with_some c g.h _ g.left.channels (named_as t g.ch _ refl refl (given_more g.no_ack _ _ _ g.by g.ch.outstanding (taker_below g.ch g.by n g.its) n.given) n)
+  named_on e c sends notes said (settles s) = with_some c s.h _ s.is.channels (named_as t (mine c s.h) _ refl refl (given_kept _ s.tag s.multiple (mine c s.h).outstanding (named_mine c s.h).given) (named_mine c s.h))
+  named_on e c sends notes said (purges p) = same p.left.channels
 
 pub stay_named : ConsumersStayNamed
-stay_named = record { empty = λ t c h ch e. absurd (false≢true (ap is_some e)); acts = λ t old new e sends notes said a p. onward t old new a e sends notes said p; fresh = λ t ch n. count_none _ ch.outstanding (all_each _ _ (λ (o : Outstanding). none_to_next ch.next_number o.by) ch.outstanding n.given) }
+stay_named = record { empty = λ t c h ch e. absurd (false≢true (ap is_some e)); acts = λ t old new e sends notes said a p. named_on t old new a e (event_connection e) sends notes said (acted t old new sends notes e p).deed; fresh = λ t ch n. count_none _ ch.outstanding (all_each _ _ (λ (o : Outstanding). none_to_next ch.next_number o.by) ch.outstanding n.given) }
 
 -- ---- what is delivered
 

@@ -13,17 +13,14 @@ use Rattle.model.specs.declared.events.Arrival.TheVariants as arrival
 use Rattle.model.specs.Alone.{event_connection}
 use Rattle.laws.specs.Consumers.{IsWorldNamed, WorldsStayNamed, PlaysStayNamed}
 use Rattle.laws.specs.Promises.{InForce, config_after}
-use Rattle.laws.proofs.View.{goes}
+use Rattle.laws.proofs.View.{deed_at}
 use Rattle.laws.proofs.Counts.{from_either}
 use Rattle.laws.proofs.Plays.{IsTold, Told, told_same, told_turns, told_taken, told_opens, told_heard, told_works_off, told_taken_and_works, told_loses, told_pumps}
 use Rattle.laws.proofs.Reloading.{named_reloaded}
-use Rattle.laws.proofs.Named.{onward, moved, stay_named}
+use Rattle.laws.proofs.Named.{named_on, stay_named}
 
 step_named : (h : Happening) → IsSaid h.event → Step h.config h.before h.event h.sends h.notes h.after → AreNamed h.config.topology h.before.broker → AreNamed h.config.topology h.after.broker
-step_named h said s a = elim (goes h.config h.before h.after h.sends h.notes h.event s) [
-  | inl p ↦ onward h.config.topology h.before.broker h.after.broker a h.event h.sends h.notes said p.acts
-  | inr p ↦ moved h.config.topology h.before.broker h.after.broker a (event_connection h.event) p.move.next.channel_max (is_running p.move.next.phase) p.moves.broker
-]
+step_named h said s a = named_on h.config.topology h.before.broker h.after.broker a h.event (event_connection h.event) h.sends h.notes said (deed_at h s)
 
 run_named : (f last : Config) (hs : List Happening) (old new : State) → InForce f hs last → AllByRecursion IsTold hs → Run old hs new → AreNamed f.topology old.broker → AreNamed last.topology new.broker
 run_named f last [] old new force told r a = subst (λ (g : Config). AreNamed g.topology new.broker) (sym force) (subst (λ (z : State). AreNamed f.topology z.broker) (sym r) a)

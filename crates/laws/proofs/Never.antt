@@ -36,7 +36,8 @@ use Rattle.laws.proofs.Letters.{letters_once}
 use Rattle.laws.proofs.Fresh.{run_fresh}
 use Rattle.laws.proofs.Marked.{run_marks}
 use Rattle.laws.proofs.Counts.{all_each, all_in, in-append, count-cons, count-cons_yes}
-use Rattle.laws.proofs.View.{Publishes, Seen, CountsNone, seen_at, quiet_notes}
+use Rattle.laws.proofs.Deeds.{Publishes}
+use Rattle.laws.proofs.View.{Seen, CountsNone, seen_at, quiet_notes}
 use Rattle.laws.proofs.Balance.{number, confirm, first_note, entry_part, answer_part, noted, others_all, run_stays, counted_at, stands_counted}
 use Rattle.laws.proofs.Once.{is_of_publish, AreOfOthers, Placed, places, key_is_short, run_of_others, run_entered_once}
 

@@ -30,7 +30,8 @@ use Rattle.model.specs.declared.notes.Way.TheVariants as way
 use Rattle.laws.specs.Promises.{AreSound, AreSaid}
 use Rattle.laws.proofs.Counts.{count-append, count-cons, count-cons_no, count_none, any_none, filter_map_none, all-append, all_each, in_from_contains, in-map}
 use Rattle.laws.proofs.Targets.{same_as, count_target}
-use Rattle.laws.proofs.View.{Publishes, Seen, seen_at, CountsNone, quiet_notes}
+use Rattle.laws.proofs.Deeds.{Publishes}
+use Rattle.laws.proofs.View.{Seen, seen_at, CountsNone, quiet_notes}
 use Rattle.laws.proofs.Balance.{number, content, confirm, some_full, is_returned, first_note, entry_part, answer_part, noted, returned_all, entry_all, answers_all, others_all}
 
 -- ---- numbers tell publishes apart

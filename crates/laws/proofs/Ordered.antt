@@ -43,7 +43,8 @@ use Rattle.laws.proofs.Dying.{Goes, not_found, left_only, died, goes_by}
 use Rattle.laws.proofs.Agreement.{at_own}
 use Rattle.laws.proofs.Leaving.{at_queue}
 use Rattle.laws.proofs.Parts.{itself, part_same, within, longer, front, onward}
-use Rattle.laws.proofs.View.{Publishes, goes}
+use Rattle.laws.proofs.Deeds.{Deed, changes, enters, gives, settles, purges, Publishes, freed_by}
+use Rattle.laws.proofs.View.{deed_at}
 use Rattle.laws.proofs.Balance.{number, content, entry_part, answer_part, noted, answers_all}
 
 -- ---- lists of entries
@@ -274,98 +275,24 @@ module _ (t : Topology) (old new : Broker) (sends : List Send) (notes : List Not
   kept : Follows old.queue new.queue → AreKept
   kept f q = longer (waiting (old.queue q)) (entered q notes) (f q)
 
-  same : ((q : Text) → new.queue q ≡ old.queue q) → AreKept
-  same is = kept (follows_same old.queue new.queue is)
-
-  free : (mine : Holder → Bool) → ((q : Text) → new.queue q ≡ map (freed mine) (old.queue q)) → AreKept
-  free mine is = kept (follows_freed mine old.queue new.queue is)
-
   -- one queue is another
   other : (name : Text) (entries : List Entry) → ((q : Text) → new.queue q ≡ with_queue old.queue name entries q) → IsPart (waiting entries) (waiting (old.queue name)) → AreKept
   other name entries is here = kept (follows_on old.queue (with_queue old.queue name entries) new.queue (follows_one old.queue name entries here) (follows_same (with_queue old.queue name entries) new.queue is))
 
-  closes : (c h : ℕ) (wanted : List Send) (v : Bool) → Does sends notes new wanted (if v then old else with_freed (with_channel old c h None) (by_channel c h)) → AreKept
-  closes c h wanted true p = same p.left.queues
-  closes c h wanted false p = free (by_channel c h) p.left.queues
-
-  limits : (c h count : ℕ) (ch : Channel) (wanted : List Send) (v : Bool) → Does sends notes new wanted (with_channel old c h (Some (if v then record ch { limit = count } else record ch { each_limit = count }))) → AreKept
-  limits c h count ch wanted v p = same p.left.queues
-
-  gets : (c h : ℕ) (ch : Channel) (m : Get) (o : Option Entry) → first_ready (old.queue m.queue) ≡ o → Gets old c h ch m o sends notes new → AreKept
-  gets c h ch m None found p = same p.left.queues
-  gets c h ch m (Some e) found p = other m.queue _ p.left.queues (given_waits m.no_ack _ e (old.queue m.queue) found)
-
-  settles : (how : Settlement) (c h tag : ℕ) (ch : Channel) (multiple : Bool) (wanted : List Send) → Settles t how old c h ch tag multiple wanted sends notes new → AreKept
-  settles how c h tag ch multiple wanted p = settled_goes_on t how c h p.gone old.queue notes new.queue p.queues
-
-  delivers : (c : ℕ) → IsDelivery old c sends notes new → AreKept
-  delivers c p = let o = p.made in other o.consumer.queue _ p.makes.left.queues (given_waits o.consumer.no_ack _ o.entry (old.queue o.consumer.queue) o.first)
-
   publishes : {e : Event} → Publishes t old new e sends notes → AreKept
   publishes p q = part_same _ _ (publish_waits p q)
 
-  performs : (c h : ℕ) (m : Method) (content : Option Content) (conn : Connection) → refusal t old conn h m (old.channel c h) ≡ None → Performs t old c h (channel_or_new (old.channel c h)) m content sends notes new → AreKept
-  performs c h (ConfirmSelect no_wait) content conn accepted p = same p.left.queues
-  performs c h (BasicPublish publish) content conn accepted p = publishes (record { c = c; h = h; ch = channel_or_new (old.channel c h); publish = publish; given = content; event = refl; connection = conn; accepted = accepted; is = p })
-  performs c h (ChannelOpen reserved) content conn accepted p = same p.left.queues
-  performs c h (ChannelFlow active) content conn accepted p = same p.left.queues
-  performs c h (ChannelClose m) content conn accepted p = closes c h _ (channel_or_new (old.channel c h)).is_closing p
-  performs c h ChannelCloseOk content conn accepted p = same p.left.queues
-  performs c h (ConnectionClose m) content conn accepted p = free (by_connection c) p.left.queues
-  performs c h (ExchangeDeclare m) content conn accepted p = same p.left.queues
-  performs c h (QueueDeclare m) content conn accepted p = same p.does.left.queues
-  performs c h (BasicQos m) content conn accepted p = limits c h m.prefetch_count (channel_or_new (old.channel c h)) _ m.global p
-  performs c h (BasicConsume m) content conn accepted p = same p.left.queues
-  performs c h (BasicCancel m) content conn accepted p = same p.left.queues
-  performs c h (BasicGet m) content conn accepted p = gets c h (channel_or_new (old.channel c h)) m (first_ready (old.queue m.queue)) refl p
-  performs c h (BasicAck m) content conn accepted p = settles _ c h _ _ _ _ p
-  performs c h (BasicReject m) content conn accepted p = settles _ c h _ _ _ _ p
-  performs c h (BasicNack m) content conn accepted p = settles _ c h _ _ _ _ p
-  performs c h (BasicRecover requeue) content conn accepted p = settles _ c h _ _ _ _ p
-  performs c h (QueuePurge m) content conn accepted p = other m.queue _ p.left.queues (filter_waits (λ e. not (is_ready e)) (old.queue m.queue))
-  performs c h _ content conn accepted p = absurd p
-
-  refuses : (c h : ℕ) (cause : Ids) (r : Refusal) → Refuses old c h cause r sends notes new → AreKept
-  refuses c h cause Ignored p = same p.left.queues
-  refuses c h cause (Of_channel code) p = free (by_channel c h) p.left.queues
-  refuses c h cause (Of_connection code) p = free (by_connection c) p.left.queues
-
-  decides : (c h : ℕ) (m : Method) (content : Option Content) (conn : Connection) (r : Option Refusal) → refusal t old conn h m (old.channel c h) ≡ r → Decides t old c h m content r sends notes new → AreKept
-  decides c h m content conn None e p = performs c h m content conn e p
-  decides c h m content conn (Some r) e p = refuses c h (ids_of m) r p
-
-  commanded : (c h : ℕ) (m : Method) (content : Option Content) (o : Option Connection) → OnConnection t old c h m content sends notes new o → AreKept
-  commanded c h m content None p = same p.left.queues
-  commanded c h m content (Some conn) p = decides c h m content conn (refusal t old conn h m (old.channel c h)) refl p
-
-  too_large : (c h : ℕ) (o : Option Connection) → OnLarge old c h sends notes new o → AreKept
-  too_large c h None p = same p.left.queues
-  too_large c h (Some conn) p = refuses c h (ids_of empty_publish) (refusal_of_large conn h (old.channel c h)) p
-
-  -- Each event of the broker keeps the order.
-  ordered : (e : Event) → Acts t old e sends notes new → AreKept
-  ordered (Open c) p = same p.left.queues
-  ordered (First c bytes) p = same p.left.queues
-  ordered (Running c max k) p = free (by_connection c) p.left.queues
-  ordered (Command c h m content) p = commanded c h m content (old.connection c) p
-  ordered (TooLarge c h) p = too_large c h (old.connection c) p
-  ordered (Fault c code) p = free (by_connection c) p.left.queues
-  ordered (Lose c) p = free (by_connection c) p.left.queues
-  ordered (Pause c) p = same p.left.queues
-  ordered (Resume c) p = same p.left.queues
-  ordered (Deliver c) p = delivers c p
-
-  -- so does a move of the phases
-  moved : (c max : ℕ) (v : Bool) → Is (if v then opened old c max 0 else old) new → AreKept
-  moved c max true is = free (by_connection c) is.queues
-  moved c max false is = same is.queues
+  -- Each deed keeps the order.
+  ordered : {e : Event} {c : ℕ} → Deed t old new e c sends notes → AreKept
+  ordered (changes s change) = let f = freed_by change in kept (follows_freed f.0 old.queue new.queue f.1)
+  ordered (enters h now p puts alike serves) = publishes p
+  ordered (gives g) = other g.queue _ g.left.queues (given_waits g.no_ack _ g.entry (old.queue g.queue) g.first)
+  ordered {c = c} (settles s) = settled_goes_on t s.how c s.h s.is.gone old.queue notes new.queue s.is.queues
+  ordered (purges p) = other p.queue _ p.left.queues (filter_waits (λ e. not (is_ready e)) (old.queue p.queue))
 
 -- and so each step
 pub step_ordered : (h : Happening) → Step h.config h.before h.event h.sends h.notes h.after → (q : Text) → IsPart (waiting (h.after.broker.queue q)) (waiting (h.before.broker.queue q) ++ entered q h.notes)
-step_ordered h s = elim (goes h.config h.before h.after h.sends h.notes h.event s) [
-  | inl p ↦ ordered h.config.topology h.before.broker h.after.broker h.sends h.notes h.event p.acts
-  | inr a ↦ moved h.config.topology h.before.broker h.after.broker h.sends h.notes (event_connection h.event) a.move.next.channel_max (is_running a.move.next.phase) a.moves.broker
-]
+step_ordered h s = ordered h.config.topology h.before.broker h.after.broker h.sends h.notes (deed_at h s)
 
 -- ---- what is given out
 

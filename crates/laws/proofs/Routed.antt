@@ -16,7 +16,8 @@ use Rattle.model.specs.declared.notes.Note.TheVariants.{Published}
 use Rattle.model.specs.declared.notes.Way.TheVariants as way
 use Rattle.laws.proofs.Counts.{all_each, all_in, filter_map_none}
 use Rattle.laws.proofs.Letters.{full_same, same_notes, follows_itself}
-use Rattle.laws.proofs.View.{Publishes, Seen, seen_at, quiet_notes}
+use Rattle.laws.proofs.Deeds.{Publishes}
+use Rattle.laws.proofs.View.{Seen, seen_at, quiet_notes}
 use Rattle.laws.proofs.Balance.{number, content, confirm, some_full, is_returned, first_note, entry_part, answer_part, noted, others_all}
 
 -- the note is of no publish that came

@@ -19,7 +19,8 @@ use Rattle.model.specs.declared.events.Send.TheVariants as send
 use Rattle.laws.specs.Carrying.{SendsAreOwn}
 use Rattle.laws.proofs.Carried.{AreLight, carries}
 use Rattle.laws.proofs.Sizes.{method_length, send_length}
-use Rattle.laws.proofs.View.{is_reply, IsReplyAtMost, acted}
+use Rattle.laws.proofs.Deeds.{acted}
+use Rattle.laws.proofs.Replies.{is_reply, IsReplyAtMost}
 
 -- ---- no method that is sent is long
 

@@ -22,7 +22,8 @@ use Rattle.laws.proofs.Counts.{all_each, in_front, in_back}
 use Rattle.laws.proofs.Leaving.{find_in}
 use Rattle.laws.proofs.Balance.{number, content, confirm, first_note, noted}
 use Rattle.laws.proofs.Traced.{AreSame, Came, stood, by_letter, published, step_came}
-use Rattle.laws.proofs.View.{Publishes, IsGiven, seen_at}
+use Rattle.laws.proofs.Deeds.{Publishes}
+use Rattle.laws.proofs.View.{IsGiven, seen_at}
 
 -- ---- messages of publishes
 

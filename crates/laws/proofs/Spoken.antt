@@ -31,7 +31,8 @@ use Rattle.model.specs.Alone.{event_connection}
 use Rattle.laws.proofs.Counts.{all-append, from_either}
 use Rattle.laws.specs.Openings.{is_header}
 use Rattle.laws.proofs.Speaking.{IsCommandSend, AreCommandSends, Spoken, spoken_commands, spoken_over, spoken_on}
-use Rattle.laws.proofs.View.{session_after, is_read, goes, acted, acted_commands, Performed, Answered}
+use Rattle.laws.proofs.Deeds.{acted}
+use Rattle.laws.proofs.View.{session_after, is_read, goes, acted_commands, Performed, Answered}
 use Rattle.laws.proofs.Linked.{with_here}
 use Rattle.laws.proofs.Reloading.{all_marked, state_left}
 use Rattle.laws.proofs.Histories.{events-mapped, events-append}

@@ -32,7 +32,8 @@ use Rattle.model.specs.Alone.{event_connection}
 use Rattle.laws.specs.Tracing.{MessagesStayTraced}
 use Rattle.laws.proofs.Dying.{IsLetter, rejected_stood}
 use Rattle.laws.proofs.Leaving.{at_queue, find_in, in_filter, in_rest}
-use Rattle.laws.proofs.View.{Publishes, goes}
+use Rattle.laws.proofs.Deeds.{Deed, changes, enters, gives, settles, purges, Publishes, acted, freed_by}
+use Rattle.laws.proofs.View.{step_deed}
 use Rattle.laws.proofs.Balance.{number, content as content_of, stands_counted}
 use Rattle.laws.proofs.Once.{key_is_short}
 use Rattle.laws.proofs.Entering.{picked, in_comes}
@@ -177,9 +178,6 @@ module _ (t : Topology) (old new : Broker) (sends : List Send) (notes : List Not
   stays : (e : Event) → Stays old.queue new.queue → AllCame e
   stays e s q x i = stood (kept_is_one (old.queue q) x (s q x i))
 
-  same : (e : Event) → ((q : Text) → new.queue q ≡ old.queue q) → AllCame e
-  same e is = stays e (stays_same old.queue new.queue is)
-
   free : (e : Event) (mine : Holder → Bool) → ((q : Text) → new.queue q ≡ map (freed mine) (old.queue q)) → AllCame e
   free e mine is q x i = stood (kept_is_one (old.queue q) x (in_freed mine (old.queue q) x (subst (IsIn x) (is q) i)))
 
@@ -187,27 +185,10 @@ module _ (t : Topology) (old new : Broker) (sends : List Send) (notes : List Not
   other : (e : Event) (name : Text) (entries : List Entry) → ((q : Text) → new.queue q ≡ with_queue old.queue name entries q) → ((x : Entry) → IsIn x entries → IsOneOf (old.queue name) x) → AllCame e
   other e name entries is here q x i = stood (at_queue (λ (r : Text) (es : List Entry). IsIn x es → IsOneOf (old.queue r) x) old.queue name entries (here x) (λ r apart. itself_one (old.queue r) x) q (subst (IsIn x) (is q) i))
 
-  closes : (e : Event) (c h : ℕ) (wanted : List Send) (v : Bool) → Does sends notes new wanted (if v then old else with_freed (with_channel old c h None) (by_channel c h)) → AllCame e
-  closes e c h wanted true p = same e p.left.queues
-  closes e c h wanted false p = free e (by_channel c h) p.left.queues
-
-  limits : (e : Event) (c h count : ℕ) (ch : Channel) (wanted : List Send) (v : Bool) → Does sends notes new wanted (with_channel old c h (Some (if v then record ch { limit = count } else record ch { each_limit = count }))) → AllCame e
-  limits e c h count ch wanted v p = same e p.left.queues
-
-  gets : (e : Event) (c h : ℕ) (ch : Channel) (m : Get) (o : Option Entry) → first_ready (old.queue m.queue) ≡ o → Gets old c h ch m o sends notes new → AllCame e
-  gets e c h ch m None found p = same e p.left.queues
-  gets e c h ch m (Some y) found p = other e m.queue _ p.left.queues (given_one m.no_ack _ y (old.queue m.queue) found)
-
   settled_came : (e : Event) (how : Settlement) (c h : ℕ) (os : List Outstanding) → AreSettled t how c h os old.queue notes new.queue → AllCame e
   settled_came e (Leaves cause) c h os s = stays e (left_stays cause c h os old.queue notes new.queue s)
   settled_came e Rejects c h os s = λ q x i. elim (rejected_stood t c h os old.queue notes new.queue s q x i) [ inl j ↦ stood (itself_one (old.queue q) x j) | inr l ↦ by_letter l ]
   settled_came e Returns c h os s = stays e (returned_stays c h os old.queue new.queue s.1)
-
-  settles : (e : Event) (how : Settlement) (c h tag : ℕ) (ch : Channel) (multiple : Bool) (wanted : List Send) → Settles t how old c h ch tag multiple wanted sends notes new → AllCame e
-  settles e how c h tag ch multiple wanted p = settled_came e how c h p.gone p.queues
-
-  delivers : (e : Event) (c : ℕ) → IsDelivery old c sends notes new → AllCame e
-  delivers e c p = let o = p.made in other e o.consumer.queue _ p.makes.left.queues (given_one o.consumer.no_ack _ o.entry (old.queue o.consumer.queue) o.first)
 
   publishes : (e : Event) → Publishes t old new e sends notes → AllCame e
   publishes e p q x i = elim (in-append x (old.queue q) _ (subst (IsIn x) (p.is.left.queues q) i)) [
@@ -215,68 +196,20 @@ module _ (t : Topology) (old new : Broker) (sends : List Send) (notes : List Not
     | inr j ↦ let came = in_comes t old.queue (message (number p) p.publish (content_of p)) q p.is.targets x j in published p came.routed came.is
   ]
 
-  performs : (c h : ℕ) (m : Method) (content : Option Content) (conn : Connection) → refusal t old conn h m (old.channel c h) ≡ None → Performs t old c h (channel_or_new (old.channel c h)) m content sends notes new → AllCame (Command c h m content)
-  performs c h (ConfirmSelect no_wait) content conn accepted p = same (Command c h (ConfirmSelect no_wait) content) p.left.queues
-  performs c h (BasicPublish publish) content conn accepted p = publishes (Command c h (BasicPublish publish) content) (record { c = c; h = h; ch = channel_or_new (old.channel c h); publish = publish; given = content; event = refl; connection = conn; accepted = accepted; is = p })
-  performs c h (ChannelOpen reserved) content conn accepted p = same (Command c h (ChannelOpen reserved) content) p.left.queues
-  performs c h (ChannelFlow active) content conn accepted p = same (Command c h (ChannelFlow active) content) p.left.queues
-  performs c h (ChannelClose m) content conn accepted p = closes (Command c h (ChannelClose m) content) c h _ (channel_or_new (old.channel c h)).is_closing p
-  performs c h ChannelCloseOk content conn accepted p = same (Command c h ChannelCloseOk content) p.left.queues
-  performs c h (ConnectionClose m) content conn accepted p = free (Command c h (ConnectionClose m) content) (by_connection c) p.left.queues
-  performs c h (ExchangeDeclare m) content conn accepted p = same (Command c h (ExchangeDeclare m) content) p.left.queues
-  performs c h (QueueDeclare m) content conn accepted p = same (Command c h (QueueDeclare m) content) p.does.left.queues
-  performs c h (BasicQos m) content conn accepted p = limits (Command c h (BasicQos m) content) c h m.prefetch_count (channel_or_new (old.channel c h)) _ m.global p
-  performs c h (BasicConsume m) content conn accepted p = same (Command c h (BasicConsume m) content) p.left.queues
-  performs c h (BasicCancel m) content conn accepted p = same (Command c h (BasicCancel m) content) p.left.queues
-  performs c h (BasicGet m) content conn accepted p = gets (Command c h (BasicGet m) content) c h (channel_or_new (old.channel c h)) m (first_ready (old.queue m.queue)) refl p
-  performs c h (BasicAck m) content conn accepted p = settles (Command c h (BasicAck m) content) _ c h _ _ _ _ p
-  performs c h (BasicReject m) content conn accepted p = settles (Command c h (BasicReject m) content) _ c h _ _ _ _ p
-  performs c h (BasicNack m) content conn accepted p = settles (Command c h (BasicNack m) content) _ c h _ _ _ _ p
-  performs c h (BasicRecover requeue) content conn accepted p = settles (Command c h (BasicRecover requeue) content) _ c h _ _ _ _ p
-  performs c h (QueuePurge m) content conn accepted p = other (Command c h (QueuePurge m) content) m.queue _ p.left.queues (λ x i. itself_one (old.queue m.queue) x (in_filter (λ e. not (is_ready e)) x (old.queue m.queue) i).0)
-  performs c h _ content conn accepted p = absurd p
+  -- After each deed it is known where each entry came from.
+  pub came : (e : Event) (c : ℕ) → Deed t old new e c sends notes → AllCame e
+  came e c (changes s change) = let f = freed_by change in free e f.0 f.1
+  came e c (enters h now p puts alike serves) = publishes e p
+  came e c (gives g) = other e g.queue _ g.left.queues (given_one g.no_ack _ g.entry (old.queue g.queue) g.first)
+  came e c (settles s) = settled_came e s.how c s.h s.is.gone s.is.queues
+  came e c (purges p) = other e p.queue _ p.left.queues (λ x i. itself_one (old.queue p.queue) x (in_filter (λ y. not (is_ready y)) x (old.queue p.queue) i).0)
 
-  refuses : (e : Event) (c h : ℕ) (cause : Ids) (r : Refusal) → Refuses old c h cause r sends notes new → AllCame e
-  refuses e c h cause Ignored p = same e p.left.queues
-  refuses e c h cause (Of_channel code) p = free e (by_channel c h) p.left.queues
-  refuses e c h cause (Of_connection code) p = free e (by_connection c) p.left.queues
-
-  decides : (c h : ℕ) (m : Method) (content : Option Content) (conn : Connection) (r : Option Refusal) → refusal t old conn h m (old.channel c h) ≡ r → Decides t old c h m content r sends notes new → AllCame (Command c h m content)
-  decides c h m content conn None e p = performs c h m content conn e p
-  decides c h m content conn (Some r) e p = refuses (Command c h m content) c h (ids_of m) r p
-
-  commanded : (c h : ℕ) (m : Method) (content : Option Content) (o : Option Connection) → OnConnection t old c h m content sends notes new o → AllCame (Command c h m content)
-  commanded c h m content None p = same (Command c h m content) p.left.queues
-  commanded c h m content (Some conn) p = decides c h m content conn (refusal t old conn h m (old.channel c h)) refl p
-
-  too_large : (c h : ℕ) (o : Option Connection) → OnLarge old c h sends notes new o → AllCame (TooLarge c h)
-  too_large c h None p = same (TooLarge c h) p.left.queues
-  too_large c h (Some conn) p = refuses (TooLarge c h) c h (ids_of empty_publish) (refusal_of_large conn h (old.channel c h)) p
-
-  -- At each event of the broker it is known where each entry came from.
-  pub came : (e : Event) → Acts t old e sends notes new → AllCame e
-  came (Open c) p = same (Open c) p.left.queues
-  came (First c bytes) p = same (First c bytes) p.left.queues
-  came (Running c max k) p = free (Running c max k) (by_connection c) p.left.queues
-  came (Command c h m content) p = commanded c h m content (old.connection c) p
-  came (TooLarge c h) p = too_large c h (old.connection c) p
-  came (Fault c code) p = free (Fault c code) (by_connection c) p.left.queues
-  came (Lose c) p = free (Lose c) (by_connection c) p.left.queues
-  came (Pause c) p = same (Pause c) p.left.queues
-  came (Resume c) p = same (Resume c) p.left.queues
-  came (Deliver c) p = delivers (Deliver c) c p
-
-  -- so it is after a move of the phases
-  moved : (e : Event) (c max : ℕ) (v : Bool) → Is (if v then opened old c max 0 else old) new → AllCame e
-  moved e c max true is = free e (by_connection c) is.queues
-  moved e c max false is = same e is.queues
+  pub acts_came : (e : Event) → Acts t old e sends notes new → AllCame e
+  acts_came e p = came e (event_connection e) (acted t old new sends notes e p).deed
 
 -- and after each step
 pub step_came : (f : Config) (old new : State) (e : Event) (sends : List Send) (notes : List Note) → Step f old e sends notes new → AllCame f.topology old.broker new.broker sends notes e
-step_came f old new e sends notes s = elim (goes f old new sends notes e s) [
-  | inl p ↦ came f.topology old.broker new.broker sends notes e p.acts
-  | inr a ↦ moved f.topology old.broker new.broker sends notes e (event_connection e) a.move.next.channel_max (is_running a.move.next.phase) a.moves.broker
-]
+step_came f old new e sends notes s = came f.topology old.broker new.broker sends notes e (event_connection e) (step_deed f old new sends notes e s)
 
 -- messages of one publish were first sent to the same place
 abbrev pub Alike : Broker → Type 0
@@ -345,9 +278,5 @@ module _ (t : Topology) (old new : Broker) (e : Event) (sends : List Send) (note
 pub stay_traced : MessagesStayTraced
 stay_traced = record {
   empty = λ t. record { each = λ q e i. absurd i; alike = λ q r e d i j same. absurd i };
-  acts = λ t old new e sends notes said counted traced a. traced_on t old new e sends notes said counted traced (came t old new sends notes e a);
+  acts = λ t old new e sends notes said counted traced a. traced_on t old new e sends notes said counted traced (acts_came t old new sends notes e a);
 }
-
--- Each step leaves messages traced.
-pub step_traced : (f : Config) (old new : State) (e : Event) (sends : List Send) (notes : List Note) → IsSaid e → AreCounted old.broker → AreTraced f.topology old.broker → Step f old e sends notes new → AreTraced f.topology new.broker
-step_traced f old new e sends notes said counted traced s = traced_on f.topology old.broker new.broker e sends notes said counted traced (step_came f old new e sends notes s)

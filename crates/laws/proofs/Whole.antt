@@ -29,7 +29,9 @@ use Rattle.laws.proofs.Reading.{sent_acks, frames_each}
 use Rattle.laws.proofs.Plays.{IsPut, IsTold, Told, said_each, sound_each, told_turns, told_pumps}
 use Rattle.laws.proofs.Speaking.{IsCommandSend, AreCommandSends}
 use Rattle.laws.proofs.Spoken.{sent_to, is_spoken, own_sends, puts_sends, settled_silent}
-use Rattle.laws.proofs.View.{IsAnswerAtMost, goes, acted, acted_commands}
+use Rattle.laws.proofs.Deeds.{acted}
+use Rattle.laws.proofs.Replies.{IsAnswerAtMost}
+use Rattle.laws.proofs.View.{goes, acted_commands}
 use Rattle.laws.proofs.Keeping.{stay_kept, safe_over}
 use Rattle.laws.proofs.Never.{run_keeps}
 use Rattle.laws.proofs.Acks.{run_acks}

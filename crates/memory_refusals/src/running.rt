@@ -1,7 +1,8 @@
 //! What the sections come to, in their order.
 
 use crate::asking::{
-    Setting, admitted, certificates_of, checked, disproved, searched, set_up, stated,
+    Setting, admitted, certificates_of, checked, definitions_of, disproved, guarantees_of,
+    searched, set_up,
 };
 use crate::counts::Counts;
 use crate::replaying::Replay;
@@ -45,7 +46,8 @@ fn put_checks(
     counts: &mut Counts,
     out: &mut String,
 ) -> io::Result<()> {
-    let (topology, guarantees) = stated(alloc, setting, counts)?;
+    let (topology, _) = definitions_of(alloc, setting, counts)?.into_parts();
+    let guarantees = guarantees_of(alloc, setting, &topology, counts)?;
     let certificates = certificates_of(alloc, setting)?;
     for (guarantee, certificate) in guarantees.iter().zip(certificates.iter()) {
         let outcome = checked(alloc, &topology, guarantee, certificate, counts);
@@ -80,7 +82,8 @@ fn put_verdicts(
     counts: &mut Counts,
     out: &mut String,
 ) -> io::Result<()> {
-    let (topology, guarantees) = stated(alloc, setting, counts)?;
+    let (topology, _) = definitions_of(alloc, setting, counts)?.into_parts();
+    let guarantees = guarantees_of(alloc, setting, &topology, counts)?;
     for guarantee in &guarantees {
         match searched(alloc, &topology, guarantee, counts)? {
             Verdict::Yes(certificate) => {

@@ -1,16 +1,12 @@
 //! Steps that answer a command.
 
-ghost use Rattle.std.specs.Prelude.{◌≡◌, ◌<◌, ◌∷◌, [], IfOk, length, vec_len, vec_capacity};
-ghost use Rattle.model.specs.Deliveries.{delivery_notes};
-ghost use Rattle.model.specs.Sending.{IsCarried};
-ghost use Rattle.model.specs.Step as said;
+ghost use Rattle.std.specs.Prelude.{◌≡◌, ◌<◌, [], IfOk, length, vec_len, vec_capacity};
 ghost use Rattle.model.specs.Step.{select_sends, purge_sends, declare_sends, queue_declared, consume_sends, cancel_sends};
 ghost use Rattle.replies.specs.Sent.{AreAddressed};
 
 use crate::answers::{cancel_ok, consume_ok, purge_ok, queue_ok, select_ok};
-use crate::contents::get_ok;
 use crate::steps::Step;
-use model::{Cancel, Cause, Entry, Get, Note, QueueDeclare, Send, Text};
+use model::{Cancel, QueueDeclare, Text};
 use std::alloc::{AllocError, Global};
 
 /// The answer to confirm.select, where one is wanted.
@@ -105,48 +101,4 @@ pub fn answer_cancel(
         let tag = cancel.consumer_tag.clone()?;
         Step::sending(alloc, cancel_ok(connection, channel, tag))
     }
-}
-
-/// This is sent of a message that is given out, and where that needs no acknowledgement it is noted that the message leaves
-/// its queue, which has this name.
-pub fn giving(
-    alloc: Global,
-    send: Send,
-    no_ack: bool,
-    entry: &Entry,
-    queue: &Text,
-) -> Result<Step, AllocError>
-    ensures sends { IfOk result (λ s. s.sends.items ≡ send ∷ []) }
-    ensures notes { IfOk result (λ s. s.notes.items ≡ delivery_notes no_ack entry.now.message.number queue.now) }
-{
-    let mut step = Step::sending(alloc, send)?;
-    if !no_ack {
-        return Ok(step);
-    }
-    let note = Note::Left {
-        number: entry.message.number(),
-        queue: queue.clone()?,
-        cause: Cause::Auto,
-    };
-    step.notes.reserve_exact(1)?;
-    step.notes.push_reserved(note);
-    Ok(step)
-}
-
-/// What is sent and noted of the message that a get takes, under this delivery tag, where so many are ready behind it.
-pub fn answer_get(
-    alloc: Global,
-    connection: u64,
-    channel: u16,
-    tag: u64,
-    get: &Get,
-    entry: &Entry,
-    remaining: usize,
-) -> Result<Step, AllocError>
-    ensures sends { IfOk result (λ s. s.sends.items ≡ said.get_ok connection channel tag entry.now remaining ∷ []) }
-    ensures notes { IfOk result (λ s. s.notes.items ≡ delivery_notes get.now.no_ack entry.now.message.number get.now.queue) }
-    ensures addressed { IfOk result (λ s. IsCarried entry.now.message → AreAddressed connection s.sends.items) }
-{
-    let send = get_ok(connection, channel, tag, entry, remaining)?;
-    giving(alloc, send, get.no_ack, entry, &get.queue)
 }

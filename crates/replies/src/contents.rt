@@ -56,7 +56,7 @@ pub fn return_if(
 
 /// basic.get-ok of this message under this delivery tag, where so many are ready behind it. It carries the message's content,
 /// whose bytes are shared.
-pub(crate) fn get_ok(
+pub fn get_ok(
     connection: u64,
     channel: u16,
     tag: u64,

@@ -10,10 +10,9 @@ mod contents;
 mod steps;
 
 pub use answering::{
-    answer_cancel, answer_consume, answer_get, answer_purge, answer_queue_declare, answer_select,
-    giving,
+    answer_cancel, answer_consume, answer_purge, answer_queue_declare, answer_select,
 };
 pub use answers::{exchange_ok, flow_ok, get_empty, open_ok, qos_ok, recover_ok};
 pub use closes::{channel_close, channel_close_ok, connection_close, connection_close_ok};
-pub use contents::{deliver, return_if};
+pub use contents::{deliver, get_ok, return_if};
 pub use steps::Step;

@@ -9,7 +9,6 @@ mod neighbours;
 mod patience;
 mod programs;
 mod rounds;
-mod served;
 mod services;
 mod silent;
 mod watched;

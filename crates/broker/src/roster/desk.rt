@@ -3,11 +3,11 @@
 mod waking;
 
 ghost use Rattle.std.specs.Prelude.{◌≡◌, ◌≤◌, ℕ, true, None, OnOk, length};
-ghost use Rattle.commands.specs.State.{broker_of};
+ghost use Rattle.commands.specs.State.{Kept, broker_of};
 ghost use Rattle.broker.specs.Roster.{listed_on, IsListedOn, Listing, IsListed, HasList, HasNoList, MakesNoList, KeepLists, ListsMore, ListsStay};
 ghost use Rattle.broker.specs.Moving.{all_emptied, emptied};
 
-use commands::{Core, Pick};
+use commands::Pick;
 use std::alloc::{AllocError, Global};
 use std::collections::HashMap;
 use std::marker::Model;
@@ -221,15 +221,13 @@ pub(crate) fn list_seat(desks: &mut Desks, one: Listed) -> bool
     }
 }
 
-/// What is listed of this connection is gone if it runs no more.
-pub(crate) fn forget_desk(desks: &mut Desks, core: &Core, connection: u64)
-    ensures kept { KeepLists core.now desks.old.entries desks.new.entries }
-    ensures gone { (broker_of core.now).connection connection ≡ None → HasNoList desks.new.entries connection }
+/// Nothing is listed any more of this connection, which runs no more.
+pub(crate) fn forget_desk(desks: &mut Desks, connection: u64)
+    ensures kept { (k : Kept) → (broker_of k).connection connection ≡ None → KeepLists k desks.old.entries desks.new.entries }
+    ensures gone { HasNoList desks.new.entries connection }
     ensures none { MakesNoList desks.old.entries desks.new.entries }
 {
-    if !core.runs(connection) {
-        desks.remove(&connection);
-    }
+    desks.remove(&connection);
 }
 
 /// Nothing is listed any more. The lists stay, with their room.

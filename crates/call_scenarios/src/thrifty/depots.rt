@@ -1,12 +1,12 @@
 //! A depot.
 
-ghost use Rattle.std.specs.Prelude.{◌≡◌, ◌<◌, length};
+ghost use Rattle.std.specs.Prelude.{◌≡◌, ◌<◌, length, IfOk, vec_len, vec_capacity};
 
 use crate::parts::{Stated, publish};
 use crate::room::Room;
 use crate::thrifty::HOLDER;
-use depot::Depot;
-use model::{ChannelId, Delivery};
+use depot::{Depot, Giving};
+use model::{ChannelId, Delivery, Note, Text};
 use scenario_parts::{Unmet, expect, expect_number, value_of};
 use std::alloc::Global;
 
@@ -54,8 +54,10 @@ fn requeue(depot: &mut Depot, place: usize, arrival: u64)
     depot.requeue(CHANNEL, &[given]);
 }
 
-/// The one message is held, made ready again and taken.
-fn expect_taken(depot: &mut Depot) -> Result<(), Unmet> {
+/// The one message is held and made ready again, and then leaves the queue, which these notes have room to tell.
+fn expect_taken(depot: &mut Depot, notes: &mut Vec<Note>) -> Result<(), Unmet>
+    requires { vec_len notes.old < vec_capacity notes.old }
+{
     let Some(place) = depot.topology().queue_at(b"audit") else {
         return Err(Unmet::Claim("there is a queue"));
     };
@@ -63,25 +65,45 @@ fn expect_taken(depot: &mut Depot) -> Result<(), Unmet> {
     if depot.held(place, &HOLDER, 0).is_some() {
         return Err(Unmet::Claim("nobody holds a message"));
     }
-    let arrival = value_of("Depot::hold", depot.hold(place, HOLDER).ok_or(()))?;
+    let taken = depot.take(place, Giving::Held(HOLDER), notes);
+    let arrival = value_of("Depot::take", taken.ok_or(()))?;
     requeue(depot, place, arrival);
     expect_number("it is made ready again", depot.ready_at(place) as u64, 1)?;
-    expect("it is taken", depot.take_first(place).is_some())
+    depot.take(place, Giving::Out(Text::short(b"audit")), notes);
+    expect_number(
+        "the queue has none any more",
+        depot.ready_at(place) as u64,
+        0,
+    )?;
+    expect_number("that is noted", notes.len() as u64, 1)
 }
 
 /// All of it.
-fn expect_depot(depot: &mut Depot) -> Result<(), Unmet> {
+fn expect_depot(depot: &mut Depot, notes: &mut Vec<Note>) -> Result<(), Unmet>
+    requires { vec_len notes.old < vec_capacity notes.old }
+{
     expect_told(&*depot)?;
-    expect_taken(depot)
+    expect_taken(depot, notes)
+}
+
+/// Notes with room for one.
+fn roomy_notes(alloc: Global) -> Result<Vec<Note>, Unmet>
+    ensures { IfOk result (λ notes. vec_len notes < vec_capacity notes) }
+{
+    let mut notes = Vec::new(alloc);
+    value_of("Vec::reserve_exact", notes.reserve_exact(1))?;
+    Ok(notes)
 }
 
 /// A message is told, held, made ready again and taken.
 pub(crate) fn a_depot_takes_no_memory(rt: &HostRuntime, alloc: Global) -> Result<(), Unmet> {
     let mut first = filled_depot(alloc)?;
     let mut second = filled_depot(alloc)?;
-    expect_depot(&mut first)?;
+    let mut first_notes = roomy_notes(alloc)?;
+    let mut second_notes = roomy_notes(alloc)?;
+    expect_depot(&mut first, &mut first_notes)?;
     let room = Room::of_all(rt, alloc)?;
-    let outcome = expect_depot(&mut second);
+    let outcome = expect_depot(&mut second, &mut second_notes);
     drop(room);
     outcome
 }

@@ -12,7 +12,7 @@ use crate::refusals::{Stop, check_queue, check_tag};
 use channels::Channel;
 use depot::Depot;
 use model::{ChannelId, Get, Taker};
-use replies::{Step, answer_get, get_empty};
+use replies::{Step, get_empty, get_ok};
 use std::alloc::Global;
 
 /// The first ready message of the queue is given out, and leaves the queue where it needs no acknowledgement; or it is answered
@@ -40,7 +40,16 @@ pub(crate) fn get(
     };
     check_tag(channel)?;
     let tag = channel.next_tag();
-    let step = answer_get(alloc, id.connection, id.number, tag, get, entry, remaining)?;
-    give_out(id, channel, depot, place, Taker::Get, get.no_ack)?;
+    let send = get_ok(id.connection, id.number, tag, entry, remaining)?;
+    let mut step = Step::sending(alloc, send)?;
+    give_out(
+        id,
+        channel,
+        depot,
+        place,
+        Taker::Get,
+        get.no_ack,
+        &mut step.notes,
+    )?;
     Ok(step)
 }

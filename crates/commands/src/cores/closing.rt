@@ -1,5 +1,6 @@
 //! Closes of channels and connections, from both sides.
 
+use crate::acted::Acted;
 use crate::cores::Core;
 use crate::refusals::Refusal;
 use channels::Channel;
@@ -19,6 +20,7 @@ impl Core {
     ghost use Rattle.commands.specs.State.{broker_of, channel_on, topology_kept, names_of};
     ghost use Rattle.commands.specs.Steps.{PerformsOn};
     ghost use Rattle.channels.specs.Open.{Open, open_in};
+    ghost use Rattle.commands.specs.Ended.{TellsEnd};
     ghost use Rattle.commands.specs.Judged.{refusal_seen, HasChannel};
     ghost use Rattle.replies.specs.Sent.{AreAddressed};
 
@@ -28,17 +30,22 @@ impl Core {
         alloc: Global,
         connection: u64,
         send: Send,
-    ) -> Result<Step, AllocError>
+    ) -> Result<Acted, AllocError>
         requires agreed { IsAgreed (broker_of self.old) }
         requires addressed { IsAddressed connection send }
-        ensures ok { IfOk result (λ s. Does s.sends.items s.notes.items (broker_of self.new) (send ∷ []) (with_gone (broker_of self.old) connection)) }
-        ensures addressed { IfOk result (λ s. AreAddressed connection s.sends.items) }
+        ensures ok { IfOk result (λ a. Does a.step.sends.items a.step.notes.items (broker_of self.new) (send ∷ [])
+            (with_gone (broker_of self.old) connection)) }
+        ensures addressed { IfOk result (λ a. AreAddressed connection a.step.sends.items) }
+        ensures ended { IfOk result (λ a. TellsEnd connection a.has_ended (broker_of self.old) (broker_of self.new)) }
         ensures topology { topology_kept self.new ≡ topology_kept self.old }
         ensures err { OnErr result (self.new ≡ self.old) }
     {
         let step = Step::sending(alloc, send)?;
         self.go(connection);
-        Ok(step)
+        Ok(Acted {
+            step,
+            has_ended: true,
+        })
     }
 
     /// What the channel held is ready again, and this stands in its place.
@@ -134,21 +141,29 @@ impl Core {
         channel: u16,
         cause: Ids,
         refusal: Refusal,
-    ) -> Result<Step, AllocError>
+    ) -> Result<Acted, AllocError>
         requires agreed { IsAgreed (broker_of self.old) }
         requires there { HasChannel refusal ((broker_of self.old).channel connection channel) }
-        ensures ok { IfOk result (λ s. Refuses (broker_of self.old) connection channel
-            (ids cause.class cause.method) (refusal_seen refusal) s.sends.items s.notes.items (broker_of self.new)) }
+        ensures ok { IfOk result (λ a. Refuses (broker_of self.old) connection channel
+            (ids cause.class cause.method) (refusal_seen refusal) a.step.sends.items a.step.notes.items (broker_of self.new)) }
         ensures ignored { refusal_seen refusal ≡ said.Ignored → IsOk result }
-        ensures addressed { IfOk result (λ s. AreAddressed connection s.sends.items) }
+        ensures addressed { IfOk result (λ a. AreAddressed connection a.step.sends.items) }
+        ensures ended { IfOk result (λ a. TellsEnd connection a.has_ended (broker_of self.old) (broker_of self.new)) }
         ensures topology { topology_kept self.new ≡ topology_kept self.old }
         ensures err { OnErr result (self.new ≡ self.old) }
     {
         match refusal {
-            Refusal::Ignored => Ok(Step::nothing(alloc)),
+            Refusal::Ignored => Ok(Acted {
+                step: Step::nothing(alloc),
+                has_ended: false,
+            }),
             Refusal::Channel(code) => {
                 let send = channel_close(connection, channel, code, cause);
-                self.close_channel(alloc, connection, channel, send)
+                let step = self.close_channel(alloc, connection, channel, send)?;
+                Ok(Acted {
+                    step,
+                    has_ended: false,
+                })
             }
             Refusal::Connection(code) => {
                 let send = connection_close(connection, code, cause);

@@ -35,17 +35,10 @@ fn consumed(event: &Event) -> Option<&Text>
 }
 
 impl Core {
-    ghost use Rattle.std.specs.Prelude.{◌≡◌, ◌<◌, ℕ, Some, IfSome, is_some, length};
+    ghost use Rattle.std.specs.Prelude.{◌≡◌, ◌<◌, ℕ, Some, IfSome, length};
     ghost use Rattle.channels.specs.Links.{linked_in};
     ghost use Rattle.commands.specs.State.{topology_kept};
-    ghost use Rattle.commands.specs.Seats.{has_consumer, next_seat, seat_of, IsConsumed};
-
-    /// Whether the connection of this number runs.
-    pub fn runs(&self, connection: u64) -> bool
-        ensures { result ≡ is_some (linked_in self.now.links connection) }
-    {
-        self.links.get(connection).is_some()
-    }
+    ghost use Rattle.commands.specs.Seats.{consumers_on, has_consumer, next_seat, seat_of, IsConsumed};
 
     /// Whether the consumer of these numbers is there.
     pub fn has_consumer(&self, pick: Pick) -> bool
@@ -54,6 +47,16 @@ impl Core {
         match self.links.channel(pick.connection, pick.channel) {
             Some(channel) => channel.consumer(pick.number).is_some(),
             None => false,
+        }
+    }
+
+    /// How many consumers the channel of these numbers has.
+    pub fn consumers_on(&self, connection: u64, channel: u16) -> usize
+        ensures { result ≡ consumers_on self.now connection channel }
+    {
+        match self.links.channel(connection, channel) {
+            Some(channel) => channel.consumer_count(),
+            None => 0,
         }
     }
 

@@ -5,9 +5,9 @@ ghost use Rattle.std.specs.Str.{bytes_eq};
 ghost use Rattle.model.specs.Words.{Text as Name};
 ghost use Rattle.model.specs.Step as said;
 ghost use Rattle.channels.specs.Open.{open_in};
-ghost use Rattle.commands.specs.Judged.{refused_by, IsStoppedBy, IsQueuePlace};
+ghost use Rattle.commands.specs.Judged.{refused_by, IsQueuePlace};
 
-use crate::refusals::{Refusal, Stop, check_queue};
+use crate::refusals::{Refusal, check_queue};
 use channels::Channel;
 use exchange_graph::Topology;
 use model::Consume;
@@ -32,11 +32,11 @@ fn check_asking(consume: &Consume) -> Result<(), Refusal>
 }
 
 /// Whether the channel can have one consumer more.
-fn check_seat(channel: &Channel, consume: &Consume) -> Result<(), Stop>
-    ensures { (names : List Name) → IsStoppedBy (said.refusal_of_seat (open_in names channel.now) consume.now) result }
+fn check_seat(channel: &Channel, consume: &Consume) -> Result<(), Refusal>
+    ensures { (names : List Name) → refused_by result ≡ said.refusal_of_seat (open_in names channel.now) consume.now }
 {
     match channel.refusal(consume) {
-        Some(refusal) => Err(Stop::from(refusal)),
+        Some(seat) => Err(Refusal::from(seat)),
         None => Ok(()),
     }
 }
@@ -47,9 +47,9 @@ pub fn check_consume(
     topology: &Topology,
     channel: &Channel,
     consume: &Consume,
-) -> Result<usize, Stop>
+) -> Result<usize, Refusal>
     ensures place { IfOk result (IsQueuePlace topology.now consume.now.queue) }
-    ensures refusal { (names : List Name) → IsStoppedBy (said.refusal_of_consume topology.now (open_in names channel.now) consume.now) result }
+    ensures refusal { (names : List Name) → refused_by result ≡ said.refusal_of_consume topology.now (open_in names channel.now) consume.now }
 {
     let place = check_queue(topology, &consume.queue)?;
     check_asking(consume)?;

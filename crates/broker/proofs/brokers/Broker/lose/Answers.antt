@@ -2,7 +2,7 @@ use Rattle.std.proofs.Common.{[], refl, subst}
 use Rattle.model.specs.declared.events.Event.TheVariants.{Lose}
 use Rattle.commands.specs.State.{Kept, broker_of, topology_kept}
 use Rattle.broker.specs.Roster.{Rings}
-use Rattle.broker.proofs.Ending.{others_run}
+use Rattle.commands.proofs.Ending.{loss_ended}
 use Rattle.broker.proofs.Seated.{holds, was_there, serves, serves_asleep, serves_kept, running_but}
 use Rattle.broker.specs.Turns.{WithTurn, with_turn}
 use Rattle.broker.specs.Waiting.{NoneIsLater}
@@ -15,10 +15,11 @@ invariant_of-self c =
     let new : Kept = c.lose.new.self in
     let before : Rings = c.self.inside.roster in
     let after : Rings = c.forget.new.self in
+    let ended = loss_ended (topology_kept old) (broker_of old) (broker_of new) [] [] c.args.connection c.lose.ensures.acts in
     serves new after
-    (serves_kept new before after c.forget.ensures.kept c.forget.ensures.len
+    (serves_kept new before after (c.forget.ensures.kept new ended.0) c.forget.ensures.len
     (serves_asleep c.brokers_stay_agreed.ensures.acts c.consumers_are_made.ensures (topology_kept old) old new (Lose c.args.connection) [] [] before c.lose.ensures.acts (λ p. refl) refl refl c.lose.ensures.topology (holds old before c.self.invariant)))
-    (running_but (broker_of old) (broker_of new) before.lists after.lists c.args.connection (others_run (topology_kept old) (broker_of old) (broker_of new) [] [] (Lose c.args.connection) c.lose.ensures.acts) c.forget.ensures.gone c.forget.ensures.none c.self.invariant.running)
+    (running_but (broker_of old) (broker_of new) before.lists after.lists c.args.connection ended.1 (λ none. c.forget.ensures.gone) c.forget.ensures.none c.self.invariant.running)
 
 pub returns-clause-later : goal.returns-clause-later
 returns-clause-later c =

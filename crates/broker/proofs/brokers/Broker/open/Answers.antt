@@ -2,7 +2,7 @@ use Rattle.std.proofs.Common.{[], refl, sym, subst}
 use Rattle.model.specs.declared.events.Event.TheVariants.{Running}
 use Rattle.broker.specs.Roster.{Rings, IsServing}
 use Rattle.commands.specs.State.{Kept, broker_of, topology_kept}
-use Rattle.broker.proofs.Ending.{opening_runs}
+use Rattle.commands.proofs.Ending.{opening_runs}
 use Rattle.broker.proofs.Outcomes.{either_way, on_ok}
 use Rattle.broker.proofs.Seated.{holds, was_there, serves, serves_asleep, running_still}
 use Rattle.broker.specs.Turns.{WithTurn, with_turn}

@@ -2,7 +2,7 @@ use Rattle.std.proofs.Common.{[], refl, subst}
 use Rattle.model.specs.declared.events.Event.TheVariants.{Pause}
 use Rattle.broker.specs.Roster.{Rings}
 use Rattle.commands.specs.State.{Kept, broker_of, topology_kept}
-use Rattle.broker.proofs.Ending.{pause_runs}
+use Rattle.commands.proofs.Ending.{pause_runs}
 use Rattle.broker.proofs.Seated.{holds, was_there, serves, serves_asleep, running_still}
 use Rattle.broker.specs.Turns.{WithTurn, with_turn}
 use Rattle.broker.specs.Waiting.{NoneIsLater}

@@ -5,7 +5,7 @@ use Rattle.broker.specs.Roster.{Rings, IsServing}
 use Rattle.broker.specs.Turns as seen
 use Rattle.broker.specs.Turns.{WithTurn, with_turn}
 use Rattle.commands.specs.State.{Kept, broker_of, topology_kept}
-use Rattle.broker.proofs.Ending.{delivery_runs}
+use Rattle.commands.proofs.Ending.{delivery_runs}
 use Rattle.broker.proofs.Seated.{holds, was_there, serves, serves_asleep, running_still}
 use Rattle.broker.specs.Waiting.{NoneIsLater}
 use Rattle.broker.proofs.Turning.{none_later}

@@ -3,7 +3,7 @@ use Rattle.std.proofs.lemmas.Bool.{eqb-true}
 use Rattle.model.specs.declared.events.Event.TheVariants.{Resume}
 use Rattle.commands.specs.State.{Kept, broker_of, topology_kept}
 use Rattle.broker.specs.Roster.{Rings}
-use Rattle.broker.proofs.Ending.{resume_runs}
+use Rattle.commands.proofs.Ending.{resume_runs}
 use Rattle.broker.proofs.Seated.{Holds, holds, was_there, serves, serves_still, serves_kept, keeps_all, running_still}
 use Rattle.broker.specs.Turns.{WithTurn, with_turn}
 use Rattle.broker.specs.Waiting.{NoneIsLater}

@@ -1,0 +1,68 @@
+-- Which connections run still: no other than one that is closed or lost ends.
+use Rattle.std.proofs.Common.{◌≡◌, ◌∙◌, ℕ, List, [], Bool, true, false, Option, Some, None, refl, sym, ap, subst, if◌then◌else◌}
+use Rattle.std.specs.Prelude.{is_some, ◌==◌, IfOk, OnOk, Result, Ok, Err}
+use Rattle.std.proofs.lemmas.Bool.{eqb-true, eq-eqb, false≢true}
+use Rattle.model.specs.Topology.{Topology}
+use Rattle.model.specs.Broker.{Channel, Connection, Broker, with_one}
+use Rattle.model.specs.Step.{Is, Acts, after_close, with_freed, with_channel, with_gone, paused}
+use Rattle.model.specs.Entries.{by_channel}
+use Rattle.model.specs.declared.events.Send.{Send}
+use Rattle.model.specs.declared.events.Event.TheVariants.{Running, Lose, Pause, Resume, Deliver}
+use Rattle.model.specs.declared.notes.Note.{Note}
+use Rattle.commands.specs.Ended.{AllRunStill, OthersRunStill, TellsEnd}
+
+module _ (old new : Broker) where
+  -- where connections are as they were, each runs still that ran
+  pub same_run : ((d : ℕ) → new.connection d ≡ old.connection d) → AllRunStill old new
+  same_run is d none = sym (is d) ∙ none
+
+  pub closed_run : (c h : ℕ) (ch : Channel) → Is (after_close old c h ch) new → AllRunStill old new
+  closed_run c h ch is = same_run (λ d. is.connections d ∙ go ch.is_closing d)
+    where
+      go : (v : Bool) (d : ℕ) → (if v then old else with_freed (with_channel old c h None) (by_channel c h)).connection d ≡ old.connection d
+      go true d = refl
+      go false d = refl
+
+  -- where one is another now, each other runs still
+  others_run : (c : ℕ) (x : Option Connection) → ((d : ℕ) → new.connection d ≡ with_one old.connection c x d) → OthersRunStill c old new
+  others_run c x is d apart none = go (d == c) apart (sym (is d) ∙ none)
+    where
+      go : (v : Bool) → v ≡ false → (if v then x else old.connection d) ≡ None → old.connection d ≡ None
+      go true f g = absurd (false≢true (sym f))
+      go false f g = g
+
+  here : (c : ℕ) (x : Option Connection) → with_one old.connection c x c ≡ x
+  here c x = ap (λ (v : Bool). if v then x else old.connection c) (eq-eqb c c refl)
+
+  -- one that is gone runs no more, and each other runs still
+  pub gone_ended : (c : ℕ) → Is (with_gone old c) new → TellsEnd c true old new
+  gone_ended c is = (is.connections c ∙ here c None, others_run c None is.connections)
+
+  -- where one is another now that ended only if it hadn't run before, each runs still
+  all_run : (c : ℕ) (x : Option Connection) → ((d : ℕ) → new.connection d ≡ with_one old.connection c x d) → (x ≡ None → old.connection c ≡ None) → AllRunStill old new
+  all_run c x is own d = go (d == c) refl
+    where
+      go : (v : Bool) → (d == c) ≡ v → new.connection d ≡ None → old.connection d ≡ None
+      go true at none = subst (λ (k : ℕ). old.connection k ≡ None) (sym (eqb-true d c at)) (own (sym (here c x) ∙ sym (is c) ∙ ap new.connection (sym (eqb-true d c at)) ∙ none))
+      go false apart none = others_run c x is d apart none
+
+  paused_run : (v : Bool) (o : Option Connection) → paused v o ≡ None → o ≡ None
+  paused_run v None e = refl
+  paused_run v (Some conn) e = absurd (false≢true (sym (ap is_some e)))
+
+-- a loss ends no other connection; an opening, a pause and its end, and a delivery end none
+module _ (t : Topology) (old new : Broker) (sends : List Send) (notes : List Note) where
+  pub loss_ended : (c : ℕ) → Acts t old (Lose c) sends notes new → TellsEnd c true old new
+  loss_ended c p = gone_ended old new c p.left
+
+  pub opening_runs : (c max n : ℕ) → Acts t old (Running c max n) sends notes new → AllRunStill old new
+  opening_runs c max n p = all_run old new c _ p.left.connections (λ e. absurd (false≢true (sym (ap is_some e))))
+
+  pub pause_runs : (c : ℕ) → Acts t old (Pause c) sends notes new → AllRunStill old new
+  pause_runs c p = all_run old new c _ p.left.connections (paused_run old new true (old.connection c))
+
+  pub resume_runs : (c : ℕ) → Acts t old (Resume c) sends notes new → AllRunStill old new
+  resume_runs c p = all_run old new c _ p.left.connections (paused_run old new false (old.connection c))
+
+  pub delivery_runs : (c : ℕ) → Acts t old (Deliver c) sends notes new → AllRunStill old new
+  delivery_runs c p = same_run old new p.makes.left.connections

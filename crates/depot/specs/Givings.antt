@@ -1,0 +1,36 @@
+-- What it leaves that the first ready message of a queue is given out: it is held, or it leaves the queue where it needs no
+-- acknowledgement (AMQP 0-9-1, basic.get and basic.consume, "no-ack").
+use Rattle.std.specs.Prelude.{◌≡◌, ◌<◌, ℕ, List, [], Option, None, is_some, find}
+use Rattle.model.specs.Broker.{is_ready}
+use Rattle.model.specs.Entries.{is_held_as, held_as, change_first, without_first}
+use Rattle.model.specs.Deliveries.{left_note}
+use Rattle.model.specs.declared.messages.Entry.{Entry}
+use Rattle.model.specs.declared.notes.Cause.TheVariants.{Auto}
+use Rattle.model.specs.declared.notes.Note.{Note}
+use Rattle.depot.specs.declared.givings.Giving.{Giving}
+use Rattle.depot.specs.declared.givings.Giving.TheVariants.{Held, Out}
+
+-- nothing is held there yet by who is to hold it
+abbrev pub CanGive : Giving → List Entry → Type 0
+CanGive (Held holder) entries = find (is_held_as holder) entries ≡ None
+CanGive (Out queue) entries = Unit {0}
+
+-- there is room for the note that it leaves, where so many stand in a list of this capacity
+abbrev pub HasRoomFor : Giving → ℕ → ℕ → Type 0
+HasRoomFor (Held holder) count capacity = Unit {0}
+HasRoomFor (Out queue) count capacity = count < capacity
+
+-- the queue's entries then
+abbrev pub given_so : Giving → List Entry → List Entry
+given_so (Held holder) entries = change_first is_ready (held_as holder) entries
+given_so (Out queue) entries = without_first is_ready entries
+
+-- what is noted of it, if it is there
+abbrev pub given_notes : Giving → Option Entry → List Note
+given_notes (Held holder) first = []
+given_notes (Out queue) first = left_note Auto queue first
+
+-- the number of its arrival is told where it is there and held
+abbrev pub TellsArrival : Giving → Option Entry → Option ℕ → Type 0
+TellsArrival (Held holder) first told = is_some told ≡ is_some first
+TellsArrival (Out queue) first told = told ≡ None

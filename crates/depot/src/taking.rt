@@ -1,0 +1,33 @@
+//! Messages that are given out.
+
+ghost use Rattle.std.specs.Prelude.{◌≡◌, ◌++◌, find, vec_len, vec_capacity};
+ghost use Rattle.model.specs.Broker.{is_ready};
+ghost use Rattle.depot.specs.Givings.{CanGive, HasRoomFor, TellsArrival, given_notes, given_so};
+
+use crate::givings::Giving;
+use crate::queues::Queue;
+use model::{Cause, Note};
+use queue::Store;
+
+/// The first ready message of this queue is given out so, if there is one. Tells the number of the arrival of what is held.
+pub(crate) fn give(queue: &mut Queue, how: Giving, notes: &mut Vec<Note>) -> Option<u64>
+    requires free { CanGive how queue.old.entries }
+    requires room { HasRoomFor how (vec_len notes.old) (vec_capacity notes.old) }
+    ensures told { TellsArrival how (find is_ready queue.old.entries) result }
+    ensures entries { queue.new.entries ≡ given_so how queue.old.entries }
+    ensures notes { notes.new.items ≡ notes.old.items ++ given_notes how (find is_ready queue.old.entries) }
+{
+    match how {
+        Giving::Held(holder) => queue.hold(holder),
+        Giving::Out(name) => {
+            if let Some(entry) = queue.take_first() {
+                notes.push_reserved(Note::Left {
+                    number: entry.message.number(),
+                    queue: name,
+                    cause: Cause::Auto,
+                });
+            }
+            None
+        }
+    }
+}
