@@ -200,6 +200,41 @@ class Run:
         return f"store {' '.join(self.calls)} -> {' '.join(self.answers)}"
 
 
+    def sparse_line(self, count, pieces):
+        """Most messages of several blocks go, some here and some there."""
+        self.call("push", 1, count + 1, 1)
+        self.call("hold", 1, 1, 1, count)
+        for start, length in pieces:
+            self.call("release", 1, 1, start + 1, length, start)
+            if self.rng.random() < 0.5:
+                self.call("purge")
+        self.call("purge")
+        left = [m for m in self.queue.messages if m.holder]
+        for message in self.rng.sample(left, 6):
+            self.call("held", *message.holder, 2, message.arrival)
+        self.call("push", count + 1, count + 41, 5)
+        for message in self.rng.sample(left, 4):
+            self.call("release", *message.holder, 1, message.arrival)
+            self.call("first")
+        self.call("take", 3)
+        for message in self.rng.sample([m for m in self.queue.messages if m.holder], 4):
+            self.call("remove", *message.holder, 1, message.arrival)
+        self.call("ready")
+        self.call("bytes")
+        self.call("purge")
+        return f"store {' '.join(self.calls)} -> {' '.join(self.answers)}"
+
+
+def sparse_lines(rng):
+    """Blocks have 1,024 messages."""
+    few = [(1024 * block + 1, 1023) for block in range(3)]
+    yield Run(rng, 1).sparse_line(3100, few)
+    yield Run(rng, 1).sparse_line(3100, few[::-1])
+    pieces = [(start + rng.randrange(1, 40), 200) for start in range(0, 2800, 250)]
+    rng.shuffle(pieces)
+    yield Run(rng, 1).sparse_line(3000, pieces)
+
+
 def lines():
     rng = random.Random(SEED)
     yield HEAD
@@ -210,6 +245,9 @@ def lines():
     yield "# Some hundred at a time, so that slots are in several words of marks."
     for _ in range(RUNS // 8):
         yield Run(rng, 150).line(CALLS // 2)
+    yield ""
+    yield "# Several blocks, of which few messages stay, so that neighbours are joined."
+    yield from sparse_lines(rng)
 
 
 if __name__ == "__main__":

@@ -2,6 +2,7 @@
 use Rattle.std.specs.Prelude.{ℕ, List, Bool, Option}
 use Rattle.model.specs.Commands.{Stream}
 use Rattle.assembly.specs.declared.contents.Awaited.{Awaited}
+use Rattle.assembly.specs.Names.{Learned}
 use Rattle.assembly.specs.Pending.{pending_at}
 
 -- what of a connection's bytes is not a command yet: contents that are begun, and bytes that were not read
@@ -18,6 +19,8 @@ pub record Held : Type 0 where
   pub unread : List ℕ
   -- how many more bytes are fed with no growth
   pub room : ℕ
+  -- names and publishes that came before
+  pub learned : Learned
   -- the fault by which the stream broke, once it was answered
   pub fault : Option ℕ
 

@@ -1,4 +1,5 @@
 pub mod Faults
+pub mod Coming
 pub mod Pending
 pub mod Names
 pub mod Taking

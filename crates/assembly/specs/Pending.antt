@@ -7,6 +7,7 @@ use Rattle.model.specs.Commands.{Wants_header, Wants_body, most_body, most_heade
 use Rattle.model.specs.declared.contents.Fields.{Fields as Properties}
 use Rattle.model.specs.declared.methods.Publish.{Publish}
 use Rattle.model.specs.declared.methods.Method.TheVariants.{BasicPublish}
+use Rattle.assembly.specs.Coming.{GrowsAsItComes}
 use Rattle.assembly.specs.declared.contents.Awaited.{Awaited}
 use Rattle.assembly.specs.declared.contents.Awaited.TheVariants.{Nothing, WantsHeader, WantsBody, Drops}
 
@@ -14,7 +15,7 @@ use Rattle.assembly.specs.declared.contents.Awaited.TheVariants.{Nothing, WantsH
 abbrev pub pending_of : Awaited → Commands.Pending
 pending_of Nothing = Commands.Nothing
 pending_of (WantsHeader publish) = Wants_header publish
-pending_of (WantsBody g) = Wants_body g.publish g.properties g.size g.body
+pending_of (WantsBody g) = Wants_body g.publish g.properties g.size g.body.bytes
 pending_of (Drops d) = Commands.Drops d.size d.count
 
 -- A publish whose body comes in, of so many bytes: it and its properties have a spelling, and its content is not too large.
@@ -24,11 +25,11 @@ pub record IsPublishBegun (publish : Publish) (properties : Properties) (size : 
   pub body : size ≤ most_body
   pub header : length (header_bytes size properties) ≤ most_header
 
--- its publish and its content, if there are any, can be sent again, and no more is dropped than was declared
+-- its publish and its content, if there are any, can be sent again, storage is made as its body comes, and no more is dropped than was declared
 abbrev pub IsSpelledSoFar : Awaited → Type 0
 IsSpelledSoFar Nothing = ⊤
 IsSpelledSoFar (WantsHeader publish) = IsMethod (BasicPublish publish)
-IsSpelledSoFar (WantsBody g) = IsPublishBegun g.publish g.properties g.size
+IsSpelledSoFar (WantsBody g) = IsPublishBegun g.publish g.properties g.size × GrowsAsItComes g.body
 IsSpelledSoFar (Drops d) = d.count ≤ d.size
 
 -- a publish was read, and its header is awaited
@@ -63,3 +64,14 @@ pending_at contents channel = pending_of (content_at contents channel)
 -- the same of each channel
 abbrev pub AreSpelledSoFar : List Awaited → Type 0
 AreSpelledSoFar contents = (channel : ℕ) → IsSpelledSoFar (content_at contents channel)
+
+-- where a body comes in, storage is made as it comes
+abbrev pub GrowsSoFar : Awaited → Type 0
+GrowsSoFar Nothing = ⊤
+GrowsSoFar (WantsHeader publish) = ⊤
+GrowsSoFar (WantsBody g) = GrowsAsItComes g.body
+GrowsSoFar (Drops d) = ⊤
+
+-- the same of each channel
+abbrev pub GrowAsTheyCome : List Awaited → Type 0
+GrowAsTheyCome contents = (channel : ℕ) → GrowsSoFar (content_at contents channel)

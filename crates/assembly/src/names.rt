@@ -2,7 +2,7 @@
 //!
 //! Nothing rests on what is kept here: what is given back is what the bytes say.
 
-ghost use Rattle.std.specs.Prelude.{◌≡◌, IfSome};
+ghost use Rattle.std.specs.Prelude.{◌≡◌, ◌≤◌, [], IfSome, length};
 ghost use Rattle.assembly.specs.Names.{SpellsPublish, IsKnownRight, AreRight};
 
 use model::{Publish, Text};
@@ -31,20 +31,18 @@ pub(crate) struct LastNames {
 }
 
 impl Model for LastNames {
-    ghost use Rattle.std.specs.Prelude.{List, Option};
-    ghost use Rattle.assembly.specs.declared.names.Known.{Known as Seen};
-    ghost use Rattle.assembly.specs.Names.{AreRight};
+    ghost use Rattle.assembly.specs.Names.{Learned, AreFew, AreRight};
 
-    ghost Value = { List (Option Seen) };
+    ghost Value = { Learned };
 
-    ghost view = { λ n. n.publishes.items };
+    ghost view = { λ n. record { names = n.names.items; publishes = n.publishes.items } };
 
-    ghost invariant = { λ n. AreRight n.publishes.items };
+    ghost invariant = { λ n. AreRight n.publishes.items × AreFew (record { names = n.names.items; publishes = n.publishes.items }) };
 }
 
 impl LastNames {
     ghost use Rattle.std.specs.Prelude.{◌≡◌, IfSome};
-    ghost use Rattle.assembly.specs.Names.{SpellsPublish};
+    ghost use Rattle.assembly.specs.Names.{SpellsPublish, AreFew};
 
     /// Nothing came before. It takes no memory.
     pub(crate) fn new(alloc: Global) -> LastNames {
@@ -52,6 +50,13 @@ impl LastNames {
             names: Vec::new(alloc),
             publishes: Vec::new(alloc),
         }
+    }
+
+    /// At most 64 names are kept, and 32 publishes.
+    pub(crate) fn are_few(&self)
+        ensures { AreFew self.now }
+    {
+        let _ = &self.names;
     }
 
     /// The publish that this payload spells, if it came before and is kept.
@@ -121,8 +126,10 @@ fn copy_of(publish: &Publish) -> Option<Publish>
 /// Keeps this publish, which the payload spells, unless memory is refused.
 fn keep_in(alloc: Global, slots: &mut Vec<Option<Known>>, payload: &[u8], publish: &Publish)
     requires kept { AreRight slots.old.items }
+    requires few { length slots.old.items ≤ 32 }
     requires spelled { SpellsPublish payload.now publish.now }
-    ensures { AreRight slots.new.items }
+    ensures kept { AreRight slots.new.items }
+    ensures few { length slots.new.items ≤ 32 }
 {
     if slots.is_empty() {
         make_slots(slots);
@@ -146,8 +153,9 @@ fn known_of(alloc: Global, payload: &[u8], publish: &Publish) -> Option<Known>
 
 /// Makes places of publishes, or some of them where memory is refused.
 fn make_slots(slots: &mut Vec<Option<Known>>)
-    requires { AreRight slots.old.items }
-    ensures { AreRight slots.new.items }
+    requires { slots.old.items ≡ [] }
+    ensures kept { AreRight slots.new.items }
+    ensures few { length slots.new.items ≤ 32 }
 {
     for _ in 0..MOST_PUBLISHES {
         match slots.push(None) {
@@ -159,7 +167,9 @@ fn make_slots(slots: &mut Vec<Option<Known>>)
 
 /// The same publish, sharing the bytes of names that came before.
 fn sharing(names: &mut Vec<Text>, publish: Publish) -> Publish
-    ensures { result ≡ publish }
+    requires { length names.old.items ≤ 64 }
+    ensures same { result ≡ publish }
+    ensures few { length names.new.items ≤ 64 }
 {
     let Publish {
         reserved,
@@ -180,7 +190,9 @@ fn sharing(names: &mut Vec<Text>, publish: Publish) -> Publish
 /// The same name, sharing the bytes of one that came before where one is kept. Where memory is refused it is the name
 /// that was handed in.
 fn shared(names: &mut Vec<Text>, name: Text) -> Text
-    ensures { result ≡ name }
+    requires { length names.old.items ≤ 64 }
+    ensures same { result ≡ name }
+    ensures few { length names.new.items ≤ 64 }
 {
     if names.is_empty() {
         make_places(names);
@@ -192,7 +204,10 @@ fn shared(names: &mut Vec<Text>, name: Text) -> Text
 }
 
 /// Makes the places of names, or some of them where memory is refused.
-fn make_places(names: &mut Vec<Text>) {
+fn make_places(names: &mut Vec<Text>)
+    requires { names.old.items ≡ [] }
+    ensures { length names.new.items ≤ 64 }
+{
     for _ in 0..MOST_NAMES {
         if names.push(Text::empty()).is_err() {
             return;

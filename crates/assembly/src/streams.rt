@@ -3,6 +3,8 @@
 ghost use Rattle.std.specs.Prelude.{◌≡◌, ◌≤◌, ◌<◌, ℕ, [], true, Some, None, Ok, Err, OnOk, OnErr, length};
 ghost use Rattle.model.specs.Commands.{new_stream, running_stream, heard, with_max, keeping};
 ghost use Rattle.assembly.specs.Held.{stream_of};
+ghost use Rattle.assembly.specs.Names.{AreFew};
+ghost use Rattle.assembly.specs.Pending.{GrowAsTheyCome};
 ghost use Rattle.assembly.specs.Onward.{YieldsNext, broken_by};
 ghost use Rattle.assembly.specs.declared.faults.Fault.TheVariants.{Broken};
 
@@ -61,6 +63,7 @@ impl Model for Stream {
       contents = s.contents.items;
       unread = s.unread.bytes;
       room = s.unread.room;
+      learned = s.names;
       fault = s.fault;
     } };
 
@@ -150,13 +153,19 @@ impl Stream {
         ensures again { (code : ℕ) → self.old.fault ≡ Some code → (result ≡ Err (Broken code)) × (self.new ≡ self.old) }
         ensures keeps { self.new.fault ≡ broken_by result }
         ensures room { self.old.fault ≡ None → (stream_of self.new).unread ≡ [] → self.new.room ≤ 4096 }
+        // Storage of a body is made as it comes, for at most twice of what has come, whatever size is declared.
+        ensures gathered { GrowAsTheyCome self.new.contents }
+        // At most 64 names are kept of what came, and 32 publishes.
+        ensures few { AreFew self.new.learned }
     {
+        self.names.are_few();
         if let Some(code) = self.fault {
             return Err(Fault::Broken(code));
         }
         let next = self.read();
         self.fault = fault_in(&next);
         self.unread.give_back();
+        self.names.are_few();
         next
     }
 

@@ -104,6 +104,11 @@ fn tell_thrift(sums: &mut Sums, rt: &HostRuntime) -> io::Result<()> {
         rt,
         "a_broker_with_a_consumer_takes_no_memory",
         thrifty::a_broker_with_a_consumer_takes_no_memory(rt, alloc),
+    )?;
+    sums.tell(
+        rt,
+        "a_consumer_sleeps_and_wakes_without_memory",
+        thrifty::a_consumer_sleeps_and_wakes_without_memory(rt, alloc),
     )
 }
 

@@ -8,7 +8,9 @@ mod streams;
 mod words;
 
 use crate::parts::publish;
-pub(crate) use brokers::a_broker_with_a_consumer_takes_no_memory;
+pub(crate) use brokers::{
+    a_broker_with_a_consumer_takes_no_memory, a_consumer_sleeps_and_wakes_without_memory,
+};
 pub(crate) use depots::a_depot_takes_no_memory;
 use model::{Holder, Message, Taker};
 pub(crate) use queues::a_queue_takes_no_memory;

@@ -1,6 +1,6 @@
 -- Routes that are kept, and whether clients may publish to an exchange. Source: AMQP 0-9-1, exchange.declare, "internal"; that a publish to
 -- no exchange is refused: basic.publish, "exchange".
-use Rattle.std.specs.Prelude.{◌≡◌, [], ◌∷◌, Option, Some, None, find, if◌then◌else◌}
+use Rattle.std.specs.Prelude.{◌≡◌, [], ◌∷◌, List, Option, Some, None, All, find, length, if◌then◌else◌}
 use Rattle.std.specs.Str.{bytes_eq}
 use Rattle.std.specs.declared.sync.Arc.{Arc}
 use Rattle.model.specs.Words.{Text}
@@ -32,3 +32,7 @@ pub record IsRoute (t : Topology) (exchange key : Text) (r : Route) : Type 0 whe
 abbrev pub IsRight : {Z : Type 0} → Topology → Option (Arc Route Z) → Type 0
 IsRight t None = Unit {0}
 IsRight t (Some a) = IsRoute t a.value.exchange a.value.key a.value
+
+-- a router keeps at most 1,024 routes: so many slots it has, as long as it is there, and each is right
+abbrev pub KeepsRoutes : {Z : Type 0} → Topology → List (Option (Arc Route Z)) → Type 0
+KeepsRoutes t slots = (length slots ≡ 1024) × All (IsRight t) slots

@@ -28,15 +28,14 @@ impl Drop for Router {
 }
 
 impl Model for Router {
-    ghost use Rattle.std.specs.Prelude.{◌≡◌, length, All};
     ghost use Rattle.model.specs.Topology.{Topology as Handed};
-    ghost use Rattle.kept_routes.specs.Routers.{IsRight};
+    ghost use Rattle.kept_routes.specs.Routers.{KeepsRoutes};
 
     ghost Value = { Handed };
 
     ghost view = { λ r. r.topology };
 
-    ghost invariant = { λ r. (length r.slots.items ≡ 1024) × All (IsRight r.topology) r.slots.items };
+    ghost invariant = { λ r. KeepsRoutes r.topology r.slots.items };
 }
 
 impl Router {

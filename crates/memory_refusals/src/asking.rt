@@ -26,7 +26,7 @@ fn malformed() -> io::Error {
 }
 
 /// What a definitions file sets up.
-pub fn definitions_of(
+fn definitions_of(
     alloc: Global,
     setting: Setting<'_>,
     counts: &mut Counts,
@@ -47,7 +47,7 @@ pub fn definitions_of(
 }
 
 /// The guarantees of a file.
-pub fn guarantees_of(
+fn guarantees_of(
     alloc: Global,
     setting: Setting<'_>,
     topology: &Topology,
@@ -66,6 +66,17 @@ pub fn guarantees_of(
         Err(BadGuarantees::Memory) => Err(io::Error::from(AllocError)),
         Err(_) => Err(malformed()),
     }
+}
+
+/// The topology of the definitions file, and the guarantees over it.
+pub fn stated(
+    alloc: Global,
+    setting: Setting<'_>,
+    counts: &mut Counts,
+) -> io::Result<(Topology, Vec<Guarantee>)> {
+    let (topology, _) = definitions_of(alloc, setting, counts)?.into_parts();
+    let guarantees = guarantees_of(alloc, setting, &topology, counts)?;
+    Ok((topology, guarantees))
 }
 
 /// The certificates of a file.
@@ -101,13 +112,11 @@ pub fn admitted(
     counts: &mut Counts,
 ) -> io::Result<Result<Checked, (usize, CertFault)>> {
     let certificates = certificates_of(alloc, setting)?;
-    let (topology, _) = definitions_of(alloc, setting, counts)?.into_parts();
-    let guarantees = guarantees_of(alloc, setting, &topology, counts)?;
+    let (topology, guarantees) = stated(alloc, setting, counts)?;
     match admit(alloc, topology, guarantees, certificates.as_slice()) {
         Err((_, CertFault::Memory)) => {
             count(&mut counts.admits);
-            let (topology, _) = definitions_of(alloc, setting, counts)?.into_parts();
-            let guarantees = guarantees_of(alloc, setting, &topology, counts)?;
+            let (topology, guarantees) = stated(alloc, setting, counts)?;
             Ok(admit(alloc, topology, guarantees, certificates.as_slice()))
         }
         admitted => Ok(admitted),

@@ -1,8 +1,7 @@
 //! What the sections come to, in their order.
 
 use crate::asking::{
-    Setting, admitted, certificates_of, checked, definitions_of, disproved, guarantees_of,
-    searched, set_up,
+    Setting, admitted, certificates_of, checked, disproved, searched, set_up, stated,
 };
 use crate::counts::Counts;
 use crate::replaying::Replay;
@@ -46,8 +45,7 @@ fn put_checks(
     counts: &mut Counts,
     out: &mut String,
 ) -> io::Result<()> {
-    let (topology, _) = definitions_of(alloc, setting, counts)?.into_parts();
-    let guarantees = guarantees_of(alloc, setting, &topology, counts)?;
+    let (topology, guarantees) = stated(alloc, setting, counts)?;
     let certificates = certificates_of(alloc, setting)?;
     for (guarantee, certificate) in guarantees.iter().zip(certificates.iter()) {
         let outcome = checked(alloc, &topology, guarantee, certificate, counts);
@@ -82,8 +80,7 @@ fn put_verdicts(
     counts: &mut Counts,
     out: &mut String,
 ) -> io::Result<()> {
-    let (topology, _) = definitions_of(alloc, setting, counts)?.into_parts();
-    let guarantees = guarantees_of(alloc, setting, &topology, counts)?;
+    let (topology, guarantees) = stated(alloc, setting, counts)?;
     for guarantee in &guarantees {
         match searched(alloc, &topology, guarantee, counts)? {
             Verdict::Yes(certificate) => {

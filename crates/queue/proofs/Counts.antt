@@ -1,6 +1,6 @@
 -- What is kept beside the entries of a queue, at each change.
-use Rattle.std.proofs.Common.{◌≡◌, ℕ, ◌+◌, ◌*◌, ◌<◌, ◌≤◌, List, [], ◌∷◌, ◌++◌, length, map, filter, refl, sym, ap, ◌∙◌, subst, arith, Bool, true, false, cond, not, Some, None, find}
-use Rattle.std.proofs.lemmas.Bool.{le-ltb, ltb-false}
+use Rattle.std.proofs.Common.{◌≡◌, ℕ, suc, ◌+◌, ◌*◌, ◌<◌, ◌≤◌, List, [], ◌∷◌, ◌++◌, length, map, filter, refl, sym, ap, ◌∙◌, subst, arith, Bool, true, false, cond, not, Option, Some, None, find, is_some}
+use Rattle.std.proofs.lemmas.Bool.{false≢true, le-ltb, ltb-false}
 use Rattle.model.specs.Broker.{is_ready, body_bytes}
 use Rattle.model.specs.Entries.{freed, is_under, is_held_as, held_as, freed_now, change_first, without_first}
 use Rattle.model.specs.declared.messages.Entry.{Entry}
@@ -8,7 +8,7 @@ use Rattle.model.specs.Message.{Message}
 use Rattle.model.specs.declared.messages.Holder.{Holder}
 use Rattle.model.specs.declared.messages.Mark.TheVariants.{Ready}
 use Rattle.queue.specs.Slots.{num, tally}
-use Rattle.queue.specs.Blocks.{total, ready_size, is_long, IsCounted}
+use Rattle.queue.specs.Blocks.{some_pass, total, ready_size, is_long, IsCounted}
 use Rattle.queue.proofs.Places.{tally-most}
 use Rattle.queue.proofs.Joined.{once_mapped, once_left_out}
 use Rattle.queue.proofs.Slotted.{held_not_ready, freed_there, freed_same, same_held, same_count, not_found}
@@ -56,8 +56,25 @@ tally-without q p xs x e = let a = tally-total q xs in let b = tally-total q (wi
 length-changed : {X : Type 0} (p : X → Bool) (g : X → X) (xs : List X) (x : X) → find p xs ≡ Some x → length (change_first p g xs) ≡ length xs
 length-changed p g xs x e = let a = length-total xs in let b = length-total (change_first p g xs) in let c = total-changed (λ _. 1) p g xs x e in omega arith
 
-length-without : {X : Type 0} (p : X → Bool) (xs : List X) (x : X) → find p xs ≡ Some x → length (without_first p xs) + 1 ≡ length xs
+-- whether one passes or not
+pub length-changed-all : {X : Type 0} (p : X → Bool) (g : X → X) (xs : List X) → length (change_first p g xs) ≡ length xs
+length-changed-all p g [] = refl
+length-changed-all {X = X} p g (x ∷ xs) = go (p x) (length-changed-all p g xs)
+  where
+    go : (b : Bool) → length (change_first p g xs) ≡ length xs → length (cond b (g x ∷ xs) (x ∷ change_first p g xs)) ≡ suc (length xs)
+    go true r = refl
+    go false r = ap suc r
+
+pub length-without : {X : Type 0} (p : X → Bool) (xs : List X) (x : X) → find p xs ≡ Some x → length (without_first p xs) + 1 ≡ length xs
 length-without p xs x e = let a = length-total xs in let b = length-total (without_first p xs) in let c = total-without (λ _. 1) p xs x e in omega arith
+
+-- one is there: without it there is one less
+pub shorter : {X : Type 0} (p : X → Bool) (xs ys : List X) → some_pass p xs ≡ true → ys ≡ without_first p xs → length ys + 1 ≡ length xs
+shorter p xs ys some e = ap (λ (zs : List _). length zs + 1) e ∙ go (find p xs) refl some
+  where
+    go : (o : Option _) → find p xs ≡ o → is_some o ≡ true → length (without_first p xs) + 1 ≡ length xs
+    go None e h = absurd (false≢true h)
+    go (Some x) e h = length-without p xs x e
 
 total-end : {X : Type 0} (f : X → ℕ) (xs : List X) (x : X) → total f (xs ++ x ∷ []) ≡ total f xs + f x
 total-end f [] x = omega arith

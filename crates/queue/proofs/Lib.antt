@@ -10,3 +10,4 @@ pub mod Counts
 pub mod Signed
 pub mod Calls
 pub mod Filled
+pub mod Removed

@@ -291,10 +291,9 @@ live_most slots bits live s = let n = somes-most slots in let b = s.live_count i
 pub same_places : (slots slots' capacity capacity' places places' : ℕ) → HasPlaces slots capacity places → slots' ≡ slots → capacity' ≡ capacity → places' ≡ places → HasPlaces slots' capacity' places'
 same_places slots slots' capacity capacity' places places' h a b c = record { used = (let u = h.used in omega arith); kept = (let k = h.kept in omega arith) }
 
--- one more of the places is used
-pub more_places : (slots slots' capacity capacity' places places' : ℕ) → HasPlaces slots capacity places → 0 < places - slots → slots' ≡ slots + 1 → capacity' ≡ capacity → places' ≡ places
-    → HasPlaces slots' capacity' places'
-more_places slots slots' capacity capacity' places places' h r a b c = record { used = (let u = h.used in omega arith); kept = (let k = h.kept in omega arith) }
+-- each slot that a vector can have has its bit
+pub same_bits : (capacity capacity' places places' : ℕ) → capacity ≤ places → capacity' ≡ capacity → places' ≡ places → capacity' ≤ places'
+same_bits capacity capacity' places places' h a b = omega arith
 
 -- ---- slots and what stands in them
 
@@ -326,6 +325,15 @@ somes-cons (Some x) xs ys e = ap (λ (zs : List _). x ∷ zs) e
 somes-skip : {X : Type 0} (o : Option X) (xs ys : List (Option X)) → is_some o ≡ false → somes xs ≡ somes ys → somes xs ≡ somes (o ∷ ys)
 somes-skip None xs ys h e = e
 somes-skip (Some x) xs ys h e = absurd (false≢true (sym h))
+
+-- one list of slots behind the other
+pub entries-both : (xs ys : List Slot) → somes (contents (xs ++ ys)) ≡ somes (contents xs) ++ somes (contents ys)
+entries-both [] ys = refl
+entries-both (s ∷ ss) ys = go s.entry (entries-both ss ys)
+  where
+    go : (o : Option Entry) → somes (contents (ss ++ ys)) ≡ somes (contents ss) ++ somes (contents ys) → somes (o ∷ contents (ss ++ ys)) ≡ somes (o ∷ contents ss) ++ somes (contents ys)
+    go None r = r
+    go (Some x) r = ap (λ (es : List Entry). x ∷ es) r
 
 -- the empty slots are taken out
 pub somes-dropped : (slots : List Slot) → somes (contents (filter (λ (s : Slot). is_some s.entry) slots)) ≡ somes (contents slots)

@@ -1,5 +1,5 @@
 -- Blocks of messages, one after another (own).
-use Rattle.std.specs.Prelude.{◌≡◌, ℕ, ◌<◌, ◌≤◌, ◌+◌, ◌*◌, ◌||◌, List, [], ◌∷◌, ◌++◌, length, map, filter, not, slice_set, vec_len, vec_capacity}
+use Rattle.std.specs.Prelude.{◌≡◌, ℕ, ◌<◌, ◌≤◌, ◌+◌, ◌*◌, ◌||◌, ◌⊎◌, List, [], ◌∷◌, ◌++◌, length, map, filter, not, slice_set, vec_len, vec_capacity}
 use Rattle.std.specs.Prelude.{Bool, cond, nat_lt, Option, Some, None, find, is_some, get_or}
 use Rattle.std.specs.Global.{Vec}
 use Rattle.model.specs.Broker.{is_ready, body_bytes}
@@ -53,15 +53,81 @@ no_stretch = record { entries = []; room = 0; slots = 0 }
 abbrev pub block_at : List Stretch → ℕ → Stretch
 block_at blocks place = get_or blocks place no_stretch
 
--- No block keeps more slots than so many, and each but the last holds a message if it keeps any.
+-- messages stand in it
+abbrev pub IsHeld : Stretch → Type 0
+IsHeld b = 0 < length b.entries
+
+-- the block holds a message if it keeps slots
+abbrev pub IsFilled : Stretch → Type 0
+IsFilled b = 0 < b.slots → IsHeld b
+
+-- Messages stand in the second block, and the first has too few slots for those of both.
+pub record NeedBoth (a b : Stretch) : Type 0 where
+  pub some : IsHeld b
+  pub many : a.slots < length a.entries + length b.entries
+
+-- Messages stand in the first block, and it has slots for those of both.
+pub record FitInOne (a b : Stretch) : Type 0 where
+  pub some : IsHeld a
+  pub wide : length a.entries + length b.entries ≤ a.slots
+
+-- so it is with the block at this place and the next
+abbrev pub NeedBothAt : List Stretch → ℕ → Type 0
+NeedBothAt blocks i = NeedBoth (block_at blocks i) (block_at blocks (i + 1))
+
+-- No block keeps more slots than so many, and each but the last holds a message if it keeps any. No two neighbours with
+-- messages fit into the first of them, unless the second is the last.
 pub record AreFilled (most : ℕ) (blocks : List Stretch) : Type 0 where
   pub narrow : (i : ℕ) → (block_at blocks i).slots ≤ most
-  pub filled : (i : ℕ) → i + 1 < length blocks → 0 < (block_at blocks i).slots → 0 < length (block_at blocks i).entries
+  pub filled : (i : ℕ) → i + 1 < length blocks → IsFilled (block_at blocks i)
+  pub needed : (i : ℕ) → i + 2 < length blocks → IsHeld (block_at blocks i) → NeedBothAt blocks i
 
--- So it is but for the block at this place, which may hold none.
+-- So it is but for the block at this place and its neighbours, and would be if one message more stood in it.
 pub record AreFilledBut (place most : ℕ) (blocks : List Stretch) : Type 0 where
   pub narrow : (i : ℕ) → (block_at blocks i).slots ≤ most
-  pub filled : (i : ℕ) → i + 1 < length blocks → (i ≡ place → ⊥) → 0 < (block_at blocks i).slots → 0 < length (block_at blocks i).entries
+  pub filled : (i : ℕ) → i + 1 < length blocks → (i ≡ place → ⊥) → IsFilled (block_at blocks i)
+  pub needed : (i : ℕ) → i + 2 < length blocks → (i ≡ place → ⊥) → (i + 1 ≡ place → ⊥) → IsHeld (block_at blocks i) → NeedBothAt blocks i
+  pub next : place + 2 < length blocks → IsHeld (block_at blocks (place + 1))
+  pub here : place + 2 < length blocks → (block_at blocks place).slots ≤ length (block_at blocks place).entries + length (block_at blocks (place + 1)).entries
+  pub before : (i : ℕ) → i + 1 ≡ place → place + 2 < length blocks → IsHeld (block_at blocks i)
+      → (block_at blocks i).slots ≤ length (block_at blocks i).entries + length (block_at blocks place).entries
+
+-- No message stands in the block at this place, nor in the one before it.
+pub record IsSpent (place : ℕ) (blocks : List Stretch) : Type 0 where
+  pub here : length (block_at blocks place).entries ≡ 0
+  pub before : (i : ℕ) → i + 1 ≡ place → length (block_at blocks i).entries ≡ 0
+
+-- There is a block before the one at this place, and messages stand in it.
+pub record IsHeldBefore (place : ℕ) (blocks : List Stretch) : Type 0 where
+  pub index : ℕ
+  pub near : index + 1 ≡ place
+  pub held : IsHeld (block_at blocks index)
+
+-- messages stand in the block at this place, or in the one before it
+abbrev pub IsNotSpent : ℕ → List Stretch → Type 0
+IsNotSpent place blocks = length (block_at blocks place).entries ≡ 0 → IsHeldBefore place blocks
+
+-- The first of two neighbours, of which one stands at this place: both fit into it, and the last is neither.
+pub record IsPair (place first : ℕ) (blocks : List Stretch) : Type 0 where
+  pub near : ((first ≡ place) × (place + 2 < length blocks)) ⊎ (first + 1 ≡ place)
+  pub fit : FitInOne (block_at blocks first) (block_at blocks (first + 1))
+
+-- The block at this place and its neighbours are needed, unless the last is one of the two.
+pub record AreNeeded (place : ℕ) (blocks : List Stretch) : Type 0 where
+  pub before : (i : ℕ) → i + 1 ≡ place → IsHeld (block_at blocks i) → NeedBothAt blocks i
+  pub here : place + 2 < length blocks → IsHeld (block_at blocks place) → NeedBothAt blocks place
+
+-- The block at this place has taken in what stood in the next, which is gone.
+pub record AreJoined (place : ℕ) (old new : List Stretch) : Type 0 where
+  pub len : length new + 1 ≡ length old
+  pub before : (i : ℕ) → i < place → block_at new i ≡ block_at old i
+  pub entries : (block_at new place).entries ≡ (block_at old place).entries ++ (block_at old (place + 1)).entries
+  pub slots : (block_at new place).slots ≡ (block_at old place).slots
+  pub behind : (i : ℕ) → place < i → block_at new i ≡ block_at old (i + 1)
+
+-- no two messages in them are held under one tag
+abbrev pub AreApart : List Stretch → Type 0
+AreApart blocks = (holder : Holder) → tally (is_held_as holder) (joined (parts blocks)) ≤ 1
 
 -- where they were filled they are
 abbrev pub StayFilled : List Stretch → List Stretch → Type 0
@@ -71,21 +137,13 @@ StayFilled old new = (most : ℕ) → AreFilled most old → AreFilled most new
 abbrev pub StayFilledFor : ℕ → List Stretch → List Stretch → Type 0
 StayFilledFor more old new = (most : ℕ) → 1024 ≤ most → more ≤ most → AreFilled most old → AreFilled most new
 
--- the block holds a message if it keeps slots
-abbrev pub IsFilled : Stretch → Type 0
-IsFilled b = 0 < b.slots → 0 < length b.entries
-
--- so it is with the last one, if there is one
-abbrev pub LastIsFilled : List Stretch → Type 0
-LastIsFilled blocks = (i : ℕ) → i + 1 ≡ length blocks → IsFilled (block_at blocks i)
-
 -- it keeps fewer slots than a whole block
 abbrev pub IsShort : Stretch → Type 0
 IsShort b = b.slots < 1024
 
--- it holds a message, or keeps fewer slots than a whole block
-abbrev pub IsSpare : Stretch → Type 0
-IsSpare b = length b.entries ≡ 0 → IsShort b
+-- the last one, if there is one, holds a message, or keeps fewer slots than a whole block
+abbrev pub LastIsShort : List Stretch → Type 0
+LastIsShort blocks = (i : ℕ) → i + 1 ≡ length blocks → length (block_at blocks i).entries ≡ 0 → IsShort (block_at blocks i)
 
 -- A block can't take so many messages more: it has no slots for them, and would need more than a usual one has, with as many gaps as messages.
 pub record IsTooMuch (more : ℕ) (b : Stretch) : Type 0 where
@@ -171,11 +229,11 @@ pub record IsCounted (entries : List Entry) (ready live bytes : ℕ) : Type 0 wh
   pub apart : (holder : Holder) → tally (is_held_as holder) entries ≤ 1
   pub short : tally is_long entries ≡ 0
 
--- As many slots are kept as a block may have for each message, and those of one block more.
+-- At most twice as many slots are kept as there are messages, and those of two blocks.
 pub record IsBounded (most : ℕ) (blocks : List Stretch) : Type 0 where
   pub usual : 1024 ≤ most
   pub filled : AreFilled most blocks
-  pub few : slots_of blocks ≤ length (joined (parts blocks)) * most + most
+  pub few : slots_of blocks ≤ length (joined (parts blocks)) * 2 + most * 2
 
 -- What a queue in blocks keeps beside its blocks is true of them.
 abbrev pub IsIndexed : Vec Stretch → SlotBits → (ready live bytes room most : ℕ) → Type 0

@@ -82,6 +82,6 @@ pub record HasPlaces (slots capacity places : ℕ) : Type 0 where
 abbrev pub HavePlaces : {X : Type 0} → Vec X → SlotBits → Type 0
 HavePlaces slots bits = HasPlaces (vec_len slots) (vec_capacity slots) bits.places
 
--- What a block keeps beside its slots is true of them.
+-- What a block keeps beside its slots is true of them, and each slot that it can have has its bit.
 abbrev pub IsBlock : Vec Slot → SlotBits → ℕ → Type 0
-IsBlock slots bits live = BitsShow (contents slots.items) bits live × HavePlaces slots bits
+IsBlock slots bits live = BitsShow (contents slots.items) bits live × (vec_capacity slots ≤ bits.places)

@@ -1,11 +1,12 @@
 //! A block: messages in slots by arrival, of which the ready ones are marked.
 
-ghost use Rattle.std.specs.Prelude.{◌≡◌, ◌+◌, ◌<◌, ◌≤◌, ℕ, IfSome, IfNone};
+ghost use Rattle.std.specs.Prelude.{◌≡◌, ◌+◌, ◌<◌, ◌≤◌, ℕ, IfSome, IfNone, OnOk, vec_len, vec_capacity};
+ghost use Rattle.queue.specs.Slots.{SameBits};
 
 use crate::signs::Signs;
 use crate::slots::{
-    Slot, append, close_many_gaps, entry_at, free_at, hold_at, place_held, place_of, stand_in,
-    take_at,
+    Slot, append, close_many_gaps, entry_at, free_at, hold_at, move_in, place_held, place_of,
+    stand_in, take_at,
 };
 use model::{Entry, Holder, Mark, Message};
 use std::alloc::{AllocError, Global};
@@ -53,6 +54,28 @@ fn growth(slots: usize, capacity: usize, more: usize) -> Option<usize>
     Some(more.max(twice(capacity).saturating_sub(slots)))
 }
 
+/// Makes so many slots more behind those in use, each with its bit, unless there are as many.
+fn grow(slots: &mut Vec<Slot>, signs: &mut Signs, more: usize) -> Result<(), AllocError>
+    requires { vec_capacity slots.old ≤ signs.old.places }
+    ensures items { slots.new.items ≡ slots.old.items }
+    ensures len { vec_len slots.new ≡ vec_len slots.old }
+    ensures bits { SameBits signs.old signs.new }
+    ensures places { vec_capacity slots.new ≤ signs.new.places }
+    ensures kept { vec_capacity slots.old ≤ vec_capacity slots.new }
+    ensures room { OnOk result (vec_len slots.new + more ≤ vec_capacity slots.new) }
+    ensures same { vec_len slots.old + more ≤ vec_capacity slots.old → vec_capacity slots.new ≡ vec_capacity slots.old }
+    ensures few { (most : ℕ) → vec_capacity slots.old ≤ most → vec_len slots.old + more ≤ most → vec_capacity slots.new ≤ most }
+{
+    if more <= slots.capacity() - slots.len() {
+        return Ok(());
+    }
+    if more > usize::MAX - slots.len() {
+        return Err(AllocError);
+    }
+    signs.grow(slots.len() + more)?;
+    slots.reserve_exact(more)
+}
+
 /// Messages that came one after another, ready or held.
 ///
 /// Each stands in a slot, which stays empty once it is gone; `reserve` closes the gaps. A mark for each slot says whether it
@@ -74,7 +97,7 @@ impl Model for Block {
 
     ghost Value = { Stretch };
 
-    ghost view = { λ b. record { entries = somes (contents b.slots.items); room = b.signs.places - vec_len b.slots; slots = vec_capacity b.slots } };
+    ghost view = { λ b. record { entries = somes (contents b.slots.items); room = vec_capacity b.slots - vec_len b.slots; slots = vec_capacity b.slots } };
 
     ghost invariant = { λ b. IsBlock b.slots b.signs b.live };
 }
@@ -85,9 +108,10 @@ impl Block {
     ghost use Rattle.model.specs.Broker.{is_ready};
     ghost use Rattle.model.specs.Entries.{is_under, is_held_as, held_as, change_first, without_first};
     ghost use Rattle.model.specs.declared.messages.Mark.TheVariants.{Ready};
-    ghost use Rattle.queue.specs.Blocks.{is_in_use, stood_block, IsFilled, IsShort, IsTooMuch, HasSlots};
+    ghost use Rattle.model.specs.declared.messages.Holder.{Holder as Tag};
+    ghost use Rattle.queue.specs.Blocks.{is_in_use, stood_block, IsFilled, IsShort, IsTooMuch, HasSlots, NeedBoth};
     ghost use Rattle.queue.specs.Line.{requeued};
-    ghost use Rattle.queue.specs.Slots.{contents, somes};
+    ghost use Rattle.queue.specs.Slots.{contents, somes, tally};
 
     /// A block with no message and so many slots, for arrivals with this number or later ones.
     pub(crate) fn new(alloc: Global, first: u64, places: usize) -> Result<Block, AllocError>
@@ -96,9 +120,8 @@ impl Block {
         ensures slots { IfOk result (λ block. block.slots ≡ places) }
     {
         let mut slots = Vec::new(alloc);
-        slots.reserve_exact(places)?;
         let mut signs = Signs::empty(alloc);
-        signs.grow(places)?;
+        grow(&mut slots, &mut signs, places)?;
         Ok(Block {
             slots,
             signs,
@@ -116,7 +139,22 @@ impl Block {
     pub(crate) fn room(&self) -> usize
         ensures { result ≡ self.now.room }
     {
-        self.signs.places() - self.slots.len()
+        self.slots.capacity() - self.slots.len()
+    }
+
+    /// How many messages stand here.
+    pub(crate) fn live(&self) -> usize
+        ensures { result ≡ length self.now.entries }
+    {
+        self.live
+    }
+
+    /// Whether the slots here are enough for what stands here and in the other.
+    pub(crate) fn fits(&self, other: &Block) -> bool
+        ensures yes { result ≡ true → length self.now.entries + length other.now.entries ≤ self.now.slots }
+        ensures no { result ≡ false → NeedBoth self.now other.now }
+    {
+        other.live() <= self.slots.capacity() - self.live
     }
 
     /// Makes room for so many messages more, if they fit in the slots there are or that leaves this a block of the usual size, and
@@ -130,15 +168,14 @@ impl Block {
         ensures same { HasSlots more self.old → self.new.slots ≡ self.old.slots }
         ensures slots { (most : ℕ) → 1024 ≤ most → more ≤ most → self.old.slots ≤ most → self.new.slots ≤ most }
     {
-        if more <= self.signs.places() - self.slots.len() {
+        if more <= self.slots.capacity() - self.slots.len() {
             return Ok(true);
         }
         close_many_gaps(&mut self.slots, &mut self.signs, self.live);
         match growth(self.slots.len(), self.slots.capacity(), more) {
             None => Ok(false),
             Some(grown) => {
-                self.slots.reserve_exact(grown)?;
-                self.signs.grow(self.slots.capacity())?;
+                grow(&mut self.slots, &mut self.signs, grown)?;
                 Ok(true)
             }
         }
@@ -161,6 +198,23 @@ impl Block {
             },
         );
         self.live += 1;
+    }
+
+    /// What stands in the other slots comes behind what stands here. There are slots for it.
+    pub(crate) fn take_in(&mut self, others: Vec<Slot>)
+        requires fits { length self.old.entries + length (somes (contents others.items)) ≤ self.old.slots }
+        requires apart { (holder : Tag) → tally (is_held_as holder) (self.old.entries ++ somes (contents others.items)) ≤ 1 }
+        ensures entries { self.new.entries ≡ self.old.entries ++ somes (contents others.items) }
+        ensures slots { self.new.slots ≡ self.old.slots }
+    {
+        self.live += move_in(&mut self.slots, &mut self.signs, others);
+    }
+
+    /// The slots alone, in the order of arrival.
+    pub(crate) fn into_slots(self) -> Vec<Slot>
+        ensures { somes (contents result.items) ≡ self.entries }
+    {
+        self.slots
     }
 
     /// Whether messages stand here, or there is room for some.

@@ -7,10 +7,10 @@ ghost use Rattle.model.specs.Entries.{is_under, is_held_as, held_as, change_firs
 ghost use Rattle.model.specs.declared.messages.Mark.TheVariants.{Ready};
 ghost use Rattle.marks.specs.Places.{bit_of};
 ghost use Rattle.queue.specs.Line.{requeued};
-ghost use Rattle.queue.specs.Slots.{num, BitTurned, HavePlaces};
+ghost use Rattle.queue.specs.Slots.{num, tally, BitTurned, HavePlaces};
 ghost use Rattle.queue.specs.Blocks.{parts, part_at, part_changed, without_held, joined, last_room, some_pass, size_of, stood_block, AreBlocksSigned};
-ghost use Rattle.queue.specs.Blocks.{AreFilled, AreFilledBut, LastIsFilled, StayFilled, StayFilledFor};
-ghost use Rattle.queue.specs.Blocks.{LastFits, LastHasTooMuch, LastHasSlots, KeepSlots, IsSpare, block_at};
+ghost use Rattle.queue.specs.Blocks.{AreFilled, AreFilledBut, StayFilled, StayFilledFor, IsSpent, IsNotSpent, IsHeld, NeedBothAt, FitInOne};
+ghost use Rattle.queue.specs.Blocks.{IsPair, AreNeeded, AreJoined, AreApart, LastFits, LastHasTooMuch, LastHasSlots, LastIsShort, KeepSlots, block_at};
 
 use crate::block::{BLOCK_SLOTS, Block, FIRST_SLOTS};
 use crate::signs::Signs;
@@ -154,72 +154,56 @@ pub(crate) fn free_at(blocks: &mut Vec<Block>, place: usize, holder: &Holder, ne
     blocks[place].release(holder, near);
 }
 
-/// Gives the memory of this block back, if no message stands in it and it isn't the last.
-fn give_back(blocks: &mut Vec<Block>, place: usize, alloc: Global)
-    requires { place < vec_len blocks.old }
-    ensures parts { parts blocks.new.items ≡ parts blocks.old.items }
-    ensures room { last_room blocks.new.items ≡ last_room blocks.old.items }
-    ensures len { vec_len blocks.new ≡ vec_len blocks.old }
-    ensures capacity { vec_capacity blocks.new ≡ vec_capacity blocks.old }
-    ensures filled { (most : ℕ) → AreFilledBut place most blocks.old.items → AreFilled most blocks.new.items }
-{
-    if place + 1 < blocks.len() {
-        blocks[place].give_back(alloc);
-    }
-}
-
-/// Takes the first ready message of this block out. A block that is empty then is given back.
-pub(crate) fn take_at(blocks: &mut Vec<Block>, place: usize, alloc: Global) -> Option<Entry>
-    requires { place < vec_len blocks.old }
+/// Takes the first ready message of this block out, if there is one.
+pub(crate) fn take_at(blocks: &mut Vec<Block>, place: usize) -> Option<Entry>
+    requires within { place < vec_len blocks.old }
+    requires some { some_pass is_ready (part_at blocks.old.items place) ≡ true }
     ensures taken { result ≡ find is_ready (part_at blocks.old.items place) }
     ensures parts { parts blocks.new.items ≡ part_changed (without_first is_ready) blocks.old.items place }
     ensures room { last_room blocks.new.items ≡ last_room blocks.old.items }
     ensures len { vec_len blocks.new ≡ vec_len blocks.old }
     ensures capacity { vec_capacity blocks.new ≡ vec_capacity blocks.old }
-    ensures filled { StayFilled blocks.old.items blocks.new.items }
+    ensures filled { (most : ℕ) → AreFilled most blocks.old.items → AreFilledBut place most blocks.new.items }
 {
-    let entry = blocks[place].take_first();
-    give_back(blocks, place, alloc);
-    entry
+    blocks[place].take_first()
 }
 
-/// Takes the message of this block out that is held under this tag. A block that is empty then is given back.
+/// Takes the message of this block out that is held under this tag.
 pub(crate) fn remove_at(
     blocks: &mut Vec<Block>,
     place: usize,
     holder: &Holder,
     near: usize,
-    alloc: Global,
 ) -> Option<Entry>
-    requires { place < vec_len blocks.old }
+    requires within { place < vec_len blocks.old }
+    requires some { some_pass (is_held_as holder.now) (part_at blocks.old.items place) ≡ true }
+    requires once { tally (is_held_as holder.now) (part_at blocks.old.items place) ≤ 1 }
     ensures taken { result ≡ find (is_held_as holder.now) (part_at blocks.old.items place) }
     ensures parts { parts blocks.new.items ≡ part_changed (without_held holder.now) blocks.old.items place }
     ensures room { last_room blocks.new.items ≡ last_room blocks.old.items }
     ensures len { vec_len blocks.new ≡ vec_len blocks.old }
     ensures capacity { vec_capacity blocks.new ≡ vec_capacity blocks.old }
-    ensures filled { StayFilled blocks.old.items blocks.new.items }
+    ensures filled { (most : ℕ) → AreFilled most blocks.old.items → AreFilledBut place most blocks.new.items }
 {
-    let entry = blocks[place].remove(holder, near);
-    give_back(blocks, place, alloc);
-    entry
+    blocks[place].remove(holder, near)
 }
 
-/// Gives the memory of a whole block back in which no message stands, if no room is promised.
-pub(crate) fn give_back_spare(blocks: &mut Vec<Block>, place: usize, room: usize, alloc: Global)
-    requires within { place < vec_len blocks.old }
-    requires room { room ≤ last_room blocks.old.items }
+/// Gives the memory of a last block back that is whole and in which no message stands, if no room is promised.
+pub(crate) fn give_back_spare(blocks: &mut Vec<Block>, room: usize, alloc: Global)
+    requires { room ≤ last_room blocks.old.items }
     ensures parts { parts blocks.new.items ≡ parts blocks.old.items }
     ensures room { room ≤ last_room blocks.new.items }
     ensures len { vec_len blocks.new ≡ vec_len blocks.old }
     ensures capacity { vec_capacity blocks.new ≡ vec_capacity blocks.old }
     ensures filled { StayFilled blocks.old.items blocks.new.items }
-    ensures spare { room ≡ 0 → IsSpare (block_at blocks.new.items place) }
+    ensures spare { room ≡ 0 → LastIsShort blocks.new.items }
 {
-    if room > 0 {
+    if room > 0 || blocks.is_empty() {
         return;
     }
-    if blocks[place].is_whole() {
-        blocks[place].give_back(alloc);
+    let last = blocks.len() - 1;
+    if blocks[last].is_whole() {
+        blocks[last].give_back(alloc);
     }
 }
 
@@ -259,21 +243,6 @@ fn reserve_last(blocks: &mut Vec<Block>, more: usize) -> Result<bool, AllocError
     }
     let last = blocks.len() - 1;
     blocks[last].reserve(more)
-}
-
-/// Gives the memory of the last block back, if no message stands in it: another comes behind it.
-fn leave_last(blocks: &mut Vec<Block>, alloc: Global)
-    ensures parts { parts blocks.new.items ≡ parts blocks.old.items }
-    ensures len { vec_len blocks.new ≡ vec_len blocks.old }
-    ensures capacity { vec_capacity blocks.new ≡ vec_capacity blocks.old }
-    ensures filled { StayFilled blocks.old.items blocks.new.items }
-    ensures last { LastIsFilled blocks.new.items }
-{
-    if blocks.is_empty() {
-        return;
-    }
-    let last = blocks.len() - 1;
-    blocks[last].give_back(alloc);
 }
 
 /// The message comes to the end of the last block, with this number of its arrival, and is ready. Tells the place of the block.
@@ -326,6 +295,113 @@ fn sign_all(blocks: &[Block], signs: &mut Signs, places: usize)
     }
 }
 
+/// Whether no message stands in this block, nor in the one before it.
+fn is_spent(blocks: &[Block], place: usize) -> bool
+    requires { place < length blocks.now }
+    ensures yes { result ≡ true → IsSpent place blocks.now }
+    ensures no { result ≡ false → IsNotSpent place blocks.now }
+{
+    blocks[place].live() == 0 && (place == 0 || blocks[place - 1].live() == 0)
+}
+
+/// Gives the memory of a block back in which no message stands, nor in the one before it. It isn't the last.
+fn give_back_at(blocks: &mut Vec<Block>, place: usize, alloc: Global)
+    requires within { place + 1 < vec_len blocks.old }
+    requires spent { IsSpent place blocks.old.items }
+    ensures parts { parts blocks.new.items ≡ parts blocks.old.items }
+    ensures room { last_room blocks.new.items ≡ last_room blocks.old.items }
+    ensures len { vec_len blocks.new ≡ vec_len blocks.old }
+    ensures capacity { vec_capacity blocks.new ≡ vec_capacity blocks.old }
+    ensures filled { (most : ℕ) → AreFilledBut place most blocks.old.items → AreFilled most blocks.new.items }
+{
+    blocks[place].give_back(alloc);
+}
+
+/// Whether messages stand in this block, and it has slots for those of the next too.
+fn fits_at(blocks: &[Block], place: usize) -> bool
+    requires { place + 1 < length blocks.now }
+    ensures yes { result ≡ true → FitInOne (block_at blocks.now place) (block_at blocks.now (place + 1)) }
+    ensures no { result ≡ false → IsHeld (block_at blocks.now place) → NeedBothAt blocks.now place }
+{
+    blocks[place].live() > 0 && blocks[place].fits(&blocks[place + 1])
+}
+
+/// The first of two neighbours that fit into it: this block and the one before it, or the next unless that is the last.
+fn pair_at(blocks: &[Block], place: usize) -> Option<usize>
+    requires { place + 1 < length blocks.now }
+    ensures some { IfSome result (λ first. IsPair place first blocks.now) }
+    ensures none { IfNone result (AreNeeded place blocks.now) }
+{
+    if place > 0 && fits_at(blocks, place - 1) {
+        return Some(place - 1);
+    }
+    if place + 2 < blocks.len() && fits_at(blocks, place) {
+        return Some(place);
+    }
+    None
+}
+
+/// What stands in the next block comes into this one, which has slots for it. The next is gone.
+fn join_at(blocks: &mut Vec<Block>, place: usize)
+    requires within { place + 1 < vec_len blocks.old }
+    requires fit { FitInOne (block_at blocks.old.items place) (block_at blocks.old.items (place + 1)) }
+    requires apart { AreApart blocks.old.items }
+    ensures joined { AreJoined place blocks.old.items blocks.new.items }
+    ensures entries { joined (parts blocks.new.items) ≡ joined (parts blocks.old.items) }
+    ensures room { place + 2 < vec_len blocks.old → last_room blocks.new.items ≡ last_room blocks.old.items }
+    ensures len { vec_len blocks.new + 1 ≡ vec_len blocks.old }
+    ensures capacity { vec_capacity blocks.new ≡ vec_capacity blocks.old }
+{
+    let next = blocks.remove(place + 1);
+    blocks[place].take_in(next.into_slots());
+}
+
+/// Joins this block, from which a message went, with a neighbour, if the first of them has slots for both.
+fn join_near(blocks: &mut Vec<Block>, signs: &mut Signs, place: usize)
+    requires within { place + 1 < vec_len blocks.old }
+    requires left { IsNotSpent place blocks.old.items }
+    requires signed { AreBlocksSigned (parts blocks.old.items) signs.old }
+    requires places { HavePlaces blocks.old signs.old }
+    requires apart { AreApart blocks.old.items }
+    ensures signed { AreBlocksSigned (parts blocks.new.items) signs.new }
+    ensures places { HavePlaces blocks.new signs.new }
+    ensures entries { joined (parts blocks.new.items) ≡ joined (parts blocks.old.items) }
+    ensures room { last_room blocks.new.items ≡ last_room blocks.old.items }
+    ensures filled { (most : ℕ) → AreFilledBut place most blocks.old.items → AreFilled most blocks.new.items }
+{
+    match pair_at(blocks, place) {
+        None => {}
+        Some(first) => {
+            let places = blocks.len();
+            join_at(blocks, first);
+            sign_all(blocks, signs, places);
+        }
+    }
+}
+
+/// Keeps the slots few after a message went from this block: gives it back if it is empty and none with messages stands before
+/// it, or joins it with a neighbour if the two fit into one. The last block stays as it is.
+pub(crate) fn settle(blocks: &mut Vec<Block>, signs: &mut Signs, place: usize, alloc: Global)
+    requires within { place < vec_len blocks.old }
+    requires signed { AreBlocksSigned (parts blocks.old.items) signs.old }
+    requires places { HavePlaces blocks.old signs.old }
+    requires apart { AreApart blocks.old.items }
+    ensures signed { AreBlocksSigned (parts blocks.new.items) signs.new }
+    ensures places { HavePlaces blocks.new signs.new }
+    ensures entries { joined (parts blocks.new.items) ≡ joined (parts blocks.old.items) }
+    ensures room { last_room blocks.new.items ≡ last_room blocks.old.items }
+    ensures filled { (most : ℕ) → AreFilledBut place most blocks.old.items → AreFilled most blocks.new.items }
+{
+    if place + 1 >= blocks.len() {
+        return;
+    }
+    if is_spent(blocks, place) {
+        give_back_at(blocks, place, alloc);
+    } else {
+        join_near(blocks, signs, place);
+    }
+}
+
 /// Takes the blocks out that were given back.
 fn drop_given_back(blocks: &mut Vec<Block>)
     ensures entries { joined (parts blocks.new.items) ≡ joined (parts blocks.old.items) }
@@ -371,7 +447,8 @@ fn slots_for(more: usize, is_first: bool) -> usize
     }
 }
 
-/// Starts a block with room for so many messages, of which the arrivals have the number `first` or later ones.
+/// Starts a block with room for so many messages, of which the arrivals have the number `first` or later ones. What was the last
+/// is joined with the one before it if the two fit into one.
 fn start_block(
     blocks: &mut Vec<Block>,
     signs: &mut Signs,
@@ -381,6 +458,7 @@ fn start_block(
 ) -> Result<(), AllocError>
     requires signed { AreBlocksSigned (parts blocks.old.items) signs.old }
     requires places { HavePlaces blocks.old signs.old }
+    requires apart { AreApart blocks.old.items }
     ensures signed { AreBlocksSigned (parts blocks.new.items) signs.new }
     ensures places { HavePlaces blocks.new signs.new }
     ensures entries { joined (parts blocks.new.items) ≡ joined (parts blocks.old.items) }
@@ -390,8 +468,9 @@ fn start_block(
 {
     make_place(blocks, signs)?;
     let block = Block::new(alloc, first, slots_for(more, blocks.is_empty()))?;
-    leave_last(blocks, alloc);
+    let before = blocks.len().saturating_sub(1);
     blocks.push_reserved(block);
+    settle(blocks, signs, before, alloc);
     Ok(())
 }
 
@@ -406,6 +485,7 @@ pub(crate) fn make_room(
 ) -> Result<(), AllocError>
     requires signed { AreBlocksSigned (parts blocks.old.items) signs.old }
     requires places { HavePlaces blocks.old signs.old }
+    requires apart { AreApart blocks.old.items }
     ensures signed { AreBlocksSigned (parts blocks.new.items) signs.new }
     ensures places { HavePlaces blocks.new signs.new }
     ensures entries { joined (parts blocks.new.items) ≡ joined (parts blocks.old.items) }

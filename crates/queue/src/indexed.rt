@@ -8,7 +8,7 @@ ghost use Rattle.model.specs.Entries.{number_of};
 use crate::block::{BLOCK_SLOTS, Block};
 use crate::blocks::{
     Spot, first_ready_at, free_at, give_back_spare, held_at, held_bytes_at, hold_at, make_room,
-    push_last, ready_bytes_at, remove_at, sign, spot_held, stand_in, take_at,
+    push_last, ready_bytes_at, remove_at, settle, sign, spot_held, stand_in, take_at,
 };
 use crate::signs::Signs;
 use crate::stores::Store;
@@ -20,8 +20,9 @@ use std::marker::Model;
 /// Messages in the order in which they came, ready or held.
 ///
 /// They stand in blocks. What comes goes into the last one, and where that is full `reserve` starts another, so that no call
-/// moves more messages than a block has. A block is given back once its last message is gone. A mark for each block says
-/// whether a ready message stands in it. How many are ready, and how many bytes their bodies have, is kept.
+/// moves more messages than a block has. A block is given back once its last message is gone, and two are joined if what stands in
+/// them fits into the first. A mark for each block says whether a ready message stands in it. How many are ready, and how many
+/// bytes their bodies have, is kept.
 #[derive(Drop)]
 pub struct Indexed {
     alloc: Global,
@@ -134,9 +135,10 @@ impl Store for Indexed {
                 self.ready_count -= 1;
                 self.ready_bytes -= ready_bytes_at(&self.blocks, place) as u128;
                 self.live -= 1;
-                let entry = take_at(&mut self.blocks, place, self.alloc);
-                give_back_spare(&mut self.blocks, place, self.room, self.alloc);
+                let entry = take_at(&mut self.blocks, place);
                 sign(&self.blocks, &mut self.signs, place);
+                settle(&mut self.blocks, &mut self.signs, place, self.alloc);
+                give_back_spare(&mut self.blocks, self.room, self.alloc);
                 entry
             }
         }
@@ -167,9 +169,10 @@ impl Store for Indexed {
             None => None,
             Some(Spot { block, slot }) => {
                 self.live -= 1;
-                let entry = remove_at(&mut self.blocks, block, holder, slot, self.alloc);
-                give_back_spare(&mut self.blocks, block, self.room, self.alloc);
+                let entry = remove_at(&mut self.blocks, block, holder, slot);
                 sign(&self.blocks, &mut self.signs, block);
+                settle(&mut self.blocks, &mut self.signs, block, self.alloc);
+                give_back_spare(&mut self.blocks, self.room, self.alloc);
                 entry
             }
         }

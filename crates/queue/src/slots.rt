@@ -166,6 +166,17 @@ pub(crate) fn append(slots: &mut Vec<Slot>, arrival: u64, entry: Entry)
     });
 }
 
+/// All of the other slots come behind these, in which there is room for them.
+fn move_all(slots: &mut Vec<Slot>, others: Vec<Slot>)
+    requires { vec_len slots.old + vec_len others ≤ vec_capacity slots.old }
+    ensures items { slots.new.items ≡ slots.old.items ++ others.items }
+    ensures capacity { vec_capacity slots.new ≡ vec_capacity slots.old }
+{
+    for slot in others {
+        slots.push_reserved(slot);
+    }
+}
+
 /// Takes the empty slots out.
 fn drop_empty(slots: &mut Vec<Slot>)
     ensures entries { somes (contents slots.new.items) ≡ somes (contents slots.old.items) }
@@ -237,4 +248,26 @@ pub(crate) fn close_many_gaps(slots: &mut Vec<Slot>, signs: &mut Signs, live: us
         return;
     }
     close_gaps(slots, signs);
+}
+
+/// What stands in the other slots comes behind what stands in these, in which there is room for it: their gaps are closed. Tells
+/// how many messages came. Each slot has its bit.
+pub(crate) fn move_in(slots: &mut Vec<Slot>, signs: &mut Signs, others: Vec<Slot>) -> usize
+    requires within { vec_capacity slots.old ≤ signs.old.places }
+    requires signed { AreSigned (contents slots.old.items) signs.old }
+    requires room { length (somes (contents slots.old.items)) + length (somes (contents others.items)) ≤ vec_capacity slots.old }
+    ensures signed { AreSigned (contents slots.new.items) signs.new }
+    ensures entries { somes (contents slots.new.items) ≡ somes (contents slots.old.items) ++ somes (contents others.items) }
+    ensures count { result ≡ length (somes (contents others.items)) }
+    ensures capacity { vec_capacity slots.new ≡ vec_capacity slots.old }
+    ensures places { signs.new.places ≡ signs.old.places }
+{
+    let places = slots.len();
+    let mut others = others;
+    drop_empty(slots);
+    drop_empty(&mut others);
+    let count = others.len();
+    move_all(slots, others);
+    sign_all(slots, signs, places.max(slots.len()));
+    count
 }

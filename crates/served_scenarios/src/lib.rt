@@ -9,6 +9,7 @@ mod neighbours;
 mod patience;
 mod programs;
 mod rounds;
+mod served;
 mod services;
 mod silent;
 mod watched;

@@ -1,63 +1,31 @@
 //! Clients of the system beside one another: three at once, one that closes, and one that does not read.
 
-use crate::watched::Watched;
-use engine::Engine;
+use crate::served::Served;
 use scenario_parts::{
     OPENED, OPENING, Unmet, expect, expect_bytes, expect_number, expect_opened_and_acked, joined,
-    new_broker, opening_and_publish, value_of,
+    opening_and_publish, value_of,
 };
-use serving::{Server, serve};
-use sockets::Sockets;
 use std::alloc::{AllocError, Global};
 use std::io;
 use std::io::{ErrorKind, Read as _, Write as _};
-use std::net::{Net, OpenStream as _, SocketAddr, TcpStream};
+use std::net::{Net, OpenStream as _};
 
-/// A broker that is served over sockets of the system, which are watched.
-#[derive(Drop)]
-struct Service {
-    server: Server<Engine>,
-    sockets: Watched<Sockets>,
-}
-
-impl Service {
-    /// At a port that is free.
-    fn new<N: Net>(net: &N, alloc: Global) -> Result<Service, Unmet> {
-        let broker = new_broker(alloc)?;
-        let Ok(server) = Server::new(alloc, broker) else {
-            return Err(Unmet::Call("Server::new"));
-        };
-        let address = value_of("parse", "127.0.0.1:0".parse::<SocketAddr>())?;
-        let sockets = value_of("Sockets::bind", Sockets::bind(net, alloc, address))?;
-        Ok(Service {
-            server,
-            sockets: Watched::new(sockets),
-        })
-    }
-
-    /// A client that comes, and never waits.
-    fn connect<N: Net>(&self, net: &N) -> Result<N::Stream, Unmet> {
-        let address = value_of("Sockets::local_addr", self.sockets.sockets.local_addr())?;
-        let client = value_of("TcpStream::connect", TcpStream::connect(net, address))?;
-        value_of("set_nonblocking", client.set_nonblocking(true))?;
-        Ok(client)
-    }
-
-    /// So many rounds. Those in which nothing comes wait.
-    fn serve(&mut self, alloc: Global, turns: u64) {
-        serve(alloc, &mut self.server, &mut self.sockets, turns);
-    }
+/// A client that comes, and never waits.
+fn connect<N: Net>(served: &Served, net: &N) -> Result<N::Stream, Unmet> {
+    let client = served.connect(net)?;
+    value_of("set_nonblocking", client.set_nonblocking(true))?;
+    Ok(client)
 }
 
 /// Writes what a client sends, and serves it.
 fn send<S: io::Write>(
     alloc: Global,
-    service: &mut Service,
+    served: &mut Served,
     client: &mut S,
     bytes: &[u8],
 ) -> Result<(), Unmet> {
     value_of("write_all", client.write_all(bytes))?;
-    service.serve(alloc, 4);
+    served.serve(alloc, 4);
     Ok(())
 }
 
@@ -99,20 +67,28 @@ fn expect_answered<S: io::Read>(alloc: Global, client: &mut S) -> Result<(), Unm
     expect_opened_and_acked(alloc, answer.as_slice())
 }
 
+/// A client that has opened its connection and channel 1.
+fn open<N: Net>(net: &N, alloc: Global, served: &mut Served) -> Result<N::Stream, Unmet> {
+    let mut client = connect(served, net)?;
+    send(alloc, served, &mut client, OPENING)?;
+    expect_there(alloc, &mut client, OPENED, Ending::Open)?;
+    Ok(client)
+}
+
 /// Three clients come at once, and each is answered.
 pub(crate) fn three_clients_of_the_system_are_served<N: Net>(
     net: &N,
     alloc: Global,
 ) -> Result<(), Unmet> {
-    let mut service = Service::new(net, alloc)?;
-    let mut first = service.connect(net)?;
-    let mut second = service.connect(net)?;
-    let mut third = service.connect(net)?;
+    let mut served = Served::new(net, alloc)?;
+    let mut first = connect(&served, net)?;
+    let mut second = connect(&served, net)?;
+    let mut third = connect(&served, net)?;
     let bytes = opening_and_publish(alloc)?;
     value_of("write_all", first.write_all(bytes.as_slice()))?;
     value_of("write_all", second.write_all(bytes.as_slice()))?;
     value_of("write_all", third.write_all(bytes.as_slice()))?;
-    service.serve(alloc, 8);
+    served.serve(alloc, 8);
     expect_answered(alloc, &mut first)?;
     expect_answered(alloc, &mut second)?;
     expect_answered(alloc, &mut third)
@@ -130,12 +106,10 @@ pub(crate) fn a_client_that_closes_its_connection_loses_its_socket<N: Net>(
     net: &N,
     alloc: Global,
 ) -> Result<(), Unmet> {
-    let mut service = Service::new(net, alloc)?;
-    let mut client = service.connect(net)?;
-    send(alloc, &mut service, &mut client, OPENING)?;
-    expect_there(alloc, &mut client, OPENED, Ending::Open)?;
-    send(alloc, &mut service, &mut client, CLOSE)?;
-    expect_number("the number of closed sockets", service.sockets.closes, 1)?;
+    let mut served = Served::new(net, alloc)?;
+    let mut client = open(net, alloc, &mut served)?;
+    send(alloc, &mut served, &mut client, CLOSE)?;
+    expect_number("the number of closed sockets", served.sockets.closes, 1)?;
     expect_there(alloc, &mut client, CLOSE_OK, Ending::Closed)
 }
 
@@ -151,23 +125,23 @@ pub(crate) fn what_a_client_held_that_went_away_is_given_to_another<N: Net>(
     net: &N,
     alloc: Global,
 ) -> Result<(), Unmet> {
-    let mut service = Service::new(net, alloc)?;
-    let mut first = service.connect(net)?;
-    let mut second = service.connect(net)?;
-    send(alloc, &mut service, &mut second, OPENING)?;
+    let mut served = Served::new(net, alloc)?;
+    let mut first = connect(&served, net)?;
+    let mut second = connect(&served, net)?;
+    send(alloc, &mut served, &mut second, OPENING)?;
     send(
         alloc,
-        &mut service,
+        &mut served,
         &mut first,
         opening_and_publish(alloc)?.as_slice(),
     )?;
-    send(alloc, &mut service, &mut first, GET)?;
+    send(alloc, &mut served, &mut first, GET)?;
     let mut answer: Vec<u8> = Vec::new(alloc);
     read_there(&mut first, &mut answer)?;
     drop(first);
-    service.serve(alloc, 4);
-    expect_number("the number of closed sockets", service.sockets.closes, 1)?;
-    send(alloc, &mut service, &mut second, GET)?;
+    served.serve(alloc, 4);
+    expect_number("the number of closed sockets", served.sockets.closes, 1)?;
+    send(alloc, &mut served, &mut second, GET)?;
     expect_there(
         alloc,
         &mut second,
@@ -191,13 +165,13 @@ fn body_frame(alloc: Global) -> Result<Vec<u8>, AllocError> {
 /// Publishes a message of 1,048,576 bytes.
 fn publish_large<S: io::Write>(
     alloc: Global,
-    service: &mut Service,
+    served: &mut Served,
     client: &mut S,
 ) -> Result<(), Unmet> {
-    send(alloc, service, client, LARGE_PUBLISH)?;
+    send(alloc, served, client, LARGE_PUBLISH)?;
     let frame = value_of("body_frame", body_frame(alloc))?;
     for _ in 0..16 {
-        send(alloc, service, client, frame.as_slice())?;
+        send(alloc, served, client, frame.as_slice())?;
     }
     Ok(())
 }
@@ -246,7 +220,7 @@ fn count_frames(bytes: &[u8]) -> Option<u64> {
 /// Reads what comes for a client while it is served, until it has so many bytes.
 fn read_served<S: io::Read>(
     alloc: Global,
-    service: &mut Service,
+    served: &mut Served,
     client: &mut S,
     wanted: u64,
 ) -> Result<Vec<u8>, Unmet> {
@@ -256,7 +230,7 @@ fn read_served<S: io::Read>(
         if answer.len() as u64 >= wanted {
             break;
         }
-        service.serve(alloc, 1);
+        served.serve(alloc, 1);
     }
     Ok(answer)
 }
@@ -266,17 +240,15 @@ pub(crate) fn a_client_that_reads_late_gets_each_byte_once<N: Net>(
     net: &N,
     alloc: Global,
 ) -> Result<(), Unmet> {
-    let mut service = Service::new(net, alloc)?;
-    let mut client = service.connect(net)?;
-    send(alloc, &mut service, &mut client, OPENING)?;
-    expect_there(alloc, &mut client, OPENED, Ending::Open)?;
-    publish_large(alloc, &mut service, &mut client)?;
+    let mut served = Served::new(net, alloc)?;
+    let mut client = open(net, alloc, &mut served)?;
+    publish_large(alloc, &mut served, &mut client)?;
     for _ in 0..GETS {
-        send(alloc, &mut service, &mut client, GET_AND_RECOVER)?;
+        send(alloc, &mut served, &mut client, GET_AND_RECOVER)?;
     }
-    expect("a write was short", service.sockets.short_writes > 0)?;
+    expect("a write was short", served.sockets.short_writes > 0)?;
     let wanted = GETS * GET_BYTES;
-    let answer = read_served(alloc, &mut service, &mut client, wanted)?;
+    let answer = read_served(alloc, &mut served, &mut client, wanted)?;
     expect_number("the number of bytes", answer.len() as u64, wanted)?;
     expect(
         "the bytes are frames, as many as were asked for",

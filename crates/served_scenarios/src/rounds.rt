@@ -3,22 +3,25 @@
 ghost use Rattle.std.specs.Prelude.{◌≡◌, [], IfOk, Some};
 ghost use Rattle.memory_wire.specs.Logs.{told_by};
 
-use crate::watched::Watched;
+use crate::served::{Served, new_server};
 use engine::Engine;
 use memory_wire::{Client, Logged, MemoryWire, serve_in_memory};
 use scenario_parts::{
     CONSUME, MESSAGE, OPENING, PUBLISH, STOPPED, Unmet, answer_len, deliveries_in, expect,
-    expect_number, expect_opened_and_acked, joined, new_broker, opening_and_publish, value_of,
+    expect_number, expect_opened_and_acked, joined, opening_and_publish, value_of,
 };
-use serving::{Server, serve};
-use sockets::{Sockets, Totals};
+use serving::Server;
+use sockets::Totals;
 use std::alloc::Global;
 use std::io;
 use std::io::{Read as _, Write as _};
-use std::net::{Net, SocketAddr, TcpStream};
+use std::net::Net;
 
 /// How many rounds in vain are enough.
 const PATIENCE: u32 = 64;
+
+/// Rounds enough for all that a client of the system wrote. Those in which nothing comes wait.
+const TURNS: u64 = 16;
 
 /// More messages than are read in the rounds of a scenario.
 const MANY: u64 = 8_000;
@@ -49,15 +52,6 @@ fn two(alloc: Global) -> Result<MemoryWire, Unmet>
     value_of("push", clients.push(client(alloc, OPENING, STOPPED)?))?;
     value_of("push", clients.push(client(alloc, OPENING, PUBLISH)?))?;
     Ok(MemoryWire::new(alloc, clients))
-}
-
-/// A server of a broker, with no socket yet.
-fn new_server(alloc: Global) -> Result<Server<Engine>, Unmet> {
-    let broker = new_broker(alloc)?;
-    match Server::new(alloc, broker) {
-        Ok(server) => Ok(server),
-        Err(_) => Err(Unmet::Call("Server::new")),
-    }
 }
 
 /// A client that opens and publishes is answered, though another stops inside the body of its publish.
@@ -184,37 +178,6 @@ pub(crate) fn one_that_fills_a_queue_is_offered_less(alloc: Global) -> Result<()
     expect_number("the room of the other", last_room(&wire, 2), 65_536)
 }
 
-/// A server with sockets of the system.
-#[derive(Drop)]
-struct Service {
-    server: Server<Engine>,
-    sockets: Watched<Sockets>,
-}
-
-impl Service {
-    /// A broker that is served at a port that is free.
-    fn new<N: Net>(net: &N, alloc: Global) -> Result<Service, Unmet> {
-        let server = new_server(alloc)?;
-        let address = value_of("parse", "127.0.0.1:0".parse::<SocketAddr>())?;
-        let sockets = value_of("Sockets::bind", Sockets::bind(net, alloc, address))?;
-        Ok(Service {
-            server,
-            sockets: Watched::new(sockets),
-        })
-    }
-
-    /// A client that comes.
-    fn connect<N: Net>(&self, net: &N) -> Result<N::Stream, Unmet> {
-        let address = value_of("Sockets::local_addr", self.sockets.sockets.local_addr())?;
-        value_of("TcpStream::connect", TcpStream::connect(net, address))
-    }
-
-    /// Rounds enough for all that has come. Those in which nothing comes wait.
-    fn serve(&mut self, alloc: Global) {
-        serve(alloc, &mut self.server, &mut self.sockets, 16);
-    }
-}
-
 /// Writes what a client sends.
 fn send<S: io::Write>(client: &mut S, bytes: &[u8]) -> Result<(), Unmet> {
     value_of("write_all", client.write_all(bytes))
@@ -232,11 +195,11 @@ pub(crate) fn a_client_of_the_system_is_served<N: Net>(
     net: &N,
     alloc: Global,
 ) -> Result<(), Unmet> {
-    let mut service = Service::new(net, alloc)?;
+    let mut service = Served::new(net, alloc)?;
     let mut client = service.connect(net)?;
     let written = opening_and_publish(alloc)?;
     send(&mut client, written.as_slice())?;
-    service.serve(alloc);
+    service.serve(alloc, TURNS);
     let totals = Totals {
         got: written.len() as u64,
         taken: answer_len(),
@@ -255,16 +218,16 @@ pub(crate) fn a_client_that_is_reset_is_lost_alone<N: Net>(
     net: &N,
     alloc: Global,
 ) -> Result<(), Unmet> {
-    let mut service = Service::new(net, alloc)?;
+    let mut service = Served::new(net, alloc)?;
     let mut reset = service.connect(net)?;
     let mut client = service.connect(net)?;
     send(&mut reset, OPENING)?;
     send(&mut client, OPENING)?;
-    service.serve(alloc);
+    service.serve(alloc, TURNS);
     // its answers are there and were not read, so that the system resets the connection
     drop(reset);
     send(&mut client, PUBLISH)?;
-    service.serve(alloc);
+    service.serve(alloc, TURNS);
     expect_number(
         "the number of sockets that were closed",
         service.sockets.closes,

@@ -71,41 +71,71 @@ fn words(alloc: Global, definitions: &str, address: &str) -> Result<Vec<String>,
     Ok(words)
 }
 
-/// Calls the program to serve with these words.
-fn serve_over<N: Net, O: Write>(
-    alloc: Global,
-    listener: &mut Visited<N>,
-    words: &[String],
-    out: &mut O,
-    err: &mut Vec<u8>,
-) -> Ended<Watched<Sockets>> {
-    let mut disk = ScenarioDisk { script: b"[" };
-    program_with_sockets(alloc, words, listener, &mut disk, out, err)
-}
-
 /// An address of this machine with a port that is free.
 const FREE: &str = "127.0.0.1:0";
+
+/// What came of serving.
+#[derive(Drop)]
+struct ServeOutcome<N: Net> {
+    ended: Ended<Watched<Sockets>>,
+    listener: Visited<N>,
+    err: Vec<u8>,
+}
+
+/// Calls the program to serve over this definitions file at this address.
+fn serve<'a, N: Net, O: Write>(
+    net: &'a N,
+    alloc: Global,
+    definitions: &str,
+    address: &str,
+    out: &mut O,
+) -> Result<ServeOutcome<&'a N>, Unmet> {
+    let mut listener = Visited {
+        net,
+        client: None,
+        asked: 0,
+    };
+    let mut disk = ScenarioDisk { script: b"[" };
+    let mut err: Vec<u8> = Vec::new(alloc);
+    let words = words(alloc, definitions, address)?;
+    let ended = program_with_sockets(
+        alloc,
+        words.as_slice(),
+        &mut listener,
+        &mut disk,
+        out,
+        &mut err,
+    );
+    Ok(ServeOutcome {
+        ended,
+        listener,
+        err,
+    })
+}
+
+/// Expects that no client was served, with this status, and that sockets were asked for so often.
+fn expect_unserved<N: Net>(served: &ServeOutcome<N>, status: u64, asked: u64) -> Result<(), Unmet> {
+    expect_number("the status", u64::from(served.ended.status), status)?;
+    expect("no client was served", served.ended.service.is_none())?;
+    expect_number(
+        "how often sockets were asked for",
+        served.listener.asked,
+        asked,
+    )
+}
 
 /// A client of `serve` is answered: where it may come is told, and as many turns are served as were asked for.
 pub(crate) fn serve_tells_where_it_listens_and_ends_after_its_turns<N: Net>(
     net: &N,
     alloc: Global,
 ) -> Result<(), Unmet> {
-    let mut listener = Visited {
-        net,
-        client: None,
-        asked: 0,
-    };
     let mut out: Vec<u8> = Vec::new(alloc);
-    let mut err: Vec<u8> = Vec::new(alloc);
-    let words = words(alloc, "definitions", FREE)?;
-    let Ended { service, status } = serve_over(
-        alloc,
-        &mut listener,
-        words.as_slice(),
-        &mut out,
-        &mut err,
-    );
+    let ServeOutcome {
+        ended,
+        mut listener,
+        err,
+    } = serve(net, alloc, "definitions", FREE, &mut out)?;
+    let Ended { service, status } = ended;
     expect_number("the status", u64::from(status), 0)?;
     expect("there is no complaint", err.is_empty())?;
     let service = value_of("serve", service.ok_or(()))?;
@@ -128,22 +158,13 @@ pub(crate) fn serve_judges_its_files_before_it_listens<N: Net>(
     net: &N,
     alloc: Global,
 ) -> Result<(), Unmet> {
-    let mut listener = Visited {
-        net,
-        client: None,
-        asked: 0,
-    };
     let mut out: Vec<u8> = Vec::new(alloc);
-    let mut err: Vec<u8> = Vec::new(alloc);
-    let words = words(alloc, "script", FREE)?;
-    let ended = serve_over(alloc, &mut listener, words.as_slice(), &mut out, &mut err);
-    expect_number("the status", u64::from(ended.status), 3)?;
-    expect("no client was served", ended.service.is_none())?;
-    expect_number("how often sockets were asked for", listener.asked, 0)?;
+    let served = serve(net, alloc, "script", FREE, &mut out)?;
+    expect_unserved(&served, 3, 0)?;
     expect("there is no output", out.is_empty())?;
     expect_bytes(
         "the complaint",
-        err.as_slice(),
+        served.err.as_slice(),
         b"warren: script: refused 1\n",
     )
 }
@@ -153,20 +174,15 @@ pub(crate) fn serve_tells_that_it_cannot_listen<N: Net>(
     net: &N,
     alloc: Global,
 ) -> Result<(), Unmet> {
-    let mut listener = Visited {
-        net,
-        client: None,
-        asked: 0,
-    };
     let mut out: Vec<u8> = Vec::new(alloc);
-    let mut err: Vec<u8> = Vec::new(alloc);
-    let words = words(alloc, "definitions", "nowhere")?;
-    let ended = serve_over(alloc, &mut listener, words.as_slice(), &mut out, &mut err);
-    expect_number("the status", u64::from(ended.status), 4)?;
-    expect("no client was served", ended.service.is_none())?;
-    expect_number("how often sockets were asked for", listener.asked, 1)?;
+    let served = serve(net, alloc, "definitions", "nowhere", &mut out)?;
+    expect_unserved(&served, 4, 1)?;
     expect("there is no output", out.is_empty())?;
-    expect_bytes("the complaint", err.as_slice(), b"warren: cannot listen\n")
+    expect_bytes(
+        "the complaint",
+        served.err.as_slice(),
+        b"warren: cannot listen\n",
+    )
 }
 
 /// Where it cannot be told where clients may come, none is served.
@@ -174,21 +190,7 @@ pub(crate) fn serve_ends_where_its_address_is_not_taken<N: Net>(
     net: &N,
     alloc: Global,
 ) -> Result<(), Unmet> {
-    let mut listener = Visited {
-        net,
-        client: None,
-        asked: 0,
-    };
-    let mut err: Vec<u8> = Vec::new(alloc);
-    let words = words(alloc, "definitions", FREE)?;
-    let ended = serve_over(
-        alloc,
-        &mut listener,
-        words.as_slice(),
-        &mut Closed,
-        &mut err,
-    );
-    expect_number("the status", u64::from(ended.status), 4)?;
-    expect("no client was served", ended.service.is_none())?;
-    expect("there is no complaint", err.is_empty())
+    let served = serve(net, alloc, "definitions", FREE, &mut Closed)?;
+    expect_unserved(&served, 4, 1)?;
+    expect("there is no complaint", served.err.is_empty())
 }

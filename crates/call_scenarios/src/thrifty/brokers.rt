@@ -5,7 +5,7 @@ ghost use Rattle.commands.specs.Judged.{IsAsked};
 use crate::parts::{Stated, command, consume, publish};
 use crate::room::Room;
 use broker::Broker;
-use model::{Event, Method, Qos, Reject};
+use model::{Ack, Event, Method, Qos, Reject};
 use scenario_parts::{Unmet, expect, value_of};
 use std::alloc::Global;
 
@@ -93,4 +93,48 @@ pub(crate) fn a_broker_with_a_consumer_takes_no_memory(
     let outcome = expect_broker(alloc, &mut second);
     drop(room);
     outcome
+}
+
+/// Whether a consumer is found that may take a message, in a process that has no memory left.
+fn finds_one(rt: &HostRuntime, alloc: Global, broker: &mut Broker) -> Result<bool, Unmet> {
+    let room = Room::of_all(rt, alloc)?;
+    let found = broker.pick().is_some();
+    drop(room);
+    Ok(found)
+}
+
+/// The consumer acknowledges what it has.
+fn acknowledge(alloc: Global, broker: &mut Broker, delivery_tag: u64) -> Result<(), Unmet> {
+    let ack = Method::BasicAck(Ack {
+        delivery_tag,
+        multiple: false,
+    });
+    perform(alloc, broker, &command(ack, None))
+}
+
+/// The consumer has what it may, and falls asleep where it is looked at. Its ack wakes it, and it is found again.
+fn expect_woken(rt: &HostRuntime, alloc: Global, broker: &mut Broker) -> Result<(), Unmet> {
+    for _ in 0..2 {
+        let found = finds_one(rt, alloc, broker)?;
+        expect("the consumer has what it may", !found)?;
+    }
+    acknowledge(alloc, broker, 1)?;
+    for _ in 0..2 {
+        let found = finds_one(rt, alloc, broker)?;
+        expect("the consumer may take what waits", found)?;
+    }
+    deliver(alloc, broker)?;
+    let found = finds_one(rt, alloc, broker)?;
+    expect("the consumer has what it may again", !found)
+}
+
+/// A consumer that has what it may falls asleep, is woken by its ack, and is served, though no pick is given memory.
+pub(crate) fn a_consumer_sleeps_and_wakes_without_memory(
+    rt: &HostRuntime,
+    alloc: Global,
+) -> Result<(), Unmet> {
+    let mut first = busy_broker(alloc)?;
+    expect("the consumer has what it may", first.pick().is_none())?;
+    let mut broker = busy_broker(alloc)?;
+    expect_woken(rt, alloc, &mut broker)
 }

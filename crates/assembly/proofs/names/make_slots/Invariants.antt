@@ -1,5 +1,9 @@
+use Rattle.std.proofs.Common.{◌≡◌, length}
 use Rattle.assembly.specs.Names.{AreRight}
 use Rattle.assembly.proofs.names.make_slots.Given as goal
 
 abbrev pub invariant-loop : goal.invariant-loop
-invariant-loop l = AreRight l.slots.items
+invariant-loop l = record {
+  kept : AreRight l.slots.items;
+  few : length l.slots.items ≡ l.counter;
+}

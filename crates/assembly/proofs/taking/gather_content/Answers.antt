@@ -1,8 +1,9 @@
-use Rattle.std.proofs.Common.{◌≡◌, true, ap, subst, Ok, Err, refl}
+use Rattle.std.proofs.Common.{◌≡◌, true, ap, subst, sym, arith, Ok, Err, refl}
 use Rattle.model.specs.Commands.{Makes, taken_header}
 use Rattle.model.specs.Grammar.{IsMethod}
 use Rattle.model.specs.declared.methods.Method.TheVariants.{BasicPublish}
 use Rattle.headers.specs.Reading.{header_seen}
+use Rattle.assembly.specs.Coming.{GrowsAsItComes}
 use Rattle.assembly.specs.Pending.{pending_of, IsSpelledSoFar}
 use Rattle.assembly.proofs.Codes.{map_fault, one_publish}
 use Rattle.assembly.proofs.Limits.{begun, empty_body}
@@ -22,7 +23,8 @@ returns-then-header-eq0-clause-does c = λ p e.
 pub returns-else-header-eq0-clause-spelled : goal.returns-else-header-eq0-clause-spelled
 returns-else-header-eq0-clause-spelled c =
     let taken = c.begun_publish-publish in
-    begun c.args.frame.now.payload.now taken.result (header_seen c.in-Ok.header) (subst IsSpelledSoFar taken.ensures.publish c.requires.spelled) c.requires.small c.in-Ok.ensures.tells
+    let made = begun c.args.frame.now.payload.now taken.result (header_seen c.in-Ok.header) (subst IsSpelledSoFar taken.ensures.publish c.requires.spelled) c.requires.small c.in-Ok.ensures.tells in
+    (made, subst GrowsAsItComes (sym c.new.ensures) (omega arith))
 
 pub returns-in-Err-clause-does : goal.returns-in-Err-clause-does
 returns-in-Err-clause-does c = λ p e.

@@ -1,8 +1,9 @@
-use Rattle.std.proofs.Common.{rules}
+use Rattle.std.proofs.Common.{rules, ap, length, ◌∙◌}
 use Rattle.model.specs.Entries.{is_under, freed}
 use Rattle.queue.specs.Line.{requeued}
 use Rattle.queue.specs.Blocks.{Stretch}
-use Rattle.queue.proofs.Filled.{filled_kept, some_mapped}
+use Rattle.queue.proofs.Filled.{filled_kept}
+use Rattle.queue.proofs.Stood.{length-mapped}
 use Rattle.queue.proofs.Signed.{parts-written, room_kept}
 use Rattle.queue.proofs.blocks.free_at.Goals as goal
 
@@ -13,4 +14,4 @@ pub returns-clause-room : goal.returns-clause-room
 returns-clause-room c = room_kept c.args.blocks.now.items c.args.place c.index_mut.result.now _ (search rules) (search rules) c.release.ensures.room
 
 pub returns-clause-filled : goal.returns-clause-filled
-returns-clause-filled c most f = filled_kept most c.args.blocks.now.items c.args.place c.index_mut.result.now _ (search rules) (search rules) c.release.ensures.slots (λ h. rw c.release.ensures.entries (some_mapped (freed (is_under c.args.holder.now)) c.index_mut.result.now.entries h)) f
+returns-clause-filled c most f = filled_kept most c.args.blocks.now.items c.args.place c.index_mut.result.now _ (search rules) (search rules) c.release.ensures.slots (ap length c.release.ensures.entries ∙ length-mapped (freed (is_under c.args.holder.now)) c.index_mut.result.now.entries) f

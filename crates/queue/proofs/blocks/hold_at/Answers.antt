@@ -1,7 +1,8 @@
-use Rattle.std.proofs.Common.{rules}
+use Rattle.std.proofs.Common.{rules, ap, length, ◌∙◌}
 use Rattle.model.specs.Broker.{is_ready}
 use Rattle.model.specs.Entries.{change_first, held_as}
-use Rattle.queue.proofs.Filled.{filled_kept, some_changed}
+use Rattle.queue.proofs.Filled.{filled_kept}
+use Rattle.queue.proofs.Counts.{length-changed-all}
 use Rattle.queue.proofs.Signed.{parts-written, room_kept}
 use Rattle.queue.proofs.blocks.hold_at.Goals as goal
 
@@ -12,4 +13,4 @@ pub returns-clause-room : goal.returns-clause-room
 returns-clause-room c = room_kept c.args.blocks.now.items c.args.place c.index_mut.result.now _ (search rules) (search rules) c.hold.ensures.room
 
 pub returns-clause-filled : goal.returns-clause-filled
-returns-clause-filled c most f = filled_kept most c.args.blocks.now.items c.args.place c.index_mut.result.now _ (search rules) (search rules) c.hold.ensures.slots (λ h. rw c.hold.ensures.entries (some_changed is_ready (held_as c.args.holder) c.index_mut.result.now.entries h)) f
+returns-clause-filled c most f = filled_kept most c.args.blocks.now.items c.args.place c.index_mut.result.now _ (search rules) (search rules) c.hold.ensures.slots (ap length c.hold.ensures.entries ∙ length-changed-all is_ready (held_as c.args.holder) c.index_mut.result.now.entries) f

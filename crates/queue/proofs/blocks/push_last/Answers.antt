@@ -1,7 +1,7 @@
 use Rattle.std.proofs.Common.{◌≡◌, ◌∙◌, ◌<◌, ◌+◌, ◌-◌, ◌++◌, ◌∷◌, [], ℕ, rules, arith, length, ap, sym, subst, List, vec_len}
 use Rattle.model.specs.declared.messages.Entry.{Entry}
 use Rattle.model.specs.declared.messages.Mark.TheVariants.{Ready}
-use Rattle.queue.proofs.Filled.{filled_kept, some_more}
+use Rattle.queue.proofs.Filled.{filled_last}
 use Rattle.queue.proofs.Signed.{parts-written, room_is, room_at_last, room_somewhere}
 use Rattle.queue.proofs.blocks.push_last.Goals as goal
 
@@ -33,5 +33,5 @@ returns-clause-filled c most f =
     let some = room_somewhere c.args.blocks.now.items c.requires in
     let l : vec_len c.args.blocks.now ≡ length c.args.blocks.now.items = search rules in
     let n = c.len-last.ensures in
-    filled_kept most c.args.blocks.now.items (c.len-last.result - 1) c.index_mut.result.now _ (omega (arith, some)) (search rules) c.push.ensures.slots
-    (λ h. rw c.push.ensures.entries (some_more c.index_mut.result.now.entries (record { message = c.args.message; mark = Ready } ∷ []) h)) f
+    let s = c.push.ensures.slots in
+    filled_last most c.args.blocks.now.items (c.len-last.result - 1) c.index_mut.result.now c.push.new.self (omega (arith, some)) (search rules) (λ m. omega (arith, m, s)) f

@@ -1,14 +1,25 @@
-use Rattle.std.proofs.Common.{◌∙◌, rules, filter, not, arith}
+use Rattle.std.proofs.Common.{◌∙◌, rules, subst, sym, filter, not, List, true, ◌≡◌, ◌≤◌}
 use Rattle.model.specs.Entries.{is_held_as}
-use Rattle.queue.proofs.Filled.{but_written}
-use Rattle.queue.proofs.Signed.{parts-written, room_kept}
+use Rattle.model.specs.declared.messages.Entry.{Entry}
+use Rattle.queue.specs.Slots.{tally}
+use Rattle.queue.specs.Blocks.{some_pass}
+use Rattle.queue.proofs.Counts.{shorter}
+use Rattle.queue.proofs.Filled.{but_taken}
+use Rattle.queue.proofs.Joined.{once_left_out}
+use Rattle.queue.proofs.Signed.{parts-written, part_of, room_kept}
 use Rattle.queue.proofs.blocks.remove_at.Goals as goal
 
 pub returns-clause-parts : goal.returns-clause-parts
-returns-clause-parts c = c.give_back.ensures.parts ∙ parts-written c.args.blocks.now.items c.args.place c.index_mut.result.now _ (filter (λ e. not (is_held_as c.args.holder.now e))) (search rules) (search rules) c.remove-entry.ensures.entries
+returns-clause-parts c = parts-written c.args.blocks.now.items c.args.place c.index_mut.result.now _ (filter (λ e. not (is_held_as c.args.holder.now e))) (search rules) (search rules) c.remove.ensures.entries
 
 pub returns-clause-room : goal.returns-clause-room
-returns-clause-room c = c.give_back.ensures.room ∙ room_kept c.args.blocks.now.items c.args.place c.index_mut.result.now _ (search rules) (search rules) c.remove-entry.ensures.room
+returns-clause-room c = room_kept c.args.blocks.now.items c.args.place c.index_mut.result.now _ (search rules) (search rules) c.remove.ensures.room
 
 pub returns-clause-filled : goal.returns-clause-filled
-returns-clause-filled c most f = c.give_back.ensures.filled most (but_written most c.args.blocks.now.items c.args.place c.index_mut.result.now _ (search rules) (search rules) (let s = c.remove-entry.ensures.slots in omega (arith, s)) f)
+returns-clause-filled c most f =
+    let p = is_held_as c.args.holder.now in
+    let part = sym (part_of c.args.blocks.now.items c.args.place c.index_mut.result.now (search rules) (search rules)) in
+    let some : some_pass p c.index_mut.result.now.entries ≡ true = subst (λ (es : List Entry). some_pass p es ≡ true) part c.requires.some in
+    let once : tally p c.index_mut.result.now.entries ≤ 1 = subst (λ (es : List Entry). tally p es ≤ 1) part c.requires.once in
+    but_taken most c.args.blocks.now.items c.args.place c.index_mut.result.now _ (search rules) (search rules) c.remove.ensures.slots
+    (shorter p c.index_mut.result.now.entries _ some (c.remove.ensures.entries ∙ once_left_out p c.index_mut.result.now.entries once)) f

@@ -1,7 +1,7 @@
 use Rattle.std.proofs.Common.{◌≡◌, ◌≤◌, ◌<◌, ◌+◌, ◌-◌, ℕ, true, false, rules, arith, length, sym, subst, vec_len}
 use Rattle.std.specs.Prelude.{◌==◌, IfOk, OnErr}
 use Rattle.queue.proofs.Signed.{parts-kept, room_is, room_at_last, some_there}
-use Rattle.queue.proofs.Filled.{filled_grown}
+use Rattle.queue.proofs.Filled.{filled_last}
 use Rattle.queue.proofs.blocks.reserve_last.Goals as goal
 
 pub returns-clause-parts : goal.returns-clause-parts
@@ -44,4 +44,4 @@ returns-clause-filled c most u m f =
     let some = some_there (vec_len c.args.blocks.now) filled in
     let n = c.len-last.ensures in
     let last : (c.len-last.result - 1) + 1 ≡ length c.args.blocks.now.items = omega (arith, some) in
-    filled_grown most c.args.blocks.now.items (c.len-last.result - 1) c.index_mut.result.now c.reserve.new.self last (search rules) (c.reserve.ensures.slots most u m) f
+    filled_last most c.args.blocks.now.items (c.len-last.result - 1) c.index_mut.result.now c.reserve.new.self last (search rules) (c.reserve.ensures.slots most u m) f

@@ -1,15 +1,22 @@
-use Rattle.std.proofs.Common.{◌∙◌, rules, arith}
+use Rattle.std.proofs.Common.{◌∙◌, rules, subst, sym, ap, is_some, find, List, true, ◌≡◌}
 use Rattle.model.specs.Broker.{is_ready}
 use Rattle.model.specs.Entries.{without_first}
-use Rattle.queue.proofs.Filled.{but_written}
-use Rattle.queue.proofs.Signed.{parts-written, room_kept}
+use Rattle.model.specs.declared.messages.Entry.{Entry}
+use Rattle.queue.specs.Blocks.{some_pass}
+use Rattle.queue.proofs.Counts.{shorter}
+use Rattle.queue.proofs.Filled.{but_taken}
+use Rattle.queue.proofs.Signed.{parts-written, part_of, room_kept}
 use Rattle.queue.proofs.blocks.take_at.Goals as goal
 
 pub returns-clause-parts : goal.returns-clause-parts
-returns-clause-parts c = c.give_back.ensures.parts ∙ parts-written c.args.blocks.now.items c.args.place c.index_mut.result.now _ (without_first is_ready) (search rules) (search rules) c.take_first-entry.ensures.entries
+returns-clause-parts c = parts-written c.args.blocks.now.items c.args.place c.index_mut.result.now _ (without_first is_ready) (search rules) (search rules) c.take_first.ensures.entries
 
 pub returns-clause-room : goal.returns-clause-room
-returns-clause-room c = c.give_back.ensures.room ∙ room_kept c.args.blocks.now.items c.args.place c.index_mut.result.now _ (search rules) (search rules) c.take_first-entry.ensures.room
+returns-clause-room c = room_kept c.args.blocks.now.items c.args.place c.index_mut.result.now _ (search rules) (search rules) c.take_first.ensures.room
 
 pub returns-clause-filled : goal.returns-clause-filled
-returns-clause-filled c most f = c.give_back.ensures.filled most (but_written most c.args.blocks.now.items c.args.place c.index_mut.result.now _ (search rules) (search rules) (let s = c.take_first-entry.ensures.slots in omega (arith, s)) f)
+returns-clause-filled c most f =
+    let some : some_pass is_ready c.index_mut.result.now.entries ≡ true
+    = subst (λ (es : List Entry). some_pass is_ready es ≡ true) (sym (part_of c.args.blocks.now.items c.args.place c.index_mut.result.now (search rules) (search rules))) c.requires.some in
+    but_taken most c.args.blocks.now.items c.args.place c.index_mut.result.now _ (search rules) (search rules) c.take_first.ensures.slots
+    (shorter is_ready c.index_mut.result.now.entries _ some c.take_first.ensures.entries) f

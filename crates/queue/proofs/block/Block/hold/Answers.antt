@@ -4,14 +4,14 @@ use Rattle.model.specs.Entries.{is_held_as, held_as, change_first}
 use Rattle.queue.specs.Slots.{contents, somes}
 use Rattle.queue.specs.Blocks.{Stretch}
 use Rattle.queue.proofs.Places.{change_at, some_at, none_found, none_changed}
-use Rattle.queue.proofs.Slotted.{first_by_marks, none_by_marks, hold_shows, same_places}
+use Rattle.queue.proofs.Slotted.{first_by_marks, none_by_marks, hold_shows, same_bits}
 use Rattle.queue.proofs.block.Block.hold.Goals as goal
 
 pub invariant_of-self : goal.invariant_of-self
 invariant_of-self c = (
   hold_shows _ _ _ _ _ _ c.args.holder c.self.invariant.0 c.in-Some.ensures.some c.clear.ensures c.hold_at.ensures.contents
       (subst (λ (l : Stretch). find (is_held_as c.args.holder) l.entries ≡ None) (sym c.self.view_is) c.requires),
-  same_places _ _ _ _ _ _ c.self.invariant.1 c.hold_at.ensures.len c.hold_at.ensures.capacity c.clear.ensures.places,
+  same_bits _ _ _ _ c.self.invariant.1 c.hold_at.ensures.capacity c.clear.ensures.places,
 )
 
 pub returns-in-None-clause-told : goal.returns-in-None-clause-told

@@ -3,7 +3,7 @@ use Rattle.model.specs.declared.messages.Mark.TheVariants.{Ready}
 use Rattle.queue.specs.Slots.{contents, somes, BitTurned}
 use Rattle.queue.specs.Blocks.{Stretch}
 use Rattle.queue.proofs.Places.{somes-append}
-use Rattle.queue.proofs.Slotted.{more_places, push_shows, live_most, contents-length}
+use Rattle.queue.proofs.Slotted.{same_bits, push_shows, live_most, contents-length}
 use Rattle.queue.proofs.block.Block.push.Goals as goal
 
 pub overflow_add-self : goal.overflow_add-self
@@ -18,7 +18,7 @@ invariant_of-self c =
     let l : vec_len c.self.inside.slots ≡ length c.self.inside.slots.items = search rules in
     let n : c.len.result ≡ length (contents c.self.inside.slots.items) = c.len.ensures ∙ l ∙ sym (contents-length c.self.inside.slots.items) in (
       push_shows _ _ _ _ _ _ c.args.message c.self.invariant.0 (subst (λ (k : ℕ). BitTurned c.self.inside.signs c.set_ready.new.self k 1) n c.set_ready.ensures) c.append.ensures.contents refl,
-      more_places _ _ _ _ _ _ c.self.invariant.1 (subst (λ (l : Stretch). 0 < l.room) (sym c.self.view_is) c.requires) c.append.ensures.len c.append.ensures.capacity c.set_ready.ensures.places,
+      same_bits _ _ _ _ c.self.invariant.1 c.append.ensures.capacity c.set_ready.ensures.places,
     )
 
 pub returns-clause-entries : goal.returns-clause-entries

@@ -6,7 +6,7 @@ use Rattle.queue.specs.Slots.{contents, somes, slot_has}
 use Rattle.queue.specs.declared.slots.Slot.{Slot}
 use Rattle.queue.specs.Blocks.{Stretch}
 use Rattle.queue.proofs.Places.{some_at, none_found, none_mapped, only_first, only_mapped}
-use Rattle.queue.proofs.Slotted.{release_shows, only_held, same_places, freed_same, slot_freed}
+use Rattle.queue.proofs.Slotted.{release_shows, only_held, same_bits, freed_same, slot_freed}
 use Rattle.std.proofs.Math.ListN.{set}
 use Rattle.queue.proofs.Places.{NonePasses}
 use Rattle.queue.proofs.block.Block.release.Goals as goal
@@ -15,7 +15,7 @@ pub invariant_of-self : goal.invariant_of-self
 invariant_of-self c =
     let t = subst (λ (ss : List Slot). slot_has (is_held_as c.args.holder.now) (get_or (contents ss) c.in-Some.place None) ≡ true) c.deref.ensures.value c.in-Some.ensures.some in (
       release_shows _ _ _ _ _ _ c.args.holder.now c.self.invariant.0 t c.set_ready.ensures c.free_at.ensures.contents,
-      same_places _ _ _ _ _ _ c.self.invariant.1 c.free_at.ensures.len c.free_at.ensures.capacity c.set_ready.ensures.places,
+      same_bits _ _ _ _ c.self.invariant.1 c.free_at.ensures.capacity c.set_ready.ensures.places,
     )
 
 pub returns-in-None-clause-told : goal.returns-in-None-clause-told

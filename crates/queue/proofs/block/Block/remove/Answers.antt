@@ -5,7 +5,7 @@ use Rattle.queue.specs.Slots.{contents, somes, slot_has}
 use Rattle.queue.specs.declared.slots.Slot.{Slot}
 use Rattle.queue.specs.Blocks.{Stretch}
 use Rattle.queue.proofs.Places.{find_at, none_found, none_left_out, only_first, only_left_out}
-use Rattle.queue.proofs.Slotted.{remove_shows, held_least, only_held, same_places}
+use Rattle.queue.proofs.Slotted.{remove_shows, held_least, only_held, same_bits}
 use Rattle.queue.proofs.Places.{NonePasses}
 use Rattle.queue.proofs.block.Block.remove.Goals as goal
 
@@ -19,7 +19,7 @@ invariant_of-self c =
     let t = subst (λ (ss : List Slot). slot_has (is_held_as c.args.holder.now) (get_or (contents ss) c.in-Some.place None) ≡ true) c.deref.ensures.value c.in-Some.ensures.some in
     let least = held_least _ _ _ _ c.args.holder.now c.self.invariant.0 t in (
       remove_shows _ _ _ _ _ _ _ c.args.holder.now c.self.invariant.0 t c.clear.ensures c.take_at.ensures.contents (omega (arith, least)),
-      same_places _ _ _ _ _ _ c.self.invariant.1 c.take_at.ensures.len c.take_at.ensures.capacity c.clear.ensures.places,
+      same_bits _ _ _ _ c.self.invariant.1 c.take_at.ensures.capacity c.clear.ensures.places,
     )
 
 pub returns-in-None-clause-taken : goal.returns-in-None-clause-taken

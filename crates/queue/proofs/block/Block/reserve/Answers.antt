@@ -1,21 +1,23 @@
-use Rattle.std.proofs.Common.{arith, ap}
+use Rattle.std.proofs.Common.{◌≤◌, arith, ap, vec_capacity}
 use Rattle.queue.specs.Blocks.{Stretch}
 use Rattle.queue.proofs.block.Block.reserve.Goals as goal
 
 pub returns-in_err-grow-in-Some-clause-slots : goal.returns-in_err-grow-in-Some-clause-slots
 returns-in_err-grow-in-Some-clause-slots c most u m old =
-    let few = c.in-Some.ensures.few most u m in
     let len = c.len-2.ensures in
-    let exact = c.in_ok-reserve_exact-in-Some.ensures.capacity_exact in
+    let capacity = c.capacity-2.ensures in
     let was = c.close_many_gaps.ensures.capacity in
     let seen = ap (λ (b : Stretch). b.slots) c.self.view_is in
-    omega (arith, few, len, exact, was, seen, old)
+    let within : vec_capacity c.close_many_gaps.new.slots ≤ most = omega (arith, was, seen, old) in
+    let few = c.in-Some.ensures.few most u m (omega (arith, within, capacity)) in
+    c.grow.ensures.few most within (omega (arith, few, len))
 
 pub returns-in_ok-grow-in-Some-clause-slots : goal.returns-in_ok-grow-in-Some-clause-slots
 returns-in_ok-grow-in-Some-clause-slots c most u m old =
-    let few = c.in-Some.ensures.few most u m in
     let len = c.len-2.ensures in
-    let exact = c.in_ok-reserve_exact-in-Some.ensures.capacity_exact in
+    let capacity = c.capacity-2.ensures in
     let was = c.close_many_gaps.ensures.capacity in
     let seen = ap (λ (b : Stretch). b.slots) c.self.view_is in
-    omega (arith, few, len, exact, was, seen, old)
+    let within : vec_capacity c.close_many_gaps.new.slots ≤ most = omega (arith, was, seen, old) in
+    let few = c.in-Some.ensures.few most u m (omega (arith, within, capacity)) in
+    c.grow.ensures.few most within (omega (arith, few, len))

@@ -23,7 +23,7 @@ returns c =
     let new = c.stand_in.new.slots in
     let back = take_at new (drop (length new) c.self.inside.slots.items) c.self.inside.slots.len (c.stand_in.auto.slots ∙ c.deref_mut.ensures.len) in
     let is : contents new ≡ map (changed stood_now) (contents c.self.inside.slots.items) = c.stand_in.ensures ∙ ap (λ (ss : List Slot). map (changed stood_now) (contents ss)) c.deref_mut.ensures.value in
-    with_entries _ _ (c.self.inside.signs.places - vec_len c.self.inside.slots) (vec_capacity c.self.inside.slots)
+    with_entries _ _ (vec_capacity c.self.inside.slots - vec_len c.self.inside.slots) (vec_capacity c.self.inside.slots)
     (ap (λ (ss : List Slot). somes (contents ss)) back ∙ ap (λ (os : List (Option Entry)). somes os) is ∙ somes-changed stood_now (contents c.self.inside.slots.items))
     ∙ ap stood_block c.self.view_is
   where

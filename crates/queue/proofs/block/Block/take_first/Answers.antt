@@ -5,7 +5,7 @@ use Rattle.model.specs.Entries.{without_first}
 use Rattle.queue.specs.Slots.{contents, somes}
 use Rattle.queue.specs.Blocks.{Stretch}
 use Rattle.queue.proofs.Places.{remove_at, find_at, none_found, none_removed}
-use Rattle.queue.proofs.Slotted.{first_by_marks, none_by_marks, take_shows, ready_least, same_places}
+use Rattle.queue.proofs.Slotted.{first_by_marks, none_by_marks, take_shows, ready_least, same_bits}
 use Rattle.queue.proofs.block.Block.take_first.Goals as goal
 
 pub overflow_sub-self : goal.overflow_sub-self
@@ -15,7 +15,7 @@ pub invariant_of-self : goal.invariant_of-self
 invariant_of-self c =
     let least = ready_least _ _ _ _ c.self.invariant.0 c.in-Some.ensures.some in (
       take_shows _ _ _ _ _ _ _ c.self.invariant.0 c.in-Some.ensures.some c.clear.ensures c.take_at.ensures.contents (omega (arith, least)),
-      same_places _ _ _ _ _ _ c.self.invariant.1 c.take_at.ensures.len c.take_at.ensures.capacity c.clear.ensures.places,
+      same_bits _ _ _ _ c.self.invariant.1 c.take_at.ensures.capacity c.clear.ensures.places,
     )
 
 pub returns-in-None-clause-taken : goal.returns-in-None-clause-taken

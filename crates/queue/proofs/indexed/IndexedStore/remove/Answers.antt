@@ -1,12 +1,12 @@
-use Rattle.std.proofs.Common.{◌≡◌, ◌∙◌, [], sym, ap, subst, arith, rules, length, List, Option, true, None, find, filter, not, get_or, vec_len}
+use Rattle.std.proofs.Common.{◌≡◌, ◌∙◌, ◌-◌, [], refl, sym, ap, subst, arith, rules, length, List, Option, true, None, find, filter, not, get_or, vec_len}
 use Rattle.model.specs.Broker.{is_ready}
 use Rattle.model.specs.Entries.{is_held_as}
 use Rattle.model.specs.declared.messages.Entry.{Entry}
 use Rattle.queue.specs.Line.{Line}
 use Rattle.queue.specs.Slots.{num, BitTurned}
-use Rattle.queue.specs.Blocks.{Stretch, parts, joined, some_pass}
+use Rattle.queue.specs.Blocks.{Stretch, parts, joined, some_pass, AreBlocksSigned, IsCounted}
 use Rattle.queue.proofs.Filled.{bounded}
-use Rattle.queue.proofs.Joined.{first_within, joined_found}
+use Rattle.queue.proofs.Joined.{first_within, joined_found, part_once}
 use Rattle.queue.proofs.Signed.{signed_now, parts-length}
 use Rattle.queue.proofs.Slotted.{same_places}
 use Rattle.queue.proofs.Calls.{NoneIn, nothing_found, nothing_left_out, held_first, held_there, left_out_is, remove_there}
@@ -26,17 +26,28 @@ sign-requires c =
     let u = c.self.invariant.1.used in
     omega (arith, lt)
 
+pub remove_at-entry-requires-clause-once : goal.remove_at-entry-requires-clause-once
+remove_at-entry-requires-clause-once c = part_once (is_held_as c.args.holder.now) (parts c.self.inside.blocks.items) c.in-Some.field-0.block (c.self.invariant.2.apart c.args.holder.now)
+
+pub settle-requires-clause-apart : goal.settle-requires-clause-apart
+settle-requires-clause-apart c =
+    let t = subst (λ (bs : List Stretch). some_pass (is_held_as c.args.holder.now) (get_or (parts bs) c.in-Some.field-0.block []) ≡ true) c.deref.ensures.value c.in-Some.ensures.some in
+    let least = held_there (parts c.self.inside.blocks.items) c.self.inside.ready_count c.self.inside.live c.self.inside.ready_bytes c.in-Some.field-0.block c.args.holder.now c.self.invariant.2 t in
+    let counted = remove_there (parts c.self.inside.blocks.items) (parts c.remove_at-entry.new.blocks.items) _ _ _ (c.self.inside.live - 1) c.in-Some.field-0.block c.args.holder.now c.self.invariant.2 t c.remove_at-entry.ensures.parts (let o = least.0 in omega (arith, o)) in
+    counted.apart
+
 pub invariant_of-self : goal.invariant_of-self
 invariant_of-self c =
     let t = subst (λ (bs : List Stretch). some_pass (is_held_as c.args.holder.now) (get_or (parts bs) c.in-Some.field-0.block []) ≡ true) c.deref.ensures.value c.in-Some.ensures.some in
     let least = held_there (parts c.self.inside.blocks.items) c.self.inside.ready_count c.self.inside.live c.self.inside.ready_bytes c.in-Some.field-0.block c.args.holder.now c.self.invariant.2 t in
-    let turned : BitTurned c.self.inside.signs c.sign.new.signs c.in-Some.field-0.block (num (some_pass is_ready (get_or (parts c.give_back_spare.new.blocks.items) c.in-Some.field-0.block [])))
-    = subst (λ (bs : List Stretch). BitTurned c.self.inside.signs c.sign.new.signs c.in-Some.field-0.block (num (some_pass is_ready (get_or (parts bs) c.in-Some.field-0.block [])))) c.deref-in-Some.ensures.value c.sign.ensures in (
-      signed_now (parts c.self.inside.blocks.items) _ _ c.self.inside.signs c.sign.new.signs c.in-Some.field-0.block (first_within (is_held_as c.args.holder.now) (parts c.self.inside.blocks.items) c.in-Some.field-0.block t) c.self.invariant.0 (c.give_back_spare.ensures.parts ∙ c.remove_at-entry.ensures.parts) turned,
-      same_places _ _ _ _ _ _ c.self.invariant.1 (c.give_back_spare.ensures.len ∙ c.remove_at-entry.ensures.len) (c.give_back_spare.ensures.capacity ∙ c.remove_at-entry.ensures.capacity) c.sign.ensures.places,
-      remove_there (parts c.self.inside.blocks.items) (parts c.give_back_spare.new.blocks.items) _ _ _ _ c.in-Some.field-0.block c.args.holder.now c.self.invariant.2 t (c.give_back_spare.ensures.parts ∙ c.remove_at-entry.ensures.parts) (omega (arith, least.0)),
+    let counted = remove_there (parts c.self.inside.blocks.items) (parts c.remove_at-entry.new.blocks.items) _ _ _ (c.self.inside.live - 1) c.in-Some.field-0.block c.args.holder.now c.self.invariant.2 t c.remove_at-entry.ensures.parts (let o = least.0 in omega (arith, o)) in
+    let same : joined (parts c.give_back_spare.new.blocks.items) ≡ joined (parts c.remove_at-entry.new.blocks.items) = ap (λ (ps : List (List Entry)). joined ps) c.give_back_spare.ensures.parts ∙ c.settle.ensures.entries in (
+      subst (λ (ps : List (List Entry)). AreBlocksSigned ps c.settle.new.signs) (sym c.give_back_spare.ensures.parts) c.settle.ensures.signed,
+      same_places _ _ _ _ _ _ c.settle.ensures.places c.give_back_spare.ensures.len c.give_back_spare.ensures.capacity refl,
+      subst (λ (es : List Entry). IsCounted es c.self.inside.ready_count (c.self.inside.live - 1) c.self.inside.ready_bytes) (sym same) counted,
       record { there = c.give_back_spare.ensures.room; few = (let f = c.self.invariant.3.few in let o = least.0 in omega (arith, f, o)) },
-      bounded c.self.inside.most c.give_back_spare.new.blocks.items c.self.invariant.4.usual (c.give_back_spare.ensures.filled c.self.inside.most (c.remove_at-entry.ensures.filled c.self.inside.most c.self.invariant.4.filled)),
+      bounded c.self.inside.most c.give_back_spare.new.blocks.items c.self.invariant.4.usual
+          (c.give_back_spare.ensures.filled c.self.inside.most (c.settle.ensures.filled c.self.inside.most (c.remove_at-entry.ensures.filled c.self.inside.most c.self.invariant.4.filled))),
     )
 
 pub returns-in-None-clause-taken : goal.returns-in-None-clause-taken
@@ -61,4 +72,4 @@ pub returns-in-Some-clause-entries : goal.returns-in-Some-clause-entries
 returns-in-Some-clause-entries c =
     let t = subst (λ (bs : List Stretch). some_pass (is_held_as c.args.holder.now) (get_or (parts bs) c.in-Some.field-0.block []) ≡ true) c.deref.ensures.value c.in-Some.ensures.some in
     subst (λ (l : Line). joined (parts c.give_back_spare.new.blocks.items) ≡ filter (λ e. not (is_held_as c.args.holder.now e)) l.entries) c.self.view_is
-    (ap (λ (ps : List (List Entry)). joined ps) (c.give_back_spare.ensures.parts ∙ c.remove_at-entry.ensures.parts) ∙ sym (left_out_is (parts c.self.inside.blocks.items) c.self.inside.ready_count c.self.inside.live c.self.inside.ready_bytes c.in-Some.field-0.block c.args.holder.now c.self.invariant.2 t))
+    (ap (λ (ps : List (List Entry)). joined ps) c.give_back_spare.ensures.parts ∙ c.settle.ensures.entries ∙ ap (λ (ps : List (List Entry)). joined ps) c.remove_at-entry.ensures.parts ∙ sym (left_out_is (parts c.self.inside.blocks.items) c.self.inside.ready_count c.self.inside.live c.self.inside.ready_bytes c.in-Some.field-0.block c.args.holder.now c.self.invariant.2 t))

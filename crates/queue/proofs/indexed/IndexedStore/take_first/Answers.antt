@@ -1,10 +1,10 @@
-use Rattle.std.proofs.Common.{◌≡◌, ◌∙◌, [], sym, ap, subst, arith, rules, length, List, Option, None, find, get_or, vec_len}
+use Rattle.std.proofs.Common.{◌≡◌, ◌∙◌, ◌-◌, [], refl, sym, ap, subst, arith, rules, length, List, Option, None, find, get_or, vec_len}
 use Rattle.model.specs.Broker.{is_ready, body_bytes}
 use Rattle.model.specs.Entries.{without_first}
 use Rattle.model.specs.declared.messages.Entry.{Entry}
 use Rattle.queue.specs.Line.{Line}
 use Rattle.queue.specs.Slots.{num, BitTurned}
-use Rattle.queue.specs.Blocks.{Stretch, parts, joined, some_pass, size_of}
+use Rattle.queue.specs.Blocks.{Stretch, parts, joined, some_pass, size_of, AreBlocksSigned, IsCounted}
 use Rattle.queue.proofs.Filled.{bounded}
 use Rattle.queue.proofs.Joined.{FirstIn, first_within, joined_found, joined_without, joined_none, none_without_in}
 use Rattle.queue.proofs.Signed.{first_signed, none_signed, signed_now, parts-length}
@@ -33,20 +33,31 @@ sign-requires c =
     let u = c.self.invariant.1.used in
     omega (arith, lt)
 
+pub settle-requires-clause-apart : goal.settle-requires-clause-apart
+settle-requires-clause-apart c =
+    let first : FirstIn is_ready (parts c.self.inside.blocks.items) c.in-Some.place = first_signed (parts c.self.inside.blocks.items) c.self.inside.signs c.in-Some.place c.self.invariant.0 c.in-Some.ensures.some in
+    let size : c.ready_bytes_at.result ≡ size_of body_bytes (find is_ready (get_or (parts c.self.inside.blocks.items) c.in-Some.place []))
+    = c.ready_bytes_at.ensures ∙ ap (λ (bs : List Stretch). size_of body_bytes (find is_ready (get_or (parts bs) c.in-Some.place []))) c.deref.ensures.value in
+    let least = ready_there (parts c.self.inside.blocks.items) c.self.inside.ready_count c.self.inside.live c.self.inside.ready_bytes c.in-Some.place c.self.invariant.2 first in
+    let counted = take_there (parts c.self.inside.blocks.items) (parts c.take_at-entry.new.blocks.items) _ _ _ (c.self.inside.ready_count - 1) (c.self.inside.live - 1) (c.self.inside.ready_bytes - c.ready_bytes_at.result) c.ready_bytes_at.result c.in-Some.place c.self.invariant.2 first
+    c.take_at-entry.ensures.parts size (let r = least.0 in omega (arith, r)) (let l = least.1.0 in omega (arith, l)) (let b = least.1.1 in omega (arith, size, b)) in
+    counted.apart
+
 pub invariant_of-self : goal.invariant_of-self
 invariant_of-self c =
     let first : FirstIn is_ready (parts c.self.inside.blocks.items) c.in-Some.place = first_signed (parts c.self.inside.blocks.items) c.self.inside.signs c.in-Some.place c.self.invariant.0 c.in-Some.ensures.some in
     let size : c.ready_bytes_at.result ≡ size_of body_bytes (find is_ready (get_or (parts c.self.inside.blocks.items) c.in-Some.place []))
     = c.ready_bytes_at.ensures ∙ ap (λ (bs : List Stretch). size_of body_bytes (find is_ready (get_or (parts bs) c.in-Some.place []))) c.deref.ensures.value in
     let least = ready_there (parts c.self.inside.blocks.items) c.self.inside.ready_count c.self.inside.live c.self.inside.ready_bytes c.in-Some.place c.self.invariant.2 first in
-    let turned : BitTurned c.self.inside.signs c.sign.new.signs c.in-Some.place (num (some_pass is_ready (get_or (parts c.give_back_spare.new.blocks.items) c.in-Some.place [])))
-    = subst (λ (bs : List Stretch). BitTurned c.self.inside.signs c.sign.new.signs c.in-Some.place (num (some_pass is_ready (get_or (parts bs) c.in-Some.place [])))) c.deref-in-Some.ensures.value c.sign.ensures in (
-      signed_now (parts c.self.inside.blocks.items) _ _ c.self.inside.signs c.sign.new.signs c.in-Some.place (first_within is_ready (parts c.self.inside.blocks.items) c.in-Some.place first.there) c.self.invariant.0 (c.give_back_spare.ensures.parts ∙ c.take_at-entry.ensures.parts) turned,
-      same_places _ _ _ _ _ _ c.self.invariant.1 (c.give_back_spare.ensures.len ∙ c.take_at-entry.ensures.len) (c.give_back_spare.ensures.capacity ∙ c.take_at-entry.ensures.capacity) c.sign.ensures.places,
-      take_there (parts c.self.inside.blocks.items) (parts c.give_back_spare.new.blocks.items) _ _ _ _ _ _ c.ready_bytes_at.result c.in-Some.place c.self.invariant.2 first
-          (c.give_back_spare.ensures.parts ∙ c.take_at-entry.ensures.parts) size (omega (arith, least.0)) (let l = least.1.0 in omega (arith, l)) (let b = least.1.1 in omega (arith, size, b)),
+    let counted = take_there (parts c.self.inside.blocks.items) (parts c.take_at-entry.new.blocks.items) _ _ _ (c.self.inside.ready_count - 1) (c.self.inside.live - 1) (c.self.inside.ready_bytes - c.ready_bytes_at.result) c.ready_bytes_at.result c.in-Some.place c.self.invariant.2 first
+    c.take_at-entry.ensures.parts size (let r = least.0 in omega (arith, r)) (let l = least.1.0 in omega (arith, l)) (let b = least.1.1 in omega (arith, size, b)) in
+    let same : joined (parts c.give_back_spare.new.blocks.items) ≡ joined (parts c.take_at-entry.new.blocks.items) = ap (λ (ps : List (List Entry)). joined ps) c.give_back_spare.ensures.parts ∙ c.settle.ensures.entries in (
+      subst (λ (ps : List (List Entry)). AreBlocksSigned ps c.settle.new.signs) (sym c.give_back_spare.ensures.parts) c.settle.ensures.signed,
+      same_places _ _ _ _ _ _ c.settle.ensures.places c.give_back_spare.ensures.len c.give_back_spare.ensures.capacity refl,
+      subst (λ (es : List Entry). IsCounted es (c.self.inside.ready_count - 1) (c.self.inside.live - 1) (c.self.inside.ready_bytes - c.ready_bytes_at.result)) (sym same) counted,
       record { there = c.give_back_spare.ensures.room; few = (let f = c.self.invariant.3.few in let o = least.1.0 in omega (arith, f, o)) },
-      bounded c.self.inside.most c.give_back_spare.new.blocks.items c.self.invariant.4.usual (c.give_back_spare.ensures.filled c.self.inside.most (c.take_at-entry.ensures.filled c.self.inside.most c.self.invariant.4.filled)),
+      bounded c.self.inside.most c.give_back_spare.new.blocks.items c.self.invariant.4.usual
+          (c.give_back_spare.ensures.filled c.self.inside.most (c.settle.ensures.filled c.self.inside.most (c.take_at-entry.ensures.filled c.self.inside.most c.self.invariant.4.filled))),
     )
 
 pub returns-in-None-clause-taken : goal.returns-in-None-clause-taken
@@ -63,4 +74,4 @@ returns-in-Some-clause-taken c = subst (λ (l : Line). c.take_at-entry.result �
 
 pub returns-in-Some-clause-entries : goal.returns-in-Some-clause-entries
 returns-in-Some-clause-entries c = subst (λ (l : Line). joined (parts c.give_back_spare.new.blocks.items) ≡ without_first is_ready l.entries) c.self.view_is
-    (ap (λ (ps : List (List Entry)). joined ps) (c.give_back_spare.ensures.parts ∙ c.take_at-entry.ensures.parts) ∙ sym (joined_without is_ready (parts c.self.inside.blocks.items) c.in-Some.place (first_signed (parts c.self.inside.blocks.items) c.self.inside.signs c.in-Some.place c.self.invariant.0 c.in-Some.ensures.some)))
+    (ap (λ (ps : List (List Entry)). joined ps) c.give_back_spare.ensures.parts ∙ c.settle.ensures.entries ∙ ap (λ (ps : List (List Entry)). joined ps) c.take_at-entry.ensures.parts ∙ sym (joined_without is_ready (parts c.self.inside.blocks.items) c.in-Some.place (first_signed (parts c.self.inside.blocks.items) c.self.inside.signs c.in-Some.place c.self.invariant.0 c.in-Some.ensures.some)))
