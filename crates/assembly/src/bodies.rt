@@ -44,7 +44,7 @@ fn room_for(len: usize, declared: usize) -> usize
 }
 
 /// Makes room for so many bytes in all, of a body of which so many are declared. Tells how many bytes the block had when it was last
-/// made larger: as many as it has now, if it is.
+/// made larger: what it has now, or `kept` if there was room.
 fn make_room(
     bytes: &mut Vec<u8>,
     len: usize,
@@ -55,6 +55,7 @@ fn make_room(
     ensures items { bytes.new.items ≡ bytes.old.items }
     ensures enough { OnOk result (len ≤ vec_capacity bytes.new) }
     ensures most { IfOk result (λ now. now ≤ max kept (2 * len)) }
+    // What is made is told.
     ensures told { IfOk result (λ now. vec_capacity bytes.new ≤ max (vec_capacity bytes.old) now) }
 {
     if len <= bytes.capacity() {
@@ -217,7 +218,7 @@ impl Gathered {
 fn whole(alloc: Global, first: &[u8], piece: &[u8]) -> Result<Body, AllocError>
     ensures { IfOk result (λ body. body ≡ first.now ++ piece.now) }
 {
-    let bytes = begun(alloc, first, piece, 0)?;
+    let bytes = begun(alloc, first, piece, first.len() + piece.len())?;
     match Body::from_gathered(bytes.into_bytes()) {
         Ok(body) => Ok(body),
         Err(_) => Err(AllocError),

@@ -1,16 +1,14 @@
 -- Nobody waits for ever while others are served.
-use Rattle.std.proofs.Common.{◌≡◌, ◌∙◌, ◌<◌, ◌≤◌, ◌+◌, ◌*◌, ◌⊎◌, ℕ, List, [], ◌∷◌, Bool, true, false, Option, Some, None, if◌then◌else◌, length, inl, inr, refl, sym, ap, arith}
+use Rattle.std.proofs.Common.{◌≡◌, ◌∙◌, ◌<◌, ◌≤◌, ◌+◌, ◌*◌, ◌⊎◌, ℕ, List, [], ◌∷◌, Bool, true, false, Option, Some, if◌then◌else◌, length, inl, inr, refl, sym, ap, arith}
 use Rattle.std.proofs.lemmas.Bool.{false≢true}
-use Rattle.std.proofs.lemmas.Option.{same_Some}
 use Rattle.std.proofs.Math.Nat.{mul-le-mul_right}
 use Rattle.model.specs.Topology.{Topology, IsIn}
 use Rattle.commands.specs.State as core
-use Rattle.commands.specs.State.{Kept}
 use Rattle.commands.specs.declared.picks.Pick.{Pick}
 use Rattle.broker.specs.Lines.{ahead, standing}
 use Rattle.broker.specs.Roster.{is_consumer}
 use Rattle.broker.specs.Turns.{WithTurn, topology_kept}
-use Rattle.broker.specs.Waiting.{line_at, queues, standing_at, owed, before, TakesAt, NoneIsLater, IsToldInTurn, ServesInTurn, Waits, Stands, IsServedSoon, NobodyWaits, ServesSoon}
+use Rattle.broker.specs.Waiting.{line_at, queues, standing_at, owed, before, NoneIsLater, Waits, Stands, IsServedSoon, NobodyWaits, ServesSoon}
 use Rattle.broker.specs.Waiting.Waits.{begins, passed, other, stays, beside, comes}
 use Rattle.broker.proofs.Among.{one_consumer, same_consumer}
 use Rattle.broker.proofs.Lining.{ahead_within}

@@ -62,11 +62,6 @@ pub record OneComesIn (e : Event) (old new : WithTurn) : Type 0 where
 abbrev pub IsToldInTurn : WithTurn → Option Pick → WithTurn → Type 0
 IsToldInTurn old told new = (place : ℕ) (p : Pick) → IsPickFrom old.kept place p → (told ≡ Some p) ⊎ (before new place p ≤ before old place p)
 
--- One was told in its turn, and served: whoever else could be, and takes from its queue still, is nearer to its turn.
-pub record ServesInTurn (old new : WithTurn) (told : Pick) : Type 0 where
-  pub over : new.turn ≡ None
-  pub nearer : (place : ℕ) (p : Pick) → IsPickFrom old.kept place p → TakesAt new place p → (told ≡ p) ⊎ (before new place p < before old place p)
-
 -- Each queue that is there still has its line, wherever it stands, and the queues are gone round from the first.
 pub record LinesMove (old new : WithTurn) : Type 0 where
   pub next : new.next ≡ 0

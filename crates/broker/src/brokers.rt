@@ -5,7 +5,7 @@ ghost use Rattle.replies.specs.Sent.{connection_of_event};
 
 use crate::roster::Roster;
 use crate::turns::turn_kept;
-use commands::{Acted, Core, Pick};
+use commands::{Core, Pick};
 use exchange_graph::Topology;
 use guarantees::Guarantee;
 use laws::{brokers_stay_agreed, consumers_are_made};
@@ -115,12 +115,12 @@ impl Broker {
         consumers_are_made();
         self.roster.seat_next(alloc, &self.core, event)?;
         self.roster.wake_for(event);
-        let Acted { step, has_ended } = self.core.step(alloc, event)?;
-        if !has_ended {
-            return Ok(step);
+        let acted = self.core.step(alloc, event)?;
+        if !acted.has_ended {
+            return Ok(acted.step);
         }
         self.roster.forget(connection_of(event));
-        Ok(step)
+        Ok(acted.step)
     }
 
     /// How many messages came to queues that lag behind those who take from them.

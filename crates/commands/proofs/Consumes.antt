@@ -1,5 +1,5 @@
 -- What stands against a consume.
-use Rattle.std.proofs.Common.{◌≡◌, ◌∙◌, List, Option, None, Err, ap, sym}
+use Rattle.std.proofs.Common.{◌≡◌, ◌∙◌, List, Option, None, ap, sym}
 use Rattle.std.specs.Prelude.{Some}
 use Rattle.model.specs.Words.{Text}
 use Rattle.model.specs.Topology.{Topology}

@@ -1,11 +1,10 @@
 -- Which connections run still: no other than one that is closed or lost ends.
-use Rattle.std.proofs.Common.{◌≡◌, ◌∙◌, ℕ, List, [], Bool, true, false, Option, Some, None, refl, sym, ap, subst, if◌then◌else◌}
-use Rattle.std.specs.Prelude.{is_some, ◌==◌, IfOk, OnOk, Result, Ok, Err}
+use Rattle.std.proofs.Common.{◌≡◌, ◌∙◌, ℕ, List, Bool, true, false, Option, Some, None, refl, sym, ap, subst, if◌then◌else◌}
+use Rattle.std.specs.Prelude.{is_some, ◌==◌}
 use Rattle.std.proofs.lemmas.Bool.{eqb-true, eq-eqb, false≢true}
 use Rattle.model.specs.Topology.{Topology}
-use Rattle.model.specs.Broker.{Channel, Connection, Broker, with_one}
-use Rattle.model.specs.Step.{Is, Acts, after_close, with_freed, with_channel, with_gone, paused}
-use Rattle.model.specs.Entries.{by_channel}
+use Rattle.model.specs.Broker.{Connection, Broker, with_one}
+use Rattle.model.specs.Step.{Is, Acts, with_gone, paused}
 use Rattle.model.specs.declared.events.Send.{Send}
 use Rattle.model.specs.declared.events.Event.TheVariants.{Running, Lose, Pause, Resume, Deliver}
 use Rattle.model.specs.declared.notes.Note.{Note}
@@ -15,13 +14,6 @@ module _ (old new : Broker) where
   -- where connections are as they were, each runs still that ran
   pub same_run : ((d : ℕ) → new.connection d ≡ old.connection d) → AllRunStill old new
   same_run is d none = sym (is d) ∙ none
-
-  pub closed_run : (c h : ℕ) (ch : Channel) → Is (after_close old c h ch) new → AllRunStill old new
-  closed_run c h ch is = same_run (λ d. is.connections d ∙ go ch.is_closing d)
-    where
-      go : (v : Bool) (d : ℕ) → (if v then old else with_freed (with_channel old c h None) (by_channel c h)).connection d ≡ old.connection d
-      go true d = refl
-      go false d = refl
 
   -- where one is another now, each other runs still
   others_run : (c : ℕ) (x : Option Connection) → ((d : ℕ) → new.connection d ≡ with_one old.connection c x d) → OthersRunStill c old new

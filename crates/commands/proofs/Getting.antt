@@ -10,11 +10,10 @@ use Rattle.model.specs.Broker.{Broker, Channel, is_ready}
 use Rattle.model.specs.Entries.{held_as, change_first, without_first}
 use Rattle.model.specs.Deliveries.{first_ready, ready_in, after_giving, after_delivery, delivery_notes}
 use Rattle.model.specs.Sending.{IsCarried}
-use Rattle.model.specs.Step.{Is, Gets, Refusal, or_else, refusal_in, refusal_of_tags, refusal_of_get, get_ok, reply}
+use Rattle.model.specs.Step.{Is, Gets, Refusal, or_else, refusal_in, refusal_of_tags, refusal_of_get, get_ok}
 use Rattle.model.specs.declared.events.Send.{Send}
 use Rattle.model.specs.declared.notes.Note.{Note}
 use Rattle.model.specs.declared.methods.Get.{Get}
-use Rattle.model.specs.declared.methods.Method.TheVariants.{BasicGetEmpty}
 use Rattle.model.specs.declared.messages.Entry.{Entry}
 use Rattle.model.specs.declared.messages.Holder.{Holder}
 use Rattle.model.specs.declared.messages.Taker.TheVariants as taker

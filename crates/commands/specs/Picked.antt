@@ -1,5 +1,5 @@
 -- Which delivery is made.
-use Rattle.std.specs.Prelude.{◌≡◌, ◌<◌, ◌≤◌, ℕ, true, false, Option, Some, None, length}
+use Rattle.std.specs.Prelude.{◌≡◌, ◌<◌, ◌≤◌, ℕ, false, Option, Some, None, length}
 use Rattle.model.specs.Topology.{IsIn}
 use Rattle.model.specs.Broker as seen
 use Rattle.model.specs.Broker.{Broker}

@@ -2,7 +2,7 @@
 //!
 //! Source: AMQP 0-9-1, section 1.1, "reply-code", and the rules of its XML.
 
-ghost use Rattle.std.specs.Prelude.{◌≡◌, List, Some, true, false, Option, IsSome, IfOk, OnOk, option_map};
+ghost use Rattle.std.specs.Prelude.{◌≡◌, List, Some, true, false, Option, IfOk, OnOk, option_map};
 ghost use Rattle.std.specs.Option.{option_copied};
 ghost use Rattle.model.specs.Words.{Text as Name};
 ghost use Rattle.model.specs.Broker.{Broker};

@@ -2,7 +2,7 @@
 use Rattle.std.specs.Prelude.{Result, Ok, Err, IfOk, OnErr}
 use Rattle.model.specs.Step.{Is}
 use Rattle.model.specs.State.{after_move}
-use Rattle.std.proofs.Common.{◌≡◌, ◌≢◌, ℕ, List, refl}
+use Rattle.std.proofs.Common.{◌≡◌, ◌≢◌, ℕ, List, refl, sym, subst}
 use Rattle.model.specs.Broker.{Broker}
 use Rattle.model.specs.Phases.{Session}
 use Rattle.model.specs.declared.events.Phase.{Phase}
@@ -10,7 +10,7 @@ use Rattle.model.specs.declared.events.Phase.TheVariants as phase
 use Rattle.model.specs.declared.events.Send.{Send}
 use Rattle.model.specs.declared.events.Event.{Event}
 use Rattle.model.specs.declared.notes.Note.{Note}
-use Rattle.engine.specs.Performing.{Rules, ByPhase, DecidesByPhase}
+use Rattle.engine.specs.Performing.{Rules, ByBroker, ByPhase, DecidesByPhase}
 
 pub decides_elsewhere : (c : ℕ) (p : Phase) (r : Rules) (b : Broker) (s : Session) (e : Event) (sends : List Send) (notes : List Note) (new_b : Broker) (new_s : Session)
     → p ≢ phase.Running → ByPhase r.users c p b s e sends notes new_b new_s → DecidesByPhase c p r b s e sends notes new_b new_s
@@ -21,6 +21,10 @@ decides_elsewhere c phase.Open r b s e sends notes new_b new_s ne by = by
 decides_elsewhere c phase.Running r b s e sends notes new_b new_s ne by = absurd (ne refl)
 decides_elsewhere c phase.Closing r b s e sends notes new_b new_s ne by = by
 decides_elsewhere c phase.Over r b s e sends notes new_b new_s ne by = by
+
+pub decides_running : (c : ℕ) (p : Phase) (r : Rules) (b : Broker) (s : Session) (e : Event) (sends : List Send) (notes : List Note) (new_b : Broker) (new_s : Session)
+    → p ≡ phase.Running → ByBroker r.topology b s e sends notes new_b new_s → DecidesByPhase c p r b s e sends notes new_b new_s
+decides_running c p r b s e sends notes new_b new_s is by = subst (λ (q : Phase). DecidesByPhase c q r b s e sends notes new_b new_s) (sym is) by
 
 pub ok_map : {T F : Type 0} (r : Result T F) (P Q : T → Type 0) → ((x : T) → P x → Q x) → IfOk r P → IfOk r Q
 ok_map (Ok x) P Q f p = f x p

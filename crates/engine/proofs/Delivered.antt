@@ -3,6 +3,7 @@ use Rattle.std.proofs.Common.{◌≡◌, ℕ, List, ◌∷◌, ◌++◌, Bool, t
 use Rattle.std.specs.Prelude.{◌&&◌, not, nat_lt, is_some, IfOk, OnErr}
 use Rattle.std.proofs.lemmas.Bool.{false≢true}
 use Rattle.model.specs.Broker.{Broker}
+use Rattle.model.specs.Topology.{Topology}
 use Rattle.model.specs.Consuming.{CanDeliver}
 use Rattle.model.specs.Consistent.{IsConsistent}
 use Rattle.model.specs.Phases.{Session, is_running}
@@ -29,6 +30,7 @@ use Rattle.engine.proofs.Numbered.{link_in-place}
 use Rattle.engine.proofs.Agreeing.{agreed, same_agrees, delivers_agrees}
 use Rattle.engine.proofs.Lifted.{Ended, ended, at_own, at_others, same_config, output_in, with_same}
 use Rattle.engine.proofs.Tooks.{Stays, becomes, sound, world_stays, engine_change}
+use Rattle.engine.proofs.Turned.{on_err_map}
 
 -- ---- where a delivery can be made
 
@@ -83,7 +85,12 @@ output_change ls c i old new at here only = record {
   left = refl;
 }
 
-pub not_pumped_by : {T E : Type 0} (r : Result T E) (b new_b : Broker) (c : ℕ) (ls new_ls : List Connected) (f : OutputChanges c ls new_ls) → OnErr r (new_b ≡ b) → OnErr r (f.new.output.bytes ≡ f.old.output.bytes)
+links_pumped : {V E : Type 0} (r : Result V E) (notes : V → List Note) (t : Topology) (b new_b : Broker) (c : ℕ) (ls new_ls : List Connected) (f : OutputChanges c ls new_ls)
+    → IfOk r (λ v. LinkPumped t b c f.old (notes v) new_b f.new) → IfOk r (λ v. LinksPumped t b c ls (notes v) new_b new_ls)
+links_pumped (Ok v) notes t b new_b c ls new_ls f pumped = record { change = f; pumped = pumped }
+links_pumped (Err x) notes t b new_b c ls new_ls f pumped = tt
+
+not_pumped_by : {T E : Type 0} (r : Result T E) (b new_b : Broker) (c : ℕ) (ls new_ls : List Connected) (f : OutputChanges c ls new_ls) → OnErr r (new_b ≡ b) → OnErr r (f.new.output.bytes ≡ f.old.output.bytes)
     → OnErr r (LinksNotPumped b c ls new_b new_ls)
 not_pumped_by (Ok x) b new_b c ls new_ls f kept output = tt
 not_pumped_by (Err x) b new_b c ls new_ls f kept output = record { change = f; broker = kept; output = output }
@@ -222,11 +229,19 @@ picked_not old new b c e same st made p =
     subst (λ (k : Kept). Same (world_of (with_kept old b k)) (world_of new)) same
     (not_pumped (record old { broker = b }) new c (picked_engine old b same e) st (can_still old b c same made) p)
 
-pub picked_stays : {V E : Type 0} (r : Result V E) (notes : V → List Note) (old new : Parts) (b : WithTurn) (c : ℕ) → IsEngine old → b.kept ≡ old.broker.kept → Stays (record old { broker = b }) new → CanDeliver (broker_of old.broker) c
+picked_stays : {V E : Type 0} (r : Result V E) (notes : V → List Note) (old new : Parts) (b : WithTurn) (c : ℕ) → IsEngine old → b.kept ≡ old.broker.kept → Stays (record old { broker = b }) new → CanDeliver (broker_of old.broker) c
     → IfOk r (λ v. LinksPumped (topology_kept b) (broker_of b) c old.links (notes v) (broker_of new.broker) new.links)
     → OnErr r (LinksNotPumped (broker_of b) c old.links (broker_of new.broker) new.links) → IsEngine new
 picked_stays r notes old new b c e same st made ok err =
     pumped_engine r notes (record old { broker = b }) new c (picked_engine old b same e) st (can_still old b c same made) ok err
+
+-- the same by what became of its connection
+pub pumped_stays : {V E : Type 0} (r : Result V E) (notes : V → List Note) (old new : Parts) (b : WithTurn) (c : ℕ) (f : OutputChanges c old.links new.links) → IsEngine old → b.kept ≡ old.broker.kept
+    → Stays (record old { broker = b }) new → CanDeliver (broker_of old.broker) c → IfOk r (λ v. LinkPumped (topology_kept b) (broker_of b) c f.old (notes v) (broker_of new.broker) f.new)
+    → OnErr r (new.broker ≡ b) → OnErr r (f.new.output.bytes ≡ f.old.output.bytes) → IsEngine new
+pumped_stays r notes old new b c f e same st made ok kept output =
+    picked_stays r notes old new b c e same st made (links_pumped r notes (topology_kept b) (broker_of b) (broker_of new.broker) c old.links new.links f ok)
+    (not_pumped_by r (broker_of b) (broker_of new.broker) c old.links new.links f (on_err_map r _ _ (λ is. ap broker_of is) kept) output)
 
 -- nothing can be delivered, and the engine is as before
 pub picked_none : (old : Parts) (b : WithTurn) → b.kept ≡ old.broker.kept → NoneCanDeliver (world_of old) → Idles (world_of old) (world_of (record old { broker = b }))

@@ -1,13 +1,18 @@
 -- A connection that changed in its place, and is taken out where it is gone.
-use Rattle.std.proofs.Common.{◌≡◌, ◌<◌, ℕ, zero, suc, List, [], ◌∷◌, cond, Result, Ok, Err, get_or, set, length, remove, refl, ap, ◌∙◌, arith}
-use Rattle.std.specs.Prelude.{IfOk, OnErr}
-use Rattle.engine.specs.Performing.{Rules}
+use Rattle.std.proofs.Common.{◌≡◌, ◌<◌, ℕ, zero, suc, List, [], ◌∷◌, true, cond, Result, Ok, Err, get_or, set, length, remove, refl, sym, ap, subst, ◌∙◌, arith, Option}
+use Rattle.std.specs.Prelude.{IsOk, IfOk, OnOk, OnErr}
+use Rattle.std.proofs.lemmas.List.{set-get_or, get_or_default}
+use Rattle.engine.specs.Performing.{Rules, rules_of}
+use Rattle.model.specs.Topology.{Topology}
+use Rattle.model.specs.Arrivals.{is_ended}
+use Rattle.model.specs.declared.messages.User.{User}
+use Rattle.model.specs.declared.events.Event.{Event}
 use Rattle.model.specs.Broker.{Broker}
-use Rattle.assembly.specs.Held.{stream_of}
+use Rattle.assembly.specs.Held.{Held, stream_of}
 use Rattle.engine.specs.Reading.{IsKeptEvent, HasMore, kept_of}
 use Rattle.engine.specs.Turning.{LinkTook, LinkWaits, MayTurn}
 use Rattle.engine.specs.World.{is_link_gone}
-use Rattle.engine.specs.Engines.{Changes, IsSwept, LinkTookOr}
+use Rattle.engine.specs.Engines.{Changes, IsSwept, LinkTookOr, LinkSent, LinkFed, LinksTook, LinksSent, LinksFed}
 use Rattle.engine.specs.declared.connected.Connected.{Connected}
 use Rattle.engine.specs.declared.turning.Turn.{Turn}
 
@@ -38,3 +43,59 @@ pub took_or : {E : Type 0} (r : Result Turn E) (t : Rules) (b : Broker) (old : C
     → OnErr r (HasMore (kept_of old.kept) (stream_of old.stream)) → LinkTookOr t b old r new_b new
 took_or (Ok x) t b old new_b new ok err awake more = ok
 took_or (Err e) t b old new_b new ok err awake more = record { awake = awake; more = more; waits = err }
+
+-- one turn of the connection at this place, which was taken out where it was gone by then
+pub links_took : {E : Type 0} (what : Result Turn E) (t : Topology) (given users : List User) (b : Broker) (ls : List Connected) (i : ℕ) (old new : Connected) (new_b : Broker) (new_ls : List Connected)
+    → given ≡ users → i < length ls → get_or ls i old ≡ old → new.number ≡ old.number → IsKeptEvent new.number new.kept new.stream.fault
+    → ((l : Connected) → get_or (set ls i new) i l ≡ l → IsSwept (set ls i new) i l new_ls)
+    → IfOk what (λ x. LinkTook (rules_of t given) b old x new_b new) → OnErr what (LinkWaits b old new_b new) → OnErr what (MayTurn old) → OnErr what (HasMore (kept_of old.kept) (stream_of old.stream))
+    → LinksTook (rules_of t users) b ls i what new_b new_ls
+links_took what t given users b ls i old new new_b new_ls is within here number kept swept ok err awake more =
+    subst (λ (us : List User). LinksTook (rules_of t us) b ls i what new_b new_ls) is (record {
+      old = old;
+      new = new;
+      changes = changes_swept ls i old new new_ls within here number (λ k. kept) swept;
+      took = took_or what (rules_of t given) b old new_b new ok err awake more;
+    })
+
+-- output of it was taken
+pub links_sent : (t : Topology) (b : Broker) (ls : List Connected) (i n : ℕ) (old new : Connected) (new_b : Broker) (new_ls : List Connected) → i < length ls → get_or ls i old ≡ old
+    → ((l : Connected) → get_or (set ls i new) i l ≡ l → IsSwept (set ls i new) i l new_ls) → LinkSent t b old n new_b new → LinksSent t b ls i n new_b new_ls
+links_sent t b ls i n old new new_b new_ls within here swept sent = record {
+  old = old;
+  new = new;
+  changes = changes_swept ls i old new new_ls within here sent.number
+      (λ k. subst (λ (c : ℕ). IsKeptEvent c new.kept new.stream.fault) (sym sent.number)
+      (subst (λ (o : Option Event). IsKeptEvent old.number o new.stream.fault) (sym sent.kept) (subst (λ (s : Held). IsKeptEvent old.number old.kept s.fault) (sym sent.stream) k))) swept;
+  sent = sent;
+}
+
+-- it heard bytes
+pub links_fed : {T E : Type 0} (r : Result T E) (ls : List Connected) (i : ℕ) (bytes : List ℕ) (old new : Connected) → i < length ls → get_or ls i old ≡ old → OnOk r (LinkFed old bytes new) → OnOk r (LinksFed ls i bytes (set ls i new))
+links_fed (Ok x) ls i bytes old new within here fed = record { within = within; old = old; here = here; new = new; fed = fed; left = refl }
+links_fed (Err x) ls i bytes old new within here fed = tt
+
+-- ---- what stands at a place
+
+pub same_at : (ls : List Connected) (i : ℕ) (l m : Connected) → i < length ls → get_or ls i l ≡ l → get_or ls i m ≡ m → l ≡ m
+same_at ls i l m lt here there = sym here ∙ get_or_default ls i l m lt ∙ there
+
+set_same : (ls : List Connected) (i : ℕ) (old new : Connected) → get_or ls i old ≡ old → new ≡ old → set ls i new ≡ ls
+set_same ls i old new here same = ap (λ (z : Connected). set ls i z) (same ∙ sym here) ∙ set-get_or ls i old
+
+-- of one that is over nothing was heard, and it is as it was
+pub links_over : {T E : Type 0} (r : Result T E) (ls : List Connected) (i : ℕ) (l new : Connected) → i < length ls → get_or ls i l ≡ l → (is_ended l.session.phase ≡ true → IsOk r × (new ≡ l))
+    → (m : Connected) → get_or ls i m ≡ m → is_ended m.session.phase ≡ true → IsOk r × (set ls i new ≡ ls)
+links_over r ls i l new lt here over m there is =
+    let both = over (subst (λ (k : Connected). is_ended k.session.phase ≡ true) (same_at ls i m l lt there here) is) in
+    (both.0, set_same ls i l new here both.1)
+
+-- memory was wanting, and it is as it was
+pub links_err : {T E : Type 0} (r : Result T E) (ls : List Connected) (i : ℕ) (l new : Connected) → get_or ls i l ≡ l → OnErr r (new ≡ l) → OnErr r (set ls i new ≡ ls)
+links_err (Ok x) ls i l new here same = tt
+links_err (Err x) ls i l new here same = set_same ls i l new here same
+
+-- memory was wanting for more bytes than it had room for
+pub links_full : {T E : Type 0} (r : Result T E) (ls : List Connected) (i n : ℕ) (l : Connected) → i < length ls → get_or ls i l ≡ l → OnErr r (l.stream.room < n)
+    → (m : Connected) → get_or ls i m ≡ m → OnErr r (m.stream.room < n)
+links_full r ls i n l lt here full m there = subst (λ (k : Connected). OnErr r (k.stream.room < n)) (same_at ls i l m lt here there) full

@@ -1,8 +1,11 @@
 -- What is read next of one connection, and one turn of it.
-use Rattle.std.proofs.Common.{◌≡◌, ◌<◌, ◌≤◌, ◌+◌, inl, inr, ℕ, List, true, false, Option, Some, None, length, refl, sym, ap, subst, ◌∙◌, arith}
+use Rattle.std.proofs.Common.{◌≡◌, ◌<◌, ◌≤◌, ◌+◌, ◌++◌, inl, inr, ℕ, List, true, false, Option, Some, None, length, refl, sym, ap, subst, ◌∙◌, arith}
+use Rattle.std.specs.List.{AllByRecursion}
 use Rattle.std.specs.Prelude.{is_some, Result, Ok, Err, IfOk, OnErr}
 use Rattle.std.proofs.lemmas.Bool.{false≢true}
 use Rattle.model.specs.Broker.{Broker}
+use Rattle.model.specs.Topology.{Topology}
+use Rattle.model.specs.Spelling.{receiver, spelling, IsSpelled}
 use Rattle.model.specs.Phases.{Session, Move}
 use Rattle.model.specs.Commands.{Stream, Yields, Ends, GoesOn, IsCommand, stays}
 use Rattle.model.specs.Arrivals.{Reads, again, fresh, fault, SameToCome, still, waits, kept, IsSaid, event_of, is_ended, is_past_bound}
@@ -18,8 +21,8 @@ use Rattle.assembly.specs.Held.{stream_of}
 use Rattle.assembly.specs.Front.{HasFront}
 use Rattle.assembly.proofs.Fronts.{ends_front, yields_front}
 use Rattle.engine.specs.Reading.{kept_of, IsEventMade, IsKeptEvent, HasMore, HasEvent, ComesNext, to_read}
-use Rattle.engine.specs.Performing.{Rules, DecidesByPhase}
-use Rattle.engine.specs.Turning.{Performed, LinkPerformed, DidEvent, LinkTook, LinkWaits, OnIdle}
+use Rattle.engine.specs.Performing.{Rules, DecidesByPhase, PausesOr}
+use Rattle.engine.specs.Turning.{Performed, LinkPerformed, DidEvent, LinkStays, LinkTook, LinkWaits, OnIdle}
 use Rattle.outputs.specs.Waiting.{HoldsNone}
 use Rattle.engine.specs.declared.reading.Next.{Next}
 use Rattle.engine.specs.declared.reading.Next.TheVariants as next
@@ -113,6 +116,22 @@ performed_of t b new_b old mid new e notes read p =
     (subst (λ (s : Session). Performed t b mid.number s old.output.bytes e notes new_b new.session new.output.bytes) read.session
     (subst (λ (o : List ℕ). Performed t b mid.number mid.session o e notes new_b new.session new.output.bytes) read.output p))
 
+-- what the event decided was put out
+pub performed_put : (r : Rules) (b mid new_b : Broker) (c : ℕ) (s new_s : Session) (output new_output : List ℕ) (e : Event) (notes : List Note) (given sends : List Send) (max : ℕ) (t : Topology)
+    → given ≡ sends → max ≡ s.frame_max → max ≤ 131072 → DecidesByPhase c s.phase r b s e sends notes mid new_s
+    → AllByRecursion (λ x. receiver x ≡ c) given → AllByRecursion (IsSpelled max) given → new_output ≡ output ++ spelling max given → t ≡ r.topology → PausesOr t c false (is_past_bound new_output) mid new_b
+    → Performed r b c s output e notes new_b new_s new_output
+performed_put r b mid new_b c s new_s output new_output e notes given sends max t is limit bounded decides own spelled put topology pauses = record {
+  sends = sends;
+  mid = mid;
+  decides = decides;
+  own = subst (λ (z : List Send). AllByRecursion (λ x. receiver x ≡ c) z) is own;
+  bounded = subst (λ (n : ℕ). n ≤ 131072) limit bounded;
+  spelled = subst (λ (z : List Send). AllByRecursion (IsSpelled s.frame_max) z) is (subst (λ (n : ℕ). AllByRecursion (IsSpelled n) given) limit spelled);
+  put = subst (λ (z : List Send). new_output ≡ output ++ spelling s.frame_max z) is (subst (λ (n : ℕ). new_output ≡ output ++ spelling n given) limit put);
+  pauses = subst (λ (z : Topology). PausesOr z c false (is_past_bound new_output) mid new_b) topology pauses;
+}
+
 pub did_kept : (t : Rules) (b new_b : Broker) (old mid new : Connected) (what : Turn) → is_ended old.session.phase ≡ false → is_past_bound old.output.bytes ≡ false → IsRead old mid
     → (h : HasEvent old.number old.kept (stream_of old.stream) mid.kept (stream_of mid.stream)) → mid.stream.fault ≡ None → DidEvent t b mid h.event what new_b new → LinkTook t b old what new_b new
 did_kept t b new_b old mid new (turn.Did notes) open_still below read h whole did = (
@@ -157,9 +176,18 @@ did_fault t b new_b old mid new code turn.Idle open_still below read none ends d
 did_fault t b new_b old mid new code turn.Paused open_still below read none ends did = absurd did
 did_fault t b new_b old mid new code turn.Over open_still below read none ends did = absurd did
 
-pub waits_kept : (b new_b : Broker) (old mid new : Connected) → IsRead old mid → SameToCome (kept_of old.kept) (stream_of old.stream) (kept_of mid.kept) (stream_of mid.stream) → new_b ≡ b → new ≡ mid → LinkWaits b old new_b new
-waits_kept b new_b old mid new read same broker is = subst (λ (z : Connected). LinkWaits b old new_b z) (sym is)
-    (record { broker = broker; number = read.number; session = read.session; output = read.output; coming = same })
+pub waits_kept : (b new_b : Broker) (old mid new : Connected) → IsRead old mid → SameToCome (kept_of old.kept) (stream_of old.stream) (kept_of mid.kept) (stream_of mid.stream) → new_b ≡ b → LinkStays mid new → LinkWaits b old new_b new
+waits_kept b new_b old mid new read same broker was = record {
+  broker = broker;
+  number = ap (λ (z : Connected). z.number) was.rest ∙ read.number;
+  session = ap (λ (z : Connected). z.session) was.rest ∙ read.session;
+  output = was.bytes ∙ read.output;
+  coming = subst (λ (z : Connected). SameToCome (kept_of old.kept) (stream_of old.stream) (kept_of z.kept) (stream_of z.stream)) (sym was.rest) same;
+}
+
+-- so where nothing more was done to it
+pub waits_read : (b : Broker) (old new : Connected) → IsRead old new → SameToCome (kept_of old.kept) (stream_of old.stream) (kept_of new.kept) (stream_of new.stream) → LinkWaits b old b new
+waits_read b old new read same = record { broker = refl; number = read.number; session = read.session; output = read.output; coming = same }
 
 pub coming_on : (k left : Option Event) (s new : Stream) → k ≡ None → left ≡ None → GoesOn s new → SameToCome (kept_of k) s (kept_of left) new
 coming_on k left s new none gone on = subst (λ (o : Option Event). SameToCome (kept_of o) s (kept_of left) new) (sym none) (subst (λ (o : Option Event). SameToCome None s (kept_of o) new) (sym gone) (waits on))
@@ -190,6 +218,7 @@ pub record Whole {E : Type 0} (t : Rules) (b : Broker) (old : Connected) (what :
   pub ok : IfOk what (λ x. LinkTook t b old x new_b new)
   pub err : OnErr what (LinkWaits b old new_b new)
   pub idle : IfOk what (λ x. OnIdle x (HoldsNone new.output))
+  pub refused : OnErr what (HoldsNone new.output)
   pub kept : IsKeptEvent new.number new.kept new.stream.fault
   pub number : new.number ≡ old.number
 
@@ -208,31 +237,33 @@ did_something t b new_b mid new e turn.Over did = absurd did
 
 pub after_kept : {E : Type 0} (r : Result Turn E) (t : Rules) (b new_b : Broker) (old mid new : Connected) → is_ended old.session.phase ≡ false → is_past_bound old.output.bytes ≡ false → IsRead old mid
     → HasEvent old.number old.kept (stream_of old.stream) mid.kept (stream_of mid.stream) → IsKeptEvent old.number mid.kept mid.stream.fault
-    → IfOk r (λ x. (e : Event) → mid.kept ≡ Some e → DidEvent t b mid e x new_b new) → OnErr r (new_b ≡ b) → OnErr r (new ≡ mid) → Whole t b old r new_b new
+    → IfOk r (λ x. (e : Event) → mid.kept ≡ Some e → DidEvent t b mid e x new_b new) → OnErr r (new_b ≡ b) → OnErr r (LinkStays mid new) → Whole t b old r new_b new
 after_kept (Ok x) t b new_b old mid new open_still below read h own did broker link =
     let d = did h.event h.is in
     let k = did_keeps t b new_b mid new h.event x d in
-    record { ok = did_kept t b new_b old mid new x open_still below read h (kept_whole old.number mid.kept h.event mid.stream.fault h.is own) d; err = tt; idle = did_something t b new_b mid new h.event x d; kept = k.0; number = k.1 ∙ read.number }
+    record { ok = did_kept t b new_b old mid new x open_still below read h (kept_whole old.number mid.kept h.event mid.stream.fault h.is own) d; err = tt; idle = did_something t b new_b mid new h.event x d; refused = tt; kept = k.0; number = k.1 ∙ read.number }
 after_kept (Err x) t b new_b old mid new open_still below read h own did broker link = record {
   ok = tt;
   err = waits_kept b new_b old mid new read h.same broker link;
   idle = tt;
-  kept = subst (λ (z : Connected). IsKeptEvent z.number z.kept z.stream.fault) (sym link) (subst (λ (c : ℕ). IsKeptEvent c mid.kept mid.stream.fault) (sym read.number) own);
-  number = ap (λ (z : Connected). z.number) link ∙ read.number;
+  refused = link.none;
+  kept = subst (λ (z : Connected). IsKeptEvent z.number z.kept z.stream.fault) (sym link.rest) (subst (λ (c : ℕ). IsKeptEvent c mid.kept mid.stream.fault) (sym read.number) own);
+  number = ap (λ (z : Connected). z.number) link.rest ∙ read.number;
 }
 
 pub after_fault : {E : Type 0} (r : Result Turn E) (t : Rules) (b new_b : Broker) (old mid new : Connected) (code : ℕ) → is_ended old.session.phase ≡ false → is_past_bound old.output.bytes ≡ false → IsRead old mid
     → (mid.kept ≡ None) × (old.kept ≡ None) × Ends (stream_of old.stream) (Some code) × GoesOn (stream_of old.stream) (stream_of mid.stream)
-    → IfOk r (λ x. DidEvent t b mid (event.Fault mid.number code) x new_b new) → OnErr r (new_b ≡ b) → OnErr r (new ≡ mid) → Whole t b old r new_b new
+    → IfOk r (λ x. DidEvent t b mid (event.Fault mid.number code) x new_b new) → OnErr r (new_b ≡ b) → OnErr r (LinkStays mid new) → Whole t b old r new_b new
 after_fault (Ok x) t b new_b old mid new code open_still below read h did broker link =
     let k = did_keeps t b new_b mid new (event.Fault mid.number code) x did in
-    record { ok = did_fault t b new_b old mid new code x open_still below read h.1 h.2 did; err = tt; idle = did_something t b new_b mid new (event.Fault mid.number code) x did; kept = k.0; number = k.1 ∙ read.number }
+    record { ok = did_fault t b new_b old mid new code x open_still below read h.1 h.2 did; err = tt; idle = did_something t b new_b mid new (event.Fault mid.number code) x did; refused = tt; kept = k.0; number = k.1 ∙ read.number }
 after_fault (Err x) t b new_b old mid new code open_still below read h did broker link = record {
   ok = tt;
   err = waits_kept b new_b old mid new read (coming_on old.kept mid.kept (stream_of old.stream) (stream_of mid.stream) h.1 h.0 h.3) broker link;
   idle = tt;
-  kept = subst (λ (z : Connected). IsKeptEvent z.number z.kept z.stream.fault) (sym link) (subst (λ (k : Option Event). IsKeptEvent mid.number k mid.stream.fault) (sym h.0) tt);
-  number = ap (λ (z : Connected). z.number) link ∙ read.number;
+  refused = link.none;
+  kept = subst (λ (z : Connected). IsKeptEvent z.number z.kept z.stream.fault) (sym link.rest) (subst (λ (k : Option Event). IsKeptEvent mid.number k mid.stream.fault) (sym h.0) tt);
+  number = ap (λ (z : Connected). z.number) link.rest ∙ read.number;
 }
 
 pub after_nothing : (t : Rules) (b : Broker) (old mid : Connected) → is_ended old.session.phase ≡ false → IsRead old mid
@@ -241,7 +272,7 @@ pub after_nothing : (t : Rules) (b : Broker) (old mid : Connected) → is_ended 
 after_nothing t b old mid open_still read h = (
   open_still,
   record {
-    waits = waits_kept b b old mid mid read (coming_on old.kept mid.kept (stream_of old.stream) (stream_of mid.stream) h.1 h.0 h.3) refl refl;
+    waits = waits_read b old mid read (coming_on old.kept mid.kept (stream_of old.stream) (stream_of mid.stream) h.1 h.0 h.3);
     none_kept = h.1;
     ends = h.2;
   },

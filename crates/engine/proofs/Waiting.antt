@@ -1,7 +1,6 @@
 -- What the calls of an engine leave of turns to be served.
 use Rattle.std.proofs.Common.{◌≡◌, ◌∙◌, ◌<◌, ℕ, List, Bool, false, Option, Some, None, Result, Ok, Err, get_or, length, refl, sym, ap, subst, arith}
 use Rattle.std.specs.Prelude.{IfOk, OnOk}
-use Rattle.std.proofs.lemmas.List.{get_or_default}
 use Rattle.std.proofs.lemmas.Option.{same_Some}
 use Rattle.model.specs.Broker.{Broker}
 use Rattle.model.specs.Commands.{Stream, Ends}
@@ -22,6 +21,7 @@ use Rattle.engine.specs.Waiting.{KeepsTurns, PerformsNext, TurnLeaves, KeepsTold
 use Rattle.engine.specs.declared.connected.Connected.{Connected}
 use Rattle.engine.specs.declared.turning.Turn.{Turn}
 use Rattle.engine.specs.declared.turning.Turn.TheVariants as turn
+use Rattle.engine.proofs.Swept.{same_at}
 use Rattle.engine.proofs.Tooks.{found_at, number_is}
 
 -- ---- one thing after another
@@ -92,12 +92,14 @@ leaves_kept (Err x) c w next k e r l l' old new read is did same topology later 
 pub fault_read : (c code : ℕ) (k : Option Event) (s : Stream) → k ≡ None → Ends s (Some code) → Reads c (kept_of k) s (event.Fault c code) s
 fault_read c code k s none ends = subst (λ (o : Option Event). Reads c (kept_of o) s (event.Fault c code) s) (sym none) (fault ends)
 
-pub same_at : (ls : List Connected) (i : ℕ) (l m : Connected) → i < length ls → get_or ls i l ≡ l → get_or ls i m ≡ m → l ≡ m
-same_at ls i l m lt here there = sym here ∙ get_or_default ls i l m lt ∙ there
-
 -- what one that is not over has to say is what its wire has
 wire_found : (p : Parts) (c : ℕ) (l : Connected) → link_in p.links c ≡ Some l → is_ended l.session.phase ≡ false → wire_in false l ≡ (world_of p).wire c
 wire_found p c l found going = sym (ap wire_of found ∙ ap (λ (v : Bool). wire_in v l) going)
+
+-- what is said of the connection at a place is said of each that is there
+pub leaves_here : {E : Type 0} (result : Result Turn E) (ls : List Connected) (i : ℕ) (l : Connected) (old new : WithTurn) → i < length ls → get_or ls i l ≡ l
+    → IfOk result (λ t. TurnLeaves l.number (wire_in false l) old t new) → (m : Connected) → get_or ls i m ≡ m → IfOk result (λ t. TurnLeaves m.number (wire_in false m) old t new)
+leaves_here result ls i l old new lt here leaves m there = subst (λ (k : Connected). IfOk result (λ t. TurnLeaves k.number (wire_in false k) old t new)) (same_at ls i l m lt here there) leaves
 
 -- from the connection at a place to the world
 pub leaves_at : {E : Type 0} (result : Result Turn E) (p : Parts) (c i : ℕ) (b : Broker) (ls : List Connected) (new : WithTurn) → IsEngine p → IsLinkPlace p.links c (Some i)

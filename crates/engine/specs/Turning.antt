@@ -10,6 +10,7 @@ use Rattle.model.specs.declared.events.Send.{Send}
 use Rattle.model.specs.declared.events.Event.{Event}
 use Rattle.model.specs.declared.notes.Note.{Note}
 use Rattle.assembly.specs.Held.{stream_of}
+use Rattle.outputs.specs.Waiting.{HoldsNone}
 use Rattle.engine.specs.Performing.{Rules, DecidesByPhase, PausesOr}
 use Rattle.engine.specs.Reading.{kept_of, to_read}
 use Rattle.engine.specs.declared.connected.Connected.{Connected}
@@ -53,6 +54,12 @@ pub record LinkWaits (b : Broker) (old : Connected) (new_b : Broker) (new : Conn
   pub session : new.session ≡ old.session
   pub output : new.output.bytes ≡ old.output.bytes
   pub coming : SameToCome (kept_of old.kept) (stream_of old.stream) (kept_of new.kept) (stream_of new.stream)
+
+-- The connection is as before, but that its output holds no storage where nothing waits in it.
+pub record LinkStays (old new : Connected) : Type 0 where
+  pub rest : new ≡ record old { output = new.output }
+  pub bytes : new.output.bytes ≡ old.output.bytes
+  pub none : HoldsNone new.output
 
 -- What was read was performed; nothing is kept, and what follows is what the stream says next, in frames as large as the session allows.
 pub record LinkDid (r : Rules) (b : Broker) (old : Connected) (notes : List Note) (new_b : Broker) (new : Connected) : Type 0 where

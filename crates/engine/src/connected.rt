@@ -12,6 +12,9 @@ use outputs::Output;
 use session::Session;
 use std::alloc::Global;
 
+/// An output of so many bytes pauses its connection.
+pub(crate) const BOUND: usize = 1_048_576;
+
 /// A connection that is not gone.
 pub(crate) struct Connected {
     /// Connections count from 1 in the order of their openings.

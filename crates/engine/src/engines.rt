@@ -17,10 +17,10 @@ ghost use Rattle.engine.specs.Opening.{Numbers, OpenedNew, OpenedReady};
 ghost use Rattle.engine.specs.InForce.{in_force};
 
 use crate::connected::Connected;
-use crate::connections::{feed_at, place_of, take_at, turn_at};
+use crate::connections::{feed_link, place_of, sweep, take_from};
 use crate::places::Places;
-use crate::pumping::pump_among;
-use crate::turning::Turn;
+use crate::pumping::pump_link;
+use crate::turning::{Turn, turn_link};
 use broker::Broker;
 use certificate::Checked;
 use guarantees::Guarantee;
@@ -165,7 +165,7 @@ impl Engine {
         ensures broker { self.new.broker ≡ self.old.broker }
     {
         match place_of(&self.links, &self.places, c) {
-            Some(place) => feed_at(&mut self.links, place, bytes),
+            Some(place) => feed_link(&mut self.links[place], bytes),
             None => Ok(()),
         }
     }
@@ -185,19 +185,19 @@ impl Engine {
         ensures turns { IfOk result (λ t. TurnLeaves c ((world_of self.old).wire c) self.old.broker t self.new.broker) }
         ensures broker { OnErr result (self.new.broker ≡ self.old.broker) }
     {
-        match place_of(&self.links, &self.places, c) {
-            Some(place) => turn_at(
-                alloc,
-                self.users.as_slice(),
-                &mut self.broker,
-                &mut self.scratch,
-                &mut self.spares,
-                &mut self.places,
-                &mut self.links,
-                place,
-            ),
-            None => Ok(Turn::Over),
-        }
+        let Some(place) = place_of(&self.links, &self.places, c) else {
+            return Ok(Turn::Over);
+        };
+        let turn = turn_link(
+            alloc,
+            self.users.as_slice(),
+            &mut self.broker,
+            &mut self.scratch,
+            &mut self.spares,
+            &mut self.links[place],
+        );
+        sweep(&mut self.places, &mut self.links, place);
+        turn
     }
 
     /// Makes one delivery to a consumer, and tells of which connection, with its notes: none where no delivery can be made.
@@ -213,22 +213,22 @@ impl Engine {
         ensures told { OnErr result (TellsOne self.old.broker self.new.broker) }
         ensures wanted { OnErr result ((c : ℕ) × CanDeliver (world_of self.old).state.broker c) }
     {
-        match self.broker.pick() {
-            Some(pick) => {
-                let connection = pick.connection;
-                let notes = pump_among(
-                    alloc,
-                    &mut self.broker,
-                    &mut self.scratch,
-                    &mut self.spares,
-                    &self.places,
-                    &mut self.links,
-                    pick,
-                )?;
-                Ok(Some(Delivered { connection, notes }))
-            }
-            None => Ok(None),
-        }
+        let Some(pick) = self.broker.pick() else {
+            return Ok(None);
+        };
+        let connection = pick.connection;
+        let Some(place) = place_of(&self.links, &self.places, connection) else {
+            unreachable!();
+        };
+        let notes = pump_link(
+            alloc,
+            &mut self.broker,
+            &mut self.scratch,
+            &mut self.spares,
+            &mut self.links[place],
+            pick,
+        )?;
+        Ok(Some(Delivered { connection, notes }))
     }
 
     /// Takes `n` bytes from the front of `c`'s output, at most what is there.
@@ -236,16 +236,16 @@ impl Engine {
         ensures taken { TakesAway (world_of self.old) c n (world_of self.new) }
         ensures turns { KeepsTurns self.old.broker self.new.broker }
     {
-        if let Some(place) = place_of(&self.links, &self.places, c) {
-            take_at(
-                &mut self.broker,
-                &mut self.spares,
-                &mut self.places,
-                &mut self.links,
-                place,
-                n,
-            );
-        }
+        let Some(place) = place_of(&self.links, &self.places, c) else {
+            return;
+        };
+        take_from(
+            &mut self.broker,
+            &mut self.spares,
+            &mut self.links[place],
+            n,
+        );
+        sweep(&mut self.places, &mut self.links, place);
     }
 
     /// Loses the connection `c`: its output is never taken, and what it held is ready again.

@@ -8,7 +8,7 @@ ghost use Rattle.model.specs.Arrivals.{IsSaid};
 ghost use Rattle.model.specs.Sending.{AreCarried, AreOwn};
 ghost use Rattle.broker.specs.Turns.{topology_kept, broker_of};
 ghost use Rattle.broker.specs.Waiting.{NoneIsLater, OneComesIn};
-ghost use Rattle.engine.specs.Performing.{IsAskedBy, session_after, rules_of, IsAnswerTo, ByBroker, ByPhase, DecidesByPhase, PausesOr};
+ghost use Rattle.engine.specs.Performing.{IsAskedBy, session_after, rules_of, IsAnswerTo, ByPhase, DecidesByPhase, PausesOr};
 
 use broker::{Broker, Step};
 use model::{Event, Phase, Send, User};
@@ -23,32 +23,6 @@ fn learn(session: &mut Session, event: &Event, sends: &[Send])
         Event::Fault { .. } => session.end(),
         _ => session.after(sends),
     }
-}
-
-/// An event of the connection `c`, which runs.
-fn by_broker(
-    c: u64,
-    alloc: Global,
-    broker: &mut Broker,
-    session: &mut Session,
-    event: &Event,
-) -> Result<Step, AllocError>
-    requires asked { IsAskedBy c event.now }
-    requires said { IsSaid event.now }
-    requires carried { AreCarried (broker_of broker.old) }
-    requires runs { is_running session.old.phase ≡ true }
-    ensures ok { IfOk result (λ d. ByBroker (topology_kept broker.old) (broker_of broker.old)
-        session.old event.now d.sends.items d.notes.items (broker_of broker.new) session.new) }
-    ensures own { IfOk result (λ d. AreOwn c d.sends.items) }
-    ensures broker_kept { OnErr result (broker.new ≡ broker.old) }
-    ensures session_kept { OnErr result (session.new ≡ session.old) }
-    ensures topology { topology_kept broker.new ≡ topology_kept broker.old }
-    ensures turn { broker.new.turn ≡ broker.old.turn }
-    ensures later { OnOk result (OneComesIn event.now broker.old broker.new) }
-{
-    let step = broker.step(alloc, event)?;
-    learn(session, event, &step.sends);
-    Ok(step)
 }
 
 /// What the phase of the connection `c` answers.
@@ -121,7 +95,8 @@ fn by_phase(
     })
 }
 
-/// The first eight bytes of the connection `c`, a command of it, or the fault of its stream.
+/// The first eight bytes of the connection `c`, a command of it, or the fault of its stream: while it runs the broker performs it,
+/// and else its phase answers.
 pub(crate) fn perform(
     c: u64,
     alloc: Global,
@@ -143,7 +118,11 @@ pub(crate) fn perform(
     ensures later { OnOk result (OneComesIn event.now broker.old broker.new) }
 {
     match session.phase() {
-        Phase::Running => by_broker(c, alloc, broker, session, event),
+        Phase::Running => {
+            let step = broker.step(alloc, event)?;
+            learn(session, event, &step.sends);
+            Ok(step)
+        }
         _ => by_phase(c, alloc, users, broker, session, event),
     }
 }

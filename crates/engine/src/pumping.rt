@@ -6,20 +6,19 @@ ghost use Rattle.model.specs.Sending.{AreCarried};
 ghost use Rattle.broker.specs.Turns.{topology_kept, broker_of};
 ghost use Rattle.broker.specs.Waiting.{NoneIsLater, ServesSoon};
 ghost use Rattle.commands.specs.Picked.{IsPick};
-ghost use Rattle.engine.specs.World.{link_in, AreRising};
-ghost use Rattle.engine.specs.Pumping.{LinkPumped, LinksPumped, LinksNotPumped};
+ghost use Rattle.engine.specs.Pumping.{LinkPumped};
+ghost use Rattle.outputs.specs.Waiting.{HoldsNone};
 
 use crate::connected::Connected;
-use crate::connections::place_of;
-use crate::places::Places;
-use crate::turning::put_out;
+use crate::turning::{make_room, put_out};
 use broker::{Broker, Pick};
 use model::Note;
 use outputs::{Scratch, Spares};
 use std::alloc::{AllocError, Global};
 
-/// The delivery that was picked, to its connection, with room made for the greatest.
-fn pump_link(
+/// The delivery that was picked, to its connection, with room made for the greatest. Where memory is refused an output in which
+/// nothing waits holds no storage.
+pub(crate) fn pump_link(
     alloc: Global,
     broker: &mut Broker,
     scratch: &mut Scratch,
@@ -35,12 +34,13 @@ fn pump_link(
     ensures rest { link.new ≡ record link.old { output = link.new.output } }
     ensures broker_kept { OnErr result (broker.new ≡ broker.old) }
     ensures output_kept { OnErr result (link.new.output.bytes ≡ link.old.output.bytes) }
+    ensures refused { OnErr result (HoldsNone link.new.output) }
     ensures topology { topology_kept broker.new ≡ topology_kept broker.old }
     ensures over { OnOk result (broker.new.turn ≡ None) }
     ensures later { OnOk result (NoneIsLater broker.old broker.new) }
     ensures soon { OnOk result (ServesSoon broker.old pick) }
 {
-    spares.make_room(&mut link.output)?;
+    make_room(spares, &mut link.output)?;
     let max = link.session.frame_max();
     match broker.pump(alloc, pick) {
         Ok(step) => {
@@ -54,39 +54,9 @@ fn pump_link(
             );
             Ok(step.notes)
         }
-        Err(e) => {
+        Err(error) => {
             spares.take_back(&mut link.output);
-            Err(e)
+            Err(error)
         }
-    }
-}
-
-/// The same among all connections, of which its own is one.
-pub(crate) fn pump_among(
-    alloc: Global,
-    broker: &mut Broker,
-    scratch: &mut Scratch,
-    spares: &mut Spares,
-    places: &Places,
-    links: &mut Vec<Connected>,
-    pick: Pick,
-) -> Result<Vec<Note>, AllocError>
-    requires rising { AreRising 0 links.old.items }
-    requires there { link_in links.old.items pick.connection ≡ None → ⊥ }
-    requires picked { IsPick (broker_of broker.old) pick }
-    requires carried { AreCarried (broker_of broker.old) }
-    requires named { AreNamed (topology_kept broker.old) (broker_of broker.old) }
-    ensures ok { IfOk result (λ notes. LinksPumped (topology_kept broker.old) (broker_of broker.old)
-        pick.connection links.old.items notes.items (broker_of broker.new) links.new.items) }
-    ensures err { OnErr result (LinksNotPumped (broker_of broker.old) pick.connection links.old.items (broker_of broker.new) links.new.items) }
-    ensures broker_kept { OnErr result (broker.new ≡ broker.old) }
-    ensures topology { topology_kept broker.new ≡ topology_kept broker.old }
-    ensures over { OnOk result (broker.new.turn ≡ None) }
-    ensures later { OnOk result (NoneIsLater broker.old broker.new) }
-    ensures soon { OnOk result (ServesSoon broker.old pick) }
-{
-    match place_of(links, places, pick.connection) {
-        Some(place) => pump_link(alloc, broker, scratch, spares, &mut links[place], pick),
-        None => unreachable!(),
     }
 }

@@ -1,6 +1,6 @@
 //! One turn of one connection.
 
-ghost use Rattle.std.specs.Prelude.{◌≡◌, ◌≤◌, ◌++◌, Some, None, false, IfOk, OnOk, OnErr};
+ghost use Rattle.std.specs.Prelude.{◌≡◌, ◌≤◌, ◌<◌, ◌++◌, Some, None, false, IfOk, OnOk, OnErr};
 ghost use Rattle.std.specs.List.{AllByRecursion};
 ghost use Rattle.model.specs.Arrivals.{IsSaid, is_ended, is_past_bound, under_session};
 ghost use Rattle.model.specs.Phases.{is_running as runs};
@@ -13,12 +13,12 @@ ghost use Rattle.broker.specs.Waiting.{NoneIsLater, OneComesIn};
 ghost use Rattle.assembly.specs.Held.{stream_of};
 ghost use Rattle.engine.specs.Reading.{IsKeptEvent, IsEventMade, HasMore, kept_of};
 ghost use Rattle.engine.specs.Performing.{IsAskedBy, PausesOr, rules_of};
-ghost use Rattle.engine.specs.Turning.{Performed, DidEvent, LinkTook, LinkWaits, MayTurn, OnIdle};
+ghost use Rattle.engine.specs.Turning.{DidEvent, LinkStays, LinkTook, LinkWaits, MayTurn, OnIdle};
 ghost use Rattle.engine.specs.World.{wire_in};
 ghost use Rattle.engine.specs.Waiting.{TurnLeaves};
 ghost use Rattle.outputs.specs.Waiting.{HoldsNone};
 
-use crate::connected::Connected;
+use crate::connected::{BOUND, Connected};
 use crate::performing::{pause_if, perform};
 use crate::reading::{Next, forget, read_next};
 use assembly::Stream;
@@ -63,46 +63,17 @@ pub(crate) fn put_out(
     ensures later { NoneIsLater broker.old broker.new }
 {
     put_sends(c, output, scratch, max, sends);
-    let is_past = output.bytes().len() >= 1_048_576;
+    let is_past = output.bytes().len() >= BOUND;
     pause_if(broker, c, is_past);
 }
 
-/// What the connection `c` asks for, or the fault of its stream, with room for what it sends.
-fn do_event(
-    c: u64,
-    alloc: Global,
-    users: &[User],
-    broker: &mut Broker,
-    scratch: &mut Scratch,
-    session: &mut Session,
-    output: &mut Output,
-    event: &Event,
-) -> Result<Vec<Note>, AllocError>
-    requires asked { IsAskedBy c event.now }
-    requires said { IsSaid event.now }
-    requires carried { AreCarried (broker_of broker.old) }
-    requires room { most_sent ≤ output.old.room }
-    ensures ok { IfOk result (λ notes. Performed (rules_of (topology_kept broker.old) users.now) (broker_of broker.old)
-        c session.old output.old.bytes event.now notes.items (broker_of broker.new) session.new output.new.bytes) }
-    ensures broker_kept { OnErr result (broker.new ≡ broker.old) }
-    ensures session_kept { OnErr result (session.new ≡ session.old) }
-    ensures output_kept { OnErr result (output.new ≡ output.old) }
-    ensures topology { topology_kept broker.new ≡ topology_kept broker.old }
-    ensures turn { broker.new.turn ≡ broker.old.turn }
-    ensures later { OnOk result (OneComesIn event.now broker.old broker.new) }
-{
-    let max = session.frame_max();
-    let step = perform(c, alloc, users, broker, session, event)?;
-    put_out(c, broker, scratch, output, max, &step.sends);
-    Ok(step.notes)
-}
-
-/// The command that is kept, which stays so where memory is refused.
+/// Performs the command that is kept, which stays so where memory is refused. There is room for what it sends.
 fn do_kept(
     alloc: Global,
     users: &[User],
     broker: &mut Broker,
     scratch: &mut Scratch,
+    spares: &mut Spares,
     link: &mut Connected,
 ) -> Result<Turn, AllocError>
     requires kept { (e : event.Event) × (link.old.kept ≡ Some e) × IsAskedBy link.old.number e × IsSaid e }
@@ -112,40 +83,43 @@ fn do_kept(
         → DidEvent (rules_of (topology_kept broker.old) users.now) (broker_of broker.old) link.old e t
         (broker_of broker.new) link.new) }
     ensures broker_kept { OnErr result (broker.new ≡ broker.old) }
-    ensures link_kept { OnErr result (link.new ≡ link.old) }
+    ensures link_kept { OnErr result (LinkStays link.old link.new) }
     ensures topology { topology_kept broker.new ≡ topology_kept broker.old }
     ensures turn { broker.new.turn ≡ broker.old.turn }
     ensures later { OnOk result ((e : event.Event) → link.old.kept ≡ Some e → OneComesIn e broker.old broker.new) }
 {
-    let done = match &link.kept {
-        Some(event) => do_event(
-            link.number,
-            alloc,
-            users,
-            broker,
-            scratch,
-            &mut link.session,
-            &mut link.output,
-            event,
-        ),
-        None => unreachable!(),
+    let Some(event) = &link.kept else {
+        unreachable!();
     };
-    match done {
-        Ok(notes) => {
+    let max = link.session.frame_max();
+    match perform(link.number, alloc, users, broker, &mut link.session, event) {
+        Ok(step) => {
+            put_out(
+                link.number,
+                broker,
+                scratch,
+                &mut link.output,
+                max,
+                &step.sends,
+            );
             forget(&mut link.kept);
             follow(&mut link.stream, &link.session);
-            Ok(Turn::Did(notes))
+            Ok(Turn::Did(step.notes))
         }
-        Err(e) => Err(e),
+        Err(error) => {
+            spares.take_back(&mut link.output);
+            Err(error)
+        }
     }
 }
 
-/// A fault of the stream, which the stream answers again where memory is refused.
+/// Performs a fault of the stream, which the stream answers again where memory is refused. There is room for what it sends.
 fn do_fault(
     alloc: Global,
     users: &[User],
     broker: &mut Broker,
     scratch: &mut Scratch,
+    spares: &mut Spares,
     link: &mut Connected,
     code: u16,
 ) -> Result<Turn, AllocError>
@@ -155,30 +129,33 @@ fn do_fault(
     ensures ok { IfOk result (λ t. DidEvent (rules_of (topology_kept broker.old) users.now) (broker_of broker.old)
         link.old (happens.Fault link.old.number code) t (broker_of broker.new) link.new) }
     ensures broker_kept { OnErr result (broker.new ≡ broker.old) }
-    ensures link_kept { OnErr result (link.new ≡ link.old) }
+    ensures link_kept { OnErr result (LinkStays link.old link.new) }
     ensures topology { topology_kept broker.new ≡ topology_kept broker.old }
     ensures turn { broker.new.turn ≡ broker.old.turn }
     ensures later { OnOk result (OneComesIn (happens.Fault link.old.number code) broker.old broker.new) }
 {
     let connection = link.number;
     let event = Event::Fault { connection, code };
-    let done = do_event(
-        connection,
-        alloc,
-        users,
-        broker,
-        scratch,
-        &mut link.session,
-        &mut link.output,
-        &event,
-    );
+    let max = link.session.frame_max();
+    let done = perform(connection, alloc, users, broker, &mut link.session, &event);
     drop(event);
     match done {
-        Ok(notes) => {
+        Ok(step) => {
+            put_out(
+                connection,
+                broker,
+                scratch,
+                &mut link.output,
+                max,
+                &step.sends,
+            );
             follow(&mut link.stream, &link.session);
-            Ok(Turn::Did(notes))
+            Ok(Turn::Did(step.notes))
         }
-        Err(error) => Err(error),
+        Err(error) => {
+            spares.take_back(&mut link.output);
+            Err(error)
+        }
     }
 }
 
@@ -197,8 +174,25 @@ fn is_running(phase: Phase) -> bool
     matches!(phase, Phase::Running)
 }
 
-/// One turn of a connection that is awake. Room is made once there is something to perform.
-pub(crate) fn turn_awake(
+/// Makes room in an output for what one event sends. Where memory is refused one in which nothing waits holds no storage.
+pub(crate) fn make_room(spares: &mut Spares, output: &mut Output) -> Result<(), AllocError>
+    ensures bytes { output.new.bytes ≡ output.old.bytes }
+    ensures ok { OnOk result (most_sent ≤ output.new.room) }
+    ensures full { OnErr result (output.old.room < most_sent) }
+    ensures refused { OnErr result (HoldsNone output.new) }
+{
+    match spares.make_room(output) {
+        Ok(()) => Ok(()),
+        Err(error) => {
+            spares.take_back(output);
+            Err(error)
+        }
+    }
+}
+
+/// One turn of one connection. Room is made once there is something to perform. Where memory is refused an output in which nothing
+/// waits holds no storage.
+pub(crate) fn turn_link(
     alloc: Global,
     users: &[User],
     broker: &mut Broker,
@@ -208,31 +202,40 @@ pub(crate) fn turn_awake(
 ) -> Result<Turn, AllocError>
     requires kept { IsKeptEvent link.old.number link.old.kept link.old.stream.fault }
     requires carried { AreCarried (broker_of broker.old) }
-    requires open { is_ended link.old.session.phase ≡ false }
-    requires below { is_past_bound link.old.output.bytes ≡ false }
     ensures ok { IfOk result (λ t. LinkTook (rules_of (topology_kept broker.old) users.now) (broker_of broker.old) link.old t (broker_of broker.new) link.new) }
     ensures err { OnErr result (LinkWaits (broker_of broker.old) link.old (broker_of broker.new) link.new) }
     ensures awake { OnErr result (MayTurn link.old) }
     ensures more { OnErr result (HasMore (kept_of link.old.kept) (stream_of link.old.stream)) }
     ensures idle { IfOk result (λ t. OnIdle t (HoldsNone link.new.output)) }
+    ensures refused { OnErr result (HoldsNone link.new.output) }
     ensures kept { IsKeptEvent link.new.number link.new.kept link.new.stream.fault }
     ensures number { link.new.number ≡ link.old.number }
     ensures topology { topology_kept broker.new ≡ topology_kept broker.old }
     ensures turns { IfOk result (λ t. TurnLeaves link.old.number (wire_in false link.old) broker.old t broker.new) }
     ensures broker_kept { OnErr result (broker.new ≡ broker.old) }
 {
-    match read_next(link.number, &mut link.stream, &mut link.kept)? {
-        Next::Command => {
-            spares.make_room(&mut link.output)?;
-            do_kept(alloc, users, broker, scratch, link)
+    if link.session.is_over() {
+        return Ok(Turn::Over);
+    }
+    if link.output.bytes().len() >= BOUND {
+        return Ok(Turn::Paused);
+    }
+    match read_next(link.number, &mut link.stream, &mut link.kept) {
+        Ok(Next::Command) => {
+            make_room(spares, &mut link.output)?;
+            do_kept(alloc, users, broker, scratch, spares, link)
         }
-        Next::Fault(code) => {
-            spares.make_room(&mut link.output)?;
-            do_fault(alloc, users, broker, scratch, link, code)
+        Ok(Next::Fault(code)) => {
+            make_room(spares, &mut link.output)?;
+            do_fault(alloc, users, broker, scratch, spares, link, code)
         }
-        Next::Nothing => {
+        Ok(Next::Nothing) => {
             spares.take_back(&mut link.output);
             Ok(Turn::Idle)
+        }
+        Err(error) => {
+            spares.take_back(&mut link.output);
+            Err(error)
         }
     }
 }

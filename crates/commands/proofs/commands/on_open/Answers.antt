@@ -10,10 +10,10 @@ use Rattle.commands.proofs.Answering.{has_open, done_open, performed_addressed, 
 use Rattle.commands.proofs.commands.on_open.Goals as goal
 
 pub returns-in-ChannelFlow-clause-answers : goal.returns-in-ChannelFlow-clause-answers
-returns-in-ChannelFlow-clause-answers c = rw c.in-ChannelFlow.is (done_open _ _ _ _ _ _ (ChannelFlow c.in-ChannelFlow.active) _ _ _ c.performed.ensures (c.flow.ensures.commands c.args.depot.now c.args.channel.now c.args.content.now))
+returns-in-ChannelFlow-clause-answers c = rw c.in-ChannelFlow.is (done_open _ _ c.args.depot.now c.args.depot.now c.args.channel.now c.args.channel.now (ChannelFlow c.in-ChannelFlow.active) c.args.content.now c.flow.result _ c.performed.ensures (c.flow.ensures.commands c.args.depot.now c.args.channel.now c.args.content.now))
 
 pub returns-in-ExchangeDeclare-clause-answers : goal.returns-in-ExchangeDeclare-clause-answers
-returns-in-ExchangeDeclare-clause-answers c = rw c.in-ExchangeDeclare.is (done_open _ _ _ _ _ _ (ExchangeDeclare c.in-ExchangeDeclare.declare) _ _ _ c.performed-in-ExchangeDeclare.ensures (c.find_exchange.ensures.commands c.args.channel.now c.args.content.now))
+returns-in-ExchangeDeclare-clause-answers c = rw c.in-ExchangeDeclare.is (done_open _ _ c.args.depot.now c.args.depot.now c.args.channel.now c.args.channel.now (ExchangeDeclare c.in-ExchangeDeclare.declare) c.args.content.now c.find_exchange.result _ c.performed-in-ExchangeDeclare.ensures (c.find_exchange.ensures.commands c.args.channel.now c.args.content.now))
 
 pub returns-in-QueueDeclare-clause-answers : goal.returns-in-QueueDeclare-clause-answers
 returns-in-QueueDeclare-clause-answers c = λ old new turns.
@@ -32,22 +32,22 @@ pub returns-in-QueueDeclare-clause-kept : goal.returns-in-QueueDeclare-clause-ke
 returns-in-QueueDeclare-clause-kept c = left_kept ((c.args.depot.now ≡ c.args.depot.now) × (c.args.channel.now ≡ c.args.channel.now)) c.asked_queue.result c.left.result c.left.ensures (refl, refl)
 
 pub returns-in-QueuePurge-clause-answers : goal.returns-in-QueuePurge-clause-answers
-returns-in-QueuePurge-clause-answers c = rw c.in-QueuePurge.is (done_open _ _ _ _ _ _ (QueuePurge c.in-QueuePurge.purged) _ _ _ c.performed-in-QueuePurge.ensures (c.purge.ensures.commands c.args.channel.now c.args.content.now))
+returns-in-QueuePurge-clause-answers c = rw c.in-QueuePurge.is (done_open _ _ c.args.depot.now c.purge.new.depot c.args.channel.now c.args.channel.now (QueuePurge c.in-QueuePurge.purged) c.args.content.now c.purge.result _ c.performed-in-QueuePurge.ensures (c.purge.ensures.commands c.args.channel.now c.args.content.now))
 
 pub returns-in-BasicQos-clause-answers : goal.returns-in-BasicQos-clause-answers
-returns-in-BasicQos-clause-answers c = rw c.in-BasicQos.is (done_open _ _ _ _ _ _ (BasicQos c.in-BasicQos.qos) _ _ _ c.performed-in-BasicQos.ensures (c.limit.ensures.commands c.args.depot.now c.args.content.now))
+returns-in-BasicQos-clause-answers c = rw c.in-BasicQos.is (done_open _ _ c.args.depot.now c.args.depot.now c.args.channel.now c.limit.new.channel (BasicQos c.in-BasicQos.qos) c.args.content.now c.limit.result _ c.performed-in-BasicQos.ensures (c.limit.ensures.commands c.args.depot.now c.args.content.now))
 
 pub returns-in-BasicQos-clause-placed : goal.returns-in-BasicQos-clause-placed
 returns-in-BasicQos-clause-placed c = c.limit.ensures.placed c.args.depot.now.topology c.requires.can.placed
 
 pub returns-in-BasicConsume-clause-answers : goal.returns-in-BasicConsume-clause-answers
-returns-in-BasicConsume-clause-answers c = rw c.in-BasicConsume.is (done_open _ _ _ _ _ _ (BasicConsume c.in-BasicConsume.asked) _ _ _ c.performed-in-BasicConsume.ensures (c.consume.ensures.commands c.args.content.now))
+returns-in-BasicConsume-clause-answers c = rw c.in-BasicConsume.is (done_open _ _ c.args.depot.now c.args.depot.now c.args.channel.now c.consume.new.channel (BasicConsume c.in-BasicConsume.asked) c.args.content.now c.consume.result _ c.performed-in-BasicConsume.ensures (c.consume.ensures.commands c.args.content.now))
 
 pub returns-in-BasicConsume-clause-addressed : goal.returns-in-BasicConsume-clause-addressed
 returns-in-BasicConsume-clause-addressed c = λ said. performed_addressed c.args.id.connection _ c.consume.result c.performed-in-BasicConsume.result c.performed-in-BasicConsume.ensures (subst (λ (m : Method). IsMethod m) c.in-BasicConsume.is said.0) c.consume.ensures.addressed
 
 pub returns-in-BasicCancel-clause-answers : goal.returns-in-BasicCancel-clause-answers
-returns-in-BasicCancel-clause-answers c = rw c.in-BasicCancel.is (done_open _ _ _ _ _ _ (BasicCancel c.in-BasicCancel.asked) _ _ _ c.performed-in-BasicCancel.ensures (c.cancel.ensures.commands c.args.depot.now c.args.content.now))
+returns-in-BasicCancel-clause-answers c = rw c.in-BasicCancel.is (done_open _ _ c.args.depot.now c.args.depot.now c.args.channel.now c.cancel.new.channel (BasicCancel c.in-BasicCancel.asked) c.args.content.now c.cancel.result _ c.performed-in-BasicCancel.ensures (c.cancel.ensures.commands c.args.depot.now c.args.content.now))
 
 pub returns-in-BasicCancel-clause-addressed : goal.returns-in-BasicCancel-clause-addressed
 returns-in-BasicCancel-clause-addressed c = λ said. performed_addressed c.args.id.connection _ c.cancel.result c.performed-in-BasicCancel.result c.performed-in-BasicCancel.ensures (subst (λ (m : Method). IsMethod m) c.in-BasicCancel.is said.0) c.cancel.ensures.addressed
@@ -56,28 +56,28 @@ pub returns-in-BasicCancel-clause-placed : goal.returns-in-BasicCancel-clause-pl
 returns-in-BasicCancel-clause-placed c = c.cancel.ensures.placed c.args.depot.now.topology c.requires.can.placed
 
 pub returns-in-BasicPublish-clause-answers : goal.returns-in-BasicPublish-clause-answers
-returns-in-BasicPublish-clause-answers c = rw c.in-BasicPublish.is (done_open _ _ _ _ _ _ (BasicPublish c.in-BasicPublish.published) _ _ _ c.performed-in-BasicPublish.ensures c.publish.ensures.commands)
+returns-in-BasicPublish-clause-answers c = rw c.in-BasicPublish.is (done_open _ _ c.args.depot.now c.publish.new.depot c.args.channel.now c.publish.new.channel (BasicPublish c.in-BasicPublish.published) c.args.content.now c.publish.result _ c.performed-in-BasicPublish.ensures c.publish.ensures.commands)
 
 pub returns-in-BasicGet-clause-answers : goal.returns-in-BasicGet-clause-answers
-returns-in-BasicGet-clause-answers c = rw c.in-BasicGet.is (done_open _ _ _ _ _ _ (BasicGet c.in-BasicGet.asked) _ _ _ c.performed-in-BasicGet.ensures (c.get.ensures.commands c.args.content.now))
+returns-in-BasicGet-clause-answers c = rw c.in-BasicGet.is (done_open _ _ c.args.depot.now c.get.new.depot c.args.channel.now c.get.new.channel (BasicGet c.in-BasicGet.asked) c.args.content.now c.get.result _ c.performed-in-BasicGet.ensures (c.get.ensures.commands c.args.content.now))
 
 pub returns-in-BasicGet-clause-addressed : goal.returns-in-BasicGet-clause-addressed
 returns-in-BasicGet-clause-addressed c = λ said. performed_addressed c.args.id.connection _ c.get.result c.performed-in-BasicGet.result c.performed-in-BasicGet.ensures (subst (λ (m : Method). HasSpelling c.args.depot.now m) c.in-BasicGet.is said) c.get.ensures.addressed
 
 pub returns-in-BasicAck-clause-answers : goal.returns-in-BasicAck-clause-answers
-returns-in-BasicAck-clause-answers c = rw c.in-BasicAck.is (done_open _ _ _ _ _ _ (BasicAck c.in-BasicAck.settled) _ _ _ c.performed-in-BasicAck.ensures (c.ack.ensures.commands c.args.content.now))
+returns-in-BasicAck-clause-answers c = rw c.in-BasicAck.is (done_open _ _ c.args.depot.now c.ack.new.depot c.args.channel.now c.ack.new.channel (BasicAck c.in-BasicAck.settled) c.args.content.now c.ack.result _ c.performed-in-BasicAck.ensures (c.ack.ensures.commands c.args.content.now))
 
 pub returns-in-BasicReject-clause-answers : goal.returns-in-BasicReject-clause-answers
-returns-in-BasicReject-clause-answers c = rw c.in-BasicReject.is (done_open _ _ _ _ _ _ (BasicReject c.in-BasicReject.settled) _ _ _ c.performed-in-BasicReject.ensures (c.reject.ensures.commands c.args.content.now))
+returns-in-BasicReject-clause-answers c = rw c.in-BasicReject.is (done_open _ _ c.args.depot.now c.reject.new.depot c.args.channel.now c.reject.new.channel (BasicReject c.in-BasicReject.settled) c.args.content.now c.reject.result _ c.performed-in-BasicReject.ensures (c.reject.ensures.commands c.args.content.now))
 
 pub returns-in-BasicNack-clause-answers : goal.returns-in-BasicNack-clause-answers
-returns-in-BasicNack-clause-answers c = rw c.in-BasicNack.is (done_open _ _ _ _ _ _ (BasicNack c.in-BasicNack.settled) _ _ _ c.performed-in-BasicNack.ensures (c.nack.ensures.commands c.args.content.now))
+returns-in-BasicNack-clause-answers c = rw c.in-BasicNack.is (done_open _ _ c.args.depot.now c.nack.new.depot c.args.channel.now c.nack.new.channel (BasicNack c.in-BasicNack.settled) c.args.content.now c.nack.result _ c.performed-in-BasicNack.ensures (c.nack.ensures.commands c.args.content.now))
 
 pub returns-in-BasicRecover-clause-answers : goal.returns-in-BasicRecover-clause-answers
-returns-in-BasicRecover-clause-answers c = rw c.in-BasicRecover.is (done_open _ _ _ _ _ _ (BasicRecover c.in-BasicRecover.requeue) _ _ _ c.performed-in-BasicRecover.ensures (c.recover.ensures.commands c.args.content.now))
+returns-in-BasicRecover-clause-answers c = rw c.in-BasicRecover.is (done_open _ _ c.args.depot.now c.recover.new.depot c.args.channel.now c.recover.new.channel (BasicRecover c.in-BasicRecover.requeue) c.args.content.now c.recover.result _ c.performed-in-BasicRecover.ensures (c.recover.ensures.commands c.args.content.now))
 
 pub returns-in-ConfirmSelect-clause-answers : goal.returns-in-ConfirmSelect-clause-answers
-returns-in-ConfirmSelect-clause-answers c = rw c.in-ConfirmSelect.is (done_open _ _ _ _ _ _ (ConfirmSelect c.in-ConfirmSelect.no_wait) _ _ _ c.performed-in-ConfirmSelect.ensures (c.select.ensures.commands c.args.depot.now c.args.content.now))
+returns-in-ConfirmSelect-clause-answers c = rw c.in-ConfirmSelect.is (done_open _ _ c.args.depot.now c.args.depot.now c.args.channel.now c.select.new.channel (ConfirmSelect c.in-ConfirmSelect.no_wait) c.args.content.now c.select.result _ c.performed-in-ConfirmSelect.ensures (c.select.ensures.commands c.args.depot.now c.args.content.now))
 
 pub returns-in-ConfirmSelect-clause-placed : goal.returns-in-ConfirmSelect-clause-placed
 returns-in-ConfirmSelect-clause-placed c = c.select.ensures.placed c.args.depot.now.topology c.requires.can.placed

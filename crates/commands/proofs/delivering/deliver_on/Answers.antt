@@ -1,10 +1,13 @@
-use Rattle.std.proofs.Common.{◌≡◌, ◌∙◌, ap, sym, Some}
+use Rattle.std.proofs.Common.{◌≡◌, ◌∙◌, ◌∷◌, ◌++◌, [], List, ap, refl, subst, sym, Some}
 use Rattle.std.specs.Prelude.{option_map, is_some}
 use Rattle.std.proofs.lemmas.Bool.{false≢true}
-use Rattle.model.specs.Deliveries.{first_ready}
+use Rattle.model.specs.Deliveries.{first_ready, delivery_notes}
+use Rattle.model.specs.declared.events.Send.{Send}
+use Rattle.model.specs.declared.notes.Note.{Note}
+use Rattle.replies.specs.Sent.{AreAddressed}
 use Rattle.model.specs.declared.messages.Entry.{Entry}
 use Rattle.exchange_graph.specs.Marks.{queue_name}
-use Rattle.depot.specs.Store.{entries_named}
+use Rattle.depot.specs.Store.{entries_named, queue_at}
 use Rattle.commands.proofs.Placing.{takes_within}
 use Rattle.commands.proofs.Getting.{first_carried}
 use Rattle.commands.proofs.Delivered.{ready_on, delivered, takes_short}
@@ -23,9 +26,6 @@ unreachable-requires-in_default-first_ready c =
     let ready = ready_on s c.requires.picked.side c.args.pick c.args.channel.now c.in-Some.consumer.now c.requires.picked.there c.in-Some.ensures c.requires.picked.pick in
     false≢true (ap is_some (sym (ap (option_map (λ e. e.now)) c.in_default-first_ready.is)) ∙ ap is_some (sym same ∙ ready))
 
-pub name_at-queue-requires : goal.name_at-queue-requires
-name_at-queue-requires c = takes_within c.args.depot.now.topology c.in-Some.consumer.now c.args.channel.now.given.consumers c.requires.can.placed.consumers c.in-Some.ensures.seat
-
 pub give_out-requires-clause-within : goal.give_out-requires-clause-within
 give_out-requires-clause-within c = takes_within c.args.depot.now.topology c.in-Some.consumer.now c.args.channel.now.given.consumers c.requires.can.placed.consumers c.in-Some.ensures.seat
 
@@ -33,10 +33,11 @@ pub returns-clause-ok : goal.returns-clause-ok
 returns-clause-ok c =
     let s = c.args.depot.now in
     let e : Entry = c.in-Some-first_ready.entry.now in
-    let found : first_ready (entries_named s (queue_name s.topology c.in-Some.consumer.now.queue)) ≡ Some e =
-    ap first_ready c.is_named.ensures.entries_are ∙ sym c.first_ready.ensures ∙ ap (option_map (λ e. e.now)) c.in-Some-first_ready.is in
-    delivered s c.give_out.new.depot c.args.channel.now c.give_out.new.channel c.args.pick c.in-Some.consumer.now e c.next_tag-tag.result c.name_at-queue.result.now c.in_ok-step.step.sends.items c.in_ok-step.step.notes.items
-    c.in-Some.ensures found c.next_tag-tag.ensures c.name_at-queue.ensures c.in_ok-step.ensures.sends c.in_ok-step.ensures.notes c.in_ok-give_out.ensures.gives
+    let first : first_ready (queue_at s c.in-Some.consumer.now.queue) ≡ Some e = sym c.first_ready.ensures ∙ ap (option_map (λ e. e.now)) c.in-Some-first_ready.is in
+    delivered s c.give_out.new.depot c.args.channel.now c.give_out.new.channel c.args.pick c.in-Some.consumer.now e c.next_tag-tag.result (queue_name s.topology c.in-Some.consumer.now.queue) c.in_ok-step.step.sends.items c.give_out.new.notes.items
+    c.in-Some.ensures (ap first_ready c.is_named.ensures.entries_are ∙ first) c.next_tag-tag.ensures refl (c.in_ok-step.ensures.sends ∙ ap (λ (x : Send). x ∷ []) c.in_ok-send.ensures.send)
+    (c.in_ok-give_out.ensures.notes e first ∙ ap (λ (ns : List Note). ns ++ delivery_notes c.in-Some.consumer.now.no_ack e.message.number (queue_name s.topology c.in-Some.consumer.now.queue)) c.in_ok-step.ensures.notes)
+    c.in_ok-give_out.ensures.gives
 
 pub returns-clause-addressed : goal.returns-clause-addressed
 returns-clause-addressed c = λ side there carried named.
@@ -44,4 +45,5 @@ returns-clause-addressed c = λ side there carried named.
     let q = queue_name s.topology c.in-Some.consumer.now.queue in
     let e : Entry = c.in-Some-first_ready.entry.now in
     let found : first_ready (entries_named s q) ≡ Some e = ap first_ready c.is_named.ensures.entries_are ∙ sym c.first_ready.ensures ∙ ap (option_map (λ e. e.now)) c.in-Some-first_ready.is in
-    c.in_ok-step.ensures.addressed (takes_short s side c.args.pick c.args.channel.now c.in-Some.consumer.now there c.in-Some.ensures named) (first_carried (entries_named s q) e (carried q) found)
+    subst (λ (sends : List Send). AreAddressed c.args.pick.connection sends) (sym c.in_ok-step.ensures.sends)
+    (c.in_ok-send.ensures.addressed (takes_short s side c.args.pick c.args.channel.now c.in-Some.consumer.now there c.in-Some.ensures named) (first_carried (entries_named s q) e (carried q) found), tt)

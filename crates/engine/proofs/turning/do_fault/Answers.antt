@@ -1,8 +1,32 @@
-use Rattle.std.proofs.Common.{refl}
+use Rattle.std.proofs.Common.{◌∙◌, refl}
+use Rattle.model.specs.declared.events.Event.TheVariants as event
+use Rattle.broker.specs.Turns.{topology_kept, broker_of}
+use Rattle.engine.specs.Performing.{rules_of}
+use Rattle.engine.specs.Turning.{Performed}
+use Rattle.engine.proofs.Turned.{performed_put}
+use Rattle.engine.proofs.Waiting.{one_then}
 use Rattle.engine.proofs.turning.do_fault.Goals as goal
 
 pub returns-in-Ok : goal.returns-in-Ok
-returns-in-Ok c = record { ok = record { performed = c.in-Ok.ensures.ok; number = refl; none_kept = c.requires.kept; stream = c.follow.ensures }; broker_kept = tt; link_kept = tt; topology = c.do_event-done.ensures.topology; turn = c.do_event-done.ensures.turn; later = c.in-Ok.ensures.later }
+returns-in-Ok c =
+    let b = c.args.broker.now in
+    let mid = c.perform-done.new.broker in
+    let l = c.args.link.now in
+    let step = c.in-Ok.step in
+    let max = c.frame_max-max.ensures in
+    let put = c.put_out.ensures in
+    let broken = event.Fault l.number c.args.code in
+    let performed : Performed (rules_of (topology_kept b) c.args.users.now) (broker_of b) l.number l.session l.output.bytes broken step.notes.items (broker_of c.put_out.new.broker) c.perform-done.new.session c.put_out.new.output.bytes =
+    performed_put (rules_of (topology_kept b) c.args.users.now) (broker_of b) (broker_of mid) (broker_of c.put_out.new.broker) l.number l.session c.perform-done.new.session l.output.bytes c.put_out.new.output.bytes broken
+    step.notes.items c.deref.result.now step.sends.items c.frame_max-max.result (topology_kept mid) c.deref.ensures.value max.value max.most c.in-Ok.ensures.ok put.own put.spelled put.bytes c.perform-done.ensures.topology put.pauses in
+    record {
+      ok = record { performed = performed; number = refl; none_kept = c.requires.kept; stream = c.follow.ensures };
+      broker_kept = tt;
+      link_kept = tt;
+      topology = put.topology ∙ c.perform-done.ensures.topology;
+      turn = put.turn ∙ c.perform-done.ensures.turn;
+      later = one_then broken b mid c.put_out.new.broker c.in-Ok.ensures.later put.later;
+    }
 
 pub returns-in-Err : goal.returns-in-Err
 returns-in-Err c =
@@ -11,8 +35,12 @@ returns-in-Err c =
     record {
       ok = tt;
       broker_kept = kept.broker_kept;
-      link_kept = λ i. record { number = l.number; session = kept.session_kept i; stream = l.stream; kept = l.kept; output = kept.output_kept i };
-      topology = c.do_event-done.ensures.topology;
-      turn = c.do_event-done.ensures.turn;
+      link_kept = record {
+        rest = λ i. record { number = l.number; session = kept.session_kept i; stream = l.stream; kept = l.kept; output = c.take_back.new.output };
+        bytes = c.take_back.ensures.bytes;
+        none = c.take_back.ensures.none;
+      };
+      topology = c.perform-done.ensures.topology;
+      turn = c.perform-done.ensures.turn;
       later = tt;
     }

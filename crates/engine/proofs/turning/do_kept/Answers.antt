@@ -1,19 +1,34 @@
 use Rattle.std.proofs.Common.{◌∙◌, refl, sym, subst}
 use Rattle.std.proofs.lemmas.Option.{same_Some}
 use Rattle.model.specs.declared.events.Event.{Event}
+use Rattle.broker.specs.Turns.{topology_kept, broker_of}
 use Rattle.broker.specs.Waiting.{OneComesIn}
-use Rattle.engine.proofs.Turned.{performed_is}
+use Rattle.engine.specs.Performing.{rules_of}
+use Rattle.engine.specs.Turning.{Performed}
+use Rattle.engine.proofs.Turned.{performed_is, performed_put}
+use Rattle.engine.proofs.Waiting.{one_then}
 use Rattle.engine.proofs.turning.do_kept.Goals as goal
 
 pub returns-in-Ok : goal.returns-in-Ok
-returns-in-Ok c = record {
-  ok = λ e h. performed_is _ _ _ c.args.link.now _ c.in-Some.event e c.in-Ok.notes.items c.args.link.now.kept c.in-Some.is h (record { performed = c.in-Ok.ensures.ok; number = refl; none_kept = c.forget.ensures; stream = c.follow.ensures });
-  broker_kept = tt;
-  link_kept = tt;
-  topology = c.do_event-done.ensures.topology;
-  turn = c.do_event-done.ensures.turn;
-  later = λ e h. subst (λ (x : Event). OneComesIn x c.args.broker.now c.do_event-done.new.broker) (same_Some c.in-Some.event e (sym c.in-Some.is ∙ h)) c.in-Ok.ensures.later;
-}
+returns-in-Ok c =
+    let b = c.args.broker.now in
+    let mid = c.perform.new.broker in
+    let l = c.args.link.now in
+    let event = c.in-Some.event in
+    let step = c.in-Ok.step in
+    let max = c.frame_max-max.ensures in
+    let put = c.put_out.ensures in
+    let performed : Performed (rules_of (topology_kept b) c.args.users.now) (broker_of b) l.number l.session l.output.bytes event step.notes.items (broker_of c.put_out.new.broker) c.perform.new.session c.put_out.new.output.bytes =
+    performed_put (rules_of (topology_kept b) c.args.users.now) (broker_of b) (broker_of mid) (broker_of c.put_out.new.broker) l.number l.session c.perform.new.session l.output.bytes c.put_out.new.output.bytes event
+    step.notes.items c.deref.result.now step.sends.items c.frame_max-max.result (topology_kept mid) c.deref.ensures.value max.value max.most c.in-Ok.ensures.ok put.own put.spelled put.bytes c.perform.ensures.topology put.pauses in
+    record {
+      ok = λ e h. performed_is _ _ _ l _ event e step.notes.items l.kept c.in-Some.is h (record { performed = performed; number = refl; none_kept = c.forget.ensures; stream = c.follow.ensures });
+      broker_kept = tt;
+      link_kept = tt;
+      topology = put.topology ∙ c.perform.ensures.topology;
+      turn = put.turn ∙ c.perform.ensures.turn;
+      later = λ e h. subst (λ (x : Event). OneComesIn x b c.put_out.new.broker) (same_Some event e (sym c.in-Some.is ∙ h)) (one_then event b mid c.put_out.new.broker c.in-Ok.ensures.later put.later);
+    }
 
 pub returns-in-Err : goal.returns-in-Err
 returns-in-Err c =
@@ -22,8 +37,12 @@ returns-in-Err c =
     record {
       ok = tt;
       broker_kept = kept.broker_kept;
-      link_kept = λ i. record { number = l.number; session = kept.session_kept i; stream = l.stream; kept = l.kept; output = kept.output_kept i };
-      topology = c.do_event-done.ensures.topology;
-      turn = c.do_event-done.ensures.turn;
+      link_kept = record {
+        rest = λ i. record { number = l.number; session = kept.session_kept i; stream = l.stream; kept = l.kept; output = c.take_back.new.output };
+        bytes = c.take_back.ensures.bytes;
+        none = c.take_back.ensures.none;
+      };
+      topology = c.perform.ensures.topology;
+      turn = c.perform.ensures.turn;
       later = tt;
     }

@@ -38,7 +38,7 @@ invariant_of-self-then-acted c =
     let old : Kept = c.self.inside.core in
     let new : Kept = c.step.new.self in
     let after : Rings = c.wake_for.new.self in
-    let ended = subst (λ (v : Bool). TellsEnd (connection_of_event c.args.event.now) v (broker_of old) (broker_of new)) c.if-not-acted.false c.in_ok-acted.ensures.ended in
+    let ended = subst (λ (v : Bool). TellsEnd (connection_of_event c.args.event.now) v (broker_of old) (broker_of new)) c.if-not-acted.true c.in_ok-acted.ensures.ended in
     serves new after
     (held_then c.self.inside.core c.self.inside.roster c.seat_next.new.self c.wake_for.new.self c.args.event.now c.self.invariant c.seat_next.ensures.kept c.seat_next.ensures.len c.seat_next.ensures.running c.wake_for.ensures.kept c.wake_for.ensures.len c.wake_for.ensures.none
     c.brokers_stay_agreed.ensures.acts c.consumers_are_made.ensures new _ _ c.in_ok-seat_next.ensures.seated c.wake_for.ensures.woken c.wake_for.ensures.wakens c.in_ok-acted.ensures.ok c.step.ensures.topology)
@@ -53,7 +53,7 @@ invariant_of-self-2 c =
     let after : Rings = c.wake_for.new.self in
     let left : Rings = c.forget.new.self in
     let connection = c.connection_of.result in
-    let ended = subst (λ (v : Bool). TellsEnd connection v (broker_of old) (broker_of new)) c.if-not-acted.true (subst (λ (d : ℕ). TellsEnd d c.in_ok-acted.acted.has_ended (broker_of old) (broker_of new)) (sym c.connection_of.ensures) c.in_ok-acted.ensures.ended) in
+    let ended = subst (λ (v : Bool). TellsEnd connection v (broker_of old) (broker_of new)) c.if-not-acted.false (subst (λ (d : ℕ). TellsEnd d c.in_ok-acted.acted.has_ended (broker_of old) (broker_of new)) (sym c.connection_of.ensures) c.in_ok-acted.ensures.ended) in
     serves new left
     (serves_kept new after left (c.forget.ensures.kept new ended.0) c.forget.ensures.len
     (held_then c.self.inside.core c.self.inside.roster c.seat_next.new.self c.wake_for.new.self c.args.event.now c.self.invariant c.seat_next.ensures.kept c.seat_next.ensures.len c.seat_next.ensures.running c.wake_for.ensures.kept c.wake_for.ensures.len c.wake_for.ensures.none

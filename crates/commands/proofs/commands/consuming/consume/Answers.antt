@@ -1,13 +1,13 @@
-use Rattle.std.proofs.Common.{◌≡◌, ◌<◌, ◌∙◌, ℕ, None, Err, length, sym, subst}
+use Rattle.std.proofs.Common.{◌≡◌, ◌<◌, ◌∙◌, None, Some, length, sym, subst}
 use Rattle.std.proofs.lemmas.Result.{err_from_is_err_and}
 use Rattle.model.specs.Words.{Text}
 use Rattle.model.specs.Topology.{Topology, queue_names}
 use Rattle.model.specs.Step.{Performs, refusal_of_consume}
 use Rattle.model.specs.declared.methods.Method.TheVariants.{BasicConsume}
-use Rattle.commands.specs.Judged.{IsQueuePlace, IsStoppedBy}
+use Rattle.commands.specs.Judged.{IsQueuePlace, refusal_seen}
 use Rattle.commands.specs.Commands.{seen, state_of}
 use Rattle.commands.proofs.Placing.{placed_seated}
-use Rattle.commands.proofs.Consuming.{consumed, seat_free, stopped, tag_short, unseated}
+use Rattle.commands.proofs.Consuming.{consumed, seat_free, tag_short, unseated}
 use Rattle.commands.proofs.commands.consuming.consume.Goals as goal
 
 pub returns-in_err-place-clause-commands : goal.returns-in_err-place-clause-commands
@@ -16,9 +16,7 @@ returns-in_err-place-clause-commands c = λ content old new turns.
     let ch = seen s c.args.channel.now in
     let m = c.args.consume.now in
     let p = err_from_is_err_and c.from_residual.result c.from_residual.ensures.1 in
-    rw (p.1, p.2)
-    (stopped ℕ (refusal_of_consume s.topology ch m) (λ x. Performs s.topology (state_of s old) c.args.id.connection c.args.id.number ch (BasicConsume m) content x.sends.items x.notes.items (state_of s new)) c.in_err-place.field-0.0
-    (subst (λ (t : Topology). IsStoppedBy {A = ℕ} (refusal_of_consume t ch m) (Err c.in_err-place.field-0.0)) c.topology.ensures (c.in_err-place.ensures.refusal (queue_names s.topology.queues))))
+    rw (p.1, p.2) (sym (subst (λ (t : Topology). Some (refusal_seen c.in_err-place.field-0.0) ≡ refusal_of_consume t ch m) c.topology.ensures (c.in_err-place.ensures.refusal (queue_names s.topology.queues))))
 
 pub returns-in_err-reserve_exact-clause-commands : goal.returns-in_err-reserve_exact-clause-commands
 returns-in_err-reserve_exact-clause-commands c = λ content old new turns.
@@ -26,7 +24,7 @@ returns-in_err-reserve_exact-clause-commands c = λ content old new turns.
     let ch = seen s c.args.channel.now in
     let m = c.args.consume.now in
     let p = err_from_is_err_and c.from_residual-in_err-reserve_exact.result c.from_residual-in_err-reserve_exact.ensures.1 in
-    rw (p.1, p.2) (subst (λ (t : Topology). refusal_of_consume t ch m ≡ None) c.topology.ensures (c.in_ok-place.ensures.refusal (queue_names s.topology.queues)))
+    rw (p.1, p.2) (sym (subst (λ (t : Topology). None ≡ refusal_of_consume t ch m) c.topology.ensures (c.in_ok-place.ensures.refusal (queue_names s.topology.queues))))
 
 pub returns-in_err-tag-clause-commands : goal.returns-in_err-tag-clause-commands
 returns-in_err-tag-clause-commands c = λ content old new turns.
@@ -34,10 +32,10 @@ returns-in_err-tag-clause-commands c = λ content old new turns.
     let ch = seen s c.args.channel.now in
     let m = c.args.consume.now in
     let names = queue_names s.topology.queues in
-    let free : refusal_of_consume s.topology ch m ≡ None = subst (λ (t : Topology). refusal_of_consume t ch m ≡ None) c.topology.ensures (c.in_ok-place.ensures.refusal names) in
+    let free : refusal_of_consume s.topology ch m ≡ None = sym (subst (λ (t : Topology). None ≡ refusal_of_consume t ch m) c.topology.ensures (c.in_ok-place.ensures.refusal names)) in
     let p = err_from_is_err_and c.from_residual-in_err-tag.result c.from_residual-in_err-tag.ensures.1 in
     rw (p.1, p.2)
-    (unseated s.topology names c.args.channel.now m c.in_err-tag.field-0.0 (λ x. Performs s.topology (state_of s old) c.args.id.connection c.args.id.number ch (BasicConsume m) content x.sends.items x.notes.items (state_of s new)) free c.in_err-tag.ensures.0)
+    (unseated s.topology names c.args.channel.now c.consume.new.self m c.in_ok-place.place c.in_err-tag.field-0.0 (λ x. Performs s.topology (state_of s old) c.args.id.connection c.args.id.number ch (BasicConsume m) content x.sends.items x.notes.items (state_of s new)) free c.in_err-tag.ensures)
 
 pub returns-clause-commands : goal.returns-clause-commands
 returns-clause-commands c = λ content old new turns.
@@ -45,7 +43,7 @@ returns-clause-commands c = λ content old new turns.
     let names = queue_names s.topology.queues in
     let at : IsQueuePlace s.topology c.args.consume.now.queue c.in_ok-place.place = subst (λ (t : Topology). IsQueuePlace t c.args.consume.now.queue c.in_ok-place.place) c.topology.ensures c.in_ok-place.ensures.place in
     let free : refusal_of_consume s.topology (seen s c.args.channel.now) c.args.consume.now ≡ None =
-    subst (λ (t : Topology). refusal_of_consume t (seen s c.args.channel.now) c.args.consume.now ≡ None) c.topology.ensures (c.in_ok-place.ensures.refusal names) in (
+    sym (subst (λ (t : Topology). None ≡ refusal_of_consume t (seen s c.args.channel.now) c.args.consume.now) c.topology.ensures (c.in_ok-place.ensures.refusal names)) in (
       free,
       consumed c.args.id.connection c.args.id.number c.in_ok-place.place s c.args.channel.now c.consume.new.self c.args.consume.now c.in_ok-tag.tag c.answer_consume.new.step.sends.items c.answer_consume.new.step.notes.items old new at c.in_ok-tag.ensures
           c.answer_consume.ensures.sends (c.answer_consume.ensures.notes ∙ c.nothing-step.ensures.notes) turns,
@@ -56,7 +54,7 @@ returns-clause-addressed c = λ said.
     let s = c.args.depot.now in
     let names = queue_names s.topology.queues in
     let free : refusal_of_consume s.topology (seen s c.args.channel.now) c.args.consume.now ≡ None =
-    subst (λ (t : Topology). refusal_of_consume t (seen s c.args.channel.now) c.args.consume.now ≡ None) c.topology.ensures (c.in_ok-place.ensures.refusal names) in
+    sym (subst (λ (t : Topology). None ≡ refusal_of_consume t (seen s c.args.channel.now) c.args.consume.now) c.topology.ensures (c.in_ok-place.ensures.refusal names)) in
     c.answer_consume.ensures.addressed
     (subst (λ (tag : Text). length tag < 256) (sym (c.in_ok-tag.ensures.named names)) (tag_short (seen s c.args.channel.now) c.args.consume.now (seat_free s.topology (seen s c.args.channel.now) c.args.consume.now free) said.1.1.0))
 

@@ -1,9 +1,12 @@
-use Rattle.std.proofs.Common.{◌≡◌, ◌-◌, ◌∙◌, ℕ, None, Some, ap, sym, subst}
+use Rattle.std.proofs.Common.{◌≡◌, ◌-◌, ◌∙◌, ◌∷◌, ◌++◌, [], ℕ, List, None, Some, ap, sym, subst}
 use Rattle.std.specs.Prelude.{option_map}
 use Rattle.std.proofs.lemmas.Result.{err_from_is_err_and}
 use Rattle.model.specs.Words.{Text}
 use Rattle.model.specs.Topology.{Topology, queue_names}
-use Rattle.model.specs.Deliveries.{first_ready, ready_in}
+use Rattle.model.specs.Deliveries.{first_ready, ready_in, delivery_notes}
+use Rattle.model.specs.declared.events.Send.{Send}
+use Rattle.model.specs.declared.notes.Note.{Note}
+use Rattle.replies.specs.Sent.{AreAddressed}
 use Rattle.model.specs.Step.{refusal_in}
 use Rattle.model.specs.declared.messages.Entry.{Entry}
 use Rattle.exchange_graph.specs.Marks.{queue_name}
@@ -36,10 +39,12 @@ returns-clause-commands c = λ content old new turns.
     let first : Some e ≡ option_map (λ e. e.now) c.first_ready.result = sym (ap (option_map (λ e. e.now)) c.in-Some.is) in
     let found : first_ready (entries_named s asked.queue) ≡ Some e = first_named s c.in_ok-place.place asked.queue (Some e) at c.is_named.ensures (first ∙ c.first_ready.ensures) in
     let here : first_ready (entries_named s q) ≡ Some e = ap first_ready c.is_named.ensures.entries_are ∙ sym (first ∙ c.first_ready.ensures) in
+    let noted : c.give_out.new.notes.items ≡ delivery_notes asked.no_ack e.message.number asked.queue =
+    c.in_ok-give_out.ensures.notes e (sym (first ∙ c.first_ready.ensures)) ∙ ap (λ (ns : List Note). ns ++ delivery_notes asked.no_ack e.message.number q) c.in_ok-step.ensures.notes ∙ ap (delivery_notes asked.no_ack e.message.number) at.named in
     let count : c.saturating_sub-remaining.result ≡ ready_in (entries_named s q) - 1 = c.saturating_sub-remaining.ensures ∙ ap (λ (n : ℕ). n - 1) (c.ready_at.ensures ∙ sym (ap ready_in c.is_named.ensures.entries_are)) in (
       there s.topology (state_of s old) ch asked (Some e) is found ∙ sym (c.in_ok-check_tag.ensures.refusal (queue_names s.topology.queues) e),
-      gotten (state_of s old) (state_of c.give_out.new.depot new) c.args.id.connection c.args.id.number ch asked q e c.next_tag-tag.result c.saturating_sub-remaining.result c.in_ok-step.step.sends.items c.in_ok-step.step.notes.items
-          at.named here c.next_tag-tag.ensures count c.in_ok-step.ensures.sends c.in_ok-step.ensures.notes (c.in_ok-give_out.ensures.gives old new turns),
+      gotten (state_of s old) (state_of c.give_out.new.depot new) c.args.id.connection c.args.id.number ch asked q e c.next_tag-tag.result c.saturating_sub-remaining.result c.in_ok-step.step.sends.items c.give_out.new.notes.items
+          at.named here c.next_tag-tag.ensures count (c.in_ok-step.ensures.sends ∙ ap (λ (x : Send). x ∷ []) c.in_ok-send.ensures.send) noted (c.in_ok-give_out.ensures.gives old new turns),
     )
 
 pub returns-clause-addressed : goal.returns-clause-addressed
@@ -48,4 +53,4 @@ returns-clause-addressed c = λ said.
     let e : Entry = c.in-Some.entry.now in
     let q : Text = queue_name s.topology c.in_ok-place.place in
     let here : first_ready (entries_named s q) ≡ Some e = ap first_ready c.is_named.ensures.entries_are ∙ sym c.first_ready.ensures ∙ ap (option_map (λ e. e.now)) c.in-Some.is in
-    c.in_ok-step.ensures.addressed (first_carried (entries_named s q) e (said.1 q) here)
+    subst (λ (sends : List Send). AreAddressed c.args.id.connection sends) (sym c.in_ok-step.ensures.sends) (c.in_ok-send.ensures.addressed (first_carried (entries_named s q) e (said.1 q) here), tt)

@@ -5,6 +5,8 @@ use Rattle.channels.specs.Links.{linked_in, channel_in, with_channel_in}
 use Rattle.commands.specs.State.{Kept, broker_of}
 use Rattle.commands.specs.Commands.{AnswersOn}
 use Rattle.commands.proofs.Lending.{can_command, there_in, is_lent, answers_on, answers_none, lent_placed, lent_same, link_same, still_agreed, still_placed, unless, always}
+use Rattle.commands.specs.Ended.{AllRunStill}
+use Rattle.commands.proofs.Ending.{same_run}
 use Rattle.commands.proofs.cores.Core.decide.Goals as goal
 
 pub on_channel-requires : goal.on_channel-requires
@@ -80,3 +82,22 @@ returns-in-None-clause-kept c =
     let new : Kept = record { store = c.self.inside.depot; links = c.link_mut.follows.lender link } in
     let found : linked_in old.links c.args.id.connection ≡ Some link = sym c.link_mut.ensures.value ∙ ap option_copied_mut c.in_ok-link.was in
     always (new ≡ c.args.self.now) c.on_none.result (link_same old new c.args.id.connection link link found (c.link_mut.follows.holds link) refl refl ∙ c.self.view_is)
+
+pub returns-in-Some-clause-running : goal.returns-in-Some-clause-running
+returns-in-Some-clause-running c =
+    let old : Kept = record { store = c.self.inside.depot; links = c.self.inside.links } in
+    let link = c.in_ok-link.link.now in
+    let ch = c.on_channel.new.channel in
+    let new : Kept = record { store = c.on_channel.new.depot; links = c.link_mut.follows.lender (with_channel_in link c.args.id.number ch) } in
+    let found : linked_in old.links c.args.id.connection ≡ Some link = sym c.link_mut.ensures.value ∙ ap option_copied_mut c.in_ok-link.was in
+    let there : channel_in link c.args.id.number ≡ Some c.in-Some.channel.now = sym c.channel_mut.ensures.value ∙ ap option_copied_mut c.in-Some.is in
+    let lent = is_lent c.lent_channels_are_put.ensures old new c.args.id.connection c.args.id.number link c.in-Some.channel.now ch found there (c.link_mut.follows.holds (with_channel_in link c.args.id.number ch)) c.on_channel.ensures.topology in
+    subst (λ (k : Kept). AllRunStill (broker_of k) (broker_of new)) c.self.view_is (same_run (broker_of old) (broker_of new) lent.put.connections)
+
+pub returns-in-None-clause-running : goal.returns-in-None-clause-running
+returns-in-None-clause-running c =
+    let old : Kept = record { store = c.self.inside.depot; links = c.self.inside.links } in
+    let link = c.in_ok-link.link.now in
+    let new : Kept = record { store = c.self.inside.depot; links = c.link_mut.follows.lender link } in
+    let found : linked_in old.links c.args.id.connection ≡ Some link = sym c.link_mut.ensures.value ∙ ap option_copied_mut c.in_ok-link.was in
+    subst (λ (k : Kept). AllRunStill (broker_of c.args.self.now) (broker_of k)) (sym (link_same old new c.args.id.connection link link found (c.link_mut.follows.holds link) refl refl ∙ c.self.view_is)) (λ d none. none)

@@ -1,43 +1,52 @@
-use Rattle.std.proofs.Common.{◌≡◌, List, refl, subst, Some}
+use Rattle.std.proofs.Common.{◌≡◌, get_or, refl, sym, subst, Some}
 use Rattle.std.specs.Prelude.{IfOk, OnErr}
-use Rattle.model.specs.declared.messages.User.{User}
 use Rattle.broker.specs.Turns.{topology_kept, broker_of}
 use Rattle.engine.specs.World.{Parts, world_of}
-use Rattle.engine.specs.Performing.{rules_of}
-use Rattle.engine.specs.Engines.{IsLinkPlace, LinksTook}
-use Rattle.engine.proofs.Tooks.{took, took_engine, not_there}
+use Rattle.engine.specs.Engines.{IsLinkPlace}
 use Rattle.engine.specs.Waiting.{TurnLeaves}
-use Rattle.engine.proofs.Waiting.{leaves_at}
+use Rattle.engine.proofs.Swept.{links_took}
+use Rattle.engine.proofs.Tooks.{took, took_engine, not_there}
+use Rattle.engine.proofs.Waiting.{leaves_at, leaves_here}
 use Rattle.engine.proofs.engines.Engine.turn.Goals as goal
 
 pub invariant_of-self : goal.invariant_of-self
 invariant_of-self c =
     let i = c.self.inside in
-    took_engine (record { broker = i.broker; guarantees = i.guarantees.items; users = i.users.items; given = i.given; links = i.links.items }) _ c.in-Some.place c.turn_at.result c.self.invariant
-    (record { topology = c.turn_at.ensures.topology; guarantees = refl; users = refl; given = refl }) (subst (λ (us : List User). LinksTook (rules_of (topology_kept i.broker) us) (broker_of i.broker) i.links.items c.in-Some.place c.turn_at.result (broker_of c.turn_at.new.broker) c.turn_at.new.links.items) c.as_slice.ensures.value c.turn_at.ensures.took)
-
-pub returns-in-Some : goal.returns-in-Some
-returns-in-Some c =
-    let i = c.self.inside in
-    let old : Parts = record { broker = i.broker; guarantees = i.guarantees.items; users = i.users.items; given = i.given; links = i.links.items } in
-    let new : Parts = record { broker = c.turn_at.new.broker; guarantees = i.guarantees.items; users = i.users.items; given = i.given; links = c.turn_at.new.links.items } in
+    let l = c.index_mut.result.now in
+    let did = c.turn_link-turn.ensures in
     let place : IsLinkPlace i.links.items c.args.c (Some c.in-Some.place) = rw (← c.deref.ensures.value) c.in-Some.ensures.place in
-    let out = took old new c.args.c c.in-Some.place c.turn_at.result c.self.invariant (record { topology = c.turn_at.ensures.topology; guarantees = refl; users = refl; given = refl }) place (subst (λ (us : List User). LinksTook (rules_of (topology_kept i.broker) us) (broker_of i.broker) i.links.items c.in-Some.place c.turn_at.result (broker_of c.turn_at.new.broker) c.turn_at.new.links.items) c.as_slice.ensures.value c.turn_at.ensures.took) in
+    let here : get_or i.links.items c.in-Some.place l ≡ l = sym c.index_mut.ensures.value in
+    took_engine (record { broker = i.broker; guarantees = i.guarantees.items; users = i.users.items; given = i.given; links = i.links.items }) _ c.in-Some.place c.turn_link-turn.result c.self.invariant
+    (record { topology = did.topology; guarantees = refl; users = refl; given = refl })
+    (links_took c.turn_link-turn.result (topology_kept i.broker) c.as_slice.result.now i.users.items (broker_of i.broker) i.links.items c.in-Some.place l c.turn_link-turn.new.link (broker_of c.turn_link-turn.new.broker) c.sweep.new.links.items
+    c.as_slice.ensures.value place.0 here did.number did.kept c.sweep.ensures did.ok did.err did.awake did.more)
+
+pub returns : goal.returns
+returns c =
+    let i = c.self.inside in
+    let l = c.index_mut.result.now in
+    let did = c.turn_link-turn.ensures in
+    let old : Parts = record { broker = i.broker; guarantees = i.guarantees.items; users = i.users.items; given = i.given; links = i.links.items } in
+    let new : Parts = record { broker = c.turn_link-turn.new.broker; guarantees = i.guarantees.items; users = i.users.items; given = i.given; links = c.sweep.new.links.items } in
+    let place : IsLinkPlace i.links.items c.args.c (Some c.in-Some.place) = rw (← c.deref.ensures.value) c.in-Some.ensures.place in
+    let here : get_or i.links.items c.in-Some.place l ≡ l = sym c.index_mut.ensures.value in
+    let links = links_took c.turn_link-turn.result (topology_kept i.broker) c.as_slice.result.now i.users.items (broker_of i.broker) i.links.items c.in-Some.place l c.turn_link-turn.new.link (broker_of c.turn_link-turn.new.broker) c.sweep.new.links.items
+    c.as_slice.ensures.value place.0 here did.number did.kept c.sweep.ensures did.ok did.err did.awake did.more in
+    let out = took old new c.args.c c.in-Some.place c.turn_link-turn.result c.self.invariant (record { topology = did.topology; guarantees = refl; users = refl; given = refl }) place links in
     record {
       ok = rw (← c.self.view_is) out.ok;
       fewer = rw (← c.self.view_is) out.fewer;
       err = rw (← c.self.view_is) out.err;
       awake = rw (← c.self.view_is) out.awake;
       more = rw (← c.self.view_is) out.more;
-      turns = subst (λ (p : Parts). IfOk c.turn_at.result (λ t. TurnLeaves c.args.c ((world_of p).wire c.args.c) p.broker t c.turn_at.new.broker)) c.self.view_is
-          (leaves_at c.turn_at.result old c.args.c c.in-Some.place (broker_of c.turn_at.new.broker) c.turn_at.new.links.items c.turn_at.new.broker c.self.invariant place
-          (subst (λ (us : List User). LinksTook (rules_of (topology_kept i.broker) us) (broker_of i.broker) i.links.items c.in-Some.place c.turn_at.result (broker_of c.turn_at.new.broker) c.turn_at.new.links.items) c.as_slice.ensures.value c.turn_at.ensures.took)
-          c.turn_at.ensures.turns);
-      broker = subst (λ (p : Parts). OnErr c.turn_at.result (c.turn_at.new.broker ≡ p.broker)) c.self.view_is c.turn_at.ensures.broker_kept;
+      turns = subst (λ (p : Parts). IfOk c.turn_link-turn.result (λ t. TurnLeaves c.args.c ((world_of p).wire c.args.c) p.broker t c.turn_link-turn.new.broker)) c.self.view_is
+          (leaves_at c.turn_link-turn.result old c.args.c c.in-Some.place (broker_of c.turn_link-turn.new.broker) c.sweep.new.links.items c.turn_link-turn.new.broker c.self.invariant place links
+          (leaves_here c.turn_link-turn.result i.links.items c.in-Some.place l i.broker c.turn_link-turn.new.broker place.0 here did.turns));
+      broker = subst (λ (p : Parts). OnErr c.turn_link-turn.result (c.turn_link-turn.new.broker ≡ p.broker)) c.self.view_is did.broker_kept;
     }
 
-pub returns-in-None : goal.returns-in-None
-returns-in-None c =
+pub returns-in_default : goal.returns-in_default
+returns-in_default c =
     let i = c.self.inside in
     let old : Parts = record { broker = i.broker; guarantees = i.guarantees.items; users = i.users.items; given = i.given; links = i.links.items } in
-    record { ok = rw (← c.self.view_is) (not_there old c.args.c (rw (← c.deref.ensures.value) c.in-None.ensures.place)); fewer = tt; err = tt; awake = tt; more = tt; turns = rw (← c.self.view_is) refl; broker = tt }
+    record { ok = rw (← c.self.view_is) (not_there old c.args.c (rw (← c.deref.ensures.value) c.in_default.ensures.place)); fewer = tt; err = tt; awake = tt; more = tt; turns = rw (← c.self.view_is) refl; broker = tt }
