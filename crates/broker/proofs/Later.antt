@@ -5,11 +5,10 @@ use Rattle.std.proofs.lemmas.List.{drop_min, take_min, length-append}
 use Rattle.std.proofs.lemmas.List.Elements.{filter-append}
 use Rattle.laws.proofs.Counts.{count-append, count-cons, count-cons_yes}
 use Rattle.commands.specs.State.{Kept}
-use Rattle.commands.specs.Seats.{has_consumer}
 use Rattle.commands.specs.declared.picks.Pick.{Pick}
 use Rattle.broker.specs.declared.roster.seats.Seat.{Seat}
 use Rattle.broker.specs.Lines.{turned, standing, AreDistinct}
-use Rattle.broker.specs.Roster.{Seats, picks, order, is_consumer, has_its_consumer, KeepsThose, KeepsLine, LetsIn}
+use Rattle.broker.specs.Roster.{Seats, picks, order, is_consumer, has_its_consumer, is_of, KeepsThose, KeepsLine, LetsIn}
 use Rattle.broker.proofs.Among.{one_consumer, same_consumer}
 use Rattle.broker.proofs.Picks.{picks_length, picks_swept, picks_end}
 use Rattle.broker.proofs.Standing.{one_more, distinct_turned, filter_twice, filter_end}
@@ -43,25 +42,25 @@ module _ {X : Type 0} (test : X → Bool) where
   turned_filter n xs = cc (take_filter n xs, drop_filter n xs, filter-append test (drop n xs) (take n xs))
 
 -- of the consumers of seats as many are there
-count_picks : (kept : Kept) (n : ℕ) (seats : List Seat) → count_by (has_its_consumer kept) (take n seats) ≡ count_by (has_consumer kept) (take n (picks seats))
-count_picks kept zero seats = refl
-count_picks kept (suc n) [] = refl
-count_picks kept (suc n) (s ∷ seats) =
-    count-cons (has_its_consumer kept) s (take n seats) ∙ ap (λ (k : ℕ). cond (has_consumer kept s.pick) 1 0 + k) (count_picks kept n seats) ∙ sym (count-cons (has_consumer kept) s.pick (take n (picks seats)))
+count_picks : (kept : Kept) (queue : ℕ) (n : ℕ) (seats : List Seat) → count_by (has_its_consumer kept queue) (take n seats) ≡ count_by (is_of kept queue) (take n (picks seats))
+count_picks kept queue zero seats = refl
+count_picks kept queue (suc n) [] = refl
+count_picks kept queue (suc n) (s ∷ seats) =
+    count-cons (has_its_consumer kept queue) s (take n seats) ∙ ap (λ (k : ℕ). cond (is_of kept queue s.pick) 1 0 + k) (count_picks kept queue n seats) ∙ sym (count-cons (is_of kept queue) s.pick (take n (picks seats)))
 
 -- those who are there are gone round as before
-pub order_swept : (kept : Kept) (old new : List Seat) (next before now : ℕ) → new ≡ filter (has_its_consumer kept) old → before ≡ min next (length old) → now ≡ count_by (has_its_consumer kept) (take before old)
-    → turned now (picks new) ≡ filter (has_consumer kept) (turned next (picks old))
-order_swept kept old new next before now is first count =
-    ap (λ (n : ℕ). turned n (picks new)) (count ∙ count_picks kept before old) ∙ ap (turned (count_by (has_consumer kept) (take before (picks old)))) (ap picks is ∙ picks_swept kept old)
-    ∙ turned_filter (has_consumer kept) before (picks old) ∙ ap (filter (has_consumer kept)) from_end
+pub order_swept : (kept : Kept) (queue : ℕ) (old new : List Seat) (next before now : ℕ) → new ≡ filter (has_its_consumer kept queue) old → before ≡ min next (length old) → now ≡ count_by (has_its_consumer kept queue) (take before old)
+    → turned now (picks new) ≡ filter (is_of kept queue) (turned next (picks old))
+order_swept kept queue old new next before now is first count =
+    ap (λ (n : ℕ). turned n (picks new)) (count ∙ count_picks kept queue before old) ∙ ap (turned (count_by (is_of kept queue) (take before (picks old)))) (ap picks is ∙ picks_swept kept queue old)
+    ∙ turned_filter (is_of kept queue) before (picks old) ∙ ap (filter (is_of kept queue)) from_end
   where
     from_end : turned before (picks old) ≡ turned next (picks old)
     from_end = subst (λ (n : ℕ). turned n (picks old) ≡ turned next (picks old)) (sym (first ∙ ap (min next) (sym (picks_length old)))) (cc (drop_min next (picks old), take_min next (picks old)))
 
-pub those_swept : (kept : Kept) (old new : List Seat) (next before now : ℕ) → new ≡ filter (has_its_consumer kept) old → before ≡ min next (length old) → now ≡ count_by (has_its_consumer kept) (take before old)
-    → KeepsThose kept (turned next (picks old)) (turned now (picks new))
-those_swept kept old new next before now is first count test there = ap (filter test) (order_swept kept old new next before now is first count) ∙ filter_twice test (has_consumer kept) (turned next (picks old)) there
+pub those_swept : (kept : Kept) (queue : ℕ) (old new : List Seat) (next before now : ℕ) → new ≡ filter (has_its_consumer kept queue) old → before ≡ min next (length old) → now ≡ count_by (has_its_consumer kept queue) (take before old)
+    → KeepsThose kept queue (turned next (picks old)) (turned now (picks new))
+those_swept kept queue old new next before now is first count test there = ap (filter test) (order_swept kept queue old new next before now is first count) ∙ filter_twice test (is_of kept queue) (turned next (picks old)) there
 
 -- ---- one more at the end
 
@@ -69,31 +68,31 @@ pub others_end : (seats : List Seat) (s : Seat) (next : ℕ) (test : Pick → Bo
 others_end seats s next test none = ap (λ (ps : List Pick). filter test (turned next ps)) (picks_end seats s) ∙ filter_end test s.pick next (picks seats) none
 
 -- where no two are one, and those who were there are gone round as before, this one comes in
-pub lets_in : (kept : Kept) (p : Pick) (old new : Seats) → AreDistinct (picks new.seats) → KeepsLine kept old new → LetsIn kept p old new
-lets_in kept p old new apart keeps before after stand more q its =
+pub lets_in : (kept : Kept) (queue : ℕ) (p : Pick) (old new : Seats) → AreDistinct (picks new.seats) → KeepsLine kept queue old new → LetsIn kept queue p old new
+lets_in kept queue p old new apart keeps before after stand more q its =
     subst (λ (ps : List Pick). standing (is_consumer q) (filter after (order new)) ≤ standing (is_consumer q) ps + 1) (keeps before stand)
     (one_more (is_consumer q) q (one_consumer q) (same_consumer q) p after before (order new) more (distinct_turned new.next (picks new.seats) apart) its)
 
 -- ---- how many there are
 
 -- all that are left after a sweep are of consumers that are there
-pub all_stay : (kept : Kept) (old new : List Seat) → new ≡ filter (has_its_consumer kept) old → length new ≤ count_by (has_its_consumer kept) new
-all_stay kept old new is = subst (λ (xs : List Seat). length xs ≤ count_by (has_its_consumer kept) xs) (sym is) (go old)
+pub all_stay : (kept : Kept) (queue : ℕ) (old new : List Seat) → new ≡ filter (has_its_consumer kept queue) old → length new ≤ count_by (has_its_consumer kept queue) new
+all_stay kept queue old new is = subst (λ (xs : List Seat). length xs ≤ count_by (has_its_consumer kept queue) xs) (sym is) (go old)
   where
-    go : (xs : List Seat) → length (filter (has_its_consumer kept) xs) ≤ count_by (has_its_consumer kept) (filter (has_its_consumer kept) xs)
+    go : (xs : List Seat) → length (filter (has_its_consumer kept queue) xs) ≤ count_by (has_its_consumer kept queue) (filter (has_its_consumer kept queue) xs)
     go [] = omega arith
-    go (x ∷ xs) = by (has_its_consumer kept x) refl (go xs)
+    go (x ∷ xs) = by (has_its_consumer kept queue x) refl (go xs)
       where
-        by : (v : Bool) → has_its_consumer kept x ≡ v → length (filter (has_its_consumer kept) xs) ≤ count_by (has_its_consumer kept) (filter (has_its_consumer kept) xs)
-            → length (cond v (x ∷ filter (has_its_consumer kept) xs) (filter (has_its_consumer kept) xs)) ≤ count_by (has_its_consumer kept) (cond v (x ∷ filter (has_its_consumer kept) xs) (filter (has_its_consumer kept) xs))
-        by true e le = let more = count-cons_yes (has_its_consumer kept) x (filter (has_its_consumer kept) xs) e in omega (arith, le, more)
+        by : (v : Bool) → has_its_consumer kept queue x ≡ v → length (filter (has_its_consumer kept queue) xs) ≤ count_by (has_its_consumer kept queue) (filter (has_its_consumer kept queue) xs)
+            → length (cond v (x ∷ filter (has_its_consumer kept queue) xs) (filter (has_its_consumer kept queue) xs)) ≤ count_by (has_its_consumer kept queue) (cond v (x ∷ filter (has_its_consumer kept queue) xs) (filter (has_its_consumer kept queue) xs))
+        by true e le = let more = count-cons_yes (has_its_consumer kept queue) x (filter (has_its_consumer kept queue) xs) e in omega (arith, le, more)
         by false e le = le
 
 -- one more at the end
-pub bounded_end : (kept : Kept) (xs : List Seat) (s : Seat) (room : ℕ) → (length xs < room) ⊎ (length xs ≤ count_by (has_its_consumer kept) xs)
-    → (length (xs ++ s ∷ []) ≤ room) ⊎ (length (xs ++ s ∷ []) ≤ count_by (has_its_consumer kept) (xs ++ s ∷ []) + 1)
-bounded_end kept xs s room (inl lt) = let long = length-append xs (s ∷ []) in inl (omega (arith, lt, long))
-bounded_end kept xs s room (inr le) =
+pub bounded_end : (kept : Kept) (queue : ℕ) (xs : List Seat) (s : Seat) (room : ℕ) → (length xs < room) ⊎ (length xs ≤ count_by (has_its_consumer kept queue) xs)
+    → (length (xs ++ s ∷ []) ≤ room) ⊎ (length (xs ++ s ∷ []) ≤ count_by (has_its_consumer kept queue) (xs ++ s ∷ []) + 1)
+bounded_end kept queue xs s room (inl lt) = let long = length-append xs (s ∷ []) in inl (omega (arith, lt, long))
+bounded_end kept queue xs s room (inr le) =
     let long = length-append xs (s ∷ []) in
-    let count = count-append (has_its_consumer kept) xs (s ∷ []) in
+    let count = count-append (has_its_consumer kept queue) xs (s ∷ []) in
     inr (omega (arith, le, long, count))

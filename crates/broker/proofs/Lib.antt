@@ -1,5 +1,6 @@
 mod Among
 mod Desks
+mod Found
 mod Later
 mod Lining
 mod Marked

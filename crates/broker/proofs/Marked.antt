@@ -8,7 +8,7 @@ use Rattle.marks.specs.Places.{bit_of, Differs}
 use Rattle.commands.specs.State.{Kept, broker_of}
 use Rattle.commands.specs.Picked.{IsPickFrom}
 use Rattle.commands.specs.declared.picks.Pick.{Pick}
-use Rattle.broker.specs.Roster.{Seats, Lists, ring_at, rings_of, IsAwake, IsSeatedIn, QueuesAreMarked, NoneMarked, KeepsIn, KeepsRing, KeepRings, KeepsSeats, ListsMore, Wakens, AllWaken}
+use Rattle.broker.specs.Roster.{Seats, Lists, ring_at, rings_of, is_of, IsAwake, IsSeatedIn, QueuesAreMarked, NoneMarked, KeepsIn, KeepsRing, KeepRings, KeepsSeats, ListsMore, Wakens, AllWaken}
 use Rattle.broker.proofs.Sleeping.{apart, set_more, cannot_pick, seated_more}
 
 -- a queue from which a delivery can be made to one who has a seat there is marked
@@ -76,14 +76,16 @@ module _ (rings : List Seats) (queue : ℕ) (r : Seats) (lt : queue < length rin
   set_there place f = get_or-set_other rings queue place r no_seats (apart place queue f)
 
   -- no seat of a consumer that is there is gone
-  pub keep_set : (kept : Kept) → KeepsRing kept (ring_at rings queue) r → KeepRings kept rings (set rings queue r)
-  keep_set kept keeps place lists at p i has = go (place == queue) refl
+  pub keep_set : (kept : Kept) → KeepsRing kept queue (ring_at rings queue) r → KeepRings kept rings (set rings queue r)
+  keep_set kept keeps place lists p i has = go (place == queue) refl
     where
-      go : (v : Bool) → (place == queue) ≡ v → IsSeatedIn (broker_of kept) lists at (ring_at (set rings queue r) place) p
+      go : (v : Bool) → (place == queue) ≡ v → IsSeatedIn (broker_of kept) lists place (ring_at (set rings queue r) place) p
       go true f =
-          subst (λ (x : Seats). IsSeatedIn (broker_of kept) lists at x p) (sym (set_here place f))
-          (keeps lists at p (subst (λ (x : Seats). IsSeatedIn (broker_of kept) lists at x p) (was_here place f) i) has)
-      go false f = subst (λ (x : Seats). IsSeatedIn (broker_of kept) lists at x p) (sym (set_there place f)) i
+          let same = eqb-true place queue f in
+          subst (λ (n : ℕ). IsSeatedIn (broker_of kept) lists n (ring_at (set rings queue r) n) p) (sym same)
+          (subst (λ (x : Seats). IsSeatedIn (broker_of kept) lists queue x p) (sym (get_or-set_same rings queue r no_seats lt))
+          (keeps lists p (subst (λ (n : ℕ). IsSeatedIn (broker_of kept) lists n (ring_at rings n) p) same i) (subst (λ (n : ℕ). is_of kept n p ≡ true) same has)))
+      go false f = subst (λ (x : Seats). IsSeatedIn (broker_of kept) lists place x p) (sym (set_there place f)) i
 
   -- nor where more is listed
   pub keeps_set : (kept : Kept) (before after : Lists) → ListsMore before after → KeepsIn kept queue before after (ring_at rings queue) r → KeepsSeats kept (rings_of rings before) (rings_of (set rings queue r) after)
@@ -94,7 +96,7 @@ module _ (rings : List Seats) (queue : ℕ) (r : Seats) (lt : queue < length rin
           let same = eqb-true place queue f in
           subst (λ (n : ℕ). IsSeatedIn (broker_of kept) after n (ring_at (set rings queue r) n) p) (sym same)
           (subst (λ (x : Seats). IsSeatedIn (broker_of kept) after queue x p) (sym (get_or-set_same rings queue r no_seats lt))
-          (keeps p (subst (λ (n : ℕ). IsSeatedIn (broker_of kept) before n (ring_at rings n) p) same i) has))
+          (keeps p (subst (λ (n : ℕ). IsSeatedIn (broker_of kept) before n (ring_at rings n) p) same i) (subst (λ (n : ℕ). is_of kept n p ≡ true) same has)))
       go false f = subst (λ (x : Seats). IsSeatedIn (broker_of kept) after place x p) (sym (set_there place f)) (seated_more (broker_of kept) before after place (ring_at rings place) p more.stay i)
 
   -- seats are woken in it

@@ -11,7 +11,7 @@ use Rattle.broker.specs.Roster.{Seats, Rings, Lists, ring_at, picks, order, awak
 use Rattle.broker.proofs.Lining.{Rounds, rounds, passed_on, passed_round, passed_least, distinct_place}
 use Rattle.broker.proofs.Marked.{set_here, set_there, was_here}
 use Rattle.broker.proofs.Picks.{picks_length, picks_at}
-use Rattle.broker.proofs.Present.{picked_kept}
+use Rattle.broker.proofs.Takers.{picked_of}
 use Rattle.broker.proofs.Sleeping.{cannot_pick}
 
 -- ---- one ring
@@ -71,7 +71,7 @@ module _ (kept : Kept) (r : Rings) (next turn queue : ℕ) (is : turn ≡ min ne
       let fits : queue < length r.rings = omega (arith, is, lt) in
       elim (passed_round (length r.rings) turn queue at lt (passed_least (length r.rings) next turn queue at is fits passed)) [
         | inl le ↦ behind at p le passed.0 seated pick
-        | inr less ↦ before at p (omega arith) less (keeps at p seated (picked_kept kept at p pick)) pick
+        | inr less ↦ before at p (omega arith) less (keeps at p seated (picked_of kept at p pick)) pick
       ]
 
 -- one ring changes, and the others are gone round as before
@@ -107,7 +107,7 @@ picks_since kept old mid new queue p same keeps from = record {
     back = from.ring.back;
     was = sym (same queue) ∙ from.ring.was;
     now = from.ring.now;
-    passed = λ q i seated pick. from.ring.passed q i (keeps queue q seated (picked_kept kept queue q pick)) pick;
+    passed = λ q i seated pick. from.ring.passed q i (keeps queue q seated (picked_of kept queue q pick)) pick;
   };
   others = λ at far. from.others at far ∙ same at;
 }
@@ -120,9 +120,11 @@ pub goes_on : (old new : Rings) → AllWaken old.rings new.rings → length new.
 goes_on old new w len next = record { len = len; same = λ at. order_woken (ring_at old.rings at) (ring_at new.rings at) (w at); next = next }
 
 -- one ring changes, in which those who are there are gone round as before
-pub lines_set : (kept : Kept) (rings : List Seats) (queue : ℕ) (r : Seats) → queue < length rings → KeepsLine kept (ring_at rings queue) r → KeepLines kept rings (set rings queue r)
+pub lines_set : (kept : Kept) (rings : List Seats) (queue : ℕ) (r : Seats) → queue < length rings → KeepsLine kept queue (ring_at rings queue) r → KeepLines kept rings (set rings queue r)
 lines_set kept rings queue r lt keeps place = go (place == queue) refl
   where
-    go : (v : Bool) → (place == queue) ≡ v → KeepsLine kept (ring_at rings place) (ring_at (set rings queue r) place)
-    go true f = subst (λ (x : Seats). KeepsLine kept x (ring_at (set rings queue r) place)) (sym (was_here rings queue r lt place f)) (subst (λ (x : Seats). KeepsLine kept (ring_at rings queue) x) (sym (set_here rings queue r lt place f)) keeps)
+    go : (v : Bool) → (place == queue) ≡ v → KeepsLine kept place (ring_at rings place) (ring_at (set rings queue r) place)
+    go true f =
+        subst (λ (n : ℕ). KeepsLine kept n (ring_at rings place) (ring_at (set rings queue r) place)) (sym (eqb-true place queue f))
+        (subst (λ (x : Seats). KeepsLine kept queue x (ring_at (set rings queue r) place)) (sym (was_here rings queue r lt place f)) (subst (λ (x : Seats). KeepsLine kept queue (ring_at rings queue) x) (sym (set_here rings queue r lt place f)) keeps))
     go false f = λ test stand. ap (λ (x : Seats). filter test (order x)) (set_there rings queue r lt place f)

@@ -2,11 +2,10 @@
 use Rattle.std.proofs.Common.{◌≡◌, ◌∙◌, ◌<◌, ℕ, zero, suc, List, [], ◌∷◌, Bool, true, false, cond, length, get_or, set, filter, refl, sym, ap, subst, inl, inr, ◌++◌, arith}
 use Rattle.model.specs.Topology.{IsIn}
 use Rattle.commands.specs.State.{Kept}
-use Rattle.commands.specs.Seats.{has_consumer}
 use Rattle.commands.specs.declared.picks.Pick.{Pick}
 use Rattle.broker.specs.declared.roster.seats.Seat.{Seat}
 use Rattle.broker.specs.Lines.{AreDistinct}
-use Rattle.broker.specs.Roster.{picks, has_its_consumer}
+use Rattle.broker.specs.Roster.{picks, has_its_consumer, is_of}
 use Rattle.broker.specs.Moving.{all_awake}
 use Rattle.broker.proofs.Lining.{filter_in, filter_distinct, distinct_end}
 
@@ -30,20 +29,20 @@ picks_awake [] = refl
 picks_awake (s ∷ seats) = ap (λ (ps : List Pick). s.pick ∷ ps) (picks_awake seats)
 
 -- of those that are left after a sweep
-pub picks_swept : (kept : Kept) (seats : List Seat) → picks (filter (has_its_consumer kept) seats) ≡ filter (has_consumer kept) (picks seats)
-picks_swept kept [] = refl
-picks_swept kept (s ∷ seats) = go (has_consumer kept s.pick) (picks_swept kept seats)
+pub picks_swept : (kept : Kept) (queue : ℕ) (seats : List Seat) → picks (filter (has_its_consumer kept queue) seats) ≡ filter (is_of kept queue) (picks seats)
+picks_swept kept queue [] = refl
+picks_swept kept queue (s ∷ seats) = go (is_of kept queue s.pick) (picks_swept kept queue seats)
   where
-    go : (v : Bool) → picks (filter (has_its_consumer kept) seats) ≡ filter (has_consumer kept) (picks seats)
-        → picks (cond v (s ∷ filter (has_its_consumer kept) seats) (filter (has_its_consumer kept) seats)) ≡ cond v (s.pick ∷ filter (has_consumer kept) (picks seats)) (filter (has_consumer kept) (picks seats))
+    go : (v : Bool) → picks (filter (has_its_consumer kept queue) seats) ≡ filter (is_of kept queue) (picks seats)
+        → picks (cond v (s ∷ filter (has_its_consumer kept queue) seats) (filter (has_its_consumer kept queue) seats)) ≡ cond v (s.pick ∷ filter (is_of kept queue) (picks seats)) (filter (is_of kept queue) (picks seats))
     go true e = ap (λ (ps : List Pick). s.pick ∷ ps) e
     go false e = e
 
-pub fewer_swept : (kept : Kept) (old new : List Seat) → new ≡ filter (has_its_consumer kept) old → (p : Pick) → IsIn p (picks new) → IsIn p (picks old)
-fewer_swept kept old new is p i = filter_in (has_consumer kept) p (picks old) (subst (IsIn p) (ap picks is ∙ picks_swept kept old) i)
+pub fewer_swept : (kept : Kept) (queue : ℕ) (old new : List Seat) → new ≡ filter (has_its_consumer kept queue) old → (p : Pick) → IsIn p (picks new) → IsIn p (picks old)
+fewer_swept kept queue old new is p i = filter_in (is_of kept queue) p (picks old) (subst (IsIn p) (ap picks is ∙ picks_swept kept queue old) i)
 
-pub apart_swept : (kept : Kept) (old new : List Seat) → new ≡ filter (has_its_consumer kept) old → AreDistinct (picks old) → AreDistinct (picks new)
-apart_swept kept old new is apart = subst (λ (ps : List Pick). AreDistinct ps) (sym (ap picks is ∙ picks_swept kept old)) (filter_distinct (has_consumer kept) (picks old) apart)
+pub apart_swept : (kept : Kept) (queue : ℕ) (old new : List Seat) → new ≡ filter (has_its_consumer kept queue) old → AreDistinct (picks old) → AreDistinct (picks new)
+apart_swept kept queue old new is apart = subst (λ (ps : List Pick). AreDistinct ps) (sym (ap picks is ∙ picks_swept kept queue old)) (filter_distinct (is_of kept queue) (picks old) apart)
 
 -- a seat more at the end, of a consumer that had none
 pub picks_end : (seats : List Seat) (s : Seat) → picks (seats ++ s ∷ []) ≡ picks seats ++ s.pick ∷ []

@@ -9,7 +9,7 @@ use Rattle.model.specs.Broker.{Channel}
 use Rattle.channels.specs.Open.{Open, consumer_in}
 use Rattle.channels.specs.declared.consumers.Consumer.{Consumer}
 use Rattle.channels.specs.Links.{channel_of}
-use Rattle.channels.specs.Consumers.{has_consumer_numbered}
+use Rattle.channels.specs.Consumers.{consumer_numbered}
 use Rattle.laws.specs.Consumers.{WasConsumer}
 use Rattle.commands.specs.State.{Kept, broker_of, topology_kept, names_of}
 use Rattle.commands.specs.Picked.{IsPickFrom}
@@ -31,7 +31,7 @@ pub has_kept : (kept : Kept) (place : ℕ) (p : Pick) → HasConsumer (topology_
 has_kept kept place p has =
     let ch = has.was.0 in
     let channel = seen_there (names_of kept) (channel_of kept.links p.connection p.channel) ch has.was.1 in
-    ap (λ (o : Option Open). has_consumer_numbered o p.number) channel.there
+    ap (λ (o : Option Open). is_some (consumer_numbered o p.number)) channel.there
     ∙ found_by (names_of kept) channel.kept.given.consumers has.consumer p.number (subst (λ (x : Channel). IsIn has.consumer x.consumers) (sym channel.same) has.was.2) has.numbered
 
 -- so is one to which a delivery can be made
@@ -46,6 +46,3 @@ has_picked kept place p from =
       within = from.within;
       named = from.named;
     }
-
-pub picked_kept : (kept : Kept) (place : ℕ) (p : Pick) → IsPickFrom kept place p → has_consumer kept p ≡ true
-picked_kept kept place p from = has_kept kept place p (has_picked kept place p from)

@@ -28,7 +28,7 @@ use Rattle.broker.specs.Roster.{Rings, Lists, ring_at, wakes, HasConsumer, AllHa
 use Rattle.channels.specs.Consumers.{next_number}
 use Rattle.commands.specs.Seats.{next_seat, seat_of, consumed, IsConsumed}
 use Rattle.commands.specs.declared.picks.Pick.{Pick}
-use Rattle.broker.proofs.Present.{has_kept}
+use Rattle.broker.proofs.Takers.{has_of}
 use Rattle.broker.proofs.Waking.{cannot_still}
 
 -- each step leaves what is held and what is outstanding in agreement
@@ -37,7 +37,7 @@ StayAgreed = (t : Topology) (old new : Broker) (e : Event) (sends : List Send) (
 
 -- where no seat of a consumer that is there is gone, each still has its seat
 pub seats_kept : (kept : Kept) (old new : Rings) → KeepsSeats kept old new → AllHaveSeats (topology_kept kept) (broker_of kept) old → AllHaveSeats (topology_kept kept) (broker_of kept) new
-seats_kept kept old new keeps seated place p has = keeps place p (seated place p has) (has_kept kept place p has)
+seats_kept kept old new keeps seated place p has = keeps place p (seated place p has) (has_of kept place p has)
 
 -- ---- events
 

@@ -11,10 +11,9 @@ use Rattle.marks.specs.Places.{bit_of, Differs}
 use Rattle.channels.proofs.Setting.{same_default}
 use Rattle.commands.specs.State.{Kept, broker_of}
 use Rattle.commands.specs.Picked.{IsPickFrom, CannotTake}
-use Rattle.commands.specs.Seats.{has_consumer}
 use Rattle.commands.specs.declared.picks.Pick.{Pick}
 use Rattle.broker.specs.declared.roster.seats.Seat.{Seat}
-use Rattle.broker.specs.Roster.{Seats, Lists, Listing, ring_of, awake_seat, asleep_seat, has_its_consumer, IsAwakeAt, IsAwake, IsAsleep, IsListed, IsSeatedIn, KeepsIn, KeepsRing, ListsMore, ListsStay, NoneAwake, Dozes, FallsAsleep, NoneSeated, StaysAt, Wakens, AllWaken, IsWoken}
+use Rattle.broker.specs.Roster.{Seats, Lists, Listing, ring_of, awake_seat, asleep_seat, has_its_consumer, is_of, IsAwakeAt, IsAwake, IsAsleep, IsListed, IsSeatedIn, KeepsIn, KeepsRing, ListsMore, ListsStay, NoneAwake, Dozes, FallsAsleep, NoneSeated, StaysAt, Wakens, AllWaken, IsWoken}
 use Rattle.broker.proofs.Picks.{picks_set}
 use Rattle.broker.proofs.Among.{stays, place_in, in_at, in_front, front_at}
 
@@ -110,11 +109,11 @@ module _ (seats : List Seat) (old new : List ℕ) (place : ℕ) (s : Seat) (with
             listed = subst (λ (q : Pick). IsListed after (record { queue = queue; seat = q })) own f.listed;
           })
 
-      looked : s ≡ awake_seat p → bit_of old place ≡ 1 → has_consumer kept p ≡ true → ((bit_of new place ≡ bit_of old place) × (t ≡ s)) ⊎ Dozes kept after queue s t → Now
+      looked : s ≡ awake_seat p → bit_of old place ≡ 1 → is_of kept queue p ≡ true → ((bit_of new place ≡ bit_of old place) × (t ≡ s)) ⊎ Dozes kept after queue s t → Now
       looked is one has (inl same) = inl (place, awake_here t p (same.1 ∙ is) (same.0 ∙ one))
-      looked is one has (inr f) = fallen is (f (ap (λ (z : Seat). z.asleep) is) (ap (λ (z : Seat). has_consumer kept z.pick) is ∙ has))
+      looked is one has (inr f) = fallen is (f (ap (λ (z : Seat). z.asleep) is) (ap (λ (z : Seat). is_of kept queue z.pick) is ∙ has))
 
-      keep : IsSeatedIn (broker_of kept) before queue (ring_of seats old) p → has_consumer kept p ≡ true → Now
+      keep : IsSeatedIn (broker_of kept) before queue (ring_of seats old) p → is_of kept queue p ≡ true → Now
       keep (inl (i, at)) has = go (i == place) refl
         where
           go : (v : Bool) → (i == place) ≡ v → Now
@@ -132,6 +131,18 @@ module _ (seats : List Seat) (old new : List ℕ) (place : ℕ) (s : Seat) (with
                   let is : s ≡ asleep_seat p = sym (there s) ∙ ap (λ (n : ℕ). get_or seats n s) (sym (eqb-true j place e)) ∙ at s in
                   asleep_here t p (still (ap (λ (z : Seat). z.asleep) is) ∙ is)
               by false e = asleep_apart t p j (apart j place e) lt at
+
+-- picks pass over one whose consumer is gone, or takes from another queue
+pub passed_over : (kept : Kept) (queue : ℕ) (lists : Lists) (seats : List Seat) (old new : List ℕ) (place : ℕ) (s : Seat) → ((d : Seat) → get_or seats place d ≡ s) → (s.asleep ≡ false → is_of kept queue s.pick ≡ false)
+    → ((k : ℕ) → (k ≡ place → ⊥) → bit_of new k ≡ bit_of old k) → KeepsIn kept queue lists lists (ring_of seats old) (ring_of seats new)
+passed_over kept queue lists seats old new place s there none others p (inr f) has = inr (record { asleep = f.asleep; cannot = f.cannot; listed = f.listed })
+passed_over kept queue lists seats old new place s there none others p (inl (i, at)) has = go (i == place) refl
+  where
+    go : (v : Bool) → (i == place) ≡ v → IsSeatedIn (broker_of kept) lists queue (ring_of seats new) p
+    go true f =
+        let is : s ≡ awake_seat p = sym (there s) ∙ ap (λ (n : ℕ). get_or seats n s) (sym (eqb-true i place f)) ∙ at.there s in
+        absurd (false≢true (sym (none (ap (λ (z : Seat). z.asleep) is)) ∙ ap (λ (z : Seat). is_of kept queue z.pick) is ∙ has))
+    go false f = inl (i, record { within = at.within; there = at.there; marked = others i (apart i place f) ∙ at.marked })
 
 -- ---- those to whom no delivery can be made
 
@@ -175,6 +186,12 @@ pub seated_more : (b : Broker) (before after : Lists) (queue : ℕ) (r : Seats) 
 seated_more b before after queue r p stay (inl up) = inl up
 seated_more b before after queue r p stay (inr f) = inr (record { asleep = f.asleep; cannot = f.cannot; listed = stay (record { queue = queue; seat = p }) f.listed })
 
+-- and where those of consumers that are there are listed as before, who takes from the queue is so still
+pub seated_kept : (kept : Kept) (before after : Lists) (queue : ℕ) (r : Seats) (p : Pick) → (IsListed before (record { queue = queue; seat = p }) → is_of kept queue p ≡ true → IsListed after (record { queue = queue; seat = p }))
+    → is_of kept queue p ≡ true → IsSeatedIn (broker_of kept) before queue r p → IsSeatedIn (broker_of kept) after queue r p
+seated_kept kept before after queue r p stay its (inl up) = inl up
+seated_kept kept before after queue r p stay its (inr f) = inr (record { asleep = f.asleep; cannot = f.cannot; listed = stay f.listed its })
+
 -- so is one where seats are woken
 pub seated_woken : (b : Broker) (lists : Lists) (queue : ℕ) (old new : Seats) (p : Pick) → Wakens old new → IsSeatedIn b lists queue old p → IsSeatedIn b lists queue new p
 seated_woken b lists queue old new p w (inl up) = inl (w.awake p up)
@@ -187,25 +204,25 @@ pub waken_on : (old mid new : Seats) → Wakens old mid → Wakens mid new → W
 waken_on old mid new v w = record { awake = λ p up. w.awake p (v.awake p up); asleep = λ p i. elim (v.asleep p i) [ inl still ↦ w.asleep p still | inr up ↦ inr (w.awake p up) ]; same = w.same ∙ v.same; next = w.next ∙ v.next }
 
 -- after a sweep picks look at all that are left
-pub swept : (kept : Kept) (old new : Seats) → new.seats ≡ filter (has_its_consumer kept) old.seats → ((i : ℕ) → i < length new.seats → bit_of new.marks i ≡ 1) → KeepsRing kept old new
-swept kept old new is marked lists queue p = keep
+pub swept : (kept : Kept) (queue : ℕ) (old new : Seats) → new.seats ≡ filter (has_its_consumer kept queue) old.seats → ((i : ℕ) → i < length new.seats → bit_of new.marks i ≡ 1) → KeepsRing kept queue old new
+swept kept queue old new is marked lists p = keep
   where
-    left : (s : Seat) → IsIn s old.seats → has_its_consumer kept s ≡ true → IsIn s new.seats
-    left s i has = subst (λ (xs : List Seat). IsIn s xs) (sym is) (stays (has_its_consumer kept) s old.seats i has)
+    left : (s : Seat) → IsIn s old.seats → has_its_consumer kept queue s ≡ true → IsIn s new.seats
+    left s i has = subst (λ (xs : List Seat). IsIn s xs) (sym is) (stays (has_its_consumer kept queue) s old.seats i has)
 
-    keep : IsSeatedIn (broker_of kept) lists queue old p → has_consumer kept p ≡ true → IsSeatedIn (broker_of kept) lists queue new p
+    keep : IsSeatedIn (broker_of kept) lists queue old p → is_of kept queue p ≡ true → IsSeatedIn (broker_of kept) lists queue new p
     keep (inl (i, at)) has =
         let (j, lt, e) = place_in (awake_seat p) new.seats (left (awake_seat p) (in_at old.seats i (awake_seat p) (awake_seat p) at.within (at.there (awake_seat p))) has) in
         inl (j, record { within = lt; there = λ d. same_default new.seats j d (awake_seat p) lt ∙ e; marked = marked j lt })
     keep (inr f) has = inr (record { asleep = left (asleep_seat p) f.asleep has; cannot = f.cannot; listed = f.listed })
 
 -- seats more at the end, and one more at which picks look
-pub pushed : (kept : Kept) (seats more : List Seat) (old new : List ℕ) (place : ℕ) → Differs (bit_of old) (bit_of new) place 1 → KeepsRing kept (ring_of seats old) (ring_of (seats ++ more) new)
-pushed kept seats more old new place d lists queue p (inl (i, at)) has =
+pub pushed : (kept : Kept) (queue : ℕ) (seats more : List Seat) (old new : List ℕ) (place : ℕ) → Differs (bit_of old) (bit_of new) place 1 → KeepsRing kept queue (ring_of seats old) (ring_of (seats ++ more) new)
+pushed kept queue seats more old new place d lists p (inl (i, at)) has =
     let lt = at.within in
     let long = length-append seats more in
     inl (i, record { within = omega (arith, lt, long); there = λ e. front_at seats more i e at.within ∙ at.there e; marked = set_more (bit_of old) (bit_of new) place i d at.marked })
-pushed kept seats more old new place d lists queue p (inr f) has = inr (record { asleep = in_front (asleep_seat p) seats more f.asleep; cannot = f.cannot; listed = f.listed })
+pushed kept queue seats more old new place d lists p (inr f) has = inr (record { asleep = in_front (asleep_seat p) seats more f.asleep; cannot = f.cannot; listed = f.listed })
 
 -- ---- what is listed is woken
 

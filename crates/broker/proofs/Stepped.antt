@@ -1,6 +1,7 @@
--- What a step leaves before what is listed of a connection that ended is forgotten.
-use Rattle.std.proofs.Common.{◌≡◌, ℕ, List, true, length}
-use Rattle.std.specs.Prelude.{IfSome}
+-- What a step leaves, and that what is listed of a connection that ended is forgotten.
+use Rattle.std.proofs.Common.{◌≡◌, ℕ, List, Bool, true, false, length, inl, inr, refl, sym}
+use Rattle.std.specs.Prelude.{IfSome, not}
+use Rattle.std.proofs.lemmas.Bool.{false≢true}
 use Rattle.model.specs.Step.{Acts}
 use Rattle.model.specs.declared.events.Event.{Event}
 use Rattle.model.specs.declared.events.Send.{Send}
@@ -9,9 +10,30 @@ use Rattle.laws.specs.Consumers.{ConsumersAreMade}
 use Rattle.commands.specs.State.{Kept, broker_of, topology_kept}
 use Rattle.commands.specs.Seats.{seat_of, IsConsumed}
 use Rattle.commands.specs.declared.picks.Pick.{Pick}
-use Rattle.broker.specs.Roster.{Rings, ring_at, wakes, IsAwake, IsServing, AllRun, AllWaken, HasSeat, KeepsSeats, KeepsAll, ListsRunning, MakesNoList, SeatsNext, WakesSeat}
+use Rattle.broker.specs.Roster.{Rings, Seats, Lists, KeepsIn, KeepLists, ring_at, wakes, IsAwake, IsServing, AllRun, AllWaken, HasSeat, KeepsSeats, KeepsAll, ListsRunning, MakesNoList, SeatsNext, WakesSeat}
 use Rattle.broker.proofs.Outcomes.{if_some}
+use Rattle.broker.proofs.Present.{has_kept}
 use Rattle.broker.proofs.Seated.{StayAgreed, Holds, holds, serves_kept, serves_next, keeps_all, running_still}
+use Rattle.broker.proofs.Takers.{of_has}
+
+-- ---- what is listed
+
+-- where lists of consumers that are there stay, and so do the rings, no seat of such a consumer is gone
+pub lists_kept : (k : Kept) (old new : Lists) (rings : List Seats) → KeepLists k old new → (place : ℕ) → KeepsIn k place old new (ring_at rings place) (ring_at rings place)
+lists_kept k old new rings keeps place p (inl awake) has = inl awake
+lists_kept k old new rings keeps place p (inr s) has = inr (record { asleep = s.asleep; cannot = s.cannot; listed = keeps (record { queue = place; seat = p }) s.listed (has_kept k place p (of_has k place p has)) })
+
+-- ---- whether the connection ended
+
+pub is_ended : (b : Bool) → not b ≡ false → b ≡ true
+is_ended true e = refl
+is_ended false e = absurd (false≢true (sym e))
+
+pub is_running : (b : Bool) → not b ≡ true → b ≡ false
+is_running true e = absurd (false≢true e)
+is_running false e = refl
+
+-- ---- a step
 
 -- The rings went from `before` to `mid` as the consumer that is to be made was seated, and then to `after` as others were woken.
 module _ (old : Kept) (before mid after : Rings) (e : Event)

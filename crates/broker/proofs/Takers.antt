@@ -1,9 +1,9 @@
 -- Who takes from a queue, and stands in its line.
 use Rattle.std.proofs.Common.{◌≡◌, ◌∙◌, ◌<◌, ℕ, zero, suc, List, [], ◌∷◌, Bool, true, false, Option, Some, None, length, get_or, inl, inr, refl, sym, ap, arith}
-use Rattle.std.specs.Prelude.{◌==◌, ◌&&◌, ◌||◌}
+use Rattle.std.specs.Prelude.{◌==◌, ◌&&◌, ◌||◌, nat_lt}
 use Rattle.std.specs.List.{list_any}
 use Rattle.std.specs.Str.{bytes_eq}
-use Rattle.std.proofs.lemmas.Bool.{eqb-true, eq-eqb, false≢true}
+use Rattle.std.proofs.lemmas.Bool.{eqb-true, eq-eqb, ltb-true, lt-ltb, false≢true}
 use Rattle.std.proofs.lemmas.Slice.Eq.{bytes_eq-Decides}
 use Rattle.model.specs.Words.{Text}
 use Rattle.model.specs.Topology.{Topology, IsIn}
@@ -11,9 +11,11 @@ use Rattle.model.specs.Broker.{Consumer, Channel, Broker}
 use Rattle.depot.proofs.Naming.{names-length}
 use Rattle.exchange_graph.specs.Marks.{queue_name}
 use Rattle.commands.specs.State.{Kept, broker_of, topology_kept, names_of}
+use Rattle.commands.specs.Picked.{IsPickFrom}
 use Rattle.commands.specs.declared.picks.Pick.{Pick}
-use Rattle.broker.specs.Roster.{Seats, ring_at, is_numbered_of, has_taker, takes_from, line_of, lines_of, HasConsumer}
-use Rattle.broker.proofs.Waking.{both}
+use Rattle.broker.specs.Roster.{Seats, ring_at, is_numbered_of, has_taker, takes_from, is_of, line_of, lines_of, HasConsumer}
+use Rattle.broker.proofs.Waking.{both, and}
+use Rattle.broker.proofs.Present.{has_picked}
 
 -- ---- by its numbers
 
@@ -61,6 +63,26 @@ takes_has t b place p lt takes = go (b.channel p.connection p.channel) refl take
     go (Some ch) is e =
         let x = any_one (queue_name t place) p.number ch.consumers e in
         record { consumer = x.one; was = (ch, is, x.among); numbered = x.numbered; within = lt; named = sym x.named }
+
+-- whoever takes from the queue at a place passes the test, and nobody else does
+pub has_of : (kept : Kept) (place : ℕ) (p : Pick) → HasConsumer (topology_kept kept) (broker_of kept) place p → is_of kept place p ≡ true
+has_of kept place p has = and (nat_lt place (length (topology_kept kept).queues)) (takes_from (broker_of kept) (queue_name (topology_kept kept) place) p) (lt-ltb place (length (topology_kept kept).queues) has.within) (has_takes (topology_kept kept) (broker_of kept) place p has)
+
+pub of_has : (kept : Kept) (place : ℕ) (p : Pick) → is_of kept place p ≡ true → HasConsumer (topology_kept kept) (broker_of kept) place p
+of_has kept place p its =
+    let parts = both (nat_lt place (length (topology_kept kept).queues)) (takes_from (broker_of kept) (queue_name (topology_kept kept) place) p) its in
+    takes_has (topology_kept kept) (broker_of kept) place p (ltb-true place (length (topology_kept kept).queues) parts.0) parts.1
+
+pub not_of : (kept : Kept) (place : ℕ) (p : Pick) → (HasConsumer (topology_kept kept) (broker_of kept) place p → ⊥) → is_of kept place p ≡ false
+not_of kept place p none = go (is_of kept place p) refl
+  where
+    go : (v : Bool) → is_of kept place p ≡ v → is_of kept place p ≡ false
+    go true e = absurd (none (of_has kept place p e))
+    go false e = e
+
+-- so does one to whom a delivery can be made from it
+pub picked_of : (kept : Kept) (place : ℕ) (p : Pick) → IsPickFrom kept place p → is_of kept place p ≡ true
+picked_of kept place p from = has_of kept place p (has_picked kept place p from)
 
 -- ---- the lines of queues
 

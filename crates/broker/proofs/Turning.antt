@@ -20,10 +20,10 @@ use Rattle.broker.specs.Turns.{with_turn}
 use Rattle.broker.specs.Waiting.{line_at, standing_at, AllStand, NoneIsLater, OneComesIn, IsToldInTurn}
 use Rattle.broker.proofs.Among.{one_consumer, same_consumer, stays}
 use Rattle.broker.proofs.Nearer.{in_order, in_turn}
-use Rattle.broker.proofs.Present.{has_kept, has_picked}
+use Rattle.broker.proofs.Present.{has_picked}
 use Rattle.broker.proofs.Seated.{Holds}
 use Rattle.broker.proofs.Standing.{fewer, passes}
-use Rattle.broker.proofs.Takers.{has_takes, takes_has, line_is, in_line_of, lines_same}
+use Rattle.broker.proofs.Takers.{has_of, has_takes, takes_has, line_is, in_line_of, lines_same}
 
 -- ---- who stands in a line
 
@@ -32,10 +32,10 @@ abbrev test_at : Kept → ℕ → Pick → Bool
 test_at kept place = takes_from (broker_of kept) (queue_name (topology_kept kept) place)
 
 -- is there, and has its seat in the queue's ring
-pub stand_in : (kept : Kept) (r : Rings) (place : ℕ) → Holds kept r → place < length (topology_kept kept).queues → AllStandIn kept (takes_from (broker_of kept) (queue_name (topology_kept kept) place)) (order (ring_at r.rings place))
+pub stand_in : (kept : Kept) (r : Rings) (place : ℕ) → Holds kept r → place < length (topology_kept kept).queues → AllStandIn kept place (takes_from (broker_of kept) (queue_name (topology_kept kept) place)) (order (ring_at r.rings place))
 stand_in kept r place held lt p takes =
     let has = takes_has (topology_kept kept) (broker_of kept) place p lt takes in
-    (has_kept kept place p has, in_order (broker_of kept) r.lists place (ring_at r.rings place) p (held.seated place p has))
+    (has_of kept place p has, in_order (broker_of kept) r.lists place (ring_at r.rings place) p (held.seated place p has))
 
 -- so it stands in the queue's line, and nobody else does
 pub all_stand : (kept : Kept) (r : Rings) (x : Option Pick) → Holds kept r → AllStand (with_turn kept r x)

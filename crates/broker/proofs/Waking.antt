@@ -45,7 +45,7 @@ both true true e = (refl, refl)
 both true false e = absurd (false≢true e)
 both false v e = absurd (false≢true e)
 
-and : (u v : Bool) → u ≡ true → v ≡ true → (u && v) ≡ true
+pub and : (u v : Bool) → u ≡ true → v ≡ true → (u && v) ≡ true
 and true true a b = refl
 and true false a b = absurd (false≢true b)
 and false v a b = absurd (false≢true a)

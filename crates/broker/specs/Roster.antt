@@ -1,6 +1,6 @@
 -- The consumers of all channels by their numbers, over which deliveries go round, and which of them are passed over (own).
 use Rattle.std.specs.Prelude.{◌≡◌, ◌==◌, ◌&&◌, ◌<◌, ◌≤◌, ◌*◌, ◌+◌, ◌⊎◌, ◌++◌, ℕ, List, []}
-use Rattle.std.specs.Prelude.{◌∷◌, map, filter, Bool, true, false, Option, Some, None, length, slice_index_or, nat_eq, count_by, IfSome}
+use Rattle.std.specs.Prelude.{◌∷◌, map, filter, Bool, true, false, Option, Some, None, length, slice_index_or, nat_eq, nat_lt, count_by, IfSome}
 use Rattle.std.specs.List.{list_any}
 use Rattle.std.specs.Map.{lookup}
 use Rattle.std.specs.Str.{bytes_eq}
@@ -20,6 +20,8 @@ use Rattle.commands.specs.State.{Kept, broker_of, topology_kept}
 use Rattle.commands.specs.Picked.{IsPickFrom, CannotTake}
 use Rattle.commands.specs.Seats.{has_consumer, seat_of, IsConsumed}
 use Rattle.commands.specs.declared.picks.Pick.{Pick}
+use Rattle.broker.specs.declared.roster.finding.Found.{Found}
+use Rattle.broker.specs.declared.roster.finding.Found.TheVariants.{Able, Unable, Over}
 use Rattle.broker.specs.declared.roster.seats.Seat.{Seat}
 use Rattle.broker.specs.Lines.{turned, standing, IsPassed}
 
@@ -87,6 +89,10 @@ has_taker queue n (Some ch) = list_any (is_numbered_of queue n) ch.consumers
 abbrev pub takes_from : Broker → Text → Pick → Bool
 takes_from b queue p = has_taker queue p.number (b.channel p.connection p.channel)
 
+-- the consumer of these numbers is there, and takes from the queue at this place
+abbrev pub is_of : Kept → ℕ → Pick → Bool
+is_of kept queue p = nat_lt queue (length (topology_kept kept).queues) && takes_from (broker_of kept) (queue_name (topology_kept kept) queue) p
+
 -- the consumers of this queue, in the order of its ring
 abbrev pub line_of : Broker → Text → Seats → List Pick
 line_of b queue r = filter (takes_from b queue) (order r)
@@ -101,9 +107,9 @@ lines_of b (queue ∷ queues) (r ∷ rings) = line_of b queue r ∷ lines_of b q
 abbrev pub is_seat_of : Pick → Seat → Bool
 is_seat_of p s = is_consumer p s.pick
 
--- the consumer of the seat is there
-abbrev pub has_its_consumer : Kept → Seat → Bool
-has_its_consumer kept s = has_consumer kept s.pick
+-- the consumer of the seat is there, and takes from the queue at this place
+abbrev pub has_its_consumer : Kept → ℕ → Seat → Bool
+has_its_consumer kept queue s = is_of kept queue s.pick
 
 -- this consumer's seat, awake
 abbrev pub awake_seat : Pick → Seat
@@ -277,36 +283,40 @@ pub record PicksFirst (kept : Kept) (old new : Rings) (p : Pick) : Type 0 where
   pub told : PicksFrom kept old.lists old.rings new.rings queue p
   pub next : new.next ≡ queue + 1
 
--- whoever passes this test is there, and stands in the line
-abbrev pub AllStandIn : Kept → (Pick → Bool) → List Pick → Type 0
-AllStandIn kept test line = (p : Pick) → test p ≡ true → (has_consumer kept p ≡ true) × IsIn p line
+-- whoever passes this test takes from the queue at this place
+abbrev pub AllAreOf : Kept → ℕ → (Pick → Bool) → Type 0
+AllAreOf kept queue test = (p : Pick) → test p ≡ true → is_of kept queue p ≡ true
 
--- those who are there are gone round as before
-abbrev pub KeepsThose : Kept → List Pick → List Pick → Type 0
-KeepsThose kept old new = (test : Pick → Bool) → ((p : Pick) → test p ≡ true → has_consumer kept p ≡ true) → filter test new ≡ filter test old
+-- and stands in the line
+abbrev pub AllStandIn : Kept → ℕ → (Pick → Bool) → List Pick → Type 0
+AllStandIn kept queue test line = (p : Pick) → test p ≡ true → (is_of kept queue p ≡ true) × IsIn p line
+
+-- those who take from the queue at this place are gone round as before
+abbrev pub KeepsThose : Kept → ℕ → List Pick → List Pick → Type 0
+KeepsThose kept queue old new = (test : Pick → Bool) → AllAreOf kept queue test → filter test new ≡ filter test old
 
 -- but for this one
-abbrev pub KeepsOthers : Kept → Pick → List Pick → List Pick → Type 0
-KeepsOthers kept other old new = (test : Pick → Bool) → ((p : Pick) → test p ≡ true → has_consumer kept p ≡ true) → test other ≡ false
-    → filter test new ≡ filter test old
+abbrev pub KeepsOthers : Kept → ℕ → Pick → List Pick → List Pick → Type 0
+KeepsOthers kept queue other old new = (test : Pick → Bool) → AllAreOf kept queue test → test other ≡ false → filter test new ≡ filter test old
 
--- those who are there and have seats in the ring are gone round as before
-abbrev pub KeepsLine : Kept → Seats → Seats → Type 0
-KeepsLine kept old new = (test : Pick → Bool) → AllStandIn kept test (order old) → filter test (order new) ≡ filter test (order old)
+-- those who take from it and have seats in its ring are gone round as before
+abbrev pub KeepsLine : Kept → ℕ → Seats → Seats → Type 0
+KeepsLine kept queue old new = (test : Pick → Bool) → AllStandIn kept queue test (order old) → filter test (order new) ≡ filter test (order old)
 
 -- in each ring
 abbrev pub KeepLines : Kept → List Seats → List Seats → Type 0
-KeepLines kept old new = (place : ℕ) → KeepsLine kept (ring_at old place) (ring_at new place)
+KeepLines kept old new = (place : ℕ) → KeepsLine kept place (ring_at old place) (ring_at new place)
 
 -- and where this one joins them, each has at most one more before it
-abbrev pub LetsIn : Kept → Pick → Seats → Seats → Type 0
-LetsIn kept p old new = (before after : Pick → Bool) → AllStandIn kept before (order old) → ((q : Pick) → after q ≡ true → (before q ≡ true) ⊎ (q ≡ p))
+abbrev pub LetsIn : Kept → ℕ → Pick → Seats → Seats → Type 0
+LetsIn kept queue p old new = (before after : Pick → Bool) → AllStandIn kept queue before (order old)
+    → ((q : Pick) → after q ≡ true → (before q ≡ true) ⊎ (q ≡ p))
     → (q : Pick) → after q ≡ true → standing (is_consumer q) (filter after (order new)) ≤ standing (is_consumer q) (filter before (order old)) + 1
 
 -- so it is in the ring of the queue from which this event is to make a consumer
 abbrev pub LetsNextIn : Kept → Event → List Seats → List Seats → Type 0
 LetsNextIn kept e old new = (place : ℕ) (p : Pick) → IsConsumed (topology_kept kept) e place → seat_of kept e ≡ Some p
-    → LetsIn kept p (ring_at old place) (ring_at new place)
+    → LetsIn kept place p (ring_at old place) (ring_at new place)
 
 -- The rings are gone round as before, and so are the queues.
 pub record GoesOn (old new : Rings) : Type 0 where
@@ -315,28 +325,28 @@ pub record GoesOn (old new : Rings) : Type 0 where
   pub next : new.next ≡ old.next
 
 -- How many seats a ring has where one was to be made:
-pub data IsBounded (kept : Kept) (old new : Seats) : Type 0 where
+pub data IsBounded (kept : Kept) (queue : ℕ) (old new : Seats) : Type 0 where
   -- no more than it had
-  as_many : length new.seats ≤ length old.seats → IsBounded kept old new
+  as_many : length new.seats ≤ length old.seats → IsBounded kept queue old new
   -- there was room for them
-  had_room : length new.seats ≤ old.room → IsBounded kept old new
+  had_room : length new.seats ≤ old.room → IsBounded kept queue old new
   -- all but one are of consumers that are there
-  all_there : length new.seats ≤ count_by (has_its_consumer kept) new.seats + 1 → IsBounded kept old new
+  all_there : length new.seats ≤ count_by (has_its_consumer kept queue) new.seats + 1 → IsBounded kept queue old new
 
 -- ---- what stays
 
 -- no seat of a consumer that is there is gone from the ring of the queue at this place, by what was listed before and is after
 abbrev pub KeepsIn : Kept → ℕ → Lists → Lists → Seats → Seats → Type 0
 KeepsIn kept queue before after old new =
-    (p : Pick) → IsSeatedIn (broker_of kept) before queue old p → has_consumer kept p ≡ true → IsSeatedIn (broker_of kept) after queue new p
+    (p : Pick) → IsSeatedIn (broker_of kept) before queue old p → is_of kept queue p ≡ true → IsSeatedIn (broker_of kept) after queue new p
 
 -- from a ring, whatever is listed
-abbrev pub KeepsRing : Kept → Seats → Seats → Type 0
-KeepsRing kept old new = (lists : Lists) (queue : ℕ) → KeepsIn kept queue lists lists old new
+abbrev pub KeepsRing : Kept → ℕ → Seats → Seats → Type 0
+KeepsRing kept queue old new = (lists : Lists) → KeepsIn kept queue lists lists old new
 
 -- from none of the rings, whatever is listed
 abbrev pub KeepRings : Kept → List Seats → List Seats → Type 0
-KeepRings kept old new = (place : ℕ) → KeepsRing kept (ring_at old place) (ring_at new place)
+KeepRings kept old new = (place : ℕ) → KeepsRing kept place (ring_at old place) (ring_at new place)
 
 -- from none of the rings, by what is listed
 abbrev pub KeepsSeats : Kept → Rings → Rings → Type 0
@@ -371,6 +381,21 @@ pub record ListsMore (old new : Lists) : Type 0 where
 abbrev pub ListsRunning : Broker → Lists → Lists → Type 0
 ListsRunning b old new = (c : ℕ) → b.connection c ≡ None → HasNoList old c → HasNoList new c
 
+-- ---- what a pick finds at a seat
+
+-- a delivery can be made to the seat's consumer
+abbrev pub is_able : Found → Bool
+is_able Able = true
+is_able _ = false
+
+-- What is found at a seat of the ring of the queue at this place, where that has something ready: it is awake, and a delivery can be made
+-- to its consumer; it is awake, and its consumer may take nothing now; or picks may pass over it, as it sleeps, or as its consumer is
+-- gone or takes from another queue.
+abbrev pub FindsSeat : Kept → ℕ → Seat → Found → Type 0
+FindsSeat kept queue s Able = (s.asleep ≡ false) × IsPickFrom kept queue s.pick
+FindsSeat kept queue s Unable = (s.asleep ≡ false) × CannotTake (broker_of kept) s.pick
+FindsSeat kept queue s Over = s.asleep ≡ false → is_of kept queue s.pick ≡ false
+
 -- ---- who falls asleep and is woken
 
 -- A seat fell asleep in the ring of the queue at this place: its consumer may take nothing now, and it is listed.
@@ -381,7 +406,7 @@ pub record FallsAsleep (b : Broker) (lists : Lists) (queue : ℕ) (old new : Sea
 
 -- one did that was awake, and whose consumer is there
 abbrev pub Dozes : Kept → Lists → ℕ → Seat → Seat → Type 0
-Dozes kept lists queue old new = old.asleep ≡ false → has_consumer kept old.pick ≡ true → FallsAsleep (broker_of kept) lists queue old new
+Dozes kept lists queue old new = old.asleep ≡ false → is_of kept queue old.pick ≡ true → FallsAsleep (broker_of kept) lists queue old new
 
 -- Seats are woken: who is awake stays so, who sleeps does so still or is awake now, and all stand at their places.
 pub record Wakens (old new : Seats) : Type 0 where

@@ -1,6 +1,6 @@
 //! The broker: queues, running connections and their channels, and what each event does to them.
 //!
-//! What an event does is done by `Core` of crate `broker_core`; the broker adds the seats of consumers, over which deliveries go
+//! What an event does is done by `Core` of crate `commands`; the broker adds the seats of consumers, over which deliveries go
 //! round.
 #![tactic(auto)]
 

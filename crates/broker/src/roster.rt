@@ -8,6 +8,7 @@
 //! no seat that is idle. A seat that can't be listed for want of memory stays awake.
 
 mod desk;
+mod finding;
 mod ring;
 mod seating;
 mod seats;

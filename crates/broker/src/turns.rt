@@ -1,11 +1,36 @@
 //! Whose turn it is.
 
-ghost use Rattle.std.specs.Prelude.{◌≡◌, None, Some, IfSome};
+ghost use Rattle.std.specs.Prelude.{◌≡◌, ℕ, true, false, None, Some, IfSome};
+ghost use Rattle.depot.specs.Store.{HasReady};
 ghost use Rattle.commands.specs.State.{broker_of};
-ghost use Rattle.commands.specs.Picked.{IsPick};
+ghost use Rattle.commands.specs.Picked.{IsPick, IsPickFrom};
 ghost use Rattle.commands.specs.declared.picks.Pick.{Pick as Consumer};
 
-use commands::{Core, Pick};
+use commands::{Core, Pick, Taking};
+
+/// Whether the queue at this place has something ready. If not, no delivery can be made from it.
+fn is_ready(core: &Core, place: usize) -> bool
+    ensures yes { result ≡ true → HasReady core.now.store place }
+    ensures no { result ≡ false → (p : Consumer) → IsPickFrom core.now place p → ⊥ }
+{
+    match core.next_ready(place) {
+        Some(next) => next == place,
+        None => false,
+    }
+}
+
+/// Whether a delivery can be made to the consumer of these numbers.
+fn can_deliver(core: &Core, pick: Pick) -> bool
+    ensures yes { result ≡ true → IsPick (broker_of core.now) pick }
+    ensures no { result ≡ false → IsPick (broker_of core.now) pick → ⊥ }
+{
+    core.is_kept();
+    match core.taking(pick) {
+        Taking::Gone => false,
+        Taking::Nothing(_) => false,
+        Taking::From(place) => is_ready(core, place),
+    }
+}
 
 /// The consumer whose turn it is, as long as a delivery can be made to it.
 pub(crate) fn turn_kept(core: &Core, turn: Option<Pick>) -> Option<Pick>
@@ -16,7 +41,7 @@ pub(crate) fn turn_kept(core: &Core, turn: Option<Pick>) -> Option<Pick>
     let Some(pick) = turn else {
         return None;
     };
-    if core.can_deliver(pick) {
+    if can_deliver(core, pick) {
         return Some(pick);
     }
     None

@@ -10,15 +10,18 @@ ghost use Rattle.std.specs.Prelude.{None, IfSome, OnOk, length, count_by, filter
 ghost use Rattle.std.specs.List.{position_from};
 ghost use Rattle.model.specs.Topology.{IsIn};
 ghost use Rattle.marks.specs.Places.{bit_of};
-ghost use Rattle.commands.specs.Picked.{IsPickFrom};
+ghost use Rattle.depot.specs.Store.{HasReady};
+ghost use Rattle.commands.specs.State.{broker_of, topology_kept};
+ghost use Rattle.commands.specs.Picked.{CannotTake, IsPickFrom};
 ghost use Rattle.commands.specs.declared.picks.Pick.{Pick as Consumer};
 ghost use Rattle.broker.specs.declared.roster.seats.Seat.{Seat as Taken};
 ghost use Rattle.broker.specs.Lines.{turned, AreDistinct};
-ghost use Rattle.broker.specs.Roster.{ring_of, picks, is_consumer, is_seat_of, has_its_consumer, IsAwakeAt, IsAwake, IsAsleep, StaysAt};
-ghost use Rattle.broker.specs.Roster.{KeepsIn, KeepsRing, KeepsThose, KeepsOthers, NoneAwake, NoneAwakePassed, ListsMore, Dozes, Wakens};
+ghost use Rattle.broker.specs.Roster.{ring_of, picks, is_consumer, is_seat_of, has_its_consumer, FindsSeat, IsAwakeAt, IsAwake, IsAsleep, StaysAt};
+ghost use Rattle.broker.specs.Roster.{KeepsIn, KeepsRing, KeepsThose, KeepsOthers, NoneAwake, NoneAwakePassed, ListsMore, Wakens};
 ghost use Rattle.broker.specs.Moving.{all_awake};
 
 use crate::roster::desk::{Desks, Listed, list_seat};
+use crate::roster::finding::{Found, find, is_able, is_of};
 use crate::roster::seats::Seat;
 use commands::{Core, Pick};
 use marks::{Flat, Over, Places};
@@ -95,21 +98,21 @@ fn rouse_each(seats: &mut [Seat])
     }
 }
 
-/// Takes out the seats whose consumer is gone.
-fn sweep(seats: &mut Vec<Seat>, core: &Core)
-    ensures seats { seats.new.items ≡ filter (has_its_consumer core.now) seats.old.items }
+/// Takes out the seats whose consumer is gone, or takes from another queue than that at this place.
+fn sweep(seats: &mut Vec<Seat>, core: &Core, queue: usize)
+    ensures seats { seats.new.items ≡ filter (has_its_consumer core.now queue) seats.old.items }
     ensures capacity { vec_capacity seats.new ≡ vec_capacity seats.old }
 {
-    seats.retain(|seat| core.has_consumer(seat.pick));
+    seats.retain(|seat| is_of(core, queue, seat.pick));
 }
 
-/// How many of the seats have their consumer still.
-fn staying(seats: &[Seat], core: &Core) -> usize
-    ensures { result ≡ count_by (has_its_consumer core.now) seats.now }
+/// How many of the seats have their consumer still, which takes from the queue at this place.
+fn staying(seats: &[Seat], core: &Core, queue: usize) -> usize
+    ensures { result ≡ count_by (has_its_consumer core.now queue) seats.now }
 {
     let mut count = 0;
     for seat in seats {
-        if core.has_consumer(seat.pick) {
+        if is_of(core, queue, seat.pick) {
             count += 1;
         }
     }
@@ -127,31 +130,33 @@ fn mark_all(awake: &mut SeatMarks, count: usize)
     }
 }
 
-/// Makes room for one seat more. Where the list is full, the seats whose consumer is gone are taken out, picks look at those that
-/// are left, and then there is room for as many again, so that few sweeps are made. Where memory is wanting, no other seat is
-/// gone.
+/// Makes room for one seat more. Where the list is full, the seats whose consumer is gone, or takes from another queue, are taken
+/// out, picks look at those that are left, and then there is room for as many again, so that few sweeps are made. Where memory is
+/// wanting, no other seat is gone.
 fn make_room(
     seats: &mut Vec<Seat>,
     awake: &mut SeatMarks,
     next: &mut usize,
     core: &Core,
+    queue: usize,
 ) -> Result<(), AllocError>
     requires { length seats.old.items ≤ length awake.old * 64 }
     ensures room { OnOk result (vec_len seats.new < vec_capacity seats.new) }
     ensures mark { OnOk result (vec_len seats.new + 1 ≤ length awake.new * 64) }
     ensures marks { length seats.new.items ≤ length awake.new * 64 }
-    ensures kept { KeepsRing core.now (ring_of seats.old.items awake.old) (ring_of seats.new.items awake.new) }
+    ensures kept { KeepsRing core.now queue (ring_of seats.old.items awake.old) (ring_of seats.new.items awake.new) }
     ensures fewer { (p : Consumer) → IsIn p (picks seats.new.items) → IsIn p (picks seats.old.items) }
     ensures apart { AreDistinct (picks seats.old.items) → AreDistinct (picks seats.new.items) }
-    ensures line { KeepsThose core.now (turned next.old (picks seats.old.items)) (turned next.new (picks seats.new.items)) }
-    ensures bounded { (length seats.new.items < vec_capacity seats.old) ⊎ (length seats.new.items ≤ count_by (has_its_consumer core.now) seats.new.items) }
+    ensures line { KeepsThose core.now queue (turned next.old (picks seats.old.items)) (turned next.new (picks seats.new.items)) }
+    ensures bounded { (length seats.new.items < vec_capacity seats.old)
+        ⊎ (length seats.new.items ≤ count_by (has_its_consumer core.now queue) seats.new.items) }
 {
     if seats.len() < seats.capacity() {
         return awake.grow(seats.len() + 1);
     }
     let before = (*next).min(seats.len());
-    *next = staying(seats.split_at(before).0, core);
-    sweep(seats, core);
+    *next = staying(seats.split_at(before).0, core, queue);
+    sweep(seats, core, queue);
     mark_all(awake, seats.len());
     awake.grow(seats.len() + 1)?;
     seats.reserve(seats.len().max(1))
@@ -164,18 +169,20 @@ fn add_seat(
     awake: &mut SeatMarks,
     next: &mut usize,
     core: &Core,
+    queue: usize,
     consumer: Pick,
 ) -> Result<(), AllocError>
     requires room { length seats.old.items ≤ length awake.old * 64 }
     requires absent { IsIn consumer (picks seats.old.items) → ⊥ }
     ensures marks { length seats.new.items ≤ length awake.new * 64 }
     ensures apart { AreDistinct (picks seats.old.items) → AreDistinct (picks seats.new.items) }
-    ensures line { KeepsOthers core.now consumer (turned next.old (picks seats.old.items)) (turned next.new (picks seats.new.items)) }
-    ensures bounded { (length seats.new.items ≤ vec_capacity seats.old) ⊎ (length seats.new.items ≤ count_by (has_its_consumer core.now) seats.new.items + 1) }
+    ensures line { KeepsOthers core.now queue consumer (turned next.old (picks seats.old.items)) (turned next.new (picks seats.new.items)) }
+    ensures bounded { (length seats.new.items ≤ vec_capacity seats.old)
+        ⊎ (length seats.new.items ≤ count_by (has_its_consumer core.now queue) seats.new.items + 1) }
     ensures seated { OnOk result (IsAwake (ring_of seats.new.items awake.new) consumer) }
-    ensures kept { KeepsRing core.now (ring_of seats.old.items awake.old) (ring_of seats.new.items awake.new) }
+    ensures kept { KeepsRing core.now queue (ring_of seats.old.items awake.old) (ring_of seats.new.items awake.new) }
 {
-    make_room(seats, awake, next, core)?;
+    make_room(seats, awake, next, core, queue)?;
     let place = seats.len();
     seats.push_reserved(Seat {
         pick: consumer,
@@ -196,41 +203,8 @@ fn any_marked(awake: &SeatMarks, count: usize) -> bool
     }
 }
 
-/// Whether the seat is awake, and a delivery can be made to its consumer from the queue at this place.
-fn may_deliver(core: &Core, queue: usize, seat: Seat) -> bool
-    ensures yes { result ≡ true → IsPickFrom core.now queue seat.pick }
-    ensures no { result ≡ false → seat.asleep ≡ false → IsPickFrom core.now queue seat.pick → ⊥ }
-{
-    !seat.asleep && core.may_deliver(queue, seat.pick)
-}
-
-/// Whether picks need not look any more at this seat at this place, to which nothing can be delivered. It falls asleep where its
-/// consumer may take nothing now, if it can be listed; one whose consumer is gone need not be.
-fn dozes(core: &Core, queue: usize, seat: &mut Seat, desks: &mut Desks, place: usize) -> bool
-    ensures same { seat.new.pick ≡ seat.old.pick }
-    ensures asleep { seat.old.asleep ≡ true → seat.new ≡ seat.old }
-    ensures awake { result ≡ false → seat.new ≡ seat.old }
-    ensures sleeps { result ≡ true → Dozes core.now desks.new.entries queue seat.old seat.new }
-    ensures more { ListsMore desks.old.entries desks.new.entries }
-{
-    if seat.asleep {
-        return true;
-    }
-    if core.may_take(seat.pick) {
-        return false;
-    }
-    if !core.has_consumer(seat.pick) {
-        return true;
-    }
-    if !list_seat(desks, Listed::new(queue, seat.pick, place)) {
-        return false;
-    }
-    seat.asleep = true;
-    true
-}
-
-/// The seat at this place, to which nothing can be delivered from the queue at this place, falls asleep if it may.
-fn rest(
+/// The seat at this place, which is awake and whose consumer may take nothing now, falls asleep if it can be listed.
+fn doze(
     core: &Core,
     queue: usize,
     seats: &mut [Seat],
@@ -240,14 +214,43 @@ fn rest(
 )
     requires within { place < length seats.old }
     requires room { length seats.old ≤ length awake.old * 64 }
+    requires cannot { (d : Taken) → CannotTake (broker_of core.now) (slice_index_or seats.old place d).pick }
+    requires up { (d : Taken) → (slice_index_or seats.old place d).asleep ≡ false }
     ensures len { length awake.new ≡ length awake.old }
     ensures kept { KeepsIn core.now queue desks.old.entries desks.new.entries (ring_of seats.old awake.old) (ring_of seats.new awake.new) }
     ensures more { ListsMore desks.old.entries desks.new.entries }
     ensures others { (i : ℕ) → (i ≡ place → ⊥) → StaysAt (ring_of seats.old awake.old) (ring_of seats.new awake.new) i }
     ensures same { picks seats.new ≡ picks seats.old }
 {
-    if dozes(core, queue, &mut seats[place], desks, place) {
+    if list_seat(desks, Listed::new(queue, seats[place].pick, place)) {
+        seats[place].asleep = true;
         awake.clear(place);
+    }
+}
+
+/// Picks pass over the seat at this place from now on, at which this was found, and to which nothing can be delivered.
+fn rest(
+    core: &Core,
+    queue: usize,
+    seats: &mut [Seat],
+    awake: &mut SeatMarks,
+    desks: &mut Desks,
+    place: usize,
+    found: Found,
+)
+    requires within { place < length seats.old }
+    requires room { length seats.old ≤ length awake.old * 64 }
+    requires found { (d : Taken) → FindsSeat core.now queue (slice_index_or seats.old place d) found }
+    ensures len { length awake.new ≡ length awake.old }
+    ensures kept { KeepsIn core.now queue desks.old.entries desks.new.entries (ring_of seats.old awake.old) (ring_of seats.new awake.new) }
+    ensures more { ListsMore desks.old.entries desks.new.entries }
+    ensures others { (i : ℕ) → (i ≡ place → ⊥) → StaysAt (ring_of seats.old awake.old) (ring_of seats.new awake.new) i }
+    ensures same { picks seats.new ≡ picks seats.old }
+{
+    match found {
+        Found::Able => {}
+        Found::Unable => doze(core, queue, seats, awake, desks, place),
+        Found::Over => awake.clear(place),
     }
 }
 
@@ -262,6 +265,8 @@ fn first_between(
     from: usize,
     to: usize,
 ) -> Option<usize>
+    requires placed { queue < length (topology_kept core.now).queues }
+    requires ready { HasReady core.now.store queue }
     requires within { to ≤ length seats.old }
     requires room { length seats.old ≤ length awake.old * 64 }
     ensures len { length awake.new ≡ length awake.old }
@@ -281,10 +286,11 @@ fn first_between(
         if place >= to {
             return None;
         }
-        if may_deliver(core, queue, seats[place]) {
+        let found = find(core, queue, seats[place]);
+        if is_able(found) {
             return Some(place);
         }
-        rest(core, queue, seats, awake, desks, place);
+        rest(core, queue, seats, awake, desks, place, found);
         next = place + 1;
     }
     None
@@ -299,7 +305,9 @@ fn first_round(
     desks: &mut Desks,
     next: usize,
 ) -> Option<usize>
-    requires { length seats.old ≤ length awake.old * 64 }
+    requires placed { queue < length (topology_kept core.now).queues }
+    requires ready { HasReady core.now.store queue }
+    requires room { length seats.old ≤ length awake.old * 64 }
     ensures len { length awake.new ≡ length awake.old }
     ensures kept { KeepsIn core.now queue desks.old.entries desks.new.entries (ring_of seats.old awake.old) (ring_of seats.new awake.new) }
     ensures more { ListsMore desks.old.entries desks.new.entries }
@@ -351,6 +359,8 @@ impl Model for Ring {
 impl Ring {
     ghost use Rattle.std.specs.Prelude.{◌≡◌, ◌<◌, [], ℕ, true, false, None, IfSome, OnOk, length};
     ghost use Rattle.marks.specs.Places.{bit_of};
+    ghost use Rattle.depot.specs.Store.{HasReady};
+    ghost use Rattle.commands.specs.State.{topology_kept};
     ghost use Rattle.commands.specs.declared.picks.Pick.{Pick as Consumer};
     ghost use Rattle.commands.specs.Picked.{IsPickFrom};
     ghost use Rattle.broker.specs.Roster.{order, IsAwake, IsAsleep, KeepsIn, KeepsRing, NoneSeated, GoesLast, KeepsLine, LetsIn, IsBounded, ListsMore, Wakens};
@@ -369,12 +379,12 @@ impl Ring {
 
     /// This consumer has its seat from now on, and it is awake. Where memory is wanting it may not; no seat of a consumer that is
     /// there is gone.
-    pub fn seat(&mut self, core: &Core, consumer: Pick) -> Result<(), AllocError>
+    pub fn seat(&mut self, core: &Core, queue: usize, consumer: Pick) -> Result<(), AllocError>
         ensures seated { OnOk result (IsAwake self.new consumer) }
-        ensures kept { KeepsRing core.now self.old self.new }
-        ensures line { KeepsLine core.now self.old self.new }
-        ensures comes { OnOk result (LetsIn core.now consumer self.old self.new) }
-        ensures bounded { IsBounded core.now self.old self.new }
+        ensures kept { KeepsRing core.now queue self.old self.new }
+        ensures line { KeepsLine core.now queue self.old self.new }
+        ensures comes { OnOk result (LetsIn core.now queue consumer self.old self.new) }
+        ensures bounded { IsBounded core.now queue self.old self.new }
     {
         if wake_seat(&mut self.seats, &mut self.awake, consumer, 0) {
             return Ok(());
@@ -384,6 +394,7 @@ impl Ring {
             &mut self.awake,
             &mut self.next,
             core,
+            queue,
             consumer,
         )
     }
@@ -413,9 +424,12 @@ impl Ring {
         any_marked(&self.awake, self.seats.len())
     }
 
-    /// The first consumer to which a delivery can be made from the queue at this place, from the seat behind that which was picked
-    /// last, and then from the front. Those that are looked at and may take nothing fall asleep, if they can be listed.
+    /// The first consumer to which a delivery can be made from the queue at this place, which has something ready, from the seat
+    /// behind that which was picked last, and then from the front. Those that are looked at and may take nothing fall asleep, if they can be
+    /// listed.
     pub fn pick(&mut self, core: &Core, desks: &mut Desks, queue: usize) -> Option<Pick>
+        requires placed { queue < length (topology_kept core.now).queues }
+        requires ready { HasReady core.now.store queue }
         ensures kept { KeepsIn core.now queue desks.old.entries desks.new.entries self.old self.new }
         ensures more { ListsMore desks.old.entries desks.new.entries }
         ensures some { IfSome result (λ p. IsPickFrom core.now queue p) }

@@ -6,6 +6,7 @@
 
 ghost use Rattle.std.specs.Prelude.{◌≡◌, ◌<◌, ◌≤◌, ◌*◌, [], ℕ, None, IfSome, IfOk, OnOk, length};
 ghost use Rattle.marks.specs.Places.{bit_of};
+ghost use Rattle.depot.specs.Store.{HasReady};
 ghost use Rattle.commands.specs.State.{topology_kept};
 ghost use Rattle.commands.specs.Picked.{IsPickFrom};
 ghost use Rattle.broker.specs.Roster.{ring_at, rings_of, IsAwake, IsAsleep, QueuesAreMarked, IsNextMarked, KeepRings, KeepLines, LetsIn};
@@ -63,12 +64,12 @@ fn seat_at(
     ensures seated { OnOk result (IsAwake (ring_at rings.new queue) consumer) }
     ensures kept { KeepRings core.now rings.old rings.new }
     ensures lines { KeepLines core.now rings.old rings.new }
-    ensures comes { OnOk result (LetsIn core.now consumer (ring_at rings.old queue) (ring_at rings.new queue)) }
-    ensures bounded { IsBounded core.now (ring_at rings.old queue) (ring_at rings.new queue) }
+    ensures comes { OnOk result (LetsIn core.now queue consumer (ring_at rings.old queue) (ring_at rings.new queue)) }
+    ensures bounded { IsBounded core.now queue (ring_at rings.old queue) (ring_at rings.new queue) }
     ensures marked { QueuesAreMarked rings.new awake.new }
 {
     awake.set(queue);
-    rings[queue].seat(core, consumer)
+    rings[queue].seat(core, queue, consumer)
 }
 
 /// This consumer's seat is awake from now on in the ring of the queue at this place, where it is looked for at this place first.
@@ -110,7 +111,7 @@ fn settle(rings: &[Ring], awake: &mut SeatMarks, queue: usize)
     }
 }
 
-/// The first delivery that can be made from the queue at this place, whose bit is 1.
+/// The first delivery that can be made from the queue at this place, which has something ready and whose bit is 1.
 fn pick_at(
     rings: &mut [Ring],
     awake: &mut SeatMarks,
@@ -119,6 +120,8 @@ fn pick_at(
     queue: usize,
 ) -> Option<Pick>
     requires within { queue < length rings.old }
+    requires placed { queue < length (topology_kept core.now).queues }
+    requires ready { HasReady core.now.store queue }
     requires here { bit_of awake.old queue ≡ 1 }
     requires marked { QueuesAreMarked rings.old awake.old }
     ensures len { length rings.new ≡ length rings.old }
@@ -301,8 +304,8 @@ impl Seating {
         ensures seated { OnOk result (IsAwake (ring_at self.new queue) consumer) }
         ensures kept { KeepRings core.now self.old self.new }
         ensures lines { KeepLines core.now self.old self.new }
-        ensures comes { OnOk result (LetsIn core.now consumer (ring_at self.old queue) (ring_at self.new queue)) }
-        ensures bounded { IsBounded core.now (ring_at self.old queue) (ring_at self.new queue) }
+        ensures comes { OnOk result (LetsIn core.now queue consumer (ring_at self.old queue) (ring_at self.new queue)) }
+        ensures bounded { IsBounded core.now queue (ring_at self.old queue) (ring_at self.new queue) }
         ensures len { length self.new ≡ length self.old }
     {
         seat_at(&mut self.rings, &mut self.awake, core, queue, consumer)

@@ -69,6 +69,9 @@ fn expect_taken(depot: &mut Depot, notes: &mut Vec<Note>) -> Result<(), Unmet>
     let arrival = value_of("Depot::take", taken.ok_or(()))?;
     requeue(depot, place, arrival);
     expect_number("it is made ready again", depot.ready_at(place) as u64, 1)?;
+    if notes.len() >= notes.capacity() {
+        return Err(Unmet::Claim("the notes have room still"));
+    }
     depot.take(place, Giving::Out(Text::short(b"audit")), notes);
     expect_number(
         "the queue has none any more",

@@ -3,31 +3,20 @@
 use crate::cores::Core;
 use crate::delivering::deliver_on;
 use crate::picks::{Pick, Taking};
-use channels::{Consumer, lent_channels_are_put};
+use channels::lent_channels_are_put;
 use depot::places_are_named;
 use replies::Step;
 use std::alloc::{AllocError, Global};
 
 impl Core {
-    ghost use Rattle.std.specs.Prelude.{◌≡◌, true, false, IfOk, OnErr, option_map};
+    ghost use Rattle.std.specs.Prelude.{◌≡◌, IfOk, OnErr};
     ghost use Rattle.model.specs.Agreement.{IsAgreed};
     ghost use Rattle.model.specs.Naming.{AreNamed};
     ghost use Rattle.model.specs.Sending.{AreCarried};
     ghost use Rattle.model.specs.Step.{IsDelivery};
     ghost use Rattle.commands.specs.State.{broker_of, topology_kept};
-    ghost use Rattle.commands.specs.Picked.{IsPick, IsPickFrom, IsNextPicked, TakesAs, TellsConsumer, TellsTaking, CannotTake};
-    ghost use Rattle.channels.specs.declared.consumers.Consumer.{Consumer as One};
+    ghost use Rattle.commands.specs.Picked.{IsPick, IsNextPicked, TellsTaking};
     ghost use Rattle.replies.specs.Sent.{AreAddressed};
-
-    /// The consumer of these numbers, exactly where it may take a message now.
-    fn taker(&self, pick: Pick) -> Option<&Consumer>
-        ensures { TellsConsumer self.now pick (option_map (λ k. k.now) result) }
-    {
-        match self.links.get(pick.connection) {
-            Some(link) => link.taker(pick.channel, pick.number),
-            None => None,
-        }
-    }
 
     /// How many messages came to queues that lag behind those who take from them.
     pub fn lagged(&self) -> u64 {
@@ -41,45 +30,6 @@ impl Core {
         self.depot.is_whole();
         places_are_named();
         self.depot.next_ready(from)
-    }
-
-    /// Whether a delivery can be made from the queue at this place to the consumer of these numbers: it is a consumer of that
-    /// queue and may take a message now, and the queue has one.
-    pub fn may_deliver(&self, queue: usize, pick: Pick) -> bool
-        ensures yes { result ≡ true → IsPickFrom self.now queue pick }
-        ensures no { IsPickFrom self.now queue pick → result ≡ true }
-    {
-        match self.taker(pick) {
-            Some(consumer) => {
-                self.depot.is_whole();
-                self.depot.is_named(consumer.queue);
-                consumer.queue == queue && self.depot.first_ready(consumer.queue).is_some()
-            }
-            None => false,
-        }
-    }
-
-    /// Whether a delivery can be made to the consumer of these numbers: it may take a message now, and its queue has one.
-    pub fn can_deliver(&self, pick: Pick) -> bool
-        ensures yes { result ≡ true → IsPick (broker_of self.now) pick }
-        ensures no { IsPick (broker_of self.now) pick → result ≡ true }
-    {
-        match self.taker(pick) {
-            Some(consumer) => {
-                self.depot.is_whole();
-                self.depot.is_named(consumer.queue);
-                self.depot.first_ready(consumer.queue).is_some()
-            }
-            None => false,
-        }
-    }
-
-    /// Whether the consumer of these numbers may take a message now, from whatever queue.
-    pub fn may_take(&self, pick: Pick) -> bool
-        ensures yes { result ≡ true → (k : One) × TakesAs self.now pick k }
-        ensures no { result ≡ false → CannotTake (broker_of self.now) pick }
-    {
-        self.taker(pick).is_some()
     }
 
     /// Whether the consumer of these numbers is there and may take a message now, and of the queue at which place it is one. Its

@@ -38,17 +38,7 @@ impl Core {
     ghost use Rattle.std.specs.Prelude.{◌≡◌, ◌<◌, ℕ, Some, IfSome, length};
     ghost use Rattle.channels.specs.Links.{linked_in};
     ghost use Rattle.commands.specs.State.{topology_kept};
-    ghost use Rattle.commands.specs.Seats.{consumers_on, has_consumer, next_seat, seat_of, IsConsumed};
-
-    /// Whether the consumer of these numbers is there.
-    pub fn has_consumer(&self, pick: Pick) -> bool
-        ensures { result ≡ has_consumer self.now pick }
-    {
-        match self.links.channel(pick.connection, pick.channel) {
-            Some(channel) => channel.consumer(pick.number).is_some(),
-            None => false,
-        }
-    }
+    ghost use Rattle.commands.specs.Seats.{consumers_on, next_seat, seat_of, IsConsumed};
 
     /// How many consumers the channel of these numbers has.
     pub fn consumers_on(&self, connection: u64, channel: u16) -> usize

@@ -1,5 +1,4 @@
 use Rattle.std.proofs.Common.{◌∙◌, sym, subst}
-use Rattle.std.proofs.lemmas.Bool.{false≢true}
 use Rattle.std.proofs.lemmas.Option.{same_Some}
 use Rattle.commands.specs.State.{broker_of}
 use Rattle.commands.specs.Picked.{IsPick}
@@ -12,4 +11,4 @@ returns-then-can_deliver-clause-some c = c.can_deliver.ensures.yes c.if-can_deli
 pub returns-clause-none : goal.returns-clause-none
 returns-clause-none c = λ e p is pick.
     let same = same_Some p c.in-Some.pick (sym is ∙ c.in-Some.is) in
-    absurd (false≢true (sym c.if-can_deliver.false ∙ c.can_deliver.ensures.no (subst (λ (q : Pick). IsPick (broker_of c.args.core.now) q) same pick)))
+    absurd (c.can_deliver.ensures.no c.if-can_deliver.false (subst (λ (q : Pick). IsPick (broker_of c.args.core.now) q) same pick))

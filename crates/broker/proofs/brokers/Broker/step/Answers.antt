@@ -5,7 +5,7 @@ use Rattle.commands.specs.State.{Kept, broker_of, topology_kept}
 use Rattle.replies.specs.Sent.{connection_of_event}
 use Rattle.broker.proofs.Outcomes.{on_err}
 use Rattle.broker.proofs.Seated.{holds, came_there, serves, serves_kept, running_still, running_but}
-use Rattle.broker.proofs.Stepped.{held_on, lists_on, held_then}
+use Rattle.broker.proofs.Stepped.{held_on, held_then, is_ended, is_running, lists_on}
 use Rattle.broker.specs.Turns.{WithTurn, with_turn}
 use Rattle.broker.specs.Waiting.{OneComesIn}
 use Rattle.broker.proofs.Turning.{same_turns, keep_then, lets_then, orders_then, one_comes}
@@ -13,6 +13,9 @@ use Rattle.broker.proofs.brokers.Broker.step.Goals as goal
 
 pub returns-clause-addressed : goal.returns-clause-addressed
 returns-clause-addressed c = rw (← c.self.view_is) c.in_ok-acted.ensures.addressed
+
+pub returns-then-not-acted-clause-addressed : goal.returns-then-not-acted-clause-addressed
+returns-then-not-acted-clause-addressed c = rw (← c.self.view_is) c.in_ok-acted.ensures.addressed
 
 -- where memory is wanting for the seat
 pub invariant_of-self : goal.invariant_of-self
@@ -33,12 +36,12 @@ invariant_of-self-in_err-acted c =
     (lists_on c.self.inside.core c.self.inside.roster c.seat_next.new.self c.wake_for.new.self c.args.event.now c.self.invariant c.seat_next.ensures.kept c.seat_next.ensures.len c.seat_next.ensures.running c.wake_for.ensures.kept c.wake_for.ensures.len c.wake_for.ensures.none))
 
 -- where the step is made, and every connection runs still
-pub invariant_of-self-then-acted : goal.invariant_of-self-then-acted
-invariant_of-self-then-acted c =
+pub invariant_of-self-then-not-acted : goal.invariant_of-self-then-not-acted
+invariant_of-self-then-not-acted c =
     let old : Kept = c.self.inside.core in
     let new : Kept = c.step.new.self in
     let after : Rings = c.wake_for.new.self in
-    let ended = subst (λ (v : Bool). TellsEnd (connection_of_event c.args.event.now) v (broker_of old) (broker_of new)) c.if-not-acted.true c.in_ok-acted.ensures.ended in
+    let ended = subst (λ (v : Bool). TellsEnd (connection_of_event c.args.event.now) v (broker_of old) (broker_of new)) (is_running c.in_ok-acted.acted.has_ended c.if-not-acted.true) c.in_ok-acted.ensures.ended in
     serves new after
     (held_then c.self.inside.core c.self.inside.roster c.seat_next.new.self c.wake_for.new.self c.args.event.now c.self.invariant c.seat_next.ensures.kept c.seat_next.ensures.len c.seat_next.ensures.running c.wake_for.ensures.kept c.wake_for.ensures.len c.wake_for.ensures.none
     c.brokers_stay_agreed.ensures.acts c.consumers_are_made.ensures new _ _ c.in_ok-seat_next.ensures.seated c.wake_for.ensures.woken c.wake_for.ensures.wakens c.in_ok-acted.ensures.ok c.step.ensures.topology)
@@ -53,7 +56,7 @@ invariant_of-self-2 c =
     let after : Rings = c.wake_for.new.self in
     let left : Rings = c.forget.new.self in
     let connection = c.connection_of.result in
-    let ended = subst (λ (v : Bool). TellsEnd connection v (broker_of old) (broker_of new)) c.if-not-acted.false (subst (λ (d : ℕ). TellsEnd d c.in_ok-acted.acted.has_ended (broker_of old) (broker_of new)) (sym c.connection_of.ensures) c.in_ok-acted.ensures.ended) in
+    let ended = subst (λ (v : Bool). TellsEnd connection v (broker_of old) (broker_of new)) (is_ended c.in_ok-acted.acted.has_ended c.if-not-acted.false) (subst (λ (d : ℕ). TellsEnd d c.in_ok-acted.acted.has_ended (broker_of old) (broker_of new)) (sym c.connection_of.ensures) c.in_ok-acted.ensures.ended) in
     serves new left
     (serves_kept new after left (c.forget.ensures.kept new ended.0) c.forget.ensures.len
     (held_then c.self.inside.core c.self.inside.roster c.seat_next.new.self c.wake_for.new.self c.args.event.now c.self.invariant c.seat_next.ensures.kept c.seat_next.ensures.len c.seat_next.ensures.running c.wake_for.ensures.kept c.wake_for.ensures.len c.wake_for.ensures.none
@@ -80,8 +83,8 @@ returns-in_err-acted-clause-err c =
     ∙ c.self.view_is)
 
 -- nobody's turn is further off, whether the connection ended or not
-pub returns-then-acted-clause-later : goal.returns-then-acted-clause-later
-returns-then-acted-clause-later c =
+pub returns-then-not-acted-clause-later : goal.returns-then-not-acted-clause-later
+returns-then-not-acted-clause-later c =
     let old : Kept = c.self.inside.core in
     let before : Rings = c.self.inside.roster in
     let mid : Rings = c.seat_next.new.self in

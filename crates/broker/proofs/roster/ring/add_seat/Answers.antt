@@ -10,9 +10,9 @@ use Rattle.broker.proofs.Sleeping.{pushed}
 use Rattle.broker.proofs.roster.ring.add_seat.Goals as goal
 
 pub returns-clause-kept : goal.returns-clause-kept
-returns-clause-kept c = λ lists queue p i has.
-    subst (λ (xs : List Seat). IsSeatedIn (broker_of c.args.core.now) lists queue (ring_of xs c.set.new.self) p) (sym c.push_reserved.ensures.items)
-    (pushed c.args.core.now c.make_room.new.seats.items (awake_seat c.args.consumer ∷ []) c.make_room.new.awake c.set.new.self _ c.set.ensures.set lists queue p (c.make_room.ensures.kept lists queue p i has) has)
+returns-clause-kept c = λ lists p i has.
+    subst (λ (xs : List Seat). IsSeatedIn (broker_of c.args.core.now) lists c.args.queue (ring_of xs c.set.new.self) p) (sym c.push_reserved.ensures.items)
+    (pushed c.args.core.now c.args.queue c.make_room.new.seats.items (awake_seat c.args.consumer ∷ []) c.make_room.new.awake c.set.new.self _ c.set.ensures.set lists p (c.make_room.ensures.kept lists p i has) has)
 
 pub returns-clause-apart : goal.returns-clause-apart
 returns-clause-apart c = λ apart.
@@ -26,5 +26,5 @@ returns-clause-line c = λ test there none.
 
 pub returns-clause-bounded : goal.returns-clause-bounded
 returns-clause-bounded c =
-    subst (λ (xs : List Seat). (length xs ≤ vec_capacity c.args.seats.now) ⊎ (length xs ≤ count_by (has_its_consumer c.args.core.now) xs + 1)) (sym c.push_reserved.ensures.items)
-    (bounded_end c.args.core.now c.make_room.new.seats.items (awake_seat c.args.consumer) (vec_capacity c.args.seats.now) c.make_room.ensures.bounded)
+    subst (λ (xs : List Seat). (length xs ≤ vec_capacity c.args.seats.now) ⊎ (length xs ≤ count_by (has_its_consumer c.args.core.now c.args.queue) xs + 1)) (sym c.push_reserved.ensures.items)
+    (bounded_end c.args.core.now c.args.queue c.make_room.new.seats.items (awake_seat c.args.consumer) (vec_capacity c.args.seats.now) c.make_room.ensures.bounded)

@@ -1,9 +1,10 @@
-use Rattle.std.proofs.Common.{◌∙◌, false, ap, sym, subst, arith}
+use Rattle.std.proofs.Common.{◌∙◌, get_or, false, ap, sym, subst, arith}
 use Rattle.channels.proofs.Setting.{same_default}
 use Rattle.commands.specs.Picked.{IsPickFrom}
 use Rattle.broker.specs.declared.roster.seats.Seat.{Seat}
-use Rattle.broker.specs.Roster.{ring_of}
+use Rattle.broker.specs.Roster.{ring_of, FindsSeat}
 use Rattle.broker.proofs.Desks.{more_on}
+use Rattle.broker.proofs.Found.{able_found, none_found}
 use Rattle.broker.proofs.Sleeping.{none_gap, none_more}
 use Rattle.broker.proofs.roster.ring.first_between.Goals as goal
 
@@ -13,13 +14,22 @@ returns-then-place-to-clause-none c = λ e.
     none_gap c.args.core.now c.args.queue (ring_of c.args.seats.now c.args.awake.now) (ring_of c.seats.seats c.seats.awake) c.args.from c.seats.next c.args.to c.seats.invariant.none c.seats.invariant.behind
     (λ k le lt. c.in-Some.ensures.some.before k le (omega (arith, lt, past)))
 
-pub returns-then-may_deliver-clause-some : goal.returns-then-may_deliver-clause-some
-returns-then-may_deliver-clause-some c = λ d.
+pub returns-then-is_able-clause-some : goal.returns-then-is_able-clause-some
+returns-then-is_able-clause-some c = λ d.
     let before = c.if-place-to.false in
     let most = c.requires.within in
     let long = c.seats.auto.seats in
     let none : Seat = record { pick = record { connection = 0; channel = 0; number = 0 }; asleep = false } in
-    subst (λ (s : Seat). IsPickFrom c.args.core.now c.args.queue s.pick) (same_default c.seats.seats c.in-Some.place none d (omega (arith, before, most, long))) (c.may_deliver.ensures.yes c.if-may_deliver.true)
+    subst (λ (s : Seat). IsPickFrom c.args.core.now c.args.queue s.pick) (same_default c.seats.seats c.in-Some.place none d (omega (arith, before, most, long)))
+    (able_found c.args.core.now c.args.queue (get_or c.seats.seats c.in-Some.place none) c.find-found.result c.find-found.ensures (sym c.is_able.ensures ∙ c.if-is_able.true))
+
+pub rest-requires-clause-found : goal.rest-requires-clause-found
+rest-requires-clause-found c = λ d.
+    let before = c.if-place-to.false in
+    let most = c.requires.within in
+    let long = c.seats.auto.seats in
+    let none : Seat = record { pick = record { connection = 0; channel = 0; number = 0 }; asleep = false } in
+    subst (λ (s : Seat). FindsSeat c.args.core.now c.args.queue s c.find-found.result) (same_default c.seats.seats c.in-Some.place none d (omega (arith, before, most, long))) c.find-found.ensures
 
 pub seats-preserved : goal.seats-preserved
 seats-preserved c =
@@ -37,8 +47,7 @@ seats-preserved c =
       none = none_more c.args.core.now c.args.queue (ring_of c.args.seats.now c.args.awake.now) c.args.from c.in-Some.place
           (none_gap c.args.core.now c.args.queue (ring_of c.args.seats.now c.args.awake.now) (ring_of c.seats.seats c.seats.awake) c.args.from c.seats.next c.in-Some.place c.seats.invariant.none c.seats.invariant.behind c.in-Some.ensures.some.before)
           (λ p at pick.
-          let is = (c.seats.invariant.behind c.in-Some.place next p at).there none in
-          c.may_deliver.ensures.no c.if-may_deliver.false (ap (λ (s : Seat). s.asleep) is) (subst (IsPickFrom c.args.core.now c.args.queue) (sym (ap (λ (s : Seat). s.pick) is)) pick));
+          none_found c.args.core.now c.args.queue (get_or c.seats.seats c.in-Some.place none) p c.find-found.result c.find-found.ensures (sym c.is_able.ensures ∙ c.if-is_able.false) ((c.seats.invariant.behind c.in-Some.place next p at).there none) pick);
       same = c.rest.ensures.same ∙ c.seats.invariant.same;
     }
 
@@ -47,7 +56,7 @@ returns-clause-none c = λ e.
     none_gap c.args.core.now c.args.queue (ring_of c.args.seats.now c.args.awake.now) (ring_of c.seats.seats c.seats.awake) c.args.from c.seats.next c.args.to c.seats.invariant.none c.seats.invariant.behind
     (λ k le lt. c.in_default.ensures.none k le)
 
-pub returns-then-may_deliver-clause-passed : goal.returns-then-may_deliver-clause-passed
-returns-then-may_deliver-clause-passed c =
+pub returns-then-is_able-clause-passed : goal.returns-then-is_able-clause-passed
+returns-then-is_able-clause-passed c =
     none_gap c.args.core.now c.args.queue (ring_of c.args.seats.now c.args.awake.now) (ring_of c.seats.seats c.seats.awake) c.args.from c.seats.next c.in-Some.place c.seats.invariant.none c.seats.invariant.behind
     (λ k le lt. c.in-Some.ensures.some.before k le lt)

@@ -6,7 +6,7 @@ use Rattle.broker.specs.Roster.{rings_of, IsSeated}
 use Rattle.broker.proofs.Desks.{more_on}
 use Rattle.broker.proofs.Marked.{marked_by}
 use Rattle.broker.proofs.Orders.{picks_since}
-use Rattle.broker.proofs.Present.{picked_kept}
+use Rattle.broker.proofs.Takers.{picked_of}
 use Rattle.broker.proofs.roster.seating.first_between.Goals as goal
 
 pub returns-then-queue-to-clause-none : goal.returns-then-queue-to-clause-none
@@ -16,7 +16,7 @@ returns-then-queue-to-clause-none c = λ e place p from lt i pick.
       | inl a ↦ let le = a.1 in c.queues.invariant.none place p from (omega (arith, le)) i pick
       | inr a ↦
           let gt = a.1 in
-          c.in-Some.ensures.before place p (omega (arith, gt)) (omega (arith, lt, past)) (marked_by c.args.core.now c.queues.desks.entries c.queues.rings c.queues.awake place p c.queues.invariant.marked (c.queues.invariant.kept place p i (picked_kept c.args.core.now place p pick)) pick) pick
+          c.in-Some.ensures.before place p (omega (arith, gt)) (omega (arith, lt, past)) (marked_by c.args.core.now c.queues.desks.entries c.queues.rings c.queues.awake place p c.queues.invariant.marked (c.queues.invariant.kept place p i (picked_of c.args.core.now place p pick)) pick) pick
     ]
 
 pub queues-preserved : goal.queues-preserved
@@ -36,13 +36,13 @@ queues-preserved c =
             elim (leb_tells (place + 1) c.in-Some.queue) [
               | inl b ↦
                   let before = b.1 in
-                  c.in-Some.ensures.before place p (omega (arith, gt)) (omega (arith, before)) (marked_by c.args.core.now c.queues.desks.entries c.queues.rings c.queues.awake place p c.queues.invariant.marked (c.queues.invariant.kept place p i (picked_kept c.args.core.now place p pick)) pick) pick
+                  c.in-Some.ensures.before place p (omega (arith, gt)) (omega (arith, before)) (marked_by c.args.core.now c.queues.desks.entries c.queues.rings c.queues.awake place p c.queues.invariant.marked (c.queues.invariant.kept place p i (picked_of c.args.core.now place p pick)) pick) pick
               | inr b ↦
                   let behind = b.1 in
                   let here : place ≡ c.in-Some.queue = omega (arith, lt, behind) in
                   let from : IsPickFrom c.args.core.now c.in-Some.queue p = subst (λ (n : ℕ). IsPickFrom c.args.core.now n p) here pick in
                   c.in_default-pick_at.ensures.none refl p
-                  (c.queues.invariant.kept c.in-Some.queue p (subst (λ (n : ℕ). IsSeated (broker_of c.args.core.now) (rings_of c.args.rings.now c.args.desks.now.entries) n p) here i) (picked_kept c.args.core.now c.in-Some.queue p from))
+                  (c.queues.invariant.kept c.in-Some.queue p (subst (λ (n : ℕ). IsSeated (broker_of c.args.core.now) (rings_of c.args.rings.now c.args.desks.now.entries) n p) here i) (picked_of c.args.core.now c.in-Some.queue p from))
                   from
             ]
       ];
@@ -53,7 +53,7 @@ pub returns-clause-none : goal.returns-clause-none
 returns-clause-none c = λ e place p from lt i pick.
     elim (leb_tells (place + 1) c.queues.next) [
       | inl a ↦ let le = a.1 in c.queues.invariant.none place p from (omega (arith, le)) i pick
-      | inr a ↦ let gt = a.1 in c.in_default.ensures place p (omega (arith, gt)) (marked_by c.args.core.now c.queues.desks.entries c.queues.rings c.queues.awake place p c.queues.invariant.marked (c.queues.invariant.kept place p i (picked_kept c.args.core.now place p pick)) pick) pick
+      | inr a ↦ let gt = a.1 in c.in_default.ensures place p (omega (arith, gt)) (marked_by c.args.core.now c.queues.desks.entries c.queues.rings c.queues.awake place p c.queues.invariant.marked (c.queues.invariant.kept place p i (picked_of c.args.core.now place p pick)) pick) pick
     ]
 
 pub returns-in-Some-pick_at-clause-kept : goal.returns-in-Some-pick_at-clause-kept
@@ -65,7 +65,7 @@ returns-in-Some-pick_at-clause-passed c = λ place p from lt i pick.
       | inl a ↦ let le = a.1 in c.queues.invariant.none place p from (omega (arith, le)) i pick
       | inr a ↦
           let gt = a.1 in
-          c.in-Some.ensures.before place p (omega (arith, gt)) lt (marked_by c.args.core.now c.queues.desks.entries c.queues.rings c.queues.awake place p c.queues.invariant.marked (c.queues.invariant.kept place p i (picked_kept c.args.core.now place p pick)) pick) pick
+          c.in-Some.ensures.before place p (omega (arith, gt)) lt (marked_by c.args.core.now c.queues.desks.entries c.queues.rings c.queues.awake place p c.queues.invariant.marked (c.queues.invariant.kept place p i (picked_of c.args.core.now place p pick)) pick) pick
     ]
 
 pub returns-in-Some-pick_at-clause-told : goal.returns-in-Some-pick_at-clause-told

@@ -15,21 +15,21 @@ use Rattle.broker.proofs.Standing.{not_in, from_turned}
 use Rattle.broker.proofs.roster.ring.Ring.seat.Goals as goal
 
 pub returns-then-wake_seat-clause-kept : goal.returns-then-wake_seat-clause-kept
-returns-then-wake_seat-clause-kept c = λ lists queue p i has.
+returns-then-wake_seat-clause-kept c = λ lists p i has.
     let b = broker_of c.args.core.now in
     let was = ap (λ (xs : List Seat). record { seats = xs; marks = c.self.inside.awake; next = c.self.inside.next; room = vec_capacity c.self.inside.seats }) c.deref_mut.ensures.value ∙ c.self.view_is in
     let back = take_at c.wake_seat.new.seats _ c.self.inside.seats.len (c.wake_seat.auto.seats ∙ c.deref_mut.ensures.len) in
-    (subst (λ (xs : List Seat). IsSeatedIn b lists queue (ring_of xs c.wake_seat.new.awake) p) (sym back)
-    (seated_woken b lists queue (ring_of c.deref_mut.result.now c.self.inside.awake) (ring_of c.wake_seat.new.seats c.wake_seat.new.awake) p c.wake_seat.ensures.wakens (subst (λ (r : Seats). IsSeatedIn b lists queue r p) (sym was) i)))
+    (subst (λ (xs : List Seat). IsSeatedIn b lists c.args.queue (ring_of xs c.wake_seat.new.awake) p) (sym back)
+    (seated_woken b lists c.args.queue (ring_of c.deref_mut.result.now c.self.inside.awake) (ring_of c.wake_seat.new.seats c.wake_seat.new.awake) p c.wake_seat.ensures.wakens (subst (λ (r : Seats). IsSeatedIn b lists c.args.queue r p) (sym was) i)))
 
 pub returns-clause-kept : goal.returns-clause-kept
-returns-clause-kept c = λ lists queue p i has.
+returns-clause-kept c = λ lists p i has.
     let b = broker_of c.args.core.now in
     let was = ap (λ (xs : List Seat). record { seats = xs; marks = c.self.inside.awake; next = c.self.inside.next; room = vec_capacity c.self.inside.seats }) c.deref_mut.ensures.value ∙ c.self.view_is in
     let back = take_at c.wake_seat.new.seats _ c.self.inside.seats.len (c.wake_seat.auto.seats ∙ c.deref_mut.ensures.len) in
-    c.add_seat.ensures.kept lists queue p
-    (subst (λ (xs : List Seat). IsSeatedIn b lists queue (ring_of xs c.wake_seat.new.awake) p) (sym back)
-    (seated_woken b lists queue (ring_of c.deref_mut.result.now c.self.inside.awake) (ring_of c.wake_seat.new.seats c.wake_seat.new.awake) p c.wake_seat.ensures.wakens (subst (λ (r : Seats). IsSeatedIn b lists queue r p) (sym was) i))) has
+    c.add_seat.ensures.kept lists p
+    (subst (λ (xs : List Seat). IsSeatedIn b lists c.args.queue (ring_of xs c.wake_seat.new.awake) p) (sym back)
+    (seated_woken b lists c.args.queue (ring_of c.deref_mut.result.now c.self.inside.awake) (ring_of c.wake_seat.new.seats c.wake_seat.new.awake) p c.wake_seat.ensures.wakens (subst (λ (r : Seats). IsSeatedIn b lists c.args.queue r p) (sym was) i))) has
 
 -- where it was woken all go round as before
 pub returns-then-wake_seat-clause-line : goal.returns-then-wake_seat-clause-line
@@ -42,7 +42,7 @@ pub returns-then-wake_seat-clause-comes : goal.returns-then-wake_seat-clause-com
 returns-then-wake_seat-clause-comes c =
     let back = take_at c.wake_seat.new.seats (drop (length c.wake_seat.new.seats) c.self.inside.seats.items) c.self.inside.seats.len (c.wake_seat.auto.seats ∙ c.deref_mut.ensures.len) in
     let same = ap picks back ∙ c.wake_seat.ensures.wakens.same ∙ ap picks c.deref_mut.ensures.value in
-    lets_in c.args.core.now c.args.consumer c.args.self.now (record { seats = _; marks = []; next = c.self.inside.next; room = 0 }) (subst (λ (ps : List Pick). AreDistinct ps) (sym same) c.self.invariant.1) (returns-then-wake_seat-clause-line c)
+    lets_in c.args.core.now c.args.queue c.args.consumer c.args.self.now (record { seats = _; marks = []; next = c.self.inside.next; room = 0 }) (subst (λ (ps : List Pick). AreDistinct ps) (sym same) c.self.invariant.1) (returns-then-wake_seat-clause-line c)
 
 pub returns-then-wake_seat-clause-bounded : goal.returns-then-wake_seat-clause-bounded
 returns-then-wake_seat-clause-bounded c =
@@ -73,7 +73,7 @@ returns-clause-comes c =
     let back = take_at c.wake_seat.new.seats (drop (length c.wake_seat.new.seats) c.self.inside.seats.items) c.self.inside.seats.len (c.wake_seat.auto.seats ∙ c.deref_mut.ensures.len) in
     let same = ap picks back ∙ c.wake_seat.ensures.wakens.same ∙ ap picks c.deref_mut.ensures.value in
     on_ok c.add_seat.result
-    (λ up. lets_in c.args.core.now c.args.consumer c.args.self.now (record { seats = c.add_seat.new.seats.items; marks = []; next = c.add_seat.new.next; room = 0 }) (c.add_seat.ensures.apart (subst (λ (ps : List Pick). AreDistinct ps) (sym same) c.self.invariant.1)) (returns-clause-line c))
+    (λ up. lets_in c.args.core.now c.args.queue c.args.consumer c.args.self.now (record { seats = c.add_seat.new.seats.items; marks = []; next = c.add_seat.new.next; room = 0 }) (c.add_seat.ensures.apart (subst (λ (ps : List Pick). AreDistinct ps) (sym same) c.self.invariant.1)) (returns-clause-line c))
     c.add_seat.ensures.seated
 
 pub returns-clause-bounded : goal.returns-clause-bounded
