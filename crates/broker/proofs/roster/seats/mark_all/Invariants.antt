@@ -1,10 +1,10 @@
 use Rattle.std.proofs.Common.{◌≡◌, ◌<◌, ℕ, length}
 use Rattle.marks.specs.Places.{bit_of}
-use Rattle.broker.proofs.roster.ring.mark_all.Given as goal
+use Rattle.broker.proofs.roster.seats.mark_all.Given as goal
 
 -- picks look at those before this place
 abbrev pub invariant-loop-place : goal.invariant-loop-place
 invariant-loop-place l = record {
-  len : length l.awake ≡ length l.fn.awake;
-  marked : (i : ℕ) → i < l.place → bit_of l.awake i ≡ 1;
+  len : length l.marks ≡ length l.fn.marks;
+  marked : (i : ℕ) → i < l.place → bit_of l.marks i ≡ 1;
 }
