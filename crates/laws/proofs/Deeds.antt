@@ -30,7 +30,7 @@ use Rattle.model.specs.declared.methods.Publish.{Publish}
 use Rattle.model.specs.declared.methods.Purge.{Purge}
 use Rattle.model.specs.declared.methods.Qos.{Qos}
 use Rattle.model.specs.declared.methods.Method.{Method}
-use Rattle.model.specs.declared.methods.Method.TheVariants.{ConnectionClose, ChannelOpen, ChannelOpenOk, ChannelFlow, ChannelFlowOk, ChannelClose, ChannelCloseOk, ExchangeDeclare, ExchangeDeclareOk, QueueDeclare, QueuePurge, QueuePurgeOk, BasicQos, BasicQosOk, BasicConsume, BasicConsumeOk, BasicCancel, BasicCancelOk, BasicPublish, BasicGet, BasicGetEmpty, BasicAck, BasicReject, BasicNack, BasicRecover, BasicRecoverOk, ConfirmSelect, ConfirmSelectOk}
+use Rattle.model.specs.declared.methods.Method.TheVariants.{ConnectionClose, ChannelOpen, ChannelOpenOk, ChannelFlow, ChannelFlowOk, ChannelClose, ChannelCloseOk, ExchangeDeclare, ExchangeDeclareOk, QueueDeclare, QueuePurge, QueuePurgeOk, BasicQos, BasicQosOk, BasicConsume, BasicConsumeOk, BasicCancel, BasicCancelOk, BasicPublish, BasicGet, BasicGetEmpty, BasicAck, BasicReject, BasicNack, BasicSettle, ChannelPing, ChannelPingOk, BasicRecover, BasicRecoverOk, ConfirmSelect, ConfirmSelectOk}
 use Rattle.model.specs.declared.events.Send.{Send}
 use Rattle.model.specs.declared.events.Event.{Event}
 use Rattle.model.specs.declared.events.Event.TheVariants.{Open, First, Running, Command, TooLarge, Fault, Lose, Pause, Resume, Deliver}
@@ -482,6 +482,7 @@ module _ (t : Topology) (old new : Broker) (sends : List Send) (notes : List Not
   performs c h (ConfirmSelect no_wait) content conn accepted there p = altered _ c h _ _ there p (answer_unless no_wait c h ConfirmSelectOk refl refl) (record { outstanding = refl; next_tag = refl; is_closing = refl }) (as_before refl refl)
   performs c h (BasicPublish publish) content conn accepted there p = publishes c h publish content conn accepted there p
   performs c h (ChannelOpen reserved) content conn accepted there p = opens c h reserved content (not_open t old conn h reserved (old.channel c h) accepted) there p
+  performs c h ChannelPing content conn accepted there p = idle _ c _ p (answer c h ChannelPingOk refl refl)
   performs c h (ChannelFlow active) content conn accepted there p = idle _ c _ p (answer c h (ChannelFlowOk active) refl refl)
   performs c h (ChannelClose m) content conn accepted there p = closes _ c h _ there (channel_at old c h).is_closing p (answer c h ChannelCloseOk refl refl)
   performs c h ChannelCloseOk content conn accepted there p = still _ c _ _ p refl (λ x. refl) silent (ends h p.left.queues (record { there = there; channels = p.left.channels; connections = p.left.connections }) (awaited t old conn h (old.channel c h) accepted))
@@ -495,6 +496,7 @@ module _ (t : Topology) (old new : Broker) (sends : List Send) (notes : List Not
   performs c h (BasicGet m) content conn accepted there p = gets c h m content conn accepted there (first_ready (old.queue m.queue)) refl p
   performs c h (BasicAck m) content conn accepted there p = settled c h (BasicAck m) content (Leaves Acked) m.delivery_tag m.multiple [] there p silent refl (λ why is n q given. subst (IsCauseIn old c h (BasicAck m) n q) (sym is) given)
   performs c h (BasicReject m) content conn accepted there p = rejects c h (BasicReject m) content m.requeue m.delivery_tag false there p (λ n q e given. (e, given))
+  performs c h (BasicSettle m) content conn accepted there p = rejects c h (BasicSettle m) content m.requeue m.delivery_tag m.multiple there p (λ n q e given. (e, given))
   performs c h (BasicNack m) content conn accepted there p = rejects c h (BasicNack m) content m.requeue m.delivery_tag m.multiple there p (λ n q e given. (e, given))
   performs c h (BasicRecover requeue) content conn accepted there p = settled c h (BasicRecover requeue) content Returns 0 true _ there p (answer c h BasicRecoverOk refl refl) tt (λ why is. absurd is)
   performs c h (QueuePurge m) content conn accepted there p = purged c h m content p

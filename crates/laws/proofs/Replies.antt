@@ -5,7 +5,7 @@ use Rattle.model.specs.declared.contents.Content.{Content}
 use Rattle.model.specs.declared.events.Send.{Send}
 use Rattle.model.specs.declared.events.Send.TheVariants as send
 use Rattle.model.specs.declared.methods.Method.{Method}
-use Rattle.model.specs.declared.methods.Method.TheVariants.{ConnectionStart, ConnectionTune, ConnectionOpenOk, ConnectionClose, ConnectionCloseOk, ChannelOpenOk, ChannelFlowOk, ChannelClose, ChannelCloseOk, ExchangeDeclareOk, QueueDeclareOk, QueuePurgeOk, BasicQosOk, BasicGetOk, BasicGetEmpty, BasicRecoverOk, ConfirmSelectOk, BasicConsumeOk, BasicCancelOk, BasicDeliver}
+use Rattle.model.specs.declared.methods.Method.TheVariants.{ConnectionStart, ConnectionTune, ConnectionOpenOk, ConnectionClose, ConnectionCloseOk, ChannelOpenOk, ChannelFlowOk, ChannelClose, ChannelCloseOk, ChannelPingOk, ExchangeDeclareOk, QueueDeclareOk, QueuePurgeOk, BasicQosOk, BasicGetOk, BasicGetEmpty, BasicRecoverOk, ConfirmSelectOk, BasicConsumeOk, BasicCancelOk, BasicDeliver}
 
 -- a close, an answer to a method other than a publish, or a delivery
 abbrev pub is_reply : Method → Bool
@@ -17,6 +17,7 @@ is_reply (ChannelOpenOk []) = true
 is_reply (ChannelFlowOk active) = true
 is_reply (ChannelClose m) = true
 is_reply ChannelCloseOk = true
+is_reply ChannelPingOk = true
 is_reply ConfirmSelectOk = true
 is_reply BasicQosOk = true
 is_reply ExchangeDeclareOk = true

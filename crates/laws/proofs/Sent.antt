@@ -11,7 +11,7 @@ use Rattle.model.specs.Step.{returned_sends, confirm_sends, confirm_method}
 use Rattle.model.specs.declared.contents.Content.{Content}
 use Rattle.model.specs.declared.methods.Publish.{Publish}
 use Rattle.model.specs.declared.methods.Method.{Method}
-use Rattle.model.specs.declared.methods.Method.TheVariants.{ConnectionTune, ConnectionOpenOk, ConnectionClose, ConnectionCloseOk, ChannelOpenOk, ChannelFlowOk, ChannelClose, ChannelCloseOk, ExchangeDeclareOk, QueueDeclareOk, QueuePurgeOk, BasicQosOk, BasicReturn, BasicGetOk, BasicGetEmpty, BasicRecoverOk, ConfirmSelectOk, BasicConsumeOk, BasicCancelOk, BasicDeliver}
+use Rattle.model.specs.declared.methods.Method.TheVariants.{ConnectionTune, ConnectionOpenOk, ConnectionClose, ConnectionCloseOk, ChannelPingOk, ChannelOpenOk, ChannelFlowOk, ChannelClose, ChannelCloseOk, ExchangeDeclareOk, QueueDeclareOk, QueuePurgeOk, BasicQosOk, BasicReturn, BasicGetOk, BasicGetEmpty, BasicRecoverOk, ConfirmSelectOk, BasicConsumeOk, BasicCancelOk, BasicDeliver}
 use Rattle.model.specs.declared.notes.Answer.{Answer}
 use Rattle.model.specs.declared.notes.Answer.TheVariants as answer
 use Rattle.model.specs.declared.events.Send.{Send}
@@ -33,6 +33,7 @@ short_reply (ChannelOpenOk []) e is = omega arith
 short_reply (ChannelFlowOk active) e is = grind (arith, common_steps, is)
 short_reply (ChannelClose m) e is = grind (arith, common_steps, is)
 short_reply ChannelCloseOk e is = omega arith
+short_reply ChannelPingOk e is = omega arith
 short_reply ExchangeDeclareOk e is = omega arith
 short_reply (QueueDeclareOk m) e is = grind (arith, common_steps, is)
 short_reply (QueuePurgeOk count) e is = grind (arith, common_steps, is)

@@ -18,7 +18,7 @@ use Rattle.model.specs.Settled.{Settling, settling_of, HasLeft, IsOutstandingOn,
 use Rattle.model.specs.declared.contents.Content.{Content}
 use Rattle.model.specs.declared.messages.Entry.{Entry}
 use Rattle.model.specs.declared.methods.Method.{Method}
-use Rattle.model.specs.declared.methods.Method.TheVariants.{BasicAck, BasicReject, BasicNack, BasicRecover}
+use Rattle.model.specs.declared.methods.Method.TheVariants.{BasicAck, BasicReject, BasicNack, BasicRecover, BasicSettle}
 use Rattle.model.specs.declared.events.Send.{Send}
 use Rattle.model.specs.declared.notes.Cause.{Cause}
 use Rattle.model.specs.declared.notes.Cause.TheVariants.{Rejected}
@@ -199,6 +199,7 @@ performed_so : (t : Topology) (old new : Broker) (sends : List Send) (notes : Li
 performed_so t old new sends notes c h ch agreed there (BasicAck m) content s is p = subst (AreSettledSo old notes new c h ch) (same_Some _ s is) (are_settled t _ old new sends [] notes c h ch m.delivery_tag m.multiple agreed there p)
 performed_so t old new sends notes c h ch agreed there (BasicReject m) content s is p = subst (AreSettledSo old notes new c h ch) (same_Some _ s is) (are_settled t _ old new sends [] notes c h ch m.delivery_tag false agreed there p)
 performed_so t old new sends notes c h ch agreed there (BasicNack m) content s is p = subst (AreSettledSo old notes new c h ch) (same_Some _ s is) (are_settled t _ old new sends [] notes c h ch m.delivery_tag m.multiple agreed there p)
+performed_so t old new sends notes c h ch agreed there (BasicSettle m) content s is p = subst (AreSettledSo old notes new c h ch) (same_Some _ s is) (are_settled t _ old new sends [] notes c h ch m.delivery_tag m.multiple agreed there p)
 performed_so t old new sends notes c h ch agreed there (BasicRecover requeue) content s is p = subst (AreSettledSo old notes new c h ch) (same_Some _ s is) (are_settled t _ old new sends _ notes c h ch 0 true agreed there p)
 performed_so t old new sends notes c h ch agreed there _ content s is p = absurd (false≢true (ap is_some is))
 

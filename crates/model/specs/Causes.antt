@@ -12,7 +12,7 @@ use Rattle.model.specs.Consuming.{CanDeliver}
 use Rattle.model.specs.Run.{Happening}
 use Rattle.model.specs.declared.messages.Entry.{Entry}
 use Rattle.model.specs.declared.methods.Method.{Method}
-use Rattle.model.specs.declared.methods.Method.TheVariants.{QueuePurge, BasicGet, BasicAck, BasicReject, BasicNack}
+use Rattle.model.specs.declared.methods.Method.TheVariants.{QueuePurge, BasicGet, BasicAck, BasicReject, BasicNack, BasicSettle}
 use Rattle.model.specs.declared.events.Event.{Event}
 use Rattle.model.specs.declared.events.Event.TheVariants.{Command, Deliver}
 use Rattle.model.specs.declared.notes.Cause.{Cause}
@@ -59,6 +59,7 @@ ByAck b c h m n q = ⊥
 abbrev pub ByRejection : Broker → ℕ → ℕ → Method → ℕ → Text → Type 0
 ByRejection b c h (BasicReject m) n q = (m.requeue ≡ false) × WasGiven b c h m.delivery_tag false n q
 ByRejection b c h (BasicNack m) n q = (m.requeue ≡ false) × WasGiven b c h m.delivery_tag m.multiple n q
+ByRejection b c h (BasicSettle m) n q = (m.requeue ≡ false) × WasGiven b c h m.delivery_tag m.multiple n q
 ByRejection b c h m n q = ⊥
 
 -- a get without acknowledgement takes out the first ready message of its queue (AMQP 0-9-1, basic.get, no-ack)

@@ -48,6 +48,8 @@ use Rattle.model.specs.declared.methods.Method.TheVariants.{
   ChannelFlowOk,
   ChannelClose,
   ChannelCloseOk,
+  ChannelPing,
+  ChannelPingOk,
   ExchangeDeclare,
   ExchangeDeclareOk,
   ExchangeDelete,
@@ -77,6 +79,7 @@ use Rattle.model.specs.declared.methods.Method.TheVariants.{
   BasicRecover,
   BasicRecoverOk,
   BasicNack,
+  BasicSettle,
   ConfirmSelect,
   ConfirmSelectOk,
 }
@@ -148,6 +151,8 @@ ids_of (ChannelFlow active) = ids 20 20
 ids_of (ChannelFlowOk active) = ids 20 21
 ids_of (ChannelClose m) = ids 20 40
 ids_of ChannelCloseOk = ids 20 41
+ids_of ChannelPing = ids 20 50
+ids_of ChannelPingOk = ids 20 51
 ids_of (ExchangeDeclare m) = ids 40 10
 ids_of ExchangeDeclareOk = ids 40 11
 ids_of ExchangeDelete = ids 40 20
@@ -177,6 +182,7 @@ ids_of (BasicReject m) = ids 60 90
 ids_of (BasicRecover requeue) = ids 60 110
 ids_of BasicRecoverOk = ids 60 111
 ids_of (BasicNack m) = ids 60 120
+ids_of (BasicSettle m) = ids 60 130
 ids_of (ConfirmSelect no_wait) = ids 85 10
 ids_of ConfirmSelectOk = ids 85 11
 
@@ -197,6 +203,8 @@ arguments (ChannelFlow active) = Bits (active ∷ []) ∷ []
 arguments (ChannelFlowOk active) = Bits (active ∷ []) ∷ []
 arguments (ChannelClose m) = Short m.reply_code ∷ Short_text m.reply_text ∷ Short m.class_id ∷ Short m.method_id ∷ []
 arguments ChannelCloseOk = []
+arguments ChannelPing = []
+arguments ChannelPingOk = []
 arguments (ExchangeDeclare m) = Short m.reserved ∷ Short_text m.exchange ∷ Short_text m.kind
     ∷ Bits (m.passive ∷ m.durable ∷ m.auto_delete ∷ m.internal ∷ m.no_wait ∷ []) ∷ Field_table m.arguments ∷ []
 arguments ExchangeDeclareOk = []
@@ -230,6 +238,7 @@ arguments (BasicReject m) = Long_long m.delivery_tag ∷ Bits (m.requeue ∷ [])
 arguments (BasicRecover requeue) = Bits (requeue ∷ []) ∷ []
 arguments BasicRecoverOk = []
 arguments (BasicNack m) = Long_long m.delivery_tag ∷ Bits (m.multiple ∷ m.requeue ∷ []) ∷ []
+arguments (BasicSettle m) = Long_long m.delivery_tag ∷ Bits (m.multiple ∷ m.requeue ∷ []) ∷ []
 arguments (ConfirmSelect no_wait) = Bits (no_wait ∷ []) ∷ []
 arguments ConfirmSelectOk = []
 

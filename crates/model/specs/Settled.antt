@@ -11,7 +11,7 @@ use Rattle.model.specs.Run.{Happening}
 use Rattle.model.specs.Unrefused.{IsUnrefused}
 use Rattle.model.specs.declared.messages.Entry.{Entry}
 use Rattle.model.specs.declared.methods.Method.{Method}
-use Rattle.model.specs.declared.methods.Method.TheVariants.{BasicAck, BasicReject, BasicNack, BasicRecover}
+use Rattle.model.specs.declared.methods.Method.TheVariants.{BasicAck, BasicReject, BasicNack, BasicRecover, BasicSettle}
 use Rattle.model.specs.declared.notes.Cause.{Cause}
 use Rattle.model.specs.declared.notes.Cause.TheVariants.{Acked, Rejected}
 use Rattle.model.specs.declared.notes.Note.{Note}
@@ -53,6 +53,7 @@ abbrev pub settling_of : Method → Option Settling
 settling_of (BasicAck m) = Some (record { tag = m.delivery_tag; multiple = m.multiple; how = Leaves Acked })
 settling_of (BasicReject m) = Some (record { tag = m.delivery_tag; multiple = false; how = of_rejected m.requeue })
 settling_of (BasicNack m) = Some (record { tag = m.delivery_tag; multiple = m.multiple; how = of_rejected m.requeue })
+settling_of (BasicSettle m) = Some (record { tag = m.delivery_tag; multiple = m.multiple; how = of_rejected m.requeue })
 settling_of (BasicRecover requeue) = Some (record { tag = 0; multiple = true; how = Returns })
 settling_of m = None
 

@@ -82,6 +82,8 @@ use Rattle.model.specs.declared.methods.Method.TheVariants.{
   ChannelFlowOk,
   ChannelClose,
   ChannelCloseOk,
+  ChannelPing,
+  ChannelPingOk,
   ExchangeDeclare,
   ExchangeDeclareOk,
   ExchangeDelete,
@@ -109,6 +111,7 @@ use Rattle.model.specs.declared.methods.Method.TheVariants.{
   BasicRecover,
   BasicRecoverOk,
   BasicNack,
+  BasicSettle,
   ConfirmSelect,
   ConfirmSelectOk,
   BasicConsume,
@@ -262,6 +265,8 @@ refusal_of t b ch (BasicGet m) = refusal_of_get t b ch m
 refusal_of t b ch (BasicAck m) = refusal_of_settling ch m.delivery_tag m.multiple
 refusal_of t b ch (BasicReject m) = refusal_of_settling ch m.delivery_tag false
 refusal_of t b ch (BasicNack m) = refusal_of_settling ch m.delivery_tag m.multiple
+refusal_of t b ch (BasicSettle m) = refusal_of_settling ch m.delivery_tag m.multiple
+refusal_of t b ch ChannelPing = None
 refusal_of t b ch (BasicRecover requeue) = refusal_of_recover requeue
 refusal_of t b ch (ChannelOpen reserved) = Some (Of_connection 504)
 refusal_of t b ch (ChannelFlow active) = refusal_of_flow active
@@ -275,6 +280,7 @@ refusal_of t b ch QueueDelete = Some (Of_channel 403)
 refusal_of t b ch QueueUnbind = Some (Of_channel 403)
 refusal_of t b ch (ChannelClose m) = None
 refusal_of t b ch ChannelCloseOk = Some (Of_connection 503)
+refusal_of t b ch ChannelPingOk = Some (Of_connection 503)
 refusal_of t b ch (ChannelOpenOk reserved) = Some (Of_connection 503)
 refusal_of t b ch (ChannelFlowOk active) = Some (Of_connection 503)
 refusal_of t b ch ExchangeDeclareOk = Some (Of_connection 503)
@@ -597,6 +603,8 @@ Performs t old c h ch (ChannelFlow active) content sends notes new =
     Does sends notes new (reply c h (ChannelFlowOk active) ∷ []) old
 Performs t old c h ch (ChannelClose m) content sends notes new =
     Does sends notes new (reply c h ChannelCloseOk ∷ []) (after_close old c h ch)
+Performs t old c h ch ChannelPing content sends notes new =
+    Does sends notes new (reply c h ChannelPingOk ∷ []) old
 Performs t old c h ch ChannelCloseOk content sends notes new =
     Does sends notes new [] (with_channel old c h None)
 Performs t old c h ch (ConnectionClose m) content sends notes new =
@@ -617,6 +625,8 @@ Performs t old c h ch (BasicAck m) content sends notes new =
     Settles t (Leaves Acked) old c h ch m.delivery_tag m.multiple [] sends notes new
 Performs t old c h ch (BasicReject m) content sends notes new =
     Settles t (of_rejected m.requeue) old c h ch m.delivery_tag false [] sends notes new
+Performs t old c h ch (BasicSettle m) content sends notes new =
+    Settles t (of_rejected m.requeue) old c h ch m.delivery_tag m.multiple [] sends notes new
 Performs t old c h ch (BasicNack m) content sends notes new =
     Settles t (of_rejected m.requeue) old c h ch m.delivery_tag m.multiple [] sends notes new
 Performs t old c h ch (BasicRecover requeue) content sends notes new =

@@ -206,6 +206,8 @@ pub enum Method {
     ChannelFlowOk { active: bool },
     ChannelClose(Close),
     ChannelCloseOk,
+    ChannelPing,
+    ChannelPingOk,
     ExchangeDeclare(ExchangeDeclare),
     ExchangeDeclareOk,
     ExchangeDelete,
@@ -235,6 +237,7 @@ pub enum Method {
     BasicRecover { requeue: bool },
     BasicRecoverOk,
     BasicNack(Nack),
+    BasicSettle(Nack),
     ConfirmSelect { no_wait: bool },
     ConfirmSelectOk,
 }
@@ -257,6 +260,8 @@ impl Drop for Method {
             Method::ChannelFlowOk { active: _ } => {}
             Method::ChannelClose(_) => {}
             Method::ChannelCloseOk => {}
+            Method::ChannelPing => {}
+            Method::ChannelPingOk => {}
             Method::ExchangeDeclare(_) => {}
             Method::ExchangeDeclareOk => {}
             Method::ExchangeDelete => {}
@@ -286,6 +291,7 @@ impl Drop for Method {
             Method::BasicRecover { requeue: _ } => {}
             Method::BasicRecoverOk => {}
             Method::BasicNack(_) => {}
+            Method::BasicSettle(_) => {}
             Method::ConfirmSelect { no_wait: _ } => {}
             Method::ConfirmSelectOk => {}
         }

@@ -35,6 +35,8 @@ impl Method {
             Method::ChannelFlowOk { .. } => (20, 21),
             Method::ChannelClose(_) => (20, 40),
             Method::ChannelCloseOk => (20, 41),
+            Method::ChannelPing => (20, 50),
+            Method::ChannelPingOk => (20, 51),
             Method::ExchangeDeclare(_) => (40, 10),
             Method::ExchangeDeclareOk => (40, 11),
             Method::ExchangeDelete => (40, 20),
@@ -64,6 +66,7 @@ impl Method {
             Method::BasicRecover { .. } => (60, 110),
             Method::BasicRecoverOk => (60, 111),
             Method::BasicNack(_) => (60, 120),
+            Method::BasicSettle(_) => (60, 130),
             Method::ConfirmSelect { .. } => (85, 10),
             Method::ConfirmSelectOk => (85, 11),
         };
