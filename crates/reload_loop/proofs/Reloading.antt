@@ -1,6 +1,6 @@
 -- What comes of serving with looks at the files.
 use Rattle.std.proofs.Common.{◌≡◌, ℕ, Bool, true, List, [], Option, Some, ap, subst}
-use Rattle.server.specs.CommandLine.{Wanted, Serve, AsksFor}
+use Rattle.command_line.specs.CommandLine.{Wanted, Serve, AsksFor}
 use Rattle.server.proofs.Beginning.{asked_once}
 use Rattle.model.specs.Words.{Text}
 use Rattle.model.specs.State.{Config}

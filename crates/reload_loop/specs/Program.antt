@@ -8,7 +8,7 @@ use Rattle.serving.specs.Wire.{Told}
 use Rattle.serving.specs.Story.{Served, served}
 use Rattle.serving.specs.Whole.{IsServed}
 use Rattle.engine.specs.Wanting.{engine_lacks}
-use Rattle.server.specs.CommandLine.{Wanted, Check, Verify, Replay, Serve, Route, AsksFor}
+use Rattle.command_line.specs.CommandLine.{Wanted, Check, Verify, Replay, Serve, Route, AsksFor}
 use Rattle.server.specs.Files.{Known, AreKept}
 use Rattle.server.specs.Stated.{file_named}
 use Rattle.scripts.specs.FileNames.{FileNames}

@@ -1,7 +1,7 @@
 //! The program, with sockets: `serve` too, with looks at its files or without.
 
 ghost use Rattle.std.specs.Prelude.{◌≡◌, None, option_map, IfSome, map};
-ghost use Rattle.server.specs.CommandLine.{wanted_of};
+ghost use Rattle.command_line.specs.CommandLine.{wanted_of};
 ghost use Rattle.engine.specs.World.{world_of};
 ghost use Rattle.server.specs.Files.{AreKept};
 ghost use Rattle.server.specs.Stated.{file_named};
@@ -11,9 +11,10 @@ ghost use Rattle.reload_loop.specs.Program.{IsEvery, IsNotServe, ReloadsEnd, Run
 
 use crate::serving_on::serve_and_reload;
 use crate::snapshots::{Names, Reading, Snapshot};
+use command_line::{Asked, command};
 use server::{
-    Asked, Ended, Files, Listener, ServeArguments, Service, answer_asked, begin, command,
-    refuse_words, serve_clients, turns_of,
+    Ended, Files, Listener, ServeArguments, Service, answer_asked, begin, refuse_words,
+    serve_clients, turns_of,
 };
 use serving::new_is_served;
 use std::alloc::Global;

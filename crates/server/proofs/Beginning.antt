@@ -7,7 +7,7 @@ use Rattle.model.specs.Words.{Text}
 use Rattle.model.specs.State.{Config}
 use Rattle.model.specs.Arrivals.{World, new_world}
 use Rattle.engine.specs.Wanting.{engine_lacks}
-use Rattle.server.specs.CommandLine.{Wanted, AsksFor, AreWordsRefused}
+use Rattle.command_line.specs.CommandLine.{Wanted, AsksFor, AreWordsRefused}
 use Rattle.server.specs.Files.{Known}
 use Rattle.serving.specs.Wire.{Told}
 use Rattle.serving.specs.Story.{Served, served}

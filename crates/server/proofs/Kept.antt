@@ -14,7 +14,7 @@ use Rattle.server.specs.declared.refusals.CommandRefusal.{CommandRefusal}
 use Rattle.server.specs.declared.refusals.CommandRefusal.TheVariants.{Line, Refused, TooLong, Unread, Unwritten, NoExchange, Certificate as OfCertificate, NotListening, Memory}
 use Rattle.certificate.specs.Drafts.{Adds}
 use Rattle.certificate.specs.declared.drafts.Draft.{Draft}
-use Rattle.server.specs.CommandLine.{Wanted}
+use Rattle.command_line.specs.CommandLine.{Wanted}
 use Rattle.server.specs.Files.{Known, AreKept}
 use Rattle.server.specs.Stated.{SetsUp, FailsToSetUp, FailsToCertify, IsWhyUncertified}
 use Rattle.server.proofs.FilesKept.{kept_then, kept_but_then, why_kept}

@@ -1,5 +1,4 @@
 pub mod Beginning
-pub mod Faults
 pub mod FilesKept
 pub mod Judged
 pub mod Kept

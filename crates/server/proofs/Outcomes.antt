@@ -3,7 +3,7 @@ use Rattle.std.proofs.Common.{◌≡◌, ◌++◌, ℕ, Bool, true, false, List,
 use Rattle.std.specs.Io.KnownBytes.{Appends, Keeps}
 use Rattle.clap.specs.Words.{kind_of}
 use Rattle.clap.specs.declared.error.Error.{Error}
-use Rattle.server.specs.CommandLine.{Wanted, AsksFor, AreWordsRefused}
+use Rattle.command_line.specs.CommandLine.{Wanted, AsksFor, AreWordsRefused}
 use Rattle.model.specs.Words.{Text}
 use Rattle.server.specs.Files.{Known, AreKept}
 use Rattle.server.specs.Streams.{OutputStream, GetsNothing, PutsOut, TriesPut, change, tried}

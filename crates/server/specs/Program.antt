@@ -18,7 +18,7 @@ use Rattle.certificate.specs.declared.drafts.Draft.{Draft}
 use Rattle.certificate.specs.Certified.{AreCertified, FailsFirst}
 use Rattle.guarantee_search.specs.declared.verdicts.Verdict.{Verdict}
 use Rattle.model.specs.Headline.{CertifiedDelivery}
-use Rattle.server.specs.CommandLine.{Wanted, Check, Verify, Replay, Serve, Route, AsksFor, AsksNothing}
+use Rattle.command_line.specs.CommandLine.{Wanted, Check, Verify, Replay, Serve, Route, AsksFor, AsksNothing}
 use Rattle.server.specs.declared.refusals.CommandRefusal.{CommandRefusal}
 use Rattle.server.specs.declared.refusals.Told.{Told}
 use Rattle.server.specs.declared.replaying.BrokerFiles.{BrokerFiles}

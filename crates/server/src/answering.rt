@@ -3,7 +3,7 @@
 ghost use Rattle.std.specs.Prelude.{◌≡◌, List, Some, map, option_map, MatchResult};
 ghost use Rattle.model.specs.Words.{Text};
 ghost use Rattle.clap.specs.Words.{kind_of};
-ghost use Rattle.server.specs.CommandLine.{AsksFor, Check, Route, Verify, wanted_of};
+ghost use Rattle.command_line.specs.CommandLine.{AsksFor, Check, Route, Verify, wanted_of};
 ghost use Rattle.server.specs.Files.{AreKept};
 ghost use Rattle.server.specs.Stated.{FailsToState, file_named};
 ghost use Rattle.server.specs.Streams.{GetsNothing, change};
@@ -20,8 +20,6 @@ ghost use Rattle.server.specs.Program.{
   ShowsError,
 };
 
-use crate::asked::Asked;
-use crate::command_words::command;
 use crate::file_refusals::RefusedFile;
 use crate::filing::{draft_for, write_out};
 use crate::judging::{Output, judge};
@@ -34,6 +32,7 @@ use crate::streams::{put, tried};
 use crate::verifying::verify;
 use clap::Error;
 use clap::error::ErrorKind;
+use command_line::{Asked, command};
 use std::alloc::Global;
 use std::convert::AsStr;
 use std::io::Write;

@@ -2,10 +2,8 @@
 #![tactic(auto)]
 
 mod answering;
-mod asked;
 mod builtin;
 mod clients;
-mod command_words;
 mod file_refusals;
 mod filing;
 mod judging;
@@ -20,11 +18,10 @@ mod streams;
 mod verifying;
 
 pub use answering::{answer_asked, program, refuse_words};
-pub use asked::Asked;
 pub use clients::{
     Ended, Listener, Listening, ServeArguments, Service, begin, serve_clients, turns_of,
 };
-pub use command_words::command;
+pub use command_line::command;
 pub use parts::has_bytes_left;
 pub use refusals::{CommandRefusal, Told, put_out_of_memory, put_refusal};
 pub use replaying::{BrokerFiles, in_force};

@@ -2,7 +2,7 @@
 
 ghost use Rattle.std.specs.Prelude.{◌≡◌, ◌≤◌, length, IfOk, MatchResult, Ok, Some};
 ghost use Rattle.certificate.specs.Certified.{AreCertified};
-ghost use Rattle.server.specs.CommandLine.{Replay};
+ghost use Rattle.command_line.specs.CommandLine.{Replay};
 ghost use Rattle.engine.specs.InForce.{in_force};
 ghost use Rattle.server.specs.Files.{AreKept};
 ghost use Rattle.server.specs.Outcomes.{fault_number};

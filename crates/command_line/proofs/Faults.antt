@@ -3,7 +3,7 @@ use Rattle.std.proofs.Common.{◌≡◌, ◌∙◌, sym, ap, List, [], true, ref
 use Rattle.clap.specs.Words.{App, Text, is_simple, is_simple_and_free, fault_of, HasKind}
 use Rattle.clap.specs.declared.error.Error.{Error}
 use Rattle.clap.proofs.OnLiterals.{clap_on_literals}
-use Rattle.server.specs.CommandLine.{warren, AreWordsRefused}
+use Rattle.command_line.specs.CommandLine.{warren, AreWordsRefused}
 
 pub simple : is_simple warren ≡ true
 unfolding clap_on_literals

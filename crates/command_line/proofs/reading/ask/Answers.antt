@@ -2,9 +2,9 @@ use Rattle.std.proofs.lemmas.Result.{err_from_is_err_and}
 use Rattle.std.proofs.Common.{◌≡◌, ◌∙◌, sym, ap, map, inr, List, option_and_then}
 use Rattle.std.proofs.lemmas.Option.{none-some}
 use Rattle.clap.specs.Words.{App, Text, app_of, is_simple, subcommand_of}
-use Rattle.server.specs.CommandLine.{warren, wanted_by}
-use Rattle.server.proofs.Faults.{simple, faultless, refused}
-use Rattle.server.proofs.command_words.ask.Goals as goal
+use Rattle.command_line.specs.CommandLine.{warren, wanted_by}
+use Rattle.command_line.proofs.Faults.{simple, faultless, refused}
+use Rattle.command_line.proofs.reading.ask.Goals as goal
 
 pub returns-in_err-matches : goal.returns-in_err-matches
 returns-in_err-matches g c =

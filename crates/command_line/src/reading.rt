@@ -24,7 +24,7 @@ ghost use Rattle.clap.specs.Words.{
   with_subcommand,
 };
 ghost use Rattle.clap.specs.declared.Command.TheViews.{out-Command as fields_of};
-ghost use Rattle.server.specs.CommandLine.{
+ghost use Rattle.command_line.specs.CommandLine.{
   Asks,
   AreWordsRefused,
   check,

@@ -6,8 +6,8 @@ use Rattle.clap.specs.declared.error.Error.{Error}
 use Rattle.clap.specs.declared.error.kind.ErrorKind.TheVariants.{OutOfMemory}
 use Rattle.clap.specs.declared.builder.ArgAction.TheVariants.{Set}
 use Rattle.clap.specs.declared.builder.value_parser.ValueParser.TheVariants.{Unsigned}
-use Rattle.server.specs.declared.asked.Asked.{Asked}
-use Rattle.server.specs.declared.asked.Asked.TheVariants as asked
+use Rattle.command_line.specs.declared.asked.Asked.{Asked}
+use Rattle.command_line.specs.declared.asked.Asked.TheVariants as asked
 
 -- ---- the subcommands and their arguments
 
