@@ -1,27 +1,13 @@
 -- Lists of what sleeps: one is listed more, and those of a channel are woken.
-use Rattle.std.proofs.Common.{◌≡◌, ◌∙◌, ◌<◌, ℕ, List, [], Bool, true, false, Option, length, get_or, set, inl, inr, refl, sym, ap, subst}
+use Rattle.std.proofs.Common.{◌≡◌, ◌∙◌, ℕ, List, Bool, true, false, Option, inl, inr, refl, sym}
 use Rattle.std.specs.Prelude.{◌==◌}
 use Rattle.std.proofs.lemmas.Bool.{eqb-true, eq-eqb, false≢true}
-use Rattle.std.proofs.lemmas.List.{get_or-set_same, get_or-set_other}
-use Rattle.model.specs.Topology.{IsIn}
 use Rattle.model.specs.Broker.{Broker}
 use Rattle.commands.specs.declared.picks.Pick.{Pick}
-use Rattle.broker.specs.Roster.{Seats, Lists, Listing, ring_at, is_on_channel, listed_on, IsAt, IsAwake, IsListed, IsListedOn, IsSeatedIn, ListsMore, AllWaken, IsWoken}
-use Rattle.broker.proofs.Sleeping.{apart}
-
--- more is listed on one channel
-pub stay_set : (desk : List (List Listing)) (at : ℕ) (old new : List Listing) → at < length desk → ((d : List Listing) → get_or desk at d ≡ old) → ((l : Listing) → IsIn l old → IsIn l new) → (l : Listing) → IsListedOn desk l → IsListedOn (set desk at new) l
-stay_set desk at old new lt there more l i = go (l.seat.channel == at) refl
-  where
-    go : (v : Bool) → (l.seat.channel == at) ≡ v → IsListedOn (set desk at new) l
-    go true f =
-        let same = eqb-true l.seat.channel at f in
-        subst (λ (xs : List Listing). IsIn l xs) (sym (ap (listed_on (set desk at new)) same ∙ get_or-set_same desk at new [] lt))
-        (more l (subst (λ (xs : List Listing). IsIn l xs) (ap (listed_on desk) same ∙ there []) i))
-    go false f = subst (λ (xs : List Listing). IsIn l xs) (sym (get_or-set_other desk at l.seat.channel new [] (apart l.seat.channel at f))) i
+use Rattle.broker.specs.Roster.{Seats, Lists, Listing, ring_at, is_on_channel, IsAt, IsAwake, IsListed, IsSeatedIn, ListsMore, AllWaken, IsWoken}
 
 pub more_on : (old mid new : Lists) → ListsMore old mid → ListsMore mid new → ListsMore old new
-more_on old mid new f g = record { stay = λ l i. g.stay l (f.stay l i); none = λ c i. g.none c (f.none c i) }
+more_on old mid new f g = record { stay = λ l i. g.stay l (f.stay l i); noted = λ l i. g.noted l (f.noted l i); none = λ c i. g.none c (f.none c i) }
 
 -- who is seated is awake where what is listed of it is woken
 pub wake_seated : (b : Broker) (lists : Lists) (old new : List Seats) (place : ℕ) (p : Pick) → AllWaken old new → (IsListed lists (record { queue = place; seat = p }) → IsWoken old new (record { queue = place; seat = p }))

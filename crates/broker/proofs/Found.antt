@@ -125,7 +125,7 @@ module _ (kept : Kept) (queue place : ℕ) (s : Seat) (k : Consumer) (f : Found)
 
   pub unable_found : (place ≡ queue → f ≡ Unable) → IsKeptAs kept s.pick k → CannotTake (broker_of kept) s.pick → FindsSeat kept queue s f
   unable_found its t cannot = by_place (FindsSeat kept queue s f)
-      (λ same. subst (FindsSeat kept queue s) (sym (its same)) (awake, cannot))
+      (λ same. subst (FindsSeat kept queue s) (sym (its same)) (awake, cannot, has_of kept queue s.pick (subst (λ (n : ℕ). HasConsumer (topology_kept kept) (broker_of kept) n s.pick) (here ∙ same) (kept_has kept s.pick k t))))
       (λ far. at_other (not_of kept queue s.pick (λ has. far (sym here ∙ kept_queue kept queue s.pick k whole t has))) far)
 
   pub taker_found : HasReady kept.store queue → (place ≡ queue → f ≡ Able) → TakesAs kept s.pick k → FindsSeat kept queue s f

@@ -75,24 +75,23 @@ lets_in kept queue p old new apart keeps before after stand more q its =
 
 -- ---- how many there are
 
--- all that are left after a sweep are of consumers that are there
-pub all_stay : (kept : Kept) (queue : ℕ) (old new : List Seat) → new ≡ filter (has_its_consumer kept queue) old → length new ≤ count_by (has_its_consumer kept queue) new
-all_stay kept queue old new is = subst (λ (xs : List Seat). length xs ≤ count_by (has_its_consumer kept queue) xs) (sym is) (go old)
-  where
-    go : (xs : List Seat) → length (filter (has_its_consumer kept queue) xs) ≤ count_by (has_its_consumer kept queue) (filter (has_its_consumer kept queue) xs)
-    go [] = omega arith
-    go (x ∷ xs) = by (has_its_consumer kept queue x) refl (go xs)
-      where
-        by : (v : Bool) → has_its_consumer kept queue x ≡ v → length (filter (has_its_consumer kept queue) xs) ≤ count_by (has_its_consumer kept queue) (filter (has_its_consumer kept queue) xs)
-            → length (cond v (x ∷ filter (has_its_consumer kept queue) xs) (filter (has_its_consumer kept queue) xs)) ≤ count_by (has_its_consumer kept queue) (cond v (x ∷ filter (has_its_consumer kept queue) xs) (filter (has_its_consumer kept queue) xs))
-        by true e le = let more = count-cons_yes (has_its_consumer kept queue) x (filter (has_its_consumer kept queue) xs) e in omega (arith, le, more)
-        by false e le = le
+module _ {X : Type 0} (test : X → Bool) where
+  -- all that are left after a sweep stay
+  pub all_stay : (old new : List X) → new ≡ filter test old → length new ≤ count_by test new
+  all_stay old new is = subst (λ (xs : List X). length xs ≤ count_by test xs) (sym is) (go old)
+    where
+      go : (xs : List X) → length (filter test xs) ≤ count_by test (filter test xs)
+      go [] = omega arith
+      go (x ∷ xs) = by (test x) refl (go xs)
+        where
+          by : (v : Bool) → test x ≡ v → length (filter test xs) ≤ count_by test (filter test xs) → length (cond v (x ∷ filter test xs) (filter test xs)) ≤ count_by test (cond v (x ∷ filter test xs) (filter test xs))
+          by true e le = let more = count-cons_yes test x (filter test xs) e in omega (arith, le, more)
+          by false e le = le
 
--- one more at the end
-pub bounded_end : (kept : Kept) (queue : ℕ) (xs : List Seat) (s : Seat) (room : ℕ) → (length xs < room) ⊎ (length xs ≤ count_by (has_its_consumer kept queue) xs)
-    → (length (xs ++ s ∷ []) ≤ room) ⊎ (length (xs ++ s ∷ []) ≤ count_by (has_its_consumer kept queue) (xs ++ s ∷ []) + 1)
-bounded_end kept queue xs s room (inl lt) = let long = length-append xs (s ∷ []) in inl (omega (arith, lt, long))
-bounded_end kept queue xs s room (inr le) =
-    let long = length-append xs (s ∷ []) in
-    let count = count-append (has_its_consumer kept queue) xs (s ∷ []) in
-    inr (omega (arith, le, long, count))
+  -- one more at the end
+  pub bounded_end : (xs : List X) (x : X) (room : ℕ) → (length xs < room) ⊎ (length xs ≤ count_by test xs) → (length (xs ++ x ∷ []) ≤ room) ⊎ (length (xs ++ x ∷ []) ≤ count_by test (xs ++ x ∷ []) + 1)
+  bounded_end xs x room (inl lt) = let long = length-append xs (x ∷ []) in inl (omega (arith, lt, long))
+  bounded_end xs x room (inr le) =
+      let long = length-append xs (x ∷ []) in
+      let count = count-append test xs (x ∷ []) in
+      inr (omega (arith, le, long, count))

@@ -3,6 +3,7 @@ mod Desks
 mod Found
 mod Later
 mod Lining
+mod Listed
 mod Marked
 mod Moving
 mod Nearer

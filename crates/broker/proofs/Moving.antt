@@ -1,5 +1,5 @@
 -- Rings of queues that stand at other places, and consumers that stand there.
-use Rattle.std.proofs.Common.{◌≡◌, ◌∙◌, ◌<◌, ◌+◌, ℕ, zero, suc, List, [], ◌∷◌, Bool, true, false, length, get_or, set, Option, Some, None, inl, inr, refl, sym, ap, subst, arith}
+use Rattle.std.proofs.Common.{◌≡◌, ◌∙◌, ◌<◌, ◌+◌, ℕ, zero, suc, List, [], ◌∷◌, Bool, true, false, length, map, get_or, set, inl, inr, refl, sym, ap, subst, arith}
 use Rattle.std.specs.Prelude.{◌==◌, nat_eq, option_map}
 use Rattle.std.specs.Map.{lookup}
 use Rattle.std.proofs.lemmas.Bool.{eqb-true}
@@ -11,8 +11,8 @@ use Rattle.marks.specs.Places.{bit_of}
 use Rattle.channels.specs.Moving.{place_now}
 use Rattle.commands.specs.declared.picks.Pick.{Pick}
 use Rattle.broker.specs.declared.roster.seats.Seat.{Seat}
-use Rattle.broker.specs.Roster.{Seats, Lists, Listing, ring_of, ring_at, awake_seat, asleep_seat, listed_on, IsAwake, IsListed, HasList, QueuesAreMarked}
-use Rattle.broker.specs.Moving.{all_awake, StandsIn, AllRoused, IsMoved, ArePlacesApart, emptied, all_emptied, ListsAreEmptied}
+use Rattle.broker.specs.Roster.{Seats, Lists, Listing, Listings, ring_of, ring_at, awake_seat, asleep_seat, listings_on, IsAwake, QueuesAreMarked}
+use Rattle.broker.specs.Moving.{all_awake, StandsIn, AllRoused, IsMoved, ArePlacesApart, listing_moved, desk_moved, all_moved, ListsAreMoved}
 use Rattle.broker.proofs.Among.{place_in}
 use Rattle.broker.proofs.Sleeping.{apart}
 
@@ -79,30 +79,25 @@ one_moved places olds mid new from lt apart before here others i le there = elim
 
 -- ---- lists
 
-emptied_on : (desk : List (List Listing)) (h : ℕ) → listed_on (emptied desk) h ≡ []
-emptied_on [] h = refl
-emptied_on (x ∷ desk) zero = refl
-emptied_on (x ∷ desk) (suc h) = emptied_on desk h
+moved_on : (places : List ℕ) (desk : List Listings) (h : ℕ) → (listings_on (desk_moved places desk) h).all ≡ map (listing_moved places) (listings_on desk h).all
+moved_on places [] h = refl
+moved_on places (x ∷ desk) zero = refl
+moved_on places (x ∷ desk) (suc h) = moved_on places desk h
 
-module _ (lists : Lists) where
-  emptied_at : (c : ℕ) → lookup (nat_eq c) (all_emptied lists) ≡ option_map emptied (lookup (nat_eq c) lists)
-  emptied_at c = lookup-map_values emptied (nat_eq c) lists
+in_moved : (places : List ℕ) (l : Listing) (ls : List Listing) → IsIn l ls → IsIn (listing_moved places l) (map (listing_moved places) ls)
+in_moved places l [] i = absurd i
+in_moved places l (x ∷ ls) (inl s) = inl (ap (listing_moved places) s)
+in_moved places l (x ∷ ls) (inr i) = inr (in_moved places l ls i)
 
-  none_listed : (l : Listing) → IsListed (all_emptied lists) l → ⊥
-  none_listed l i = go (lookup (nat_eq l.seat.connection) lists) (sym (emptied_at l.seat.connection) ∙ i.there)
-    where
-      go : (o : Option (List (List Listing))) → option_map emptied o ≡ Some i.desk → ⊥
-      go None e = absurd (let none : None ≡ Some i.desk = e in cc)
-      go (Some desk) e =
-          subst (λ (xs : List Listing). IsIn l xs) (emptied_on desk l.seat.channel)
-          (subst (λ (o : Option (List (List Listing))). IsIn l (elim o [ None ↦ [] | Some d ↦ listed_on d l.seat.channel ])) (sym e) i.among)
-
-  lists_stay : (c h : ℕ) → HasList lists c h → HasList (all_emptied lists) c h
-  lists_stay c h has = record {
-    desk = emptied has.desk;
-    there = emptied_at c ∙ ap (option_map emptied) has.there;
-    within = let lt = has.within in let long = length-map {B = List Listing} has.desk (λ (x : List Listing). []) in omega (arith, lt, long);
-  }
-
-  pub lists_emptied : ListsAreEmptied lists (all_emptied lists)
-  lists_emptied = record { none = none_listed; stay = lists_stay; made = λ c none. emptied_at c ∙ ap (option_map emptied) none }
+pub lists_moved : (places : List ℕ) (lists : Lists) → ListsAreMoved places lists (all_moved places lists)
+lists_moved places lists = record {
+  noted = λ l i. record {
+    desk = desk_moved places i.desk;
+    there = at l.seat.connection ∙ ap (option_map (desk_moved places)) i.there;
+    among = subst (λ (ls : List Listing). IsIn (listing_moved places l) ls) (sym (moved_on places i.desk l.seat.channel)) (in_moved places l (listings_on i.desk l.seat.channel).all i.among);
+  };
+  made = λ c none. at c ∙ ap (option_map (desk_moved places)) none;
+}
+  where
+    at : (c : ℕ) → lookup (nat_eq c) (all_moved places lists) ≡ option_map (desk_moved places) (lookup (nat_eq c) lists)
+    at c = lookup-map_values (desk_moved places) (nat_eq c) lists

@@ -8,7 +8,7 @@ use Rattle.model.specs.Broker as seen
 use Rattle.model.specs.Broker.{Channel}
 use Rattle.channels.specs.Open.{Open, consumer_in}
 use Rattle.channels.specs.declared.consumers.Consumer.{Consumer}
-use Rattle.channels.specs.Links.{channel_of}
+use Rattle.channels.specs.RunningConnections.{channel_of}
 use Rattle.channels.specs.Consumers.{consumer_numbered}
 use Rattle.laws.specs.Consumers.{WasConsumer}
 use Rattle.commands.specs.State.{Kept, broker_of, topology_kept, names_of}
@@ -30,7 +30,7 @@ found_by names (c ∷ cs) k n (inr i) e = go (c.number == n) (found_by names cs 
 pub has_kept : (kept : Kept) (place : ℕ) (p : Pick) → HasConsumer (topology_kept kept) (broker_of kept) place p → has_consumer kept p ≡ true
 has_kept kept place p has =
     let ch = has.was.0 in
-    let channel = seen_there (names_of kept) (channel_of kept.links p.connection p.channel) ch has.was.1 in
+    let channel = seen_there (names_of kept) (channel_of kept.connections p.connection p.channel) ch has.was.1 in
     ap (λ (o : Option Open). is_some (consumer_numbered o p.number)) channel.there
     ∙ found_by (names_of kept) channel.kept.given.consumers has.consumer p.number (subst (λ (x : Channel). IsIn has.consumer x.consumers) (sym channel.same) has.was.2) has.numbered
 

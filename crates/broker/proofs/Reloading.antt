@@ -17,7 +17,7 @@ use Rattle.channels.specs.Open.{consumer_in}
 use Rattle.depot.specs.Moving.{stays, goes, AreMoved}
 use Rattle.depot.specs.Store.{IsStoreWhole}
 use Rattle.depot.proofs.Naming.{names-length, is_in}
-use Rattle.channels.specs.Links.{channel_of}
+use Rattle.channels.specs.RunningConnections.{channel_of}
 use Rattle.channels.proofs.Setting.{same_default}
 use Rattle.commands.specs.State.{Kept, ArePlaced, broker_of, topology_kept, names_of}
 use Rattle.commands.specs.declared.picks.Pick.{Pick}
@@ -25,8 +25,8 @@ use Rattle.commands.proofs.Placing.{takes_within}
 use Rattle.commands.proofs.Reloading.{in_mapped, seen_of, one_place}
 use Rattle.commands.proofs.Stepping.{seen_there}
 use Rattle.exchange_graph.specs.Marks.{queue_name}
-use Rattle.broker.specs.Roster.{Rings, Lists, Seats, ring_at, order, has_taker, takes_from, IsAwake, IsSeatedIn, HasConsumer, AllHaveSeats, IsServing}
-use Rattle.broker.specs.Moving.{StandsIn, ArePlacesApart, RingsAreMoved, ListsAreEmptied}
+use Rattle.broker.specs.Roster.{Rings, Lists, Seats, ring_at, order, has_taker, takes_from, IsAwake, IsSeatedIn, listing, HasConsumer, AllHaveSeats, AllAreNoted, IsNoted, IsServing}
+use Rattle.broker.specs.Moving.{StandsIn, ArePlacesApart, RingsAreMoved, ListsAreMoved}
 use Rattle.broker.specs.Turns.{with_turn}
 use Rattle.broker.specs.Waiting.{line_at, LinesMove}
 use Rattle.broker.proofs.Seated.{Holds, serves, running_still}
@@ -97,7 +97,7 @@ module _ (old new : Kept) (places : List ℕ) (after : IsStoreWhole new.store) (
   was_at : (place : ℕ) (p : Pick) → HasConsumer (topology_kept new) (broker_of new) place p → Was old places place p
   was_at place p has =
       let there = sym (stood.channels p.connection p.channel) ∙ has.was.1 in
-      let its = seen_there (names_of old) (channel_of old.links p.connection p.channel) has.was.0 there in
+      let its = seen_there (names_of old) (channel_of old.connections p.connection p.channel) has.was.0 there in
       let one = seen_of (consumer_in (names_of old)) has.consumer its.kept.given.consumers (subst (λ (ch : seen.Channel). IsIn has.consumer ch.consumers) (sym its.same) has.was.2) in
       let from = one.one.queue in
       let lt = takes_within (topology_kept old) one.one its.kept.given.consumers (placed p.connection p.channel its.kept its.there).consumers one.among in
@@ -128,10 +128,16 @@ module _ (old new : Kept) (places : List ℕ) (after : IsStoreWhole new.store) (
       inl (subst (λ (n : ℕ). IsAwake (ring_at left.rings n) p) was.now
       ((rings was.from was.within (omega (arith, within, now, len))).roused p (stands (broker_of old) before.lists was.from (ring_at before.rings was.from) p (seated was.from p was.has))))
 
-  pub serves_moved : (before left : Rings) → IsServing old before → RingsAreMoved places before.rings left.rings → ListsAreEmptied before.lists left.lists → length left.rings ≡ length (topology_kept new).queues → IsServing new left
+  -- and is listed there
+  noted_moved : (before left : Rings) → AllAreNoted (topology_kept old) (broker_of old) before.lists → ListsAreMoved places before.lists left.lists → AllAreNoted (topology_kept new) (broker_of new) left.lists
+  noted_moved before left noted lists place p has =
+      let was = was_at place p has in
+      subst (λ (n : ℕ). IsNoted left.lists (listing n p)) was.now (lists.noted (listing was.from p) (noted was.from p was.has))
+
+  pub serves_moved : (before left : Rings) → IsServing old before → RingsAreMoved places before.rings left.rings → ListsAreMoved places before.lists left.lists → length left.rings ≡ length (topology_kept new).queues → IsServing new left
   serves_moved before left serving rings lists len =
       serves new left
-      (record { agreed = agreed_stood (broker_of old) (broker_of new) stood serving.agreed; rings_for = len; seated = seated_moved before left serving.seated rings len })
+      (record { agreed = agreed_stood (broker_of old) (broker_of new) stood serving.agreed; rings_for = len; seated = seated_moved before left serving.seated rings len; noted = noted_moved before left serving.noted lists })
       (running_still (broker_of old) (broker_of new) before.lists left.lists (λ d none. sym (stood.connections d) ∙ none) lists.made serving.running)
 
   -- whoever takes from a queue takes from it still

@@ -21,13 +21,14 @@ use Rattle.model.specs.declared.events.Event.TheVariants.{Command}
 use Rattle.model.specs.declared.notes.Note.{Note}
 use Rattle.laws.specs.Consumers.{WasConsumer, IsMadeBy, ConsumersAreMade}
 use Rattle.channels.specs.Open.{Open, open_in}
-use Rattle.channels.specs.Links.{Linked, linked_in, channel_in, channel_at, connection_at, limits_of}
+use Rattle.channels.specs.RunningConnections.{Running, running_in, channel_in, channel_at, connection_at, limits_of}
 use Rattle.commands.specs.State.{Kept, broker_of, topology_kept, names_of}
 use Rattle.commands.specs.Judged.{IsIgnored}
-use Rattle.broker.specs.Roster.{Rings, Lists, ring_at, wakes, HasConsumer, AllHaveSeats, IsServing, AllRun, HasNoList, MakesNoList, IsSeated, IsAwake, KeepsSeats, KeepsAll}
+use Rattle.broker.specs.Roster.{Rings, Lists, Listing, ring_at, listing, is_of, wakes, HasConsumer, HasSeat, AllHaveSeats, AllAreNoted, IsServing, AllRun, HasNoList, MakesNoList, NotesStay, IsNoted, IsSeated, IsAwake, KeepsSeats, KeepsAll}
 use Rattle.channels.specs.Consumers.{next_number}
 use Rattle.commands.specs.Seats.{next_seat, seat_of, consumed, IsConsumed}
 use Rattle.commands.specs.declared.picks.Pick.{Pick}
+use Rattle.broker.proofs.Outcomes.{if_some, told_some}
 use Rattle.broker.proofs.Takers.{has_of}
 use Rattle.broker.proofs.Waking.{cannot_still}
 
@@ -85,8 +86,8 @@ ignored_stays t b c h m content sends notes new None is does = does.left
 ignored_stays t b c h m content sends notes new (Some conn) is does = (subst (λ (r : Option Refusal). Decides t b c h m content r sends notes new) is does).left
 
 -- a consume is ignored where there is no next seat for it
-no_seat : (t : Topology) (kept : Kept) (c h : ℕ) (m : Consume) → next_seat c h (linked_in kept.links c) ≡ None → IsIgnored t (broker_of kept) c h (BasicConsume m) ((broker_of kept).connection c)
-no_seat t kept c h m none = go (linked_in kept.links c) refl none
+no_seat : (t : Topology) (kept : Kept) (c h : ℕ) (m : Consume) → next_seat c h (running_in kept.connections c) ≡ None → IsIgnored t (broker_of kept) c h (BasicConsume m) ((broker_of kept).connection c)
+no_seat t kept c h m none = go (running_in kept.connections c) refl none
   where
     b : Broker
     b = broker_of kept
@@ -103,15 +104,15 @@ no_seat t kept c h m none = go (linked_in kept.links c) refl none
     unmapped f None e = refl
     unmapped f (Some x) e = absurd (false≢true (sym (ap is_some e)))
 
-    go : (o : Option Linked) → linked_in kept.links c ≡ o → next_seat c h o ≡ None → IsIgnored t b c h (BasicConsume m) (b.connection c)
-    go None e f = subst (λ (x : Option Linked). IsIgnored t b c h (BasicConsume m) (connection_at x)) (sym e) tt
+    go : (o : Option Running) → running_in kept.connections c ≡ o → next_seat c h o ≡ None → IsIgnored t b c h (BasicConsume m) (b.connection c)
+    go None e f = subst (λ (x : Option Running). IsIgnored t b c h (BasicConsume m) (connection_at x)) (sym e) tt
     go (Some l) e f =
-        subst (λ (x : Option Linked). IsIgnored t b c h (BasicConsume m) (connection_at x)) (sym e)
-        (ap (λ (x : Option Linked). refusal t b (limits_of l) h (BasicConsume m) (option_map (open_in (names_of kept)) (channel_at x h))) e
+        subst (λ (x : Option Running). IsIgnored t b c h (BasicConsume m) (connection_at x)) (sym e)
+        (ap (λ (x : Option Running). refusal t b (limits_of l) h (BasicConsume m) (option_map (open_in (names_of kept)) (channel_at x h))) e
         ∙ closing (limits_of l) (channel_in l h) (unmapped _ (next_number (channel_in l h)) f))
 
 -- and where there is one it has the number of the next consumer
-next_number_is : (names : List Text) (c h : ℕ) (o : Option Linked) (p : Pick) → next_seat c h o ≡ Some p → p ≡ record { connection = c; channel = h; number = (channel_or_new (option_map (open_in names) (channel_at o h))).next_number }
+next_number_is : (names : List Text) (c h : ℕ) (o : Option Running) (p : Pick) → next_seat c h o ≡ Some p → p ≡ record { connection = c; channel = h; number = (channel_or_new (option_map (open_in names) (channel_at o h))).next_number }
 next_number_is names c h None p e = absurd (false≢true (ap is_some e))
 next_number_is names c h (Some l) p e = go (channel_in l h) e
   where
@@ -208,17 +209,17 @@ came_there law t kept new e sends notes acts place p has = go (law t b new e sen
         here : k.queue ≡ m.queue → IsConsumed t e place
         here queue = record { within = has.within; named = ap consumed is ∙ ap (λ (q : Text). Some q) (sym queue ∙ sym has.named) }
 
-        next : k.queue ≡ m.queue → (o : Option Pick) → next_seat c h (linked_in kept.links c) ≡ o → Came_here
+        next : k.queue ≡ m.queue → (o : Option Pick) → next_seat c h (running_in kept.connections c) ≡ o → Came_here
         next queue None f =
             let stays = ignored_stays t b c h (BasicConsume m) content sends notes new (b.connection c) (no_seat t kept c h m f) same in
             before (has.was.0, sym (stays.channels c h) ∙ has.was.1, has.was.2)
         next queue (Some q) f =
-            let one = next_number_is (names_of kept) c h (linked_in kept.links c) q f ∙ ap (λ (n : ℕ). record { connection = c; channel = h; number = n }) (sym numbered) ∙ its in
+            let one = next_number_is (names_of kept) c h (running_in kept.connections c) q f ∙ ap (λ (n : ℕ). record { connection = c; channel = h; number = n }) (sym numbered) ∙ its in
             inr (here queue, ap (seat_of kept) is ∙ f ∙ ap Some one)
 
         on : WasConsumer b c h k ⊎ (k.queue ≡ m.queue) → Came_here
         on (inl there) = before there
-        on (inr queue) = next queue (next_seat c h (linked_in kept.links c)) refl
+        on (inr queue) = next queue (next_seat c h (running_in kept.connections c)) refl
 
     go : WasConsumer b c h k ⊎ IsMadeBy b e c h k → Came_here
     go (inl was) = before was
@@ -235,17 +236,18 @@ seated_next law t kept new e sends notes rings acts woken seated next place p ha
 
 -- ---- what every broker keeps
 
--- What it keeps but for what is listed.
+-- What it keeps but for that what is listed is of connections that run.
 pub record Holds (kept : Kept) (r : Rings) : Type 0 where
   pub agreed : IsAgreed (broker_of kept)
   pub rings_for : length r.rings ≡ length (topology_kept kept).queues
   pub seated : AllHaveSeats (topology_kept kept) (broker_of kept) r
+  pub noted : AllAreNoted (topology_kept kept) (broker_of kept) r.lists
 
 pub holds : (kept : Kept) (r : Rings) → IsServing kept r → Holds kept r
-holds kept r serving = record { agreed = serving.agreed; rings_for = serving.rings_for; seated = serving.seated }
+holds kept r serving = record { agreed = serving.agreed; rings_for = serving.rings_for; seated = serving.seated; noted = serving.noted }
 
 pub serves : (kept : Kept) (r : Rings) → Holds kept r → AllRun (broker_of kept) r.lists → IsServing kept r
-serves kept r held running = record { agreed = held.agreed; rings_for = held.rings_for; seated = held.seated; running = running }
+serves kept r held running = record { agreed = held.agreed; rings_for = held.rings_for; seated = held.seated; noted = held.noted; running = running }
 
 -- where no connection ends, and no list is made, what is listed is of connections that run
 pub running_still : (old new : Broker) (before after : Lists) → ((d : ℕ) → new.connection d ≡ None → old.connection d ≡ None) → MakesNoList before after → AllRun old before → AllRun new after
@@ -268,6 +270,9 @@ serves_still agrees law t old new e sends notes rings acts woken none was is ser
   rings_for = serving.rings_for ∙ ap (λ (x : Topology). length x.queues) (was ∙ sym is);
   seated = subst (λ (x : Topology). AllHaveSeats x (broker_of new) rings) (sym is)
       (seated_still law t (broker_of old) (broker_of new) e sends notes rings acts woken none (subst (λ (x : Topology). AllHaveSeats x (broker_of old) rings) was serving.seated));
+  noted = λ place p has.
+      serving.noted place p
+      (subst (λ (x : Topology). HasConsumer x (broker_of old) place p) (sym was) (was_there law t (broker_of old) (broker_of new) e sends notes acts none place p (subst (λ (x : Topology). HasConsumer x (broker_of new) place p) is has)));
 }
 
 -- and one that wakes no seat
@@ -279,17 +284,39 @@ serves_asleep agrees law t old new e sends notes rings acts asleep none was is s
 -- so does one whose seat is there
 pub serves_next : StayAgreed → ConsumersAreMade → (old new : Kept) (e : Event) (sends : List Send) (notes : List Note) (rings : Rings)
     → Acts (topology_kept old) (broker_of old) e sends notes (broker_of new) → AreWoken (topology_kept old) (broker_of old) e rings → topology_kept new ≡ topology_kept old
-    → IfSome (seat_of old e) (λ p. (place : ℕ) → IsConsumed (topology_kept old) e place → IsAwake (ring_at rings.rings place) p) → Holds old rings → Holds new rings
+    → IfSome (seat_of old e) (λ p. (place : ℕ) → IsConsumed (topology_kept old) e place → HasSeat rings place p) → Holds old rings → Holds new rings
 serves_next agrees law old new e sends notes rings acts woken is next serving = record {
   agreed = agrees (topology_kept old) (broker_of old) (broker_of new) e sends notes serving.agreed acts;
   rings_for = serving.rings_for ∙ ap (λ (x : Topology). length x.queues) (sym is);
   seated = subst (λ (x : Topology). AllHaveSeats x (broker_of new) rings) (sym is)
-      (seated_next law (topology_kept old) old (broker_of new) e sends notes rings acts woken serving.seated next);
+      (seated_next law (topology_kept old) old (broker_of new) e sends notes rings acts woken serving.seated
+      (if_some (seat_of old e) (λ p. (place : ℕ) → IsConsumed (topology_kept old) e place → HasSeat rings place p) (λ p. (place : ℕ) → IsConsumed (topology_kept old) e place → IsAwake (ring_at rings.rings place) p) (λ p up place here. (up place here).awake) next));
+  noted = subst (λ (x : Topology). AllAreNoted x (broker_of new) rings.lists) (sym is) noted;
 }
+  where
+    noted : AllAreNoted (topology_kept old) (broker_of new) rings.lists
+    noted place p has = go (came_there law (topology_kept old) old (broker_of new) e sends notes acts place p has)
+      where
+        go : HasConsumer (topology_kept old) (broker_of old) place p ⊎ (IsConsumed (topology_kept old) e place × (seat_of old e ≡ Some p)) → IsNoted rings.lists (listing place p)
+        go (inl there) = serving.noted place p there
+        go (inr (here, seat)) = (told_some (seat_of old e) p (λ q. (at : ℕ) → IsConsumed (topology_kept old) e at → HasSeat rings at q) seat next place here).noted
+
+-- the seats of consumers that are there are listed as before
+abbrev pub NotesKeep : Kept → Lists → Lists → Type 0
+NotesKeep kept old new = (l : Listing) → IsNoted old l → is_of kept l.queue l.seat ≡ true → IsNoted new l
+
+-- so are all
+pub notes_keep : (kept : Kept) (old new : Lists) → NotesStay old new → NotesKeep kept old new
+notes_keep kept old new stay l i its = stay l i
 
 -- where no seat of a consumer that is there is gone it is so still
-pub serves_kept : (kept : Kept) (before rings : Rings) → KeepsSeats kept before rings → length rings.rings ≡ length before.rings → Holds kept before → Holds kept rings
-serves_kept kept before rings keeps len serving = record { agreed = serving.agreed; rings_for = len ∙ serving.rings_for; seated = seats_kept kept before rings keeps serving.seated }
+pub serves_kept : (kept : Kept) (before rings : Rings) → KeepsSeats kept before rings → NotesKeep kept before.lists rings.lists → length rings.rings ≡ length before.rings → Holds kept before → Holds kept rings
+serves_kept kept before rings keeps notes len serving = record {
+  agreed = serving.agreed;
+  rings_for = len ∙ serving.rings_for;
+  seated = seats_kept kept before rings keeps serving.seated;
+  noted = λ place p has. notes (listing place p) (serving.noted place p has) (has_of kept place p has);
+}
 
 -- where no seat is gone at all
 pub keeps_all : (kept : Kept) (old new : Rings) → KeepsAll old new → KeepsSeats kept old new
@@ -301,6 +328,7 @@ serves_none kept rings agreed len none = record {
   agreed = agreed;
   rings_for = len;
   seated = λ place p has. absurd (false≢true (ap is_some (sym (none p.connection p.channel) ∙ has.was.1)));
+  noted = λ place p has. absurd (false≢true (ap is_some (sym (none p.connection p.channel) ∙ has.was.1)));
 }
 
 -- ---- events that want no memory

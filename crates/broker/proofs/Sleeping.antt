@@ -13,7 +13,7 @@ use Rattle.commands.specs.State.{Kept, broker_of}
 use Rattle.commands.specs.Picked.{IsPickFrom, CannotTake}
 use Rattle.commands.specs.declared.picks.Pick.{Pick}
 use Rattle.broker.specs.declared.roster.seats.Seat.{Seat}
-use Rattle.broker.specs.Roster.{Seats, Lists, Listing, ring_of, awake_seat, asleep_seat, has_its_consumer, is_of, IsAwakeAt, IsAwake, IsAsleep, IsListed, IsSeatedIn, KeepsIn, KeepsRing, ListsMore, ListsStay, NoneAwake, Dozes, FallsAsleep, NoneSeated, StaysAt, Wakens, AllWaken, IsWoken}
+use Rattle.broker.specs.Roster.{Seats, Lists, Listing, ring_of, awake_seat, asleep_seat, has_its_consumer, is_of, listing, IsAwakeAt, IsAwake, IsAsleep, IsListed, IsSeatedIn, KeepsIn, KeepsRing, ListsMore, ListsStay, NoneAwake, Dozes, FallsAsleep, NoneSeated, StaysAt, Wakens, AllWaken, IsWoken}
 use Rattle.broker.proofs.Picks.{picks_set}
 use Rattle.broker.proofs.Among.{stays, place_in, in_at, in_front, front_at}
 
@@ -35,6 +35,14 @@ set_more old new place i d e = go (i == place) refl
   where
     go : (v : Bool) → (i == place) ≡ v → new i ≡ 1
     go true f = subst (λ (n : ℕ). new n ≡ 1) (sym (eqb-true i place f)) d.there
+    go false f = d.others i (apart i place f) ∙ e
+
+-- and one that was taken out leaves those out that are
+pub set_less : (old new : ℕ → ℕ) (place i : ℕ) → Differs old new place 0 → old i ≡ 0 → new i ≡ 0
+set_less old new place i d e = go (i == place) refl
+  where
+    go : (v : Bool) → (i == place) ≡ v → new i ≡ 0
+    go true f = subst (λ (n : ℕ). new n ≡ 0) (sym (eqb-true i place f)) d.there
     go false f = d.others i (apart i place f) ∙ e
 
 -- ---- one seat is set
@@ -167,6 +175,24 @@ none_more kept queue old from place none never i p least lt at pick = elim (leb_
       never p (subst (λ (n : ℕ). IsAwakeAt old n p) here at) pick
 ]
 
+-- picks look at none of those that were passed
+pub rested_gap : (marks : List ℕ) (from next bound : ℕ) → ((i : ℕ) → from ≤ i → i < next → bit_of marks i ≡ 0) → ((k : ℕ) → next ≤ k → k < bound → bit_of marks k ≡ 0) → (i : ℕ) → from ≤ i → i < bound → bit_of marks i ≡ 0
+rested_gap marks from next bound rested zeros i least lt = elim (leb_tells (i + 1) next) [
+  | inl a ↦ let le = a.1 in rested i least (omega (arith, le))
+  | inr a ↦ let gt = a.1 in zeros i (omega (arith, gt)) lt
+]
+
+pub rested_on : (old new : List ℕ) (from next place : ℕ) → ((i : ℕ) → from ≤ i → i < next → bit_of old i ≡ 0) → ((k : ℕ) → next ≤ k → k < place → bit_of old k ≡ 0) → bit_of new place ≡ 0
+    → ((i : ℕ) → bit_of old i ≡ 0 → bit_of new i ≡ 0) → (i : ℕ) → from ≤ i → i < place + 1 → bit_of new i ≡ 0
+rested_on old new from next place rested zeros passed fewer i least lt = elim (leb_tells (i + 1) place) [
+  | inl a ↦ let le = a.1 in fewer i (rested_gap old from next place rested zeros i least (omega (arith, le)))
+  | inr a ↦ let gt = a.1 in let here : i ≡ place = omega (arith, lt, gt) in subst (λ (n : ℕ). bit_of new n ≡ 0) (sym here) passed
+]
+
+-- nobody is awake in a ring at none of whose seats picks look
+pub none_awake : (r : Seats) (p : Pick) → ((i : ℕ) → i < length r.seats → bit_of r.marks i ≡ 0) → IsAwake r p → ⊥
+none_awake r p zeros (i, at) = let one = sym (zeros i at.within) ∙ at.marked in omega (arith, one)
+
 -- in two parts
 pub none_round : (kept : Kept) (queue : ℕ) (old mid : Seats) (turn bound : ℕ) → NoneAwake kept queue old turn bound → ((i : ℕ) → i < turn → StaysAt old mid i) → NoneAwake kept queue mid 0 turn
     → NoneAwake kept queue old 0 bound
@@ -187,8 +213,8 @@ seated_more b before after queue r p stay (inl up) = inl up
 seated_more b before after queue r p stay (inr f) = inr (record { asleep = f.asleep; cannot = f.cannot; listed = stay (record { queue = queue; seat = p }) f.listed })
 
 -- and where those of consumers that are there are listed as before, who takes from the queue is so still
-pub seated_kept : (kept : Kept) (before after : Lists) (queue : ℕ) (r : Seats) (p : Pick) → (IsListed before (record { queue = queue; seat = p }) → is_of kept queue p ≡ true → IsListed after (record { queue = queue; seat = p }))
-    → is_of kept queue p ≡ true → IsSeatedIn (broker_of kept) before queue r p → IsSeatedIn (broker_of kept) after queue r p
+pub seated_kept : (kept : Kept) (before after : Lists) (queue : ℕ) (r : Seats) (p : Pick) → (IsListed before (listing queue p) → is_of kept queue p ≡ true → IsListed after (listing queue p)) → is_of kept queue p ≡ true
+    → IsSeatedIn (broker_of kept) before queue r p → IsSeatedIn (broker_of kept) after queue r p
 seated_kept kept before after queue r p stay its (inl up) = inl up
 seated_kept kept before after queue r p stay its (inr f) = inr (record { asleep = f.asleep; cannot = f.cannot; listed = stay f.listed its })
 

@@ -1,9 +1,9 @@
 -- Rings of queues that stand at other places, where another topology is put in force (own).
-use Rattle.std.specs.Prelude.{◌≡◌, ◌<◌, ◌⊎◌, ℕ, List, [], map, length}
+use Rattle.std.specs.Prelude.{◌≡◌, ◌<◌, ◌⊎◌, ℕ, List, map, length}
 use Rattle.channels.specs.Moving.{place_now}
 use Rattle.commands.specs.declared.picks.Pick.{Pick}
 use Rattle.broker.specs.declared.roster.seats.Seat.{Seat}
-use Rattle.broker.specs.Roster.{Seats, Lists, Listing, ring_at, order, awake_seat, IsAwake, IsAsleep, IsListed, HasList, MakesNoList}
+use Rattle.broker.specs.Roster.{Seats, Lists, Listing, Listings, ring_at, order, awake_seat, IsAwake, IsAsleep, IsNoted, MakesNoList}
 
 -- ---- rings
 
@@ -35,16 +35,23 @@ RingsAreMoved places old new = (from : ℕ) → from < length places → place_n
 
 -- ---- lists
 
--- as many lists, in which nothing sleeps
-abbrev pub emptied : List (List Listing) → List (List Listing)
-emptied desk = map (λ (_ : List Listing). []) desk
+-- the queue of the listing stands elsewhere
+abbrev pub listing_moved : List ℕ → Listing → Listing
+listing_moved places l = record l { queue = place_now places l.queue }
 
--- the lists of all connections, in which nothing sleeps
-abbrev pub all_emptied : Lists → Lists
-all_emptied lists = map (λ e. (e.0, emptied e.1)) lists
+-- those of all listings of a channel
+abbrev pub listings_moved : List ℕ → Listings → Listings
+listings_moved places s = record s { all = map (listing_moved places) s.all }
 
--- Nothing is listed any more, where there was a list there is one, and no connection has one that had none.
-pub record ListsAreEmptied (old new : Lists) : Type 0 where
-  pub none : (l : Listing) → IsListed new l → ⊥
-  pub stay : (c h : ℕ) → HasList old c h → HasList new c h
+-- and of a connection
+abbrev pub desk_moved : List ℕ → List Listings → List Listings
+desk_moved places desk = map (listings_moved places) desk
+
+-- and of all
+abbrev pub all_moved : List ℕ → Lists → Lists
+all_moved places lists = map (λ e. (e.0, desk_moved places e.1)) lists
+
+-- What is listed is listed in the ring that stands elsewhere, and no connection has a list that had none.
+pub record ListsAreMoved (places : List ℕ) (old new : Lists) : Type 0 where
+  pub noted : (l : Listing) → IsNoted old l → IsNoted new (listing_moved places l)
   pub made : MakesNoList old new

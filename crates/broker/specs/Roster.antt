@@ -18,7 +18,7 @@ use Rattle.depot.specs.Store.{HasReady}
 use Rattle.exchange_graph.specs.Marks.{queue_name}
 use Rattle.commands.specs.State.{Kept, broker_of, topology_kept}
 use Rattle.commands.specs.Picked.{IsPickFrom, CannotTake}
-use Rattle.commands.specs.Seats.{has_consumer, seat_of, IsConsumed}
+use Rattle.commands.specs.Seats.{seat_of, IsConsumed}
 use Rattle.commands.specs.declared.picks.Pick.{Pick}
 use Rattle.broker.specs.declared.roster.finding.Found.{Found}
 use Rattle.broker.specs.declared.roster.finding.Found.TheVariants.{Able, Unable, Over}
@@ -41,11 +41,16 @@ pub record Listing : Type 0 where
   pub queue : ℕ
   pub seat : Pick
 
--- beside the number of each connection what sleeps on each of its channels, at the channel's number
-abbrev pub Lists : Type 0
-Lists = List (ℕ × List (List Listing))
+-- The seats of a channel's consumers, and a bit for each, which is 1 where it sleeps.
+pub record Listings : Type 0 where
+  pub all : List Listing
+  pub asleep : List ℕ
 
--- The rings of all queues, in the order of the file, and what sleeps.
+-- beside the number of each connection what is listed on each of its channels, at the channel's number
+abbrev pub Lists : Type 0
+Lists = List (ℕ × List Listings)
+
+-- The rings of all queues, in the order of the file, and the lists of the channels.
 pub record Rings : Type 0 where
   pub rings : List Seats
   pub lists : Lists
@@ -137,31 +142,57 @@ IsAwake r p = (place : ℕ) × IsAwakeAt r place p
 abbrev pub IsAsleep : Seats → Pick → Type 0
 IsAsleep r p = IsIn (asleep_seat p) r.seats
 
--- what sleeps on a channel, of what sleeps on all channels of its connection
-abbrev pub listed_on : List (List Listing) → ℕ → List Listing
-listed_on desk h = slice_index_or desk h []
+-- the listing of this consumer's seat in the ring of the queue at this place
+abbrev pub listing : ℕ → Pick → Listing
+listing queue p = record { queue = queue; seat = p }
+
+-- two listings are one
+abbrev pub is_listing : Listing → Listing → Bool
+is_listing l m = (l.queue == m.queue) && is_consumer l.seat m.seat
+
+-- the consumer of the listed seat is there, and takes from the queue
+abbrev pub is_listed_there : Kept → Listing → Bool
+is_listed_there kept l = is_of kept l.queue l.seat
+
+-- what is listed on a channel, of what is listed on all channels of its connection
+abbrev pub listings_on : List Listings → ℕ → Listings
+listings_on desk h = slice_index_or desk h (record { all = []; asleep = [] })
+
+-- At this place of the list the listing stands, and tells that its seat sleeps.
+pub record IsAsleepAt (s : Listings) (i : ℕ) (l : Listing) : Type 0 where
+  pub within : i < length s.all
+  pub there : (d : Listing) → slice_index_or s.all i d ≡ l
+  pub marked : bit_of s.asleep i ≡ 1
+
+-- so it does somewhere in the list
+abbrev pub IsAsleepIn : Listings → Listing → Type 0
+IsAsleepIn s l = (i : ℕ) × IsAsleepAt s i l
 
 -- a seat is listed, of those of its connection, on its channel
-abbrev pub IsListedOn : List (List Listing) → Listing → Type 0
-IsListedOn desk l = IsIn l (listed_on desk l.seat.channel)
+abbrev pub IsNotedOn : List Listings → Listing → Type 0
+IsNotedOn desk l = IsIn l (listings_on desk l.seat.channel).all
+
+-- and its listing tells that it sleeps
+abbrev pub IsListedOn : List Listings → Listing → Type 0
+IsListedOn desk l = IsAsleepIn (listings_on desk l.seat.channel) l
 
 -- It is listed at its connection, on its channel.
+pub record IsNoted (lists : Lists) (l : Listing) : Type 0 where
+  pub desk : List Listings
+  pub there : lookup (nat_eq l.seat.connection) lists ≡ Some desk
+  pub among : IsNotedOn desk l
+
+-- And its listing tells that it sleeps.
 pub record IsListed (lists : Lists) (l : Listing) : Type 0 where
-  pub desk : List (List Listing)
+  pub desk : List Listings
   pub there : lookup (nat_eq l.seat.connection) lists ≡ Some desk
   pub among : IsListedOn desk l
-
--- There is a list for this channel of this connection.
-pub record HasList (lists : Lists) (c h : ℕ) : Type 0 where
-  pub desk : List (List Listing)
-  pub there : lookup (nat_eq c) lists ≡ Some desk
-  pub within : h < length desk
 
 -- The seat stands in the ring of the queue at this place, asleep; its consumer may take nothing now, and it is listed.
 pub record Sleeps (b : Broker) (lists : Lists) (queue : ℕ) (seats : List Seat) (p : Pick) : Type 0 where
   pub asleep : IsIn (asleep_seat p) seats
   pub cannot : CannotTake b p
-  pub listed : IsListed lists (record { queue = queue; seat = p })
+  pub listed : IsListed lists (listing queue p)
 
 -- it stands there, and is awake, or sleeps so
 abbrev pub IsSeatedIn : Broker → Lists → ℕ → Seats → Pick → Type 0
@@ -171,10 +202,10 @@ IsSeatedIn b lists queue r p = IsAwake r p ⊎ Sleeps b lists queue r.seats p
 abbrev pub IsSeated : Broker → Rings → ℕ → Pick → Type 0
 IsSeated b r place p = IsSeatedIn b r.lists place (ring_at r.rings place) p
 
--- The consumer's seat stands there, awake, and there is a list for its channel, so that it can fall asleep.
+-- The consumer's seat stands there, awake, and is listed, so that it can fall asleep without memory.
 pub record HasSeat (r : Rings) (place : ℕ) (p : Pick) : Type 0 where
   pub awake : IsAwake (ring_at r.rings place) p
-  pub list : HasList r.lists p.connection p.channel
+  pub noted : IsNoted r.lists (listing place p)
 
 -- the consumer that this event is to make has its seat
 abbrev pub SeatsNext : Kept → Event → Rings → Type 0
@@ -194,6 +225,10 @@ pub record HasConsumer (t : Topology) (b : Broker) (place : ℕ) (p : Pick) : Ty
 abbrev pub AllHaveSeats : Topology → Broker → Rings → Type 0
 AllHaveSeats t b r = (place : ℕ) (p : Pick) → HasConsumer t b place p → IsSeated b r place p
 
+-- the seat of each consumer is listed
+abbrev pub AllAreNoted : Topology → Broker → Lists → Type 0
+AllAreNoted t b lists = (place : ℕ) (p : Pick) → HasConsumer t b place p → IsNoted lists (listing place p)
+
 -- nothing is listed of this connection: not even an empty list is kept for it
 abbrev pub HasNoList : Lists → ℕ → Type 0
 HasNoList lists c = lookup (nat_eq c) lists ≡ None
@@ -207,6 +242,8 @@ pub record IsServing (kept : Kept) (r : Rings) : Type 0 where
   pub agreed : IsAgreed (broker_of kept)
   pub rings_for : length r.rings ≡ length (topology_kept kept).queues
   pub seated : AllHaveSeats (topology_kept kept) (broker_of kept) r
+  -- so that a seat falls asleep without memory
+  pub noted : AllAreNoted (topology_kept kept) (broker_of kept) r.lists
   -- of a connection that runs no more nothing is listed
   pub running : AllRun (broker_of kept) r.lists
 
@@ -333,6 +370,15 @@ pub data IsBounded (kept : Kept) (queue : ℕ) (old new : Seats) : Type 0 where
   -- all but one are of consumers that are there
   all_there : length new.seats ≤ count_by (has_its_consumer kept queue) new.seats + 1 → IsBounded kept queue old new
 
+-- How many are listed on a channel where one was to be listed:
+pub data AreBounded (kept : Kept) (room : ℕ) (old new : List Listing) : Type 0 where
+  -- no more than were
+  as_many : length new ≤ length old → AreBounded kept room old new
+  -- there was room for them
+  had_room : length new ≤ room → AreBounded kept room old new
+  -- all but one are of consumers that are there
+  all_there : length new ≤ count_by (is_listed_there kept) new + 1 → AreBounded kept room old new
+
 -- ---- what stays
 
 -- no seat of a consumer that is there is gone from the ring of the queue at this place, by what was listed before and is after
@@ -364,17 +410,37 @@ StaysAt old new i = (p : Pick) → IsAwakeAt old i p → IsAwakeAt new i p
 abbrev pub ListsStay : Lists → Lists → Type 0
 ListsStay old new = (l : Listing) → IsListed old l → IsListed new l
 
--- that of consumers that are there
-abbrev pub KeepLists : Kept → Lists → Lists → Type 0
-KeepLists kept old new = (l : Listing) → IsListed old l → has_consumer kept l.seat ≡ true → IsListed new l
+-- what is listed is listed still, asleep or not
+abbrev pub NotesStay : Lists → Lists → Type 0
+NotesStay old new = (l : Listing) → IsNoted old l → IsNoted new l
+
+-- The seats of consumers that are there are listed as before.
+pub record KeepLists (kept : Kept) (old new : Lists) : Type 0 where
+  pub noted : (l : Listing) → IsNoted old l → is_of kept l.queue l.seat ≡ true → IsNoted new l
+  pub listed : (l : Listing) → IsListed old l → is_of kept l.queue l.seat ≡ true → IsListed new l
+
+-- so they are in the list of a channel
+pub record KeepsListings (kept : Kept) (old new : Listings) : Type 0 where
+  pub noted : (l : Listing) → IsIn l old.all → is_of kept l.queue l.seat ≡ true → IsIn l new.all
+  pub asleep : (l : Listing) → IsAsleepIn old l → is_of kept l.queue l.seat ≡ true → IsAsleepIn new l
+
+-- in those of all channels of a connection
+abbrev pub KeepListingsOn : Kept → List Listings → List Listings → Type 0
+KeepListingsOn kept old new = (h : ℕ) → KeepsListings kept (listings_on old h) (listings_on new h)
+
+-- More sleep in a list, of the same seats.
+pub record SleepMore (old new : Listings) : Type 0 where
+  pub same : new.all ≡ old.all
+  pub stay : (l : Listing) → IsAsleepIn old l → IsAsleepIn new l
 
 -- no list is made for a connection that had none
 abbrev pub MakesNoList : Lists → Lists → Type 0
 MakesNoList old new = (c : ℕ) → HasNoList old c → HasNoList new c
 
--- More is listed, and no list is made for a connection that had none.
+-- More sleep, of the seats that are listed, and no list is made for a connection that had none.
 pub record ListsMore (old new : Lists) : Type 0 where
   pub stay : ListsStay old new
+  pub noted : NotesStay old new
   pub none : MakesNoList old new
 
 -- no list is made for a connection that had none, and doesn't run
@@ -393,7 +459,7 @@ is_able _ = false
 -- gone or takes from another queue.
 abbrev pub FindsSeat : Kept → ℕ → Seat → Found → Type 0
 FindsSeat kept queue s Able = (s.asleep ≡ false) × IsPickFrom kept queue s.pick
-FindsSeat kept queue s Unable = (s.asleep ≡ false) × CannotTake (broker_of kept) s.pick
+FindsSeat kept queue s Unable = (s.asleep ≡ false) × CannotTake (broker_of kept) s.pick × (is_of kept queue s.pick ≡ true)
 FindsSeat kept queue s Over = s.asleep ≡ false → is_of kept queue s.pick ≡ false
 
 -- ---- who falls asleep and is woken
@@ -402,7 +468,7 @@ FindsSeat kept queue s Over = s.asleep ≡ false → is_of kept queue s.pick ≡
 pub record FallsAsleep (b : Broker) (lists : Lists) (queue : ℕ) (old new : Seat) : Type 0 where
   pub asleep : new ≡ asleep_seat old.pick
   pub cannot : CannotTake b old.pick
-  pub listed : IsListed lists (record { queue = queue; seat = old.pick })
+  pub listed : IsListed lists (listing queue old.pick)
 
 -- one did that was awake, and whose consumer is there
 abbrev pub Dozes : Kept → Lists → ℕ → Seat → Seat → Type 0
@@ -423,9 +489,9 @@ AllWaken old new = (place : ℕ) → Wakens (ring_at old place) (ring_at new pla
 abbrev pub IsWoken : List Seats → List Seats → Listing → Type 0
 IsWoken old new l = IsAsleep (ring_at old l.queue) l.seat → IsAwake (ring_at new l.queue) l.seat
 
--- each of these
-abbrev pub WakesListed : List Listing → List Seats → List Seats → Type 0
-WakesListed listed old new = (l : Listing) → IsIn l listed → IsWoken old new l
+-- each that sleeps of these
+abbrev pub WakesListed : Listings → List Seats → List Seats → Type 0
+WakesListed s old new = (l : Listing) → IsAsleepIn s l → IsWoken old new l
 
 -- the seat of this consumer is awake now, in whatever ring it stood and whatever it may take
 abbrev pub WakesSeat : Rings → Rings → Pick → Type 0

@@ -131,7 +131,7 @@ impl Broker {
     /// A delivery that can be made, if there is any: whose turn it is from now on. As long as nothing is delivered, and a delivery
     /// can be made to it, the same is told again. Else queues that have something ready are gone round, from the one behind that
     /// from which was told last, and so are the consumers of a queue: whoever could be told is told, or its turn is no further off.
-    /// Memory that is wanting only leaves seats awake.
+    /// It takes no memory.
     pub fn pick(&mut self) -> Option<Pick>
         ensures kept { self.new.kept ≡ self.old.kept }
         ensures turn { self.new.turn ≡ result }

@@ -3,9 +3,9 @@
 //! Each queue has the ring of its consumers' seats. What is picked is found by going round the queues that have something ready
 //! and a seat awake, from the one behind that from which was picked last, and in each round its ring. So a consumer of a queue
 //! that has nothing ready costs nothing, nor does a queue of which nobody may take something. A seat that is found when its
-//! consumer may take nothing falls asleep, is listed at its channel, and costs nothing until an event of its own channel or the end
-//! of its connection's pause wakes it, which takes it out of the list. So a command wakes what sleeps on its channel, and goes over
-//! no seat that is idle. A seat that can't be listed for want of memory stays awake.
+//! consumer may take nothing falls asleep, and costs nothing until an event of its own channel or the end of its connection's pause
+//! wakes it. So a command wakes what sleeps on its channel, and goes over no seat that is idle. Each consumer's seat is listed at
+//! its channel as it is made, with a bit that tells whether it sleeps, so that a pick takes no memory.
 
 mod desk;
 mod finding;
@@ -16,7 +16,7 @@ mod seats;
 ghost use Rattle.std.specs.Prelude.{◌≡◌};
 ghost use Rattle.broker.specs.Roster.{wakes_on};
 
-use crate::roster::desk::{Desks, empty_desks, forget_desk, open_list, wake_desk};
+use crate::roster::desk::{Desks, forget_desk, move_desks, note_seat, wake_desk};
 use crate::roster::seating::Seating;
 use commands::{Core, Pick};
 use model::{Event, Method};
@@ -64,9 +64,9 @@ impl Roster {
     ghost use Rattle.commands.specs.State.{Kept, broker_of, topology_kept};
     ghost use Rattle.commands.specs.Picked.{IsPickFrom};
     ghost use Rattle.commands.specs.Seats.{seat_of};
-    ghost use Rattle.broker.specs.Roster.{wakes, IsAt, IsSeated, SeatsNext, HasNoList, MakesNoList, ListsRunning};
+    ghost use Rattle.broker.specs.Roster.{wakes, AllAreNoted, IsAt, IsSeated, SeatsNext, HasNoList, MakesNoList, NotesStay, KeepLists, ListsRunning};
     ghost use Rattle.broker.specs.Roster.{KeepsSeats, KeepsAll, KeepLines, LetsNextIn, AllWaken, WakesSeat, PicksFirst, GoesOn};
-    ghost use Rattle.broker.specs.Moving.{ArePlacesApart, RingsAreMoved, ListsAreEmptied};
+    ghost use Rattle.broker.specs.Moving.{ArePlacesApart, RingsAreMoved, ListsAreMoved};
 
     /// No seat, for so many queues.
     pub fn new(alloc: Global, queues: usize) -> Result<Roster, AllocError>
@@ -81,12 +81,13 @@ impl Roster {
         })
     }
 
-    /// The consumer that this event is to make, if any, has its seat from now on, which is awake, and a list for when it sleeps.
+    /// The consumer that this event is to make, if any, has its seat from now on, which is awake, and is listed for when it sleeps.
     /// Where memory is wanting it may not; no seat of a consumer that is there is gone.
     pub fn seat_next(&mut self, alloc: Global, core: &Core, event: &Event) -> Result<(), AllocError>
         requires { length self.old.rings ≡ length (topology_kept core.now).queues }
         ensures seated { OnOk result (SeatsNext core.now event.now self.new) }
         ensures kept { KeepsSeats core.now self.old self.new }
+        ensures noted { KeepLists core.now self.old.lists self.new.lists }
         ensures running { ListsRunning (broker_of core.now) self.old.lists self.new.lists }
         ensures len { length self.new.rings ≡ length self.old.rings }
         ensures quiet { seat_of core.now event.now ≡ None → IsOk result }
@@ -100,12 +101,7 @@ impl Roster {
         let Some(queue) = core.queue_consumed(event) else {
             return Ok(());
         };
-        open_list(
-            &mut self.desks,
-            alloc,
-            consumer.connection,
-            consumer.channel,
-        )?;
+        note_seat(&mut self.desks, alloc, core, queue, consumer)?;
         self.seating.seat(core, queue, consumer)
     }
 
@@ -114,6 +110,7 @@ impl Roster {
     pub fn wake(&mut self, connection: u64, channel: Option<u16>)
         ensures woken { (p : Consumer) → IsAt connection channel p → WakesSeat self.old self.new p }
         ensures kept { KeepsAll self.old self.new }
+        ensures noted { NotesStay self.old.lists self.new.lists }
         ensures wakens { AllWaken self.old.rings self.new.rings }
         ensures none { MakesNoList self.old.lists self.new.lists }
         ensures len { length self.new.rings ≡ length self.old.rings }
@@ -126,6 +123,7 @@ impl Roster {
     pub fn wake_for(&mut self, event: &Event)
         ensures woken { (p : Consumer) → wakes event.now p ≡ true → WakesSeat self.old self.new p }
         ensures kept { KeepsAll self.old self.new }
+        ensures noted { NotesStay self.old.lists self.new.lists }
         ensures wakens { AllWaken self.old.rings self.new.rings }
         ensures none { MakesNoList self.old.lists self.new.lists }
         ensures len { length self.new.rings ≡ length self.old.rings }
@@ -150,6 +148,7 @@ impl Roster {
     /// What is listed of this connection, which runs no more, is gone. It takes no memory.
     pub fn forget(&mut self, connection: u64)
         ensures kept { (k : Kept) → (broker_of k).connection connection ≡ None → KeepsSeats k self.old self.new }
+        ensures noted { (k : Kept) → (broker_of k).connection connection ≡ None → KeepLists k self.old.lists self.new.lists }
         ensures gone { HasNoList self.new.lists connection }
         ensures none { MakesNoList self.old.lists self.new.lists }
         ensures len { length self.new.rings ≡ length self.old.rings }
@@ -159,12 +158,12 @@ impl Roster {
     }
 
     /// The seats of `old` stand from now on in the rings of their queues at the places that the table has for these, and all are
-    /// awake; those of a queue whose place is behind the end are gone. Nothing is listed. It takes no memory.
+    /// awake; those of a queue whose place is behind the end are gone. They are listed there. It takes no memory.
     pub fn take_over(&mut self, old: Roster, places: &[usize])
         requires len { length places.now ≡ length old.rings }
         requires apart { ArePlacesApart places.now (length self.old.rings) }
         ensures moved { RingsAreMoved places.now old.rings self.new.rings }
-        ensures lists { ListsAreEmptied old.lists self.new.lists }
+        ensures lists { ListsAreMoved places.now old.lists self.new.lists }
         ensures next { self.new.next ≡ self.old.next }
         ensures len { length self.new.rings ≡ length self.old.rings }
     {
@@ -174,15 +173,17 @@ impl Roster {
             next: _,
         } = old;
         self.seating.take_over(seating, places);
-        empty_desks(&mut left);
+        move_desks(&mut left, places);
         self.desks = left;
     }
 
-    /// The first delivery that can be made, from the queue behind that from which was picked last, and then from the front. Where
-    /// memory, seats stay awake whose consumers may take nothing.
+    /// The first delivery that can be made, from the queue behind that from which was picked last, and then from the front. It takes
+    /// no memory.
     pub fn pick(&mut self, core: &Core) -> Option<Pick>
-        requires { length self.old.rings ≡ length (topology_kept core.now).queues }
+        requires len { length self.old.rings ≡ length (topology_kept core.now).queues }
+        requires noted { AllAreNoted (topology_kept core.now) (broker_of core.now) self.old.lists }
         ensures kept { KeepsSeats core.now self.old self.new }
+        ensures noted { NotesStay self.old.lists self.new.lists }
         ensures no_list { MakesNoList self.old.lists self.new.lists }
         ensures len { length self.new.rings ≡ length self.old.rings }
         ensures some { IfSome result (λ p. (place : ℕ) × IsPickFrom core.now place p) }

@@ -6,10 +6,10 @@ pub mod Numbering
 pub mod Halving
 pub mod Moving
 mod Marking
-pub mod LinksCounting
+pub mod ConnectionsCounting
 mod Opening
 pub mod Outcomes
 pub mod Setting
 pub mod Putting
-pub mod LinksMoving
+pub mod ConnectionsMoving
 pub mod Taking

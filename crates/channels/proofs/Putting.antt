@@ -5,7 +5,7 @@ use Rattle.std.proofs.lemmas.Option.{none-some}
 use Rattle.std.specs.Map.{lookup, set_value}
 use Rattle.channels.specs.Open.{Open}
 use Rattle.channels.proofs.Setting.{set_is, set_same}
-use Rattle.channels.specs.Links.{Linked, linked_in, channel_at, channel_of, connection_at, connection_of, with_channel_in, with_channel_at, with_channel, PutsChannel}
+use Rattle.channels.specs.RunningConnections.{Running, running_in, channel_at, channel_of, connection_at, connection_of, with_channel_in, with_channel_at, with_channel, PutsChannel}
 
 -- what is written at a key is found there
 found_here : {K X : Type 0} (test : K → Bool) (es : List (K × X)) (w x : X) → lookup test es ≡ Some x → lookup test (set_value test es w) ≡ Some w
@@ -34,20 +34,20 @@ within (y ∷ ys) zero x e = omega arith
 within (y ∷ ys) (suc i) x e = let lt = within ys i x e in omega (arith, lt)
 
 -- a channel that was there, and is written, is put at its number
-pub puts_written : (es : List (ℕ × Linked)) (c h : ℕ) (old ch : Open) → channel_of es c h ≡ Some old → PutsChannel es c h (Some ch) (with_channel es c h ch)
-puts_written es c h old ch is = at (linked_in es c) refl is
+pub puts_written : (es : List (ℕ × Running)) (c h : ℕ) (old ch : Open) → channel_of es c h ≡ Some old → PutsChannel es c h (Some ch) (with_channel es c h ch)
+puts_written es c h old ch is = at (running_in es c) refl is
   where
-    at : (o : Option Linked) → linked_in es c ≡ o → channel_at o h ≡ Some old → PutsChannel es c h (Some ch) (with_channel_at es c h o ch)
+    at : (o : Option Running) → running_in es c ≡ o → channel_at o h ≡ Some old → PutsChannel es c h (Some ch) (with_channel_at es c h o ch)
     at None e there = absurd (none-some old there)
     at (Some l) e there = record {
       connections = λ d. limits d (d == c) refl;
       channels = λ d k. channels d k (d == c) refl;
     }
       where
-        new : List (ℕ × Linked)
+        new : List (ℕ × Running)
         new = set_value (nat_eq c) es (with_channel_in l h ch)
 
-        here : linked_in new c ≡ Some (with_channel_in l h ch)
+        here : running_in new c ≡ Some (with_channel_in l h ch)
         here = found_here (nat_eq c) es (with_channel_in l h ch) l e
 
         limits : (d : ℕ) (b : Bool) → (d == c) ≡ b → connection_of new d ≡ connection_of es d
@@ -57,12 +57,12 @@ puts_written es c h old ch is = at (linked_in es c) refl is
         channels : (d k : ℕ) (b : Bool) → (d == c) ≡ b → channel_of new d k ≡ (if (d == c) && (k == h) then Some ch else channel_of es d k)
         channels d k true t =
             ap (λ (j : ℕ). channel_of new j k) (eqb-true d c t)
-            ∙ ap (λ (o : Option Linked). channel_at o k) here
+            ∙ ap (λ (o : Option Running). channel_at o k) here
             ∙ set_is l.channels h (Some ch) (within l.channels h old there) k
-            ∙ ap (λ (o : Option Open). if k == h then Some ch else o) (sym (ap (λ (o : Option Linked). channel_at o k) e) ∙ sym (ap (λ (j : ℕ). channel_of es j k) (eqb-true d c t)))
+            ∙ ap (λ (o : Option Open). if k == h then Some ch else o) (sym (ap (λ (o : Option Running). channel_at o k) e) ∙ sym (ap (λ (j : ℕ). channel_of es j k) (eqb-true d c t)))
             ∙ sym (ap (λ (b : Bool). if b && (k == h) then Some ch else channel_of es d k) t)
         channels d k false t =
-            ap (λ (o : Option Linked). channel_at o k) (found_apart c d es (with_channel_in l h ch) t)
+            ap (λ (o : Option Running). channel_at o k) (found_apart c d es (with_channel_in l h ch) t)
             ∙ sym (ap (λ (b : Bool). if b && (k == h) then Some ch else channel_of es d k) t)
 
 -- what stands at a number is put there again
@@ -72,9 +72,9 @@ set_there (y ∷ ys) zero x e = ap (λ (z : Option Open). z ∷ ys) (sym e)
 set_there (y ∷ ys) (suc i) x e = ap (λ (zs : List (Option Open)). y ∷ zs) (set_there ys i x e)
 
 -- a channel that comes back as it was leaves all as it was
-pub put_same : (es : List (ℕ × Linked)) (c h : ℕ) (ch : Open) → channel_of es c h ≡ Some ch → with_channel es c h ch ≡ es
-put_same es c h ch is = at (linked_in es c) refl is
+pub put_same : (es : List (ℕ × Running)) (c h : ℕ) (ch : Open) → channel_of es c h ≡ Some ch → with_channel es c h ch ≡ es
+put_same es c h ch is = at (running_in es c) refl is
   where
-    at : (o : Option Linked) → linked_in es c ≡ o → channel_at o h ≡ Some ch → with_channel_at es c h o ch ≡ es
+    at : (o : Option Running) → running_in es c ≡ o → channel_at o h ≡ Some ch → with_channel_at es c h o ch ≡ es
     at None e there = absurd (none-some ch there)
     at (Some l) e there = ap (λ (xs : List (Option Open)). set_value (nat_eq c) es (record l { channels = xs })) (set_there l.channels h ch there) ∙ set_same (nat_eq c) es l e

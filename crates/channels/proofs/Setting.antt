@@ -5,7 +5,7 @@ use Rattle.std.proofs.lemmas.List.{get_or-set_same, get_or-set_other}
 use Rattle.std.proofs.lemmas.Option.{same_Some}
 use Rattle.std.specs.Map.{lookup, set_value}
 use Rattle.channels.specs.Open.{Open}
-use Rattle.channels.specs.Links.{Linked, IsChannelSet, linked_in, channel_in, channel_at, channel_of, with_channel_in, with_channel_at, with_channel}
+use Rattle.channels.specs.RunningConnections.{Running, IsChannelSet, running_in, channel_in, channel_at, channel_of, with_channel_in, with_channel_at, with_channel}
 
 -- within a list it is the same whatever stands past its end
 pub same_default : {A : Type 0} (xs : List A) (i : ℕ) (a b : A) → i < length xs → get_or xs i a ≡ get_or xs i b
@@ -31,9 +31,9 @@ set_same {K} {X} test (y ∷ ys) x e = go (test y.0) e (set_same test ys x)
     go false f more = ap (λ (zs : List (K × X)). y ∷ zs) (more f)
 
 -- where the connection is found, its channel is the one asked for
-pub found_channel : (es : List (ℕ × Linked)) (c h : ℕ) (l : Linked) → linked_in es c ≡ Some l → channel_in l h ≡ channel_of es c h
-found_channel es c h l found = ap (λ (o : Option Linked). channel_at o h) (sym found)
+pub found_channel : (es : List (ℕ × Running)) (c h : ℕ) (l : Running) → running_in es c ≡ Some l → channel_in l h ≡ channel_of es c h
+found_channel es c h l found = ap (λ (o : Option Running). channel_at o h) (sym found)
 
 -- and writing it writes that connection
-pub found_written : (es : List (ℕ × Linked)) (c h : ℕ) (l : Linked) (w : Open) → linked_in es c ≡ Some l → set_value (nat_eq c) es (with_channel_in l h w) ≡ with_channel es c h w
-found_written es c h l w found = ap (λ (o : Option Linked). with_channel_at es c h o w) (sym found)
+pub found_written : (es : List (ℕ × Running)) (c h : ℕ) (l : Running) (w : Open) → running_in es c ≡ Some l → set_value (nat_eq c) es (with_channel_in l h w) ≡ with_channel es c h w
+found_written es c h l w found = ap (λ (o : Option Running). with_channel_at es c h o w) (sym found)

@@ -10,9 +10,9 @@ use Rattle.model.specs.Declaring.{ChannelName}
 use Rattle.channels.specs.Seats.{takes_from}
 use Rattle.channels.specs.Open.{Open}
 use Rattle.channels.specs.declared.consumers.Consumer.{Consumer}
-use Rattle.channels.specs.Links.{Linked, channel_of}
+use Rattle.channels.specs.RunningConnections.{Running, channel_of}
 use Rattle.channels.specs.Counting.{consumers_at, all_consumers, is_consumed, HasTaker}
-use Rattle.channels.proofs.LinksCounting.{name, names_in, all_there, on, all_sum}
+use Rattle.channels.proofs.ConnectionsCounting.{name, names_in, all_there, on, all_sum}
 
 -- ---- sums
 
@@ -46,9 +46,9 @@ yes_counts false lt = absurd (omega (arith, lt))
 
 -- ---- all of them
 
-taker_at : (links : List (ℕ × Linked)) (queue : ℕ) (x : ChannelName) (o : Option Open) → channel_of links x.connection x.number ≡ o → 0 < consumers_at queue o → HasTaker links queue
-taker_at links queue x None is lt = absurd (omega (arith, lt))
-taker_at links queue x (Some ch) is lt =
+taker_at : (connections : List (ℕ × Running)) (queue : ℕ) (x : ChannelName) (o : Option Open) → channel_of connections x.connection x.number ≡ o → 0 < consumers_at queue o → HasTaker connections queue
+taker_at connections queue x None is lt = absurd (omega (arith, lt))
+taker_at connections queue x (Some ch) is lt =
     let part = some_part (λ (k : Consumer). cond (takes_from queue k) 1 0) ch.given.consumers lt in record {
       connection = x.connection;
       number = x.number;
@@ -65,22 +65,22 @@ counted_taker queue ch k i e =
     let less = part_within (λ (c : Consumer). cond (takes_from queue c) 1 0) k ch.given.consumers i in
     omega (arith, one, less)
 
-pub takers_found : (links : List (ℕ × Linked)) → IsDistinct nat_eq (keys_of links) → (queue : ℕ) → Decides (is_consumed links queue) (HasTaker links queue)
-takers_found links apart queue = (found, counted)
+pub takers_found : (connections : List (ℕ × Running)) → IsDistinct nat_eq (keys_of connections) → (queue : ℕ) → Decides (is_consumed connections queue) (HasTaker connections queue)
+takers_found connections apart queue = (found, counted)
   where
-    same : sum_by (on queue links) (names_in links) ≡ all_consumers links queue
-    same = all_sum queue links apart
+    same : sum_by (on queue connections) (names_in connections) ≡ all_consumers connections queue
+    same = all_sum queue connections apart
 
-    found : is_consumed links queue ≡ true → HasTaker links queue
+    found : is_consumed connections queue ≡ true → HasTaker connections queue
     found e =
-        let lt = ltb-true 0 (all_consumers links queue) e in
-        let part = some_part (on queue links) (names_in links) (omega (arith, lt, same)) in
-        taker_at links queue part.one (channel_of links part.one.connection part.one.number) refl part.counts
+        let lt = ltb-true 0 (all_consumers connections queue) e in
+        let part = some_part (on queue connections) (names_in connections) (omega (arith, lt, same)) in
+        taker_at connections queue part.one (channel_of connections part.one.connection part.one.number) refl part.counts
 
-    counted : HasTaker links queue → is_consumed links queue ≡ true
+    counted : HasTaker connections queue → is_consumed connections queue ≡ true
     counted t =
-        let here = all_there links t.connection t.number t.channel t.there in
+        let here = all_there connections t.connection t.number t.channel t.there in
         let one = counted_taker queue t.channel t.consumer t.among t.takes in
         let its = ap (consumers_at queue) t.there in
-        let less = part_within (on queue links) (name t.connection t.number) (names_in links) here in
-        lt-ltb 0 (all_consumers links queue) (omega (arith, same, one, its, less))
+        let less = part_within (on queue connections) (name t.connection t.number) (names_in connections) here in
+        lt-ltb 0 (all_consumers connections queue) (omega (arith, same, one, its, less))

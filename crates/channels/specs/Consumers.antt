@@ -1,26 +1,17 @@
 -- Consumers of a channel, by their numbers.
-use Rattle.std.specs.Prelude.{◌≡◌, ℕ, Bool, false, Option, Some, None, is_some, if◌then◌else◌, length}
+use Rattle.std.specs.Prelude.{◌≡◌, ℕ, false, Option, Some, None, if◌then◌else◌}
 use Rattle.channels.specs.Deliveries.{consumer_at}
 use Rattle.channels.specs.Open.{Open, IsOne, IsTaker, HasNoTaker}
 use Rattle.channels.specs.declared.consumers.Consumer.{Consumer}
-use Rattle.channels.specs.Links.{Linked, channel_in}
+use Rattle.channels.specs.RunningConnections.{Running, channel_in}
 
 -- the consumer of this number, if the channel is open and has it
 abbrev pub consumer_numbered : Option Open → ℕ → Option Consumer
 consumer_numbered None number = None
 consumer_numbered (Some ch) number = consumer_at ch.given number
 
--- the channel is open and has it
-abbrev pub has_consumer_numbered : Option Open → ℕ → Bool
-has_consumer_numbered ch number = is_some (consumer_numbered ch number)
-
--- how many consumers it has
-abbrev pub count_on : Option Open → ℕ
-count_on None = 0
-count_on (Some ch) = length ch.given.consumers
-
 -- The consumer of this number is one of the channel h of a connection, and the only one of this number.
-pub record IsOneOn (l : Linked) (h number : ℕ) (k : Consumer) : Type 0 where
+pub record IsOneOn (l : Running) (h number : ℕ) (k : Consumer) : Type 0 where
   pub channel : Open
   pub there : channel_in l h ≡ Some channel
   pub one : IsOne channel number k
@@ -31,7 +22,7 @@ next_number None = Some 1
 next_number (Some ch) = if ch.is_closing then None else Some ch.given.next_number
 
 -- The consumer of this number on the channel h of a connection may take a message now.
-pub record MayTakeOn (l : Linked) (h number : ℕ) (k : Consumer) : Type 0 where
+pub record MayTakeOn (l : Running) (h number : ℕ) (k : Consumer) : Type 0 where
   pub awake : l.is_paused ≡ false
   pub channel : Open
   pub there : channel_in l h ≡ Some channel
@@ -39,6 +30,6 @@ pub record MayTakeOn (l : Linked) (h number : ℕ) (k : Consumer) : Type 0 where
   pub taker : IsTaker channel number k
 
 -- It is told, exactly where it may.
-abbrev pub TellsOn : Linked → ℕ → ℕ → Option Consumer → Type 0
+abbrev pub TellsOn : Running → ℕ → ℕ → Option Consumer → Type 0
 TellsOn l h number (Some k) = MayTakeOn l h number k
 TellsOn l h number None = (ch : Open) → l.is_paused ≡ false → channel_in l h ≡ Some ch → ch.is_closing ≡ false → HasNoTaker ch number

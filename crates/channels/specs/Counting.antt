@@ -6,7 +6,7 @@ use Rattle.model.specs.Step.{greatest}
 use Rattle.model.specs.Declaring.{ChannelName}
 use Rattle.channels.specs.Open.{Open, consumers_from}
 use Rattle.channels.specs.declared.consumers.Consumer.{Consumer}
-use Rattle.channels.specs.Links.{Linked, channel_of}
+use Rattle.channels.specs.RunningConnections.{Running, channel_of}
 
 -- how many consumers on a channel take from the queue at this place; none where it is not open
 abbrev pub consumers_at : ℕ → Option Open → ℕ
@@ -14,31 +14,31 @@ consumers_at queue None = 0
 consumers_at queue (Some ch) = consumers_from queue ch
 
 -- how many on all channels of a connection do
-abbrev pub consumers_counted : ℕ → Linked → ℕ
+abbrev pub consumers_counted : ℕ → Running → ℕ
 consumers_counted queue l = sum_by (consumers_at queue) l.channels
 
 -- So many consumers take from the queue at this place, on all channels together; the greatest 64-bit number stands for any above it.
-pub record CountsConsumers (links : List (ℕ × Linked)) (queue count : ℕ) : Type 0 where
+pub record CountsConsumers (connections : List (ℕ × Running)) (queue count : ℕ) : Type 0 where
   -- every open channel is among these, of which no two are the same
   pub channels : List ChannelName
-  pub all : (c h : ℕ) (ch : Open) → channel_of links c h ≡ Some ch → IsIn (record { connection = c; number = h }) channels
+  pub all : (c h : ℕ) (ch : Open) → channel_of connections c h ≡ Some ch → IsIn (record { connection = c; number = h }) channels
   pub apart : AllPairs (λ (x y : ChannelName). x ≡ y → ⊥) channels
-  pub counted : count ≡ min (sum_by (λ (x : ChannelName). consumers_at queue (channel_of links x.connection x.number)) channels) greatest
+  pub counted : count ≡ min (sum_by (λ (x : ChannelName). consumers_at queue (channel_of connections x.connection x.number)) channels) greatest
 
 -- how many consumers of all connections do
-abbrev pub all_consumers : List (ℕ × Linked) → ℕ → ℕ
-all_consumers links queue = sum_by (consumers_counted queue) (values_of links)
+abbrev pub all_consumers : List (ℕ × Running) → ℕ → ℕ
+all_consumers connections queue = sum_by (consumers_counted queue) (values_of connections)
 
 -- some consumer takes from the queue at this place
-abbrev pub is_consumed : List (ℕ × Linked) → ℕ → Bool
-is_consumed links queue = nat_lt 0 (all_consumers links queue)
+abbrev pub is_consumed : List (ℕ × Running) → ℕ → Bool
+is_consumed connections queue = nat_lt 0 (all_consumers connections queue)
 
 -- A consumer of some channel does.
-pub record HasTaker (links : List (ℕ × Linked)) (queue : ℕ) : Type 0 where
+pub record HasTaker (connections : List (ℕ × Running)) (queue : ℕ) : Type 0 where
   pub connection : ℕ
   pub number : ℕ
   pub channel : Open
-  pub there : channel_of links connection number ≡ Some channel
+  pub there : channel_of connections connection number ≡ Some channel
   pub consumer : Consumer
   pub among : IsIn consumer channel.given.consumers
   pub takes : consumer.queue ≡ queue

@@ -2,8 +2,8 @@ pub mod Consumers
 pub mod Counting
 pub mod Deliveries
 pub mod Lends
-pub mod Links
-pub mod LinksMoving
+pub mod RunningConnections
+pub mod ConnectionsMoving
 pub mod Moving
 pub mod Names
 pub mod Open

@@ -192,13 +192,6 @@ impl Channel {
         self.deliveries.consumer(number)
     }
 
-    /// How many consumers it has.
-    pub fn consumer_count(&self) -> usize
-        ensures { result ≡ length self.now.given.consumers }
-    {
-        self.deliveries.consumer_count()
-    }
-
     /// How many of its consumers take from the queue at this place.
     pub fn consumers_from(&self, queue: usize) -> usize
         ensures { result ≡ consumers_from queue self.now }

@@ -205,13 +205,6 @@ impl Deliveries {
         self.seats.numbered(number)
     }
 
-    /// How many consumers there are.
-    pub fn consumer_count(&self) -> usize
-        ensures { result ≡ length self.now.consumers }
-    {
-        self.seats.len()
-    }
-
     /// How many of the consumers take from the queue at this place.
     pub fn consumers_from(&self, queue: usize) -> usize
         ensures { result ≡ count_by (takes_from queue) self.now.consumers }

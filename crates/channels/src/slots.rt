@@ -26,12 +26,12 @@ ghost use Rattle.std.specs.Prelude.{
   vec_len,
 };
 ghost use Rattle.channels.specs.Moving.{open_moved};
-ghost use Rattle.channels.specs.LinksMoving.{channels_moved};
+ghost use Rattle.channels.specs.ConnectionsMoving.{channels_moved};
 ghost use Rattle.model.specs.Words.{Text as Name};
 ghost use Rattle.model.specs.Broker.{new_channel};
 ghost use Rattle.model.specs.Step.{greatest};
 ghost use Rattle.channels.specs.Open.{open_in, IsTaker, HasNoTaker};
-ghost use Rattle.channels.specs.Links.{IsChannelSet};
+ghost use Rattle.channels.specs.RunningConnections.{IsChannelSet};
 ghost use Rattle.channels.specs.Consumers.{next_number};
 ghost use Rattle.channels.specs.Counting.{consumers_at};
 

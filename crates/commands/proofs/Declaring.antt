@@ -23,7 +23,7 @@ use Rattle.depot.specs.Store.{queue_at, entries_named, IsQueueNamed}
 use Rattle.channels.specs.Open.{Open, open_in, consumer_in}
 use Rattle.channels.specs.Seats.{takes_from}
 use Rattle.channels.specs.declared.consumers.Consumer.{Consumer}
-use Rattle.channels.specs.Links.{channel_of}
+use Rattle.channels.specs.RunningConnections.{channel_of}
 use Rattle.channels.specs.Counting.{consumers_at, CountsConsumers}
 use Rattle.channels.specs.Placed.{TakeWithin, IsPlaced}
 use Rattle.commands.specs.State.{Kept, ArePlaced, broker_of, topology_kept, names_of}
@@ -72,15 +72,15 @@ same_sum f g (x ∷ xs) same =
 
 -- the consumers on these channels that take from the queue at a place
 abbrev counted_on : Kept → ℕ → List ChannelName → ℕ
-counted_on kept place channels = sum_by (λ (x : ChannelName). consumers_at place (channel_of kept.links x.connection x.number)) channels
+counted_on kept place channels = sum_by (λ (x : ChannelName). consumers_at place (channel_of kept.connections x.connection x.number)) channels
 
 has_consumers : (kept : Kept) (place count : ℕ) (name : Text) → ArePlaced kept → AreApart (names_of kept) → place < length (topology_kept kept).queues → queue_name (topology_kept kept) place ≡ name
-    → (is : CountsConsumers kept.links place count) → HasConsumers (broker_of kept) name (counted_on kept place is.channels)
+    → (is : CountsConsumers kept.connections place count) → HasConsumers (broker_of kept) name (counted_on kept place is.channels)
 has_consumers kept place count name placed apart lt named is = record {
   channels = is.channels;
-  all = λ c h ch there. let found = seen_there (names_of kept) (channel_of kept.links c h) ch there in is.all c h found.kept found.there;
+  all = λ c h ch there. let found = seen_there (names_of kept) (channel_of kept.connections c h) ch there in is.all c h found.kept found.there;
   apart = is.apart;
-  counted = same_sum _ _ is.channels (λ x. on_channel (topology_kept kept) place name (channel_of kept.links x.connection x.number) apart lt named (placed x.connection x.number));
+  counted = same_sum _ _ is.channels (λ x. on_channel (topology_kept kept) place name (channel_of kept.connections x.connection x.number) apart lt named (placed x.connection x.number));
 }
 
 -- ---- the answer
@@ -96,7 +96,7 @@ written_same n = elim (leb_tells n 4294967295) [
 ]
 
 pub found_is : (kept : Kept) (c h place ready count : ℕ) (m : QueueDeclare) (sends : List Send) (notes : List Note) → ArePlaced kept → AreApart (names_of kept)
-    → place < length (topology_kept kept).queues → queue_name (topology_kept kept) place ≡ m.queue → IsQueueNamed kept.store place → ready ≡ ready_in (queue_at kept.store place) → CountsConsumers kept.links place count
+    → place < length (topology_kept kept).queues → queue_name (topology_kept kept) place ≡ m.queue → IsQueueNamed kept.store place → ready ≡ ready_in (queue_at kept.store place) → CountsConsumers kept.connections place count
     → sends ≡ declare_sends c h m.no_wait (queue_declared m.queue ready count) → notes ≡ [] → Finds (broker_of kept) c h m sends notes (broker_of kept)
 found_is kept c h place ready count m sends notes placed apart lt named at ready_is is sent noted =
     let total = counted_on kept place is.channels in

@@ -19,7 +19,7 @@ use Rattle.exchange_graph.specs.Marks.{queue_name}
 use Rattle.channels.specs.Open.{Open, IsTaker, open_in, consumer_in}
 use Rattle.depot.specs.Store.{Store, entries_named}
 use Rattle.channels.specs.declared.consumers.Consumer.{Consumer}
-use Rattle.channels.specs.Links.{Linked, linked_in, limits_of, connection_at, channel_in, channel_at}
+use Rattle.channels.specs.RunningConnections.{Running, running_in, limits_of, connection_at, channel_in, channel_at}
 use Rattle.commands.specs.State.{ArePlaced}
 use Rattle.commands.specs.Commands.{Side, DeliversHere, GivesHere, seen, state_of}
 use Rattle.commands.specs.Picked.{IsPick, IsPickFrom, IsKeptAs, TakesAs, TellsConsumer, TellsTaking, CannotTake}
@@ -35,26 +35,26 @@ use Rattle.commands.proofs.Placing.{takes_within}
 -- ---- who may take a message
 
 -- who may take one on the connection that stands there may take one
-pub tells_is : (kept : Kept) (p : Pick) (l : Linked) (r : Option Consumer) → linked_in kept.links p.connection ≡ Some l → ArePlaced kept → TellsOn l p.channel p.number r → TellsConsumer kept p r
+pub tells_is : (kept : Kept) (p : Pick) (l : Running) (r : Option Consumer) → running_in kept.connections p.connection ≡ Some l → ArePlaced kept → TellsOn l p.channel p.number r → TellsConsumer kept p r
 tells_is kept p l (Some k) e placed t = record {
   channel = open_in (names_of kept) t.channel;
   taker = record {
     connection = limits_of l;
     runs = ap connection_at e;
     awake = t.awake;
-    there = ap (λ (o : Option Linked). option_map (open_in (names_of kept)) (channel_at o p.channel)) e ∙ ap (option_map (open_in (names_of kept))) t.there;
+    there = ap (λ (o : Option Running). option_map (open_in (names_of kept)) (channel_at o p.channel)) e ∙ ap (option_map (open_in (names_of kept))) t.there;
     open_still = t.open_still;
     its = t.taker.its (names_of kept);
     may = t.taker.may (names_of kept);
   };
   numbered = t.taker.numbered;
   only = t.taker.only (names_of kept);
-  within = takes_within (topology_kept kept) k t.channel.given.consumers (placed p.connection p.channel t.channel (ap (λ (o : Option Linked). channel_at o p.channel) e ∙ t.there)).consumers t.taker.seat;
+  within = takes_within (topology_kept kept) k t.channel.given.consumers (placed p.connection p.channel t.channel (ap (λ (o : Option Running). channel_at o p.channel) e ∙ t.there)).consumers t.taker.seat;
 }
 tells_is kept p l None e placed t = λ ch k taker numbered.
     let names = names_of kept in
     let connection : limits_of l ≡ taker.connection = same_Some (limits_of l) taker.connection (sym (ap connection_at e) ∙ taker.runs) in
-    let channel = seen_there names (channel_at (Some l) p.channel) ch (sym (ap (λ (o : Option Linked). option_map (open_in names) (channel_at o p.channel)) e) ∙ taker.there) in
+    let channel = seen_there names (channel_at (Some l) p.channel) ch (sym (ap (λ (o : Option Running). option_map (open_in names) (channel_at o p.channel)) e) ∙ taker.there) in
     let none : may_take (open_in names channel.kept) k ≡ false =
     t channel.kept (ap (λ (x : Connection). x.is_paused) connection ∙ taker.awake) channel.there (ap (λ (x : Channel). x.is_closing) channel.same ∙ taker.open_still) names k
     (subst (λ (x : Channel). IsIn k x.consumers) (sym channel.same) taker.its) numbered in
@@ -66,19 +66,19 @@ none_told f kept p None e t = t
 none_told f kept p (Some k) e t = absurd (false≢true (sym e))
 
 -- one that may take one on the connection that stands there takes it from its queue
-pub takes_from : (kept : Kept) (p : Pick) (l : Linked) (k : Consumer) → linked_in kept.links p.connection ≡ Some l → ArePlaced kept → TellsOn l p.channel p.number (Some k) → TellsTaking kept p (From k.queue)
+pub takes_from : (kept : Kept) (p : Pick) (l : Running) (k : Consumer) → running_in kept.connections p.connection ≡ Some l → ArePlaced kept → TellsOn l p.channel p.number (Some k) → TellsTaking kept p (From k.queue)
 takes_from kept p l k e placed t = (k, tells_is kept p l (Some k) e placed t, refl)
 
 -- and one that is there is kept, of its queue
-pub keeps_one : (kept : Kept) (p : Pick) (l : Linked) (k : Consumer) → linked_in kept.links p.connection ≡ Some l → ArePlaced kept → consumer_numbered (channel_in l p.channel) p.number ≡ Some k → IsOneOn l p.channel p.number k → IsKeptAs kept p k
+pub keeps_one : (kept : Kept) (p : Pick) (l : Running) (k : Consumer) → running_in kept.connections p.connection ≡ Some l → ArePlaced kept → consumer_numbered (channel_in l p.channel) p.number ≡ Some k → IsOneOn l p.channel p.number k → IsKeptAs kept p k
 keeps_one kept p l k e placed found t = record {
-  found = ap (λ (o : Option Linked). consumer_numbered (channel_at o p.channel) p.number) e ∙ found;
+  found = ap (λ (o : Option Running). consumer_numbered (channel_at o p.channel) p.number) e ∙ found;
   channel = open_in (names_of kept) t.channel;
-  there = ap (λ (o : Option Linked). option_map (open_in (names_of kept)) (channel_at o p.channel)) e ∙ ap (option_map (open_in (names_of kept))) t.there;
+  there = ap (λ (o : Option Running). option_map (open_in (names_of kept)) (channel_at o p.channel)) e ∙ ap (option_map (open_in (names_of kept))) t.there;
   its = t.one.its (names_of kept);
   numbered = t.one.numbered;
   only = t.one.only (names_of kept);
-  within = takes_within (topology_kept kept) k t.channel.given.consumers (placed p.connection p.channel t.channel (ap (λ (o : Option Linked). channel_at o p.channel) e ∙ t.there)).consumers t.one.seat;
+  within = takes_within (topology_kept kept) k t.channel.given.consumers (placed p.connection p.channel t.channel (ap (λ (o : Option Running). channel_at o p.channel) e ∙ t.there)).consumers t.one.seat;
 }
 
 -- ---- which delivery can be made

@@ -4,9 +4,9 @@ use Rattle.model.specs.Words.{Text}
 use Rattle.model.specs.Topology.{Topology}
 use Rattle.model.specs.Step.{Refusal, Of_channel, refusal_to, refusal_at, exchange_named}
 use Rattle.model.specs.declared.topologies.Exchange.{Exchange}
-use Rattle.kept_routes.specs.declared.routes.Access.{Access}
-use Rattle.kept_routes.specs.declared.routes.Access.TheVariants.{Open, Internal, Absent}
-use Rattle.kept_routes.specs.Routers.{access_at, access_to}
+use Rattle.exchange_graph.specs.declared.routes.Access.{Access}
+use Rattle.exchange_graph.specs.declared.routes.Access.TheVariants.{Open, Internal, Absent}
+use Rattle.exchange_graph.specs.Routers.{access_at, access_to}
 
 -- why clients may not publish to an exchange
 abbrev pub refusal_by : Access → Option Refusal

@@ -19,7 +19,7 @@ use Rattle.channels.specs.Open.{Open, open_in}
 use Rattle.model.specs.Placed.{outstanding_in, AreWithin}
 use Rattle.model.specs.declared.deliveries.Delivery.{Delivery}
 use Rattle.depot.specs.Store.{Store, entries_named}
-use Rattle.channels.specs.Links.{Linked, channel_at, channel_of, linked_in, outstanding_on}
+use Rattle.channels.specs.RunningConnections.{Running, channel_at, channel_of, running_in, outstanding_on}
 use Rattle.channels.specs.Placed.{IsPlaced}
 use Rattle.depot.specs.Settled.{AreSettledBy}
 use Rattle.commands.specs.Freed.{AreReturnedFrom, AreReturnedAt}
@@ -164,37 +164,37 @@ seen_outstanding names (Some k) ch e = sym (ap (λ (x : seen.Channel). x.outstan
 
 -- what is held is outstanding on the channel that holds it, as it is kept
 found_at : (kept : Kept) → IsAgreed (broker_of kept) → (q : Text) (e : Entry) (holder : Holder) → IsIn e (entries_named kept.store q) → e.mark ≡ Held holder
-    → IsAmong holder.tag q (map (outstanding_in (names_of kept)) (outstanding_on (channel_of kept.links holder.connection holder.channel)))
+    → IsAmong holder.tag q (map (outstanding_in (names_of kept)) (outstanding_on (channel_of kept.connections holder.connection holder.channel)))
 found_at kept agreed q e holder i is =
     let on = agreed.held q e holder i is in
     record {
       delivery = on.delivery;
-      there = subst (IsIn on.delivery) (seen_outstanding (names_of kept) (channel_of kept.links holder.connection holder.channel) on.channel on.there) on.outstanding;
+      there = subst (IsIn on.delivery) (seen_outstanding (names_of kept) (channel_of kept.connections holder.connection holder.channel) on.channel on.there) on.outstanding;
       tag_is = on.tag;
       queue_is = on.queue;
     }
 
-found_on_channel : (kept : Kept) (c h : ℕ) → IsAgreed (broker_of kept) → AreFound c h (map (outstanding_in (names_of kept)) (outstanding_on (channel_of kept.links c h))) (entries_named kept.store)
+found_on_channel : (kept : Kept) (c h : ℕ) → IsAgreed (broker_of kept) → AreFound c h (map (outstanding_in (names_of kept)) (outstanding_on (channel_of kept.connections c h))) (entries_named kept.store)
 found_on_channel kept c h agreed q e holder i is own =
     let parts = and_parts (holder.connection == c) (holder.channel == h) own in
-    subst (λ (k : ℕ). IsAmong holder.tag q (map (outstanding_in (names_of kept)) (outstanding_on (channel_of kept.links c k)))) (eqb-true holder.channel h parts.1)
-    (subst (λ (d : ℕ). IsAmong holder.tag q (map (outstanding_in (names_of kept)) (outstanding_on (channel_of kept.links d holder.channel)))) (eqb-true holder.connection c parts.0) (found_at kept agreed q e holder i is))
+    subst (λ (k : ℕ). IsAmong holder.tag q (map (outstanding_in (names_of kept)) (outstanding_on (channel_of kept.connections c k)))) (eqb-true holder.channel h parts.1)
+    (subst (λ (d : ℕ). IsAmong holder.tag q (map (outstanding_in (names_of kept)) (outstanding_on (channel_of kept.connections d holder.channel)))) (eqb-true holder.connection c parts.0) (found_at kept agreed q e holder i is))
 
-found_on_link : (kept : Kept) (c : ℕ) (l : Option Linked) → linked_in kept.links c ≡ l → IsAgreed (broker_of kept) → (q : Text) (e : Entry) (holder : Holder) → IsIn e (entries_named kept.store q) → e.mark ≡ Held holder → by_connection c holder ≡ true
+found_on_connection : (kept : Kept) (c : ℕ) (l : Option Running) → running_in kept.connections c ≡ l → IsAgreed (broker_of kept) → (q : Text) (e : Entry) (holder : Holder) → IsIn e (entries_named kept.store q) → e.mark ≡ Held holder → by_connection c holder ≡ true
     → IsAmong holder.tag q (map (outstanding_in (names_of kept)) (outstanding_on (channel_at l holder.channel)))
-found_on_link kept c l at agreed q e holder i is own =
-    subst (λ (x : Option Linked). IsAmong holder.tag q (map (outstanding_in (names_of kept)) (outstanding_on (channel_at x holder.channel)))) at
-    (subst (λ (d : ℕ). IsAmong holder.tag q (map (outstanding_in (names_of kept)) (outstanding_on (channel_of kept.links d holder.channel)))) (eqb-true holder.connection c own) (found_at kept agreed q e holder i is))
+found_on_connection kept c l at agreed q e holder i is own =
+    subst (λ (x : Option Running). IsAmong holder.tag q (map (outstanding_in (names_of kept)) (outstanding_on (channel_at x holder.channel)))) at
+    (subst (λ (d : ℕ). IsAmong holder.tag q (map (outstanding_in (names_of kept)) (outstanding_on (channel_of kept.connections d holder.channel)))) (eqb-true holder.connection c own) (found_at kept agreed q e holder i is))
 
 within_on : (t : Topology) (o : Option Open) → ((ch : Open) → o ≡ Some ch → IsPlaced t ch) → AreWithin t (outstanding_on o)
 within_on t None placed = none_within t [] refl
 within_on t (Some ch) placed = (placed ch refl).outstanding
 
-pub within_at : (kept : Kept) (c : ℕ) (l : Option Linked) → l ≡ linked_in kept.links c → ArePlaced kept → (h : ℕ) → AreWithin (topology_kept kept) (outstanding_on (channel_at l h))
-within_at kept c l at placed h = subst (λ (x : Option Linked). AreWithin (topology_kept kept) (outstanding_on (channel_at x h))) (sym at) (within_on (topology_kept kept) (channel_of kept.links c h) (placed c h))
+pub within_at : (kept : Kept) (c : ℕ) (l : Option Running) → l ≡ running_in kept.connections c → ArePlaced kept → (h : ℕ) → AreWithin (topology_kept kept) (outstanding_on (channel_at l h))
+within_at kept c l at placed h = subst (λ (x : Option Running). AreWithin (topology_kept kept) (outstanding_on (channel_at x h))) (sym at) (within_on (topology_kept kept) (channel_of kept.connections c h) (placed c h))
 
-pub held_within : (kept : Kept) (c h : ℕ) (os : List Delivery) → ArePlaced kept → os ≡ outstanding_on (channel_of kept.links c h) → AreWithin (topology_kept kept) os
-held_within kept c h os placed held = subst (AreWithin (topology_kept kept)) (sym held) (within_on (topology_kept kept) (channel_of kept.links c h) (placed c h))
+pub held_within : (kept : Kept) (c h : ℕ) (os : List Delivery) → ArePlaced kept → os ≡ outstanding_on (channel_of kept.connections c h) → AreWithin (topology_kept kept) os
+held_within kept c h os placed held = subst (AreWithin (topology_kept kept)) (sym held) (within_on (topology_kept kept) (channel_of kept.connections c h) (placed c h))
 
 from_topology : (c h : ℕ) (slots : List (Option Open)) (s new : Store) → AreReturnedFrom c h s slots new → new.topology ≡ s.topology
 from_topology c h [] s new made = ap (λ (x : Store). x.topology) made
@@ -205,7 +205,7 @@ from_published c h [] s new made = ap (λ (x : Store). x.published) made
 from_published c h (o ∷ os) s new (mid, first, rest) = from_published c (h + 1) os mid new rest ∙ first.counted
 
 -- what is outstanding on a channel is put back
-pub channel_is_freed : (old kept : Kept) (c h : ℕ) (os : List Delivery) (new : Store) → old ≡ kept → IsAgreed (broker_of kept) → os ≡ outstanding_on (channel_of old.links c h) → AreSettledBy Returns old.store c h os [] [] new
+pub channel_is_freed : (old kept : Kept) (c h : ℕ) (os : List Delivery) (new : Store) → old ≡ kept → IsAgreed (broker_of kept) → os ≡ outstanding_on (channel_of old.connections c h) → AreSettledBy Returns old.store c h os [] [] new
     → IsFreed (by_channel c h) old.store new
 channel_is_freed old kept c h os new e agreed held made =
     let agrees : IsAgreed (broker_of old) = subst (λ (k : Kept). IsAgreed (broker_of k)) (sym e) agreed in
@@ -217,25 +217,25 @@ channel_is_freed old kept c h os new e agreed held made =
     }
 
 -- where no connection of a number is there, nothing is held by it
-pub none_held : (kept : Kept) (c : ℕ) → linked_in kept.links c ≡ None → IsAgreed (broker_of kept) → IsFreed (by_connection c) kept.store kept.store
+pub none_held : (kept : Kept) (c : ℕ) → running_in kept.connections c ≡ None → IsAgreed (broker_of kept) → IsFreed (by_connection c) kept.store kept.store
 none_held kept c none agreed = record {
   topology = refl;
   published = refl;
-  queues = λ q. sym (all_stay (by_connection c) (entries_named kept.store q) (λ e holder i is. not_true (by_connection c holder) (λ own. (found_on_link kept c None none agreed q e holder i is own).there)));
+  queues = λ q. sym (all_stay (by_connection c) (entries_named kept.store q) (λ e holder i is. not_true (by_connection c holder) (λ own. (found_on_connection kept c None none agreed q e holder i is own).there)));
 }
 
 -- what is outstanding on the channels of a connection is put back
-link_is_freed : (kept : Kept) (c : ℕ) (l : Option Linked) (new : Store) → IsAgreed (broker_of kept) → l ≡ linked_in kept.links c → AreReturnedAt c kept.store l new → IsFreed (by_connection c) kept.store new
-link_is_freed kept c None new agreed at made = subst (IsFreed (by_connection c) kept.store) (sym made) (none_held kept c (sym at) agreed)
-link_is_freed kept c (Some l) new agreed at made = record {
+connection_is_freed : (kept : Kept) (c : ℕ) (l : Option Running) (new : Store) → IsAgreed (broker_of kept) → l ≡ running_in kept.connections c → AreReturnedAt c kept.store l new → IsFreed (by_connection c) kept.store new
+connection_is_freed kept c None new agreed at made = subst (IsFreed (by_connection c) kept.store) (sym made) (none_held kept c (sym at) agreed)
+connection_is_freed kept c (Some l) new agreed at made = record {
   topology = from_topology c 0 l.channels kept.store new made;
   published = from_published c 0 l.channels kept.store new made;
   queues = connection_freed c 0 (names_of kept) l.channels kept.store new refl made
-      (λ r e holder i is own. record { place = holder.channel; number = omega arith; among = found_on_link kept c (Some l) (sym at) agreed r e holder i is own });
+      (λ r e holder i is own. record { place = holder.channel; number = omega arith; among = found_on_connection kept c (Some l) (sym at) agreed r e holder i is own });
 }
 
-pub connection_is_freed : (old kept : Kept) (c : ℕ) (l : Option Linked) (new : Store) → old ≡ kept → IsAgreed (broker_of kept) → l ≡ linked_in old.links c → AreReturnedAt c old.store l new → IsFreed (by_connection c) old.store new
-connection_is_freed old kept c l new e agreed = link_is_freed old c l new (subst (λ (k : Kept). IsAgreed (broker_of k)) (sym e) agreed)
+pub connection_is_freed : (old kept : Kept) (c : ℕ) (l : Option Running) (new : Store) → old ≡ kept → IsAgreed (broker_of kept) → l ≡ running_in old.connections c → AreReturnedAt c old.store l new → IsFreed (by_connection c) old.store new
+connection_is_freed old kept c l new e agreed = connection_is_freed old c l new (subst (λ (k : Kept). IsAgreed (broker_of k)) (sym e) agreed)
 
 -- ---- a loop over the channels of a connection
 

@@ -13,7 +13,7 @@ use Rattle.model.specs.declared.notes.Note.{Note}
 use Rattle.channels.specs.Open.{Open, open_in}
 use Rattle.depot.specs.Store.{Store}
 use Rattle.commands.specs.declared.refusals.Stop.{Stop}
-use Rattle.channels.specs.Links.{Linked, linked_in, channel_in, channel_of, connection_at, connection_of, seen_in, limits_of, with_linked, with_channel, with_channel_in, PutsChannel}
+use Rattle.channels.specs.RunningConnections.{Running, running_in, channel_in, channel_of, connection_at, connection_of, seen_in, limits_of, with_running, with_channel, with_channel_in, PutsChannel}
 use Rattle.channels.proofs.Putting.{put_same}
 use Rattle.channels.proofs.Setting.{set_same, found_channel, found_written}
 use Rattle.channels.specs.Lends.{LentArePut}
@@ -29,71 +29,71 @@ use Rattle.commands.proofs.Placing.{placed_put, placed_some}
 
 -- what is kept beside the queues
 abbrev pub side_of : Kept → Side
-side_of kept = record { connection = connection_of kept.links; channel = seen_in (names_of kept) kept.links }
+side_of kept = record { connection = connection_of kept.connections; channel = seen_in (names_of kept) kept.connections }
 
 -- a command can be done on a channel that is kept
-pub can_command : (kept : Kept) (c h : ℕ) (ch : Open) → IsAgreed (broker_of kept) → ArePlaced kept → channel_of kept.links c h ≡ Some ch → CanCommand c h kept.store ch
+pub can_command : (kept : Kept) (c h : ℕ) (ch : Open) → IsAgreed (broker_of kept) → ArePlaced kept → channel_of kept.connections c h ≡ Some ch → CanCommand c h kept.store ch
 can_command kept c h ch agreed placed is = record { side = side_of kept; there = ap (option_map (open_in (names_of kept))) is; agreed = agreed; placed = placed c h ch is }
 
 -- the channel of a connection that is found is kept
-pub there_in : (links : List (ℕ × Linked)) (c h : ℕ) (l : Linked) (o : Option Open) → linked_in links c ≡ Some l → channel_in l h ≡ o → channel_of links c h ≡ o
-there_in links c h l o found is = sym (found_channel links c h l found) ∙ is
+pub there_in : (connections : List (ℕ × Running)) (c h : ℕ) (l : Running) (o : Option Open) → running_in connections c ≡ Some l → channel_in l h ≡ o → channel_of connections c h ≡ o
+there_in connections c h l o found is = sym (found_channel connections c h l found) ∙ is
 
 -- A channel was lent out of its connection, and came back as this one.
-pub record IsLent (old new : Kept) (c h : ℕ) (l : Linked) (was ch : Open) : Type 0 where
-  pub found : linked_in old.links c ≡ Some l
+pub record IsLent (old new : Kept) (c h : ℕ) (l : Running) (was ch : Open) : Type 0 where
+  pub found : running_in old.connections c ≡ Some l
   pub there : channel_in l h ≡ Some was
-  pub written : new.links ≡ with_linked old.links c (with_channel_in l h ch)
-  pub put : PutsChannel old.links c h (Some ch) new.links
+  pub written : new.connections ≡ with_running old.connections c (with_channel_in l h ch)
+  pub put : PutsChannel old.connections c h (Some ch) new.connections
   pub topology : topology_kept new ≡ topology_kept old
 
-pub is_lent : LentArePut → (old new : Kept) (c h : ℕ) (l : Linked) (was ch : Open) → linked_in old.links c ≡ Some l → channel_in l h ≡ Some was
-    → new.links ≡ with_linked old.links c (with_channel_in l h ch) → topology_kept new ≡ topology_kept old → IsLent old new c h l was ch
+pub is_lent : LentArePut → (old new : Kept) (c h : ℕ) (l : Running) (was ch : Open) → running_in old.connections c ≡ Some l → channel_in l h ≡ Some was
+    → new.connections ≡ with_running old.connections c (with_channel_in l h ch) → topology_kept new ≡ topology_kept old → IsLent old new c h l was ch
 is_lent are old new c h l was ch found is written same = record {
   found = found;
   there = is;
   written = written;
-  put = subst (PutsChannel old.links c h (Some ch)) (sym (written ∙ found_written old.links c h l ch found)) (are old.links c h was ch (there_in old.links c h l (Some was) found is));
+  put = subst (PutsChannel old.connections c h (Some ch)) (sym (written ∙ found_written old.connections c h l ch found)) (are old.connections c h was ch (there_in old.connections c h l (Some was) found is));
   topology = same;
 }
 
 -- it was put where it was
-put_there : LentArePut → (old new : Kept) (c h : ℕ) (was ch : Open) → channel_of old.links c h ≡ Some was → new.links ≡ with_channel old.links c h ch → PutsChannel old.links c h (Some ch) new.links
-put_there are old new c h was ch there written = subst (PutsChannel old.links c h (Some ch)) (sym written) (are old.links c h was ch there)
+put_there : LentArePut → (old new : Kept) (c h : ℕ) (was ch : Open) → channel_of old.connections c h ≡ Some was → new.connections ≡ with_channel old.connections c h ch → PutsChannel old.connections c h (Some ch) new.connections
+put_there are old new c h was ch there written = subst (PutsChannel old.connections c h (Some ch)) (sym written) (are old.connections c h was ch there)
 
 -- a channel that was there is another in what is kept
-turns_put : (old new : Kept) (c h : ℕ) (was ch : Open) → channel_of old.links c h ≡ Some was → PutsChannel old.links c h (Some ch) new.links → topology_kept new ≡ topology_kept old
+turns_put : (old new : Kept) (c h : ℕ) (was ch : Open) → channel_of old.connections c h ≡ Some was → PutsChannel old.connections c h (Some ch) new.connections → topology_kept new ≡ topology_kept old
     → Turns c h (seen old.store was) (seen new.store ch) (side_of old) (side_of new)
 turns_put old new c h was ch there put same =
     record {
       was = ap (option_map (open_in (names_of old))) there;
       connections = put.connections;
-      channels = λ d k. seen_put (names_of old) (names_of new) old.links new.links c h (Some ch) (ap (λ (t : Topology). queue_names t.queues) same) put d k
-          ∙ ap (λ (t : Topology). with_pair (seen_in (names_of old) old.links) c h (Some (open_in (queue_names t.queues) ch)) d k) (sym same);
+      channels = λ d k. seen_put (names_of old) (names_of new) old.connections new.connections c h (Some ch) (ap (λ (t : Topology). queue_names t.queues) same) put d k
+          ∙ ap (λ (t : Topology). with_pair (seen_in (names_of old) old.connections) c h (Some (open_in (queue_names t.queues) ch)) d k) (sym same);
     }
 
-turns : (old new : Kept) (c h : ℕ) (l : Linked) (was ch : Open) → IsLent old new c h l was ch → Turns c h (seen old.store was) (seen new.store ch) (side_of old) (side_of new)
-turns old new c h l was ch lent = turns_put old new c h was ch (there_in old.links c h l (Some was) lent.found lent.there) lent.put lent.topology
+turns : (old new : Kept) (c h : ℕ) (l : Running) (was ch : Open) → IsLent old new c h l was ch → Turns c h (seen old.store was) (seen new.store ch) (side_of old) (side_of new)
+turns old new c h l was ch lent = turns_put old new c h was ch (there_in old.connections c h l (Some was) lent.found lent.there) lent.put lent.topology
 
 -- so what a command came to there it came to in what is kept
-pub answers_on : (old new : Kept) (c h max : ℕ) (l : Linked) (was ch : Open) (m : Method) (content : Option Content) (r : Result Done Stop) → IsLent old new c h l was ch → l.channel_max ≡ max
+pub answers_on : (old new : Kept) (c h max : ℕ) (l : Running) (was ch : Open) (m : Method) (content : Option Content) (r : Result Done Stop) → IsLent old new c h l was ch → l.channel_max ≡ max
     → AnswersHere max c h old.store was m content r new.store ch → AnswersOn old c h m content (Some r) new
 answers_on old new c h max l was ch m content r lent same answers = (
   limits_of l,
   ap connection_at lent.found,
   subst (λ (o : Option Open). Answers (refusal (topology_kept old) (broker_of old) (limits_of l) h m (option_map (open_in (names_of old)) o)) (topology_kept old) (broker_of old) c h (option_map (open_in (names_of old)) o) m content r (broker_of new))
-      (sym (there_in old.links c h l (Some was) lent.found lent.there))
+      (sym (there_in old.connections c h l (Some was) lent.found lent.there))
       (answers (side_of old) (side_of new) (limits_of l) same (turns old new c h l was ch lent)),
 )
 
 -- the same where the channel is not open
-pub answers_none : (old new : Kept) (c h max : ℕ) (l : Linked) (m : Method) (content : Option Content) (r : Result Done Stop) → linked_in old.links c ≡ Some l → channel_in l h ≡ None → l.channel_max ≡ max
+pub answers_none : (old new : Kept) (c h max : ℕ) (l : Running) (m : Method) (content : Option Content) (r : Result Done Stop) → running_in old.connections c ≡ Some l → channel_in l h ≡ None → l.channel_max ≡ max
     → ((t : Topology) (b b' : Broker) (d : ℕ) (conn : Connection) (x : Option Content) → conn.channel_max ≡ max → Answers (refusal t b conn h m None) t b d h None m x r b') → AnswersOn old c h m content (Some r) new
 answers_none old new c h max l m content r found is same answers = (
   limits_of l,
   ap connection_at found,
   subst (λ (o : Option Open). Answers (refusal (topology_kept old) (broker_of old) (limits_of l) h m (option_map (open_in (names_of old)) o)) (topology_kept old) (broker_of old) c h (option_map (open_in (names_of old)) o) m content r (broker_of new))
-      (sym (there_in old.links c h l None found is))
+      (sym (there_in old.connections c h l None found is))
       (answers (topology_kept old) (broker_of old) (broker_of new) c (limits_of l) content same),
 )
 
@@ -105,7 +105,7 @@ pub still_placed : (old new : Kept) → new ≡ old → ArePlaced old → ArePla
 still_placed old new same placed = subst (λ (k : Kept). ArePlaced k) (sym same) placed
 
 -- what is kept stays placed
-pub lent_placed : (old new : Kept) (c h : ℕ) (l : Linked) (was ch : Open) → IsLent old new c h l was ch → IsPlaced (topology_kept old) ch → ArePlaced old → ArePlaced new
+pub lent_placed : (old new : Kept) (c h : ℕ) (l : Running) (was ch : Open) → IsLent old new c h l was ch → IsPlaced (topology_kept old) ch → ArePlaced old → ArePlaced new
 lent_placed old new c h l was ch lent own placed = placed_put old new c h (Some ch) lent.topology lent.put (placed_some (topology_kept old) ch own) placed
 
 -- what stands at a number is set there again
@@ -115,25 +115,25 @@ set_there (y ∷ ys) zero x e = ap (λ (z : Option Open). z ∷ ys) (sym e)
 set_there (y ∷ ys) (suc i) x e = ap (λ (zs : List (Option Open)). y ∷ zs) (set_there ys i x e)
 
 -- a connection that came back as it was left all as it was
-pub link_same : (old new : Kept) (c : ℕ) (l l' : Linked) → linked_in old.links c ≡ Some l → new.links ≡ with_linked old.links c l' → l' ≡ l → new.store ≡ old.store → new ≡ old
-link_same old new c l l' found written same stored =
-    ap (λ (s : Store). record { store = s; links = new.links }) stored
-    ∙ ap (λ (ls : List (ℕ × Linked)). record { store = old.store; links = ls }) (written ∙ ap (with_linked old.links c) same ∙ set_same (nat_eq c) old.links l found)
+pub running_same : (old new : Kept) (c : ℕ) (l l' : Running) → running_in old.connections c ≡ Some l → new.connections ≡ with_running old.connections c l' → l' ≡ l → new.store ≡ old.store → new ≡ old
+running_same old new c l l' found written same stored =
+    ap (λ (s : Store). record { store = s; connections = new.connections }) stored
+    ∙ ap (λ (ls : List (ℕ × Running)). record { store = old.store; connections = ls }) (written ∙ ap (with_running old.connections c) same ∙ set_same (nat_eq c) old.connections l found)
 
 -- so did a channel
-pub lent_same : (old new : Kept) (c h : ℕ) (l : Linked) (was ch : Open) → IsLent old new c h l was ch → new.store ≡ old.store → ch ≡ was → new ≡ old
+pub lent_same : (old new : Kept) (c h : ℕ) (l : Running) (was ch : Open) → IsLent old new c h l was ch → new.store ≡ old.store → ch ≡ was → new ≡ old
 lent_same old new c h l was ch lent stored same =
-    link_same old new c l (with_channel_in l h ch) lent.found lent.written
+    running_same old new c l (with_channel_in l h ch) lent.found lent.written
     (ap (with_channel_in l h) same ∙ ap (λ (xs : List (Option Open)). record l { channels = xs }) (set_there l.channels h was lent.there)) stored
 
 -- a delivery that can be made in what is kept can be made on its channel
-pub can_deliver : (old now : Kept) (p : Pick) (ch : Open) → old ≡ now → channel_of old.links p.connection p.channel ≡ Some ch → IsPick (broker_of now) p → CanDeliverHere p old.store ch
+pub can_deliver : (old now : Kept) (p : Pick) (ch : Open) → old ≡ now → channel_of old.connections p.connection p.channel ≡ Some ch → IsPick (broker_of now) p → CanDeliverHere p old.store ch
 can_deliver old now p ch same is pick =
     record { side = side_of old; there = ap (option_map (open_in (names_of old))) is; pick = subst (λ (k : Kept). IsPick (broker_of k) p) (sym same) pick }
 
 -- and one that was made on a channel that was lent was made in what is kept
-pub delivered_on : LentArePut → (old now new : Kept) (p : Pick) (was ch : Open) (sends : List Send) (notes : List Note) → old ≡ now → channel_of old.links p.connection p.channel ≡ Some was
-    → new.links ≡ with_channel old.links p.connection p.channel ch → topology_kept new ≡ topology_kept old → IsPick (broker_of now) p → DeliversHere p old.store was sends notes new.store ch
+pub delivered_on : LentArePut → (old now new : Kept) (p : Pick) (was ch : Open) (sends : List Send) (notes : List Note) → old ≡ now → channel_of old.connections p.connection p.channel ≡ Some was
+    → new.connections ≡ with_channel old.connections p.connection p.channel ch → topology_kept new ≡ topology_kept old → IsPick (broker_of now) p → DeliversHere p old.store was sends notes new.store ch
     → IsDelivery (broker_of now) p.connection sends notes (broker_of new)
 delivered_on are old now new p was ch sends notes same there written topology pick delivers =
     subst (λ (k : Kept). IsDelivery (broker_of k) p.connection sends notes (broker_of new)) same
@@ -141,15 +141,15 @@ delivered_on are old now new p was ch sends notes same there written topology pi
     (subst (λ (k : Kept). IsPick (broker_of k) p) (sym same) pick))
 
 -- so it stays placed
-pub put_placed : LentArePut → (old new : Kept) (c h : ℕ) (was ch : Open) → channel_of old.links c h ≡ Some was → new.links ≡ with_channel old.links c h ch → topology_kept new ≡ topology_kept old
+pub put_placed : LentArePut → (old new : Kept) (c h : ℕ) (was ch : Open) → channel_of old.connections c h ≡ Some was → new.connections ≡ with_channel old.connections c h ch → topology_kept new ≡ topology_kept old
     → IsPlaced (topology_kept old) ch → ArePlaced old → ArePlaced new
 put_placed are old new c h was ch there written same own placed = placed_put old new c h (Some ch) same (put_there are old new c h was ch there written) (placed_some (topology_kept old) ch own) placed
 
 -- and all stays where the channel and the queues do
-pub put_stays : (old new : Kept) (c h : ℕ) (was ch : Open) → channel_of old.links c h ≡ Some was → new.links ≡ with_channel old.links c h ch → new.store ≡ old.store → ch ≡ was → new ≡ old
+pub put_stays : (old new : Kept) (c h : ℕ) (was ch : Open) → channel_of old.connections c h ≡ Some was → new.connections ≡ with_channel old.connections c h ch → new.store ≡ old.store → ch ≡ was → new ≡ old
 put_stays old new c h was ch there written stored same =
-    ap (λ (s : Store). record { store = s; links = new.links }) stored
-    ∙ ap (λ (ls : List (ℕ × Linked)). record { store = old.store; links = ls }) (written ∙ ap (with_channel old.links c h) same ∙ put_same old.links c h was there)
+    ap (λ (s : Store). record { store = s; connections = new.connections }) stored
+    ∙ ap (λ (ls : List (ℕ × Running)). record { store = old.store; connections = ls }) (written ∙ ap (with_channel old.connections c h) same ∙ put_same old.connections c h was there)
 
 -- what is so unless a command was performed, and what follows from it
 pub unless : (X Y : Type 0) (r : Result Done Stop) → UnlessPerformed r X → (X → Y) → UnlessPerformed r Y

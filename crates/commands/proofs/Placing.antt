@@ -19,17 +19,17 @@ use Rattle.model.specs.Placed.{outstanding_in, AreWithin}
 use Rattle.channels.specs.Deliveries.{with_limit}
 use Rattle.model.specs.declared.deliveries.Delivery.{Delivery}
 use Rattle.channels.specs.declared.consumers.Consumer.{Consumer}
-use Rattle.channels.specs.Links.{channel_of, seen_in, PutsChannel, OpensLink}
+use Rattle.channels.specs.RunningConnections.{channel_of, seen_in, PutsChannel, OpensConnection}
 use Rattle.channels.specs.Placed.{TakeWithin, IsPlaced}
 use Rattle.commands.specs.State.{ArePlaced}
 use Rattle.commands.specs.State.{Kept, topology_kept}
 
 -- one channel is another
-pub placed_put : (old new : Kept) (c h : ℕ) (ch : Option Open) → topology_kept new ≡ topology_kept old → PutsChannel old.links c h ch new.links
+pub placed_put : (old new : Kept) (c h : ℕ) (ch : Option Open) → topology_kept new ≡ topology_kept old → PutsChannel old.connections c h ch new.connections
     → ((k : Open) → ch ≡ Some k → IsPlaced (topology_kept old) k) → ArePlaced old → ArePlaced new
 placed_put old new c h ch e put own placed d k x is = subst (λ (t : Topology). IsPlaced t x) (sym e) (go (d == c && k == h) (sym (put.channels d k) ∙ is))
   where
-    go : (b : Bool) → (if b then ch else channel_of old.links d k) ≡ Some x → IsPlaced (topology_kept old) x
+    go : (b : Bool) → (if b then ch else channel_of old.connections d k) ≡ Some x → IsPlaced (topology_kept old) x
     go true f = own x f
     go false f = placed d k x f
 
@@ -54,10 +54,10 @@ pub placed_some : (t : Topology) (new : Open) → IsPlaced t new → (k : Open) 
 placed_some t new placed k e = subst (IsPlaced t) (same_Some new k e) placed
 
 -- the channels of one connection are gone
-pub placed_gone : (old new : Kept) (c : ℕ) → topology_kept new ≡ topology_kept old → ((d k : ℕ) → channel_of new.links d k ≡ with_row (channel_of old.links) c (λ h. None) d k) → ArePlaced old → ArePlaced new
+pub placed_gone : (old new : Kept) (c : ℕ) → topology_kept new ≡ topology_kept old → ((d k : ℕ) → channel_of new.connections d k ≡ with_row (channel_of old.connections) c (λ h. None) d k) → ArePlaced old → ArePlaced new
 placed_gone old new c e gone placed d k x is = subst (λ (t : Topology). IsPlaced t x) (sym e) (go (d == c) (sym (gone d k) ∙ is))
   where
-    go : (b : Bool) → (if b then None else channel_of old.links d k) ≡ Some x → IsPlaced (topology_kept old) x
+    go : (b : Bool) → (if b then None else channel_of old.connections d k) ≡ Some x → IsPlaced (topology_kept old) x
     go true f = absurd (false≢true (ap is_some f))
     go false f = placed d k x f
 
@@ -74,11 +74,11 @@ new_placed t ch true e =
 new_placed t ch false e = absurd (false≢true (sym (ap is_some e)))
 
 -- a connection runs, with new channels
-pub placed_opened : (old new : Kept) (c max k : ℕ) → topology_kept new ≡ topology_kept old → OpensLink old.links c max k new.links → ArePlaced old → ArePlaced new
+pub placed_opened : (old new : Kept) (c max k : ℕ) → topology_kept new ≡ topology_kept old → OpensConnection old.connections c max k new.connections → ArePlaced old → ArePlaced new
 placed_opened old new c max k e l placed d h x is = go (d == c) refl
   where
     go : (b : Bool) → (d == c) ≡ b → IsPlaced (topology_kept new) x
-    go true f = new_placed (topology_kept new) x _ (ap (option_map (open_in [])) (sym is) ∙ l.channels_are [] d h ∙ ap (λ (b : Bool). if b then channels_up_to k h else seen_in [] old.links d h) f)
+    go true f = new_placed (topology_kept new) x _ (ap (option_map (open_in [])) (sym is) ∙ l.channels_are [] d h ∙ ap (λ (b : Bool). if b then channels_up_to k h else seen_in [] old.connections d h) f)
     go false f = subst (λ (t : Topology). IsPlaced t x) (sym e) (placed d h x (sym (l.others_stay d h f) ∙ is))
 
 -- one delivery more, from a queue that is there

@@ -17,10 +17,10 @@ use Rattle.channels.specs.declared.consumers.Consumer.{Consumer}
 use Rattle.depot.specs.Store.{entries_named}
 use Rattle.depot.specs.Moving.{stays, goes, AreMoved, GoneAreEmpty}
 use Rattle.depot.proofs.Naming.{names-length, is_in}
-use Rattle.channels.specs.Links.{Linked, channel_of, connection_of, seen_in}
-use Rattle.channels.specs.LinksMoving.{links_moved, MovesAreUnseen}
+use Rattle.channels.specs.RunningConnections.{Running, channel_of, connection_of, seen_in}
+use Rattle.channels.specs.ConnectionsMoving.{connections_moved, MovesAreUnseen}
 use Rattle.channels.specs.Placed.{IsPlaced}
-use Rattle.channels.proofs.LinksMoving.{moved_channel, moved_connection}
+use Rattle.channels.proofs.ConnectionsMoving.{moved_channel, moved_connection}
 use Rattle.channels.proofs.Setting.{same_default}
 use Rattle.commands.specs.State.{Kept, ArePlaced, broker_of, topology_kept, names_of}
 
@@ -92,17 +92,17 @@ module _ (old : Kept) (t : Topology) (places : List ℕ) (placed : ArePlaced old
         | goes gone behind ↦ absurd (none (get_or (names_of old) p []) (record { was = is_in (names_of old) p (omega (arith, lt, long)); gone = gone; in_use = used }))
       ]
 
-  outstanding_stands : (c h : ℕ) (ch : Open) (o : Delivery) → channel_of old.links c h ≡ Some ch → IsIn o ch.given.outstanding → StandsAt o.queue
+  outstanding_stands : (c h : ℕ) (ch : Open) (o : Delivery) → channel_of old.connections c h ≡ Some ch → IsIn o ch.given.outstanding → StandsAt o.queue
   outstanding_stands c h ch o is i =
       let held = agreed.given c h (open_in (names_of old) ch) (outstanding_in (names_of old) o) (ap (option_map (open_in (names_of old))) is) (in_mapped (outstanding_in (names_of old)) o ch.given.outstanding i) in
       stands o.queue (all_in (λ (x : Delivery). x.queue < length (topology_kept old).queues) o ch.given.outstanding (placed c h ch is).outstanding i) (by_entry held.entry held.there)
 
-  consumer_stands : (c h : ℕ) (ch : Open) (k : Consumer) → channel_of old.links c h ≡ Some ch → IsIn k ch.given.consumers → StandsAt k.queue
+  consumer_stands : (c h : ℕ) (ch : Open) (k : Consumer) → channel_of old.connections c h ≡ Some ch → IsIn k ch.given.consumers → StandsAt k.queue
   consumer_stands c h ch k is i =
       stands k.queue (all_in (λ (x : Consumer). x.queue < length (topology_kept old).queues) k ch.given.consumers (placed c h ch is).consumers i)
       (by_consumer c h (open_in (names_of old) ch) (consumer_in (names_of old) k) (ap (option_map (open_in (names_of old))) is) (in_mapped (consumer_in (names_of old)) k ch.given.consumers i) refl)
 
-  pub all_alike : (c h : ℕ) (ch : Open) → channel_of old.links c h ≡ Some ch → AreNamedAlike (names_of old) news places ch
+  pub all_alike : (c h : ℕ) (ch : Open) → channel_of old.connections c h ≡ Some ch → AreNamedAlike (names_of old) news places ch
   all_alike c h ch is = record {
     outstanding = each_of (λ (o : Delivery). IsNamedAlike (names_of old) news places o.queue) ch.given.outstanding (λ o i. (outstanding_stands c h ch o is i).named);
     consumers = each_of (λ (k : Consumer). IsNamedAlike (names_of old) news places k.queue) ch.given.consumers (λ k i. (consumer_stands c h ch k is i).named);
@@ -113,18 +113,18 @@ module _ (old : Kept) (t : Topology) (places : List ℕ) (placed : ArePlaced old
   within : (p : ℕ) → StandsAt p → place_now places p < length t.queues
   within p at = let long = names-length t.queues in let lt = at.within in omega (arith, lt, long)
 
-  moved_placed : (c h : ℕ) (ch : Open) → channel_of old.links c h ≡ Some ch → IsPlaced t (open_moved places ch)
+  moved_placed : (c h : ℕ) (ch : Open) → channel_of old.connections c h ≡ Some ch → IsPlaced t (open_moved places ch)
   moved_placed c h ch is = record {
     outstanding = all_moved (λ (o : Delivery). o.queue < length t.queues) (outstanding_moved places) ch.given.outstanding (λ o i. within o.queue (outstanding_stands c h ch o is i));
     consumers = all_moved (λ (k : Consumer). k.queue < length t.queues) (consumer_moved places) ch.given.consumers (λ k i. within k.queue (consumer_stands c h ch k is i));
   }
 
-  pub placed_moved : (new : Kept) → topology_kept new ≡ t → new.links ≡ links_moved places old.links → ArePlaced new
+  pub placed_moved : (new : Kept) → topology_kept new ≡ t → new.connections ≡ connections_moved places old.connections → ArePlaced new
   placed_moved new e made c h ch is =
       subst (λ (x : Topology). IsPlaced x ch) (sym e)
-      (go (channel_of old.links c h) refl (sym (moved_channel places old.links c h) ∙ sym (ap (λ (ls : List (ℕ × Linked)). channel_of ls c h) made) ∙ is))
+      (go (channel_of old.connections c h) refl (sym (moved_channel places old.connections c h) ∙ sym (ap (λ (ls : List (ℕ × Running)). channel_of ls c h) made) ∙ is))
     where
-      go : (o : Option Open) → channel_of old.links c h ≡ o → option_map (open_moved places) o ≡ Some ch → IsPlaced t ch
+      go : (o : Option Open) → channel_of old.connections c h ≡ o → option_map (open_moved places) o ≡ Some ch → IsPlaced t ch
       go None was f = absurd (let nothing : None ≡ Some ch = f in cc)
       go (Some x) was f = subst (IsPlaced t) (same_Some (open_moved places x) ch f) (moved_placed c h x was)
 
@@ -139,14 +139,14 @@ module _ (old : Kept) (t : Topology) (places : List ℕ) (placed : ArePlaced old
 
   -- ---- what is seen
 
-  pub all_stood : MovesAreUnseen → (new : Kept) → topology_kept new ≡ t → new.links ≡ links_moved places old.links → new.store.published ≡ old.store.published
+  pub all_stood : MovesAreUnseen → (new : Kept) → topology_kept new ≡ t → new.connections ≡ connections_moved places old.connections → new.store.published ≡ old.store.published
       → ((q : Text) → entries_named new.store q ≡ map stood_now (entries_named old.store q)) → Is (with_all_stood (broker_of old)) (broker_of new)
   all_stood unseen new e made published entries = record {
     counted = published;
     queues = entries;
-    connections = λ c. ap (λ (ls : List (ℕ × Linked)). connection_of ls c) made ∙ moved_connection places old.links c;
+    connections = λ c. ap (λ (ls : List (ℕ × Running)). connection_of ls c) made ∙ moved_connection places old.connections c;
     channels = λ c h.
-        ap (λ (x : Topology). seen_in (queue_names x.queues) new.links c h) e
-        ∙ ap (λ (ls : List (ℕ × Linked)). seen_in news ls c h) made
-        ∙ unseen (names_of old) news places old.links all_alike c h;
+        ap (λ (x : Topology). seen_in (queue_names x.queues) new.connections c h) e
+        ∙ ap (λ (ls : List (ℕ × Running)). seen_in news ls c h) made
+        ∙ unseen (names_of old) news places old.connections all_alike c h;
   }

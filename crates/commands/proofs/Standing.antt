@@ -12,7 +12,7 @@ use Rattle.model.specs.declared.obstacles.Obstacle.{Obstacle}
 use Rattle.channels.specs.Open.{open_in, consumer_in}
 use Rattle.depot.specs.Store.{Store, entries_named, queue_at, IsStoreWhole, IsQueueNamed}
 use Rattle.depot.proofs.Naming.{names-length}
-use Rattle.channels.specs.Links.{channel_of}
+use Rattle.channels.specs.RunningConnections.{channel_of}
 use Rattle.channels.specs.Counting.{is_consumed, HasTaker}
 use Rattle.reloading.specs.Obstacles.{JudgesReload}
 use Rattle.reloading.specs.Standing.{IsConsumed, IsStanding}
@@ -32,7 +32,7 @@ module _ (kept : Kept) (place : ℕ) (q : Text) (at : slice_get (names_of kept) 
   is_named = get_or_from_slice_get names place q [] at
 
   -- a consumer that is counted is one of the broker's
-  consumed_by : HasTaker kept.links place → IsConsumed (broker_of kept) q
+  consumed_by : HasTaker kept.connections place → IsConsumed (broker_of kept) q
   consumed_by t = record {
     connection = t.connection;
     number = t.number;
@@ -44,9 +44,9 @@ module _ (kept : Kept) (place : ℕ) (q : Text) (at : slice_get (names_of kept) 
   }
 
   -- and the other way round
-  taken_by : ArePlaced kept → AreApart names → IsConsumed (broker_of kept) q → HasTaker kept.links place
+  taken_by : ArePlaced kept → AreApart names → IsConsumed (broker_of kept) q → HasTaker kept.connections place
   taken_by placed apart c =
-      let its = seen_there names (channel_of kept.links c.connection c.number) c.channel c.there in
+      let its = seen_there names (channel_of kept.connections c.connection c.number) c.channel c.there in
       let one = seen_of (consumer_in names) c.consumer its.kept.given.consumers (subst (λ (ch : seen.Channel). IsIn c.consumer ch.consumers) (sym its.same) c.among) in
       let long = names-length (topology_kept kept).queues in
       let within = takes_within (topology_kept kept) one.one its.kept.given.consumers (placed c.connection c.number its.kept its.there).consumers one.among in
@@ -64,8 +64,8 @@ module _ (kept : Kept) (place : ℕ) (q : Text) (at : slice_get (names_of kept) 
 abbrev pub AreNamed : Type 0
 AreNamed = (s : Store) (place : ℕ) → IsStoreWhole s → place < length s.topology.queues → IsQueueNamed s place
 
-pub standing : AreNamed → (kept : Kept) → IsStoreWhole kept.store → ArePlaced kept → ((place : ℕ) → Decides (is_consumed kept.links place) (HasTaker kept.links place))
-    → IsStanding (topology_kept kept) (λ place. queue_at kept.store place) (λ place. is_consumed kept.links place) (broker_of kept)
+pub standing : AreNamed → (kept : Kept) → IsStoreWhole kept.store → ArePlaced kept → ((place : ℕ) → Decides (is_consumed kept.connections place) (HasTaker kept.connections place))
+    → IsStanding (topology_kept kept) (λ place. queue_at kept.store place) (λ place. is_consumed kept.connections place) (broker_of kept)
 standing are kept whole placed found = record {
   queue = λ place q at.
       let long = names-length (topology_kept kept).queues in
@@ -76,20 +76,20 @@ standing are kept whole placed found = record {
 
 -- what is told of it is told of the broker
 pub judged : {E : Type 0} (r : Result (Option Obstacle) E) (kept : Kept) (t new : Topology) (gs : List Guarantee) → t ≡ topology_kept kept
-    → IsStanding (topology_kept kept) (λ place. queue_at kept.store place) (λ place. is_consumed kept.links place) (broker_of kept)
-    → IfOk r (JudgesReload t (λ place. queue_at kept.store place) (λ place. is_consumed kept.links place) new gs)
+    → IsStanding (topology_kept kept) (λ place. queue_at kept.store place) (λ place. is_consumed kept.connections place) (broker_of kept)
+    → IfOk r (JudgesReload t (λ place. queue_at kept.store place) (λ place. is_consumed kept.connections place) new gs)
     → IfOk r (TellsObstacle (topology_kept kept) (broker_of kept) new gs)
 judged r kept t new gs e stands told =
-    IfOk-weaker r (JudgesReload (topology_kept kept) (λ place. queue_at kept.store place) (λ place. is_consumed kept.links place) new gs) (TellsObstacle (topology_kept kept) (broker_of kept) new gs)
+    IfOk-weaker r (JudgesReload (topology_kept kept) (λ place. queue_at kept.store place) (λ place. is_consumed kept.connections place) new gs) (TellsObstacle (topology_kept kept) (broker_of kept) new gs)
     (λ o judges users. judges (broker_of kept) users stands)
-    (subst (λ (x : Topology). IfOk r (JudgesReload x (λ place. queue_at kept.store place) (λ place. is_consumed kept.links place) new gs)) e told)
+    (subst (λ (x : Topology). IfOk r (JudgesReload x (λ place. queue_at kept.store place) (λ place. is_consumed kept.connections place) new gs)) e told)
 
 -- what memory may be wanting for, in whatever broker it is so, may be wanting for of the broker
 pub wanted : {E : Type 0} (r : Result (Option Obstacle) E) (kept : Kept) (t new : Topology) → t ≡ topology_kept kept
-    → IsStanding (topology_kept kept) (λ place. queue_at kept.store place) (λ place. is_consumed kept.links place) (broker_of kept)
-    → OnErr r ((b : Broker) → IsStanding t (λ place. queue_at kept.store place) (λ place. is_consumed kept.links place) b → MayWant t new b)
+    → IsStanding (topology_kept kept) (λ place. queue_at kept.store place) (λ place. is_consumed kept.connections place) (broker_of kept)
+    → OnErr r ((b : Broker) → IsStanding t (λ place. queue_at kept.store place) (λ place. is_consumed kept.connections place) b → MayWant t new b)
     → OnErr r (MayWant (topology_kept kept) new (broker_of kept))
 wanted r kept t new e stands wants =
-    on_err_too r ((b : Broker) → IsStanding (topology_kept kept) (λ place. queue_at kept.store place) (λ place. is_consumed kept.links place) b → MayWant (topology_kept kept) new b) (MayWant (topology_kept kept) new (broker_of kept))
+    on_err_too r ((b : Broker) → IsStanding (topology_kept kept) (λ place. queue_at kept.store place) (λ place. is_consumed kept.connections place) b → MayWant (topology_kept kept) new b) (MayWant (topology_kept kept) new (broker_of kept))
     (λ may. may (broker_of kept) stands)
-    (subst (λ (x : Topology). OnErr r ((b : Broker) → IsStanding x (λ place. queue_at kept.store place) (λ place. is_consumed kept.links place) b → MayWant x new b)) e wants)
+    (subst (λ (x : Topology). OnErr r ((b : Broker) → IsStanding x (λ place. queue_at kept.store place) (λ place. is_consumed kept.connections place) b → MayWant x new b)) e wants)

@@ -19,7 +19,7 @@ use Rattle.depot.specs.Store.{Store, entries_named}
 use Rattle.channels.specs.Open as opened
 use Rattle.channels.specs.Open.{Open, open_in}
 use Rattle.channels.specs.Deliveries.{with_limit}
-use Rattle.channels.specs.Links.{Linked, linked_in, channel_seen, limits_of, connection_at, channel_at, connection_of, channel_of, seen_in, HoldsConnections, PutsChannel, OpensLink}
+use Rattle.channels.specs.RunningConnections.{Running, running_in, channel_seen, limits_of, connection_at, channel_at, connection_of, channel_of, seen_in, HoldsConnections, PutsChannel, OpensConnection}
 use Rattle.commands.specs.State.{Kept, broker_of, names_of}
 use Rattle.commands.specs.Judged.{refusal_seen, HasChannel, JudgesLarge}
 use Rattle.commands.specs.declared.refusals.Refusal as declared
@@ -44,13 +44,13 @@ seen_by : (names others : List Text) (o : Option Open) → others ≡ names → 
 seen_by names others o e = ap (λ (z : List Text). option_map (open_in z) o) e
 
 -- one channel is another
-pub seen_put : (names others : List Text) (old new : List (ℕ × Linked)) (c h : ℕ) (ch : Option Open) → others ≡ names → PutsChannel old c h ch new
+pub seen_put : (names others : List Text) (old new : List (ℕ × Running)) (c h : ℕ) (ch : Option Open) → others ≡ names → PutsChannel old c h ch new
     → (d k : ℕ) → seen_in others new d k ≡ with_pair (seen_in names old) c h (option_map (open_in names) ch) d k
 seen_put names others old new c h ch e l d k =
     seen_by names others (channel_of new d k) e ∙ ap (option_map (open_in names)) (l.channels d k) ∙ seen_if names (d == c && k == h) ch (channel_of old d k)
 
 -- the channels of one connection are gone
-pub seen_gone : (names others : List Text) (old new : List (ℕ × Linked)) (c : ℕ) → others ≡ names → ((d k : ℕ) → channel_of new d k ≡ with_row (channel_of old) c (λ h. None) d k)
+pub seen_gone : (names others : List Text) (old new : List (ℕ × Running)) (c : ℕ) → others ≡ names → ((d k : ℕ) → channel_of new d k ≡ with_row (channel_of old) c (λ h. None) d k)
     → (d k : ℕ) → seen_in others new d k ≡ with_row (seen_in names old) c (λ h. None) d k
 seen_gone names others old new c e l d k =
     seen_by names others (channel_of new d k) e ∙ ap (option_map (open_in names)) (l d k) ∙ seen_if names (d == c) None (channel_of old d k)
@@ -63,54 +63,54 @@ pub record IsFreed (mine : Holder → Bool) (old new : Store) : Type 0 where
 
 -- a connection is gone, and what it held is requeued
 pub gone_is : (old new : Kept) (c : ℕ) → IsFreed (by_connection c) old.store new.store
-    → HoldsConnections new.links (with_one (connection_of old.links) c None) (with_row (channel_of old.links) c (λ h. None))
+    → HoldsConnections new.connections (with_one (connection_of old.connections) c None) (with_row (channel_of old.connections) c (λ h. None))
     → Is (with_gone (broker_of old) c) (broker_of new)
 gone_is old new c f l = record {
   counted = f.published;
   queues = f.queues;
   connections = l.connections_are;
-  channels = seen_gone (names_of old) (names_of new) old.links new.links c (ap (λ (t : Topology). queue_names t.queues) f.topology) l.channels_are;
+  channels = seen_gone (names_of old) (names_of new) old.connections new.connections c (ap (λ (t : Topology). queue_names t.queues) f.topology) l.channels_are;
 }
 
 -- a connection runs, and what one of its number held is requeued
-pub opened_is : (old new : Kept) (c max k : ℕ) → IsFreed (by_connection c) old.store new.store → OpensLink old.links c max k new.links → Is (step.opened (broker_of old) c max k) (broker_of new)
+pub opened_is : (old new : Kept) (c max k : ℕ) → IsFreed (by_connection c) old.store new.store → OpensConnection old.connections c max k new.connections → Is (step.opened (broker_of old) c max k) (broker_of new)
 opened_is old new c max k f l = record {
   counted = f.published;
   queues = f.queues;
   connections = l.connections_are;
   channels = λ d h. l.channels_are (names_of new) d h
-      ∙ ap (λ (names : List Text). with_row (seen_in names old.links) c (channels_up_to k) d h) (ap (λ (t : Topology). queue_names t.queues) f.topology);
+      ∙ ap (λ (names : List Text). with_row (seen_in names old.connections) c (channels_up_to k) d h) (ap (λ (t : Topology). queue_names t.queues) f.topology);
 }
 
 -- a channel is another, and what it held is requeued
-pub cleared_is : (old new : Kept) (c h : ℕ) (ch : Option Open) → IsFreed (by_channel c h) old.store new.store → PutsChannel old.links c h ch new.links
+pub cleared_is : (old new : Kept) (c h : ℕ) (ch : Option Open) → IsFreed (by_channel c h) old.store new.store → PutsChannel old.connections c h ch new.connections
     → Is (with_freed (with_channel (broker_of old) c h (option_map (open_in (names_of old)) ch)) (by_channel c h)) (broker_of new)
 cleared_is old new c h ch f l = record {
   counted = f.published;
   queues = f.queues;
   connections = l.connections;
-  channels = seen_put (names_of old) (names_of new) old.links new.links c h ch (ap (λ (t : Topology). queue_names t.queues) f.topology) l;
+  channels = seen_put (names_of old) (names_of new) old.connections new.connections c h ch (ap (λ (t : Topology). queue_names t.queues) f.topology) l;
 }
 
 -- a channel is another, and nothing else changes
-pub put_is : (old new : Kept) (c h : ℕ) (ch : Option Open) → new.store ≡ old.store → PutsChannel old.links c h ch new.links
+pub put_is : (old new : Kept) (c h : ℕ) (ch : Option Open) → new.store ≡ old.store → PutsChannel old.connections c h ch new.connections
     → Is (with_channel (broker_of old) c h (option_map (open_in (names_of old)) ch)) (broker_of new)
 put_is old new c h ch e l = record {
   counted = ap (λ (s : Store). s.published) e;
   queues = λ q. ap (λ (s : Store). entries_named s q) e;
   connections = l.connections;
-  channels = seen_put (names_of old) (names_of new) old.links new.links c h ch (ap (λ (s : Store). queue_names s.topology.queues) e) l;
+  channels = seen_put (names_of old) (names_of new) old.connections new.connections c h ch (ap (λ (s : Store). queue_names s.topology.queues) e) l;
 }
 
 -- what is judged of a content that is too large by the connection that stands there is judged by the broker's state
-pub large_judged : (kept : Kept) (c h : ℕ) (r : declared.Refusal) (l : Linked) → linked_in kept.links c ≡ Some l
+pub large_judged : (kept : Kept) (c h : ℕ) (r : declared.Refusal) (l : Running) → running_in kept.connections c ≡ Some l
     → refusal_seen r ≡ refusal_of_large (limits_of l) h (channel_seen (names_of kept) l h) → HasChannel r (channel_seen (names_of kept) l h)
     → JudgesLarge (broker_of kept) c h (Some r)
 large_judged kept c h r l e is has = (
   limits_of l,
   ap connection_at e,
-  subst (λ (x : Option Linked). refusal_seen r ≡ refusal_of_large (limits_of l) h (option_map (open_in (names_of kept)) (channel_at x h))) (sym e) is,
-  subst (λ (x : Option Linked). HasChannel r (option_map (open_in (names_of kept)) (channel_at x h))) (sym e) has,
+  subst (λ (x : Option Running). refusal_seen r ≡ refusal_of_large (limits_of l) h (option_map (open_in (names_of kept)) (channel_at x h))) (sym e) is,
+  subst (λ (x : Option Running). HasChannel r (option_map (open_in (names_of kept)) (channel_at x h))) (sym e) has,
 )
 
 pub some_same : {A : Type 0} (x y : A) → Some x ≡ Some y → x ≡ y
@@ -121,8 +121,8 @@ pub is_there : (names : List Text) (o : Option Open) → IsSome (option_map (ope
 is_there names None h = h
 is_there names (Some ch) h = refl
 
-pub kept_there : (old kept : Kept) (c h : ℕ) → old ≡ kept → IsSome ((broker_of kept).channel c h) → IsSome (channel_of old.links c h)
-kept_there old kept c h e some = is_there (names_of old) (channel_of old.links c h) (subst (λ (k : Kept). IsSome ((broker_of k).channel c h)) (sym e) some)
+pub kept_there : (old kept : Kept) (c h : ℕ) → old ≡ kept → IsSome ((broker_of kept).channel c h) → IsSome (channel_of old.connections c h)
+kept_there old kept c h e some = is_there (names_of old) (channel_of old.connections c h) (subst (λ (k : Kept). IsSome ((broker_of k).channel c h)) (sym e) some)
 
 -- a channel that is seen is one that is kept
 pub record IsSeen (names : List Text) (o : Option Open) (ch : Channel) : Type 0 where
@@ -152,9 +152,9 @@ limited_is names ch m = chosen m.global
     chosen false = refl
 
 -- a connection that runs is kept
-kept_link : (o : Option Linked) → IsSome (connection_at o) → IsSome o
-kept_link None h = h
-kept_link (Some l) h = refl
+kept_connection : (o : Option Running) → IsSome (connection_at o) → IsSome o
+kept_connection None h = h
+kept_connection (Some l) h = refl
 
-pub link_there : (old kept : Kept) (c : ℕ) → old ≡ kept → IsSome ((broker_of kept).connection c) → IsSome (linked_in old.links c)
-link_there old kept c e some = kept_link (linked_in old.links c) (subst (λ (k : Kept). IsSome ((broker_of k).connection c)) (sym e) some)
+pub running_there : (old kept : Kept) (c : ℕ) → old ≡ kept → IsSome ((broker_of kept).connection c) → IsSome (running_in old.connections c)
+running_there old kept c e some = kept_connection (running_in old.connections c) (subst (λ (k : Kept). IsSome ((broker_of k).connection c)) (sym e) some)

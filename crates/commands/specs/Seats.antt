@@ -7,23 +7,19 @@ use Rattle.model.specs.declared.methods.Method.TheVariants.{BasicConsume}
 use Rattle.model.specs.declared.events.Event.{Event}
 use Rattle.model.specs.declared.events.Event.TheVariants.{Command}
 use Rattle.exchange_graph.specs.Marks.{queue_name}
-use Rattle.channels.specs.Links.{Linked, linked_in, channel_in, channel_of}
-use Rattle.channels.specs.Consumers.{consumer_numbered, count_on, next_number}
+use Rattle.channels.specs.RunningConnections.{Running, running_in, channel_in, channel_of}
+use Rattle.channels.specs.Consumers.{consumer_numbered, next_number}
 use Rattle.channels.specs.declared.consumers.Consumer.{Consumer}
 use Rattle.commands.specs.State.{Kept}
 use Rattle.commands.specs.declared.picks.Pick.{Pick}
 
 -- the consumer of these numbers, if it is kept
 abbrev pub consumer_kept : Kept → Pick → Option Consumer
-consumer_kept kept p = consumer_numbered (channel_of kept.links p.connection p.channel) p.number
+consumer_kept kept p = consumer_numbered (channel_of kept.connections p.connection p.channel) p.number
 
 -- it is kept
 abbrev pub has_consumer : Kept → Pick → Bool
 has_consumer kept p = is_some (consumer_kept kept p)
-
--- how many consumers the channel of these numbers has
-abbrev pub consumers_on : Kept → ℕ → ℕ → ℕ
-consumers_on kept c h = count_on (channel_of kept.links c h)
 
 -- ---- the seat of a consumer that is to be made
 
@@ -33,13 +29,13 @@ is_consume (BasicConsume m) = true
 is_consume _ = false
 
 -- its seat, on a connection that runs
-abbrev pub next_seat : ℕ → ℕ → Option Linked → Option Pick
+abbrev pub next_seat : ℕ → ℕ → Option Running → Option Pick
 next_seat c h None = None
 next_seat c h (Some l) = option_map (λ (n : ℕ). record { connection = c; channel = h; number = n }) (next_number (channel_in l h))
 
 -- the seat of the consumer that this event is to make
 abbrev pub seat_of : Kept → Event → Option Pick
-seat_of kept (Command c h m content) = if is_consume m then next_seat c h (linked_in kept.links c) else None
+seat_of kept (Command c h m content) = if is_consume m then next_seat c h (running_in kept.connections c) else None
 seat_of kept e = None
 
 -- the queue from which a consume asks to consume

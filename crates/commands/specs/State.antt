@@ -6,13 +6,13 @@ use Rattle.model.specs.Broker.{Broker, Channel, listed}
 use Rattle.model.specs.Step.{channel_or_new}
 use Rattle.depot.specs.Store.{Store}
 use Rattle.channels.specs.Open.{Open}
-use Rattle.channels.specs.Links.{Linked, connection_of, channel_of, seen_in}
+use Rattle.channels.specs.RunningConnections.{Running, connection_of, channel_of, seen_in}
 use Rattle.channels.specs.Placed.{IsPlaced}
 
 -- the queues with their entries, and the connections that run beside their numbers
 pub record Kept : Type 0 where
   pub store : Store
-  pub links : List (ℕ × Linked)
+  pub connections : List (ℕ × Running)
 
 -- the topology that the broker runs
 abbrev pub topology_kept : Kept → Topology
@@ -27,8 +27,8 @@ abbrev pub broker_of : Kept → Broker
 broker_of kept = record {
   published = kept.store.published;
   queue = listed (names_of kept) kept.store.queues;
-  connection = connection_of kept.links;
-  channel = seen_in (names_of kept) kept.links;
+  connection = connection_of kept.connections;
+  channel = seen_in (names_of kept) kept.connections;
 }
 
 -- the channel of these numbers, as a command finds it
@@ -41,4 +41,4 @@ nothing = record { published = 0; queue = λ q. []; connection = λ c. None; cha
 
 -- what is outstanding on each channel was given out from queues that are there, and its consumers take from such
 abbrev pub ArePlaced : Kept → Type 0
-ArePlaced kept = (c h : ℕ) (ch : Open) → channel_of kept.links c h ≡ Some ch → IsPlaced (topology_kept kept) ch
+ArePlaced kept = (c h : ℕ) (ch : Open) → channel_of kept.connections c h ≡ Some ch → IsPlaced (topology_kept kept) ch

@@ -12,7 +12,7 @@ mod standing;
 use crate::acted::Acted;
 use crate::commands::{Done, Left, on_channel, on_none};
 use crate::refusals::{Refusal, Stop, judge_large};
-use channels::{Links, lent_channels_are_put};
+use channels::{RunningConnections, lent_channels_are_put};
 use depot::Depot;
 use exchange_graph::Topology;
 use model::{ChannelId, Content, Event, Ids, Method};
@@ -29,13 +29,16 @@ const PUBLISH: Ids = Ids {
 /// Queues, and the connections that run with their channels.
 pub struct Core {
     depot: Depot,
-    links: Links,
+    connections: RunningConnections,
 }
 
 /// Written out, so that a drop is one call.
 impl Drop for Core {
     fn drop(self) {
-        let Core { depot: _, links: _ } = self;
+        let Core {
+            depot: _,
+            connections: _,
+        } = self;
     }
 }
 
@@ -45,9 +48,9 @@ impl Model for Core {
 
     ghost Value = { Kept };
 
-    ghost view = { λ b. record { store = b.depot; links = b.links } };
+    ghost view = { λ b. record { store = b.depot; connections = b.connections } };
 
-    ghost invariant = { λ b. ArePlaced (record { store = b.depot; links = b.links }) };
+    ghost invariant = { λ b. ArePlaced (record { store = b.depot; connections = b.connections }) };
 }
 
 impl Core {
@@ -74,7 +77,7 @@ impl Core {
     {
         Ok(Core {
             depot: Depot::new(alloc, topology)?,
-            links: Links::new(alloc),
+            connections: RunningConnections::new(alloc),
         })
     }
 
@@ -96,9 +99,9 @@ impl Core {
         ensures quiet { is_requeueing method.now ≡ true → IfSome result WantsNone }
     {
         lent_channels_are_put();
-        let link = self.links.link_mut(id.connection)?;
-        let channel_max = link.channel_max();
-        match link.channel_mut(id.number) {
+        let running = self.connections.running_mut(id.connection)?;
+        let channel_max = running.channel_max();
+        match running.channel_mut(id.number) {
             Some(channel) => Some(on_channel(
                 alloc,
                 id,
@@ -116,9 +119,9 @@ impl Core {
     fn judge_large(&self, connection: u64, channel: u16) -> Option<Refusal>
         ensures { JudgesLarge (broker_of self.now) connection channel result }
     {
-        match self.links.get(connection) {
+        match self.connections.get(connection) {
             None => None,
-            Some(link) => Some(judge_large(link, channel)),
+            Some(running) => Some(judge_large(running, channel)),
         }
     }
 

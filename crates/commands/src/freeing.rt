@@ -2,32 +2,35 @@
 
 ghost use Rattle.std.specs.Prelude.{◌≡◌, ℕ};
 ghost use Rattle.std.specs.Option.{option_copied};
-ghost use Rattle.channels.specs.Links.{channel_at, channel_in, outstanding_on};
+ghost use Rattle.channels.specs.RunningConnections.{channel_at, channel_in, outstanding_on};
 ghost use Rattle.model.specs.Placed.{AreWithin};
 ghost use Rattle.commands.specs.Freed.{AreReturnedFrom, AreReturnedAt};
 
-use channels::Link;
+use channels::RunningConnection;
 use depot::Depot;
 use model::ChannelId;
 
 /// What is outstanding on the channels of this connection is ready again, channel by channel, each message in its place and
 /// marked redelivered. It takes no memory.
-fn requeue_channels(depot: &mut Depot, connection: u64, link: &Link)
-    requires { (h : ℕ) → AreWithin depot.old.topology (outstanding_on (channel_in link.now h)) }
-    ensures { AreReturnedFrom connection 0 depot.old link.now.channels depot.new }
+fn requeue_channels(depot: &mut Depot, connection: u64, running: &RunningConnection)
+    requires { (h : ℕ) → AreWithin depot.old.topology (outstanding_on (channel_in running.now h)) }
+    ensures { AreReturnedFrom connection 0 depot.old running.now.channels depot.new }
 {
-    for place in 0..link.places() {
+    for place in 0..running.places() {
         let number = place as u16;
-        depot.requeue(ChannelId { connection, number }, link.outstanding(number));
+        depot.requeue(
+            ChannelId { connection, number },
+            running.outstanding(number),
+        );
     }
 }
 
 /// The same, where the connection runs.
-pub(crate) fn requeue_all(depot: &mut Depot, connection: u64, link: Option<&Link>)
-    requires { (h : ℕ) → AreWithin depot.old.topology (outstanding_on (channel_at (option_copied link) h)) }
-    ensures { AreReturnedAt connection depot.old (option_copied link.entry) depot.new }
+pub(crate) fn requeue_all(depot: &mut Depot, connection: u64, running: Option<&RunningConnection>)
+    requires { (h : ℕ) → AreWithin depot.old.topology (outstanding_on (channel_at (option_copied running) h)) }
+    ensures { AreReturnedAt connection depot.old (option_copied running.entry) depot.new }
 {
-    if let Some(link) = link {
-        requeue_channels(depot, connection, link);
+    if let Some(running) = running {
+        requeue_channels(depot, connection, running);
     }
 }

@@ -13,7 +13,7 @@ ghost use Rattle.model.specs.Prefetch.{has_tag_left};
 ghost use Rattle.model.specs.declared.messages.Entry.{Entry};
 ghost use Rattle.commands.specs.Judged.{refusal_seen, refused_by, refusal_of_number, is_taken, HasChannel, IsQueuePlace};
 ghost use Rattle.channels.specs.Open.{open_in};
-ghost use Rattle.channels.specs.Links.{limits_of, channel_seen};
+ghost use Rattle.channels.specs.RunningConnections.{limits_of, channel_seen};
 
 mod consumers;
 mod declares;
@@ -24,7 +24,7 @@ pub use crate::refusals::consumers::check_consume;
 pub use crate::refusals::declares::{check_exchange, check_flow, check_queue_declare};
 pub use crate::refusals::publishes::check_publish;
 pub use crate::refusals::settlements::{check_recover, check_settling};
-use channels::{Channel, Link, SeatRefusal, Unseated};
+use channels::{Channel, RunningConnection, SeatRefusal, Unseated};
 use exchange_graph::Topology;
 use model::{Method, Qos, Text};
 use std::alloc::AllocError;
@@ -198,20 +198,20 @@ fn is_awaiting(channel: Option<&Channel>) -> bool
 }
 
 /// A publish whose content is too large, of a connection that runs: no channel takes it, and one that is open is closed.
-pub fn judge_large(link: &Link, number: u16) -> Refusal
-    ensures is { (names : List Name) → refusal_seen result ≡ said.refusal_of_large (limits_of link.now) number (channel_seen names link.now number) }
-    ensures channel { (names : List Name) → HasChannel result (channel_seen names link.now number) }
+pub fn judge_large(running: &RunningConnection, number: u16) -> Refusal
+    ensures is { (names : List Name) → refusal_seen result ≡ said.refusal_of_large (limits_of running.now) number (channel_seen names running.now number) }
+    ensures channel { (names : List Name) → HasChannel result (channel_seen names running.now number) }
 {
-    if is_awaiting(link.channel(number)) {
+    if is_awaiting(running.channel(number)) {
         return Refusal::Ignored;
     }
     if number == 0 {
         return Refusal::Connection(503);
     }
-    if link.channel_max() < number {
+    if running.channel_max() < number {
         return Refusal::Connection(504);
     }
-    match link.channel(number) {
+    match running.channel(number) {
         None => Refusal::Connection(504),
         Some(_) => Refusal::Channel(311),
     }

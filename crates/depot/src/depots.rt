@@ -11,8 +11,7 @@ use crate::queues::Queues;
 use crate::rejecting::reject_in;
 use crate::settling::{ack_in, requeue_in};
 use crate::taking::give;
-use exchange_graph::Topology;
-use kept_routes::{Route, Router};
+use exchange_graph::{Route, Router, Topology};
 use model::{ChannelId, Content, Delivery, Entry, Holder, Note, Publish};
 use queue::{Store as _, Walk};
 use std::alloc::{AllocError, Global};
@@ -90,7 +89,7 @@ impl Depot {
     ghost use Rattle.model.specs.Topology.{queue_names};
     ghost use Rattle.model.specs.Reloading.{stood_now};
     ghost use Rattle.model.specs.Words.{Text};
-    ghost use Rattle.kept_routes.specs.Routers.{IsRoute};
+    ghost use Rattle.exchange_graph.specs.Routers.{IsRoute};
     ghost use Rattle.depot.specs.Moving.{AreMoved, GoneAreEmpty};
     ghost use Rattle.depot.specs.Publishing.{Publishing};
     ghost use Rattle.model.specs.Placed.{waiting, AreWithin, AreByTag};

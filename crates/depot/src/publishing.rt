@@ -6,7 +6,7 @@ ghost use Rattle.model.specs.Step.{message};
 ghost use Rattle.model.specs.declared.methods.Publish.{Publish as Seen};
 ghost use Rattle.model.specs.declared.notes.Note.TheVariants.{Published};
 ghost use Rattle.exchange_graph.specs.Targets.{AreTargets};
-ghost use Rattle.kept_routes.specs.Routers.{IsRoute};
+ghost use Rattle.exchange_graph.specs.Routers.{IsRoute};
 ghost use Rattle.depot.specs.Store.{entries_of};
 ghost use Rattle.depot.specs.Turns.{Enters};
 
@@ -14,8 +14,7 @@ use crate::depots::Routed;
 use crate::entering::{enter, enter_all, make_room, turns};
 use crate::queues::Queues;
 use crate::turns::PlannedTurn;
-use exchange_graph::Topology;
-use kept_routes::{Route, Router};
+use exchange_graph::{Route, Router, Topology};
 use model::{ChannelId, Content, Message, Note, Publish, Way};
 use queue::Store;
 use std::alloc::{AllocError, Global};

@@ -14,7 +14,7 @@ use crate::markers::Marker;
 use crate::plans::Death;
 use crate::queues::Queues;
 use crate::turns::PlannedTurn;
-use kept_routes::Router;
+use exchange_graph::Router;
 use model::{Cause, ChannelId, DeclaredQueue, Delivery, Message, Note, Text, Way};
 use queue::Store;
 use std::alloc::{AllocError, Global};

@@ -11,3 +11,4 @@ pub mod Picking
 pub mod Good
 pub mod Edging
 pub mod DeadSteps
+pub mod Routing

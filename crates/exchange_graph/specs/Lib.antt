@@ -6,3 +6,4 @@ pub mod Marks
 pub mod Built
 pub mod Edges
 pub mod Dying
+pub mod Routers

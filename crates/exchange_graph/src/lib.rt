@@ -1,4 +1,4 @@
-//! Routing: exchanges, queues and bindings, and the queues that a key leads to.
+//! Routing: exchanges, queues and bindings, and the queues that a key leads to; the routes that were taken last are kept (`Router`).
 #![tactic(auto)]
 
 mod dying;
@@ -9,12 +9,17 @@ mod keyed;
 mod marks;
 mod places;
 mod reach;
+mod routers;
+mod routes;
 mod scratches;
+mod slots;
 mod topologies;
 
 pub use dying::{DeadLetter, DeadRoute};
 pub use ends::End;
 pub use marks::Targets;
+pub use routers::Router;
+pub use routes::{Access, Found, Route};
 pub use scratches::Scratch;
 pub use topologies::Topology;
 pub use topology_drafts::BadTopology as Bad;

@@ -1,40 +1,36 @@
 -- Each message that stands in a queue can be given out, and what is sent carries contents that are not too large.
-use Rattle.std.proofs.Common.{◌≡◌, ◌<◌, ℕ, ◌+◌, List, [], ◌∷◌, ◌++◌, Bool, true, false, cond, refl, sym, subst, map, length, not, arith, rules, Option, Some, None, inl, inr}
+use Rattle.std.proofs.Common.{◌≡◌, ◌<◌, ℕ, ◌+◌, List, [], ◌∷◌, ◌++◌, Bool, true, false, cond, refl, sym, subst, map, length, not, arith, rules, Option, Some, None}
 use Rattle.std.specs.Prelude.{filter_map, ◌&&◌, if◌then◌else◌}
 use Rattle.std.specs.List.{AllByRecursion}
 use Rattle.std.specs.Str.{bytes_eq}
 use Rattle.model.specs.Words.{Text}
 use Rattle.model.specs.Topology.{Topology, IsWellFormed}
-use Rattle.model.specs.Grammar.{Ids, ids_of, IsMethod}
+use Rattle.model.specs.Grammar.{IsMethod}
 use Rattle.model.specs.Headers.{no_properties}
 use Rattle.model.specs.Message.{Message}
-use Rattle.model.specs.Broker.{Outstanding, Channel, Connection, Broker, is_ready, is_full}
-use Rattle.model.specs.Entries.{is_under, is_held_as, by_channel, by_connection, freed, held_as, change_first, without_first}
-use Rattle.model.specs.Deliveries.{Settlement, Leaves, Rejects, Returns, AreSettled, AreLeft, AreRejected, AreReturned, given_in, with_queue, first_ready, ready_in, holder_of, without_given, with_returned, after_giving}
+use Rattle.model.specs.Broker.{Outstanding, Channel, Broker, is_ready, is_full}
+use Rattle.model.specs.Entries.{is_under, is_held_as, freed, held_as, change_first, without_first}
+use Rattle.model.specs.Deliveries.{Settlement, Leaves, Rejects, Returns, AreSettled, AreLeft, AreRejected, AreReturned, given_in, with_queue, first_ready, holder_of, without_given, with_returned, after_giving}
 use Rattle.model.specs.Commands.{IsWithin, HasWithin}
 use Rattle.model.specs.Routing.{Dies, key_after}
 use Rattle.model.specs.Deaths.{AreMarked, with_headers, dead_letter}
 use Rattle.model.specs.Sending.{IsStored, HasStored, IsCarried, AreCarried}
 use Rattle.model.specs.Arrivals.{IsSaid}
-use Rattle.model.specs.Phases.{is_running}
 use Rattle.model.specs.State.{Config, State, Step}
 use Rattle.model.specs.Run.{Happening, Run}
-use Rattle.model.specs.Step.{Refusal, Ignored, Of_channel, Of_connection, Acts, Does, Makes, Gets, Settles, Performs, Refuses, Decides, OnConnection, OnLarge, IsPublish, Is, channel_or_new, comes_to, content_or_none, confirm_sends, returned_sends, select_sends, purge_sends, declare_sends, empty_publish, message, next_of, answer_of, is_none, is_some_full, refusal, refusal_of_large, reply, with_freed, with_channel, consume_sends, cancel_sends, IsDelivery}
+use Rattle.model.specs.Step.{Acts, IsPublish, comes_to, content_or_none, confirm_sends, returned_sends, message, next_of, answer_of, is_none, is_some_full}
 use Rattle.model.specs.declared.topologies.DeclaredQueue.{DeclaredQueue}
 use Rattle.model.specs.declared.contents.Content.{Content}
 use Rattle.model.specs.declared.messages.Entry.{Entry}
 use Rattle.model.specs.declared.messages.Holder.{Holder}
 use Rattle.model.specs.declared.messages.Mark.{Mark}
 use Rattle.model.specs.declared.messages.Mark.TheVariants.{Ready, Held}
-use Rattle.model.specs.declared.messages.Taker.TheVariants as taker
 use Rattle.model.specs.declared.events.Send.{Send}
 use Rattle.model.specs.declared.events.Send.TheVariants as send
 use Rattle.model.specs.declared.events.Event.{Event}
-use Rattle.model.specs.declared.events.Event.TheVariants.{Open, First, Running, Command, TooLarge, Fault, Lose, Pause, Resume, Deliver}
-use Rattle.model.specs.declared.methods.Get.{Get}
+use Rattle.model.specs.declared.events.Event.TheVariants.{Command}
 use Rattle.model.specs.declared.methods.Publish.{Publish}
-use Rattle.model.specs.declared.methods.Method.{Method}
-use Rattle.model.specs.declared.methods.Method.TheVariants.{ConnectionClose, ChannelOpen, ChannelFlow, ChannelClose, ChannelCloseOk, ExchangeDeclare, QueueDeclare, QueuePurge, BasicQos, BasicPublish, BasicGet, BasicAck, BasicReject, BasicNack, BasicRecover, ConfirmSelect, BasicConsume, BasicCancel}
+use Rattle.model.specs.declared.methods.Method.TheVariants.{BasicPublish}
 use Rattle.model.specs.declared.notes.Cause.{Cause}
 use Rattle.model.specs.declared.notes.Note.{Note}
 use Rattle.model.specs.declared.notes.Answer.{Answer}

@@ -1,32 +1,19 @@
 -- What a deed does to the channels of its connection, and to what was outstanding there.
-use Rattle.std.proofs.Common.{◌≡◌, ℕ, List, [], ◌∷◌, Bool, true, false, refl, sym, ap, subst, ◌∙◌, map, Option, Some, None, inl, inr}
-use Rattle.std.specs.Prelude.{is_some, ◌==◌, ◌&&◌, if◌then◌else◌}
-use Rattle.std.proofs.lemmas.Bool.{false≢true, eq-eqb}
+use Rattle.std.proofs.Common.{◌≡◌, ℕ, List, Bool, true, false, refl, sym, ap, subst, map, Option, Some}
+use Rattle.std.specs.Prelude.{is_some, ◌==◌}
 use Rattle.model.specs.Words.{Text}
 use Rattle.model.specs.Topology.{Topology, IsIn}
-use Rattle.model.specs.Grammar.{Ids, ids_of}
-use Rattle.model.specs.Broker.{Outstanding, Channel, Connection, Broker, with_one, with_pair, with_row}
+use Rattle.model.specs.Broker.{Outstanding, Channel, Broker, with_pair, with_row}
 use Rattle.model.specs.Entries.{freed, by_channel, by_connection}
-use Rattle.model.specs.Deliveries.{Settlement, Leaves, Returns, of_rejected, first_ready, outstanding_after, channel_after}
-use Rattle.model.specs.Phases.{is_running}
-use Rattle.model.specs.Step.{Refusal, Ignored, Of_channel, Of_connection, Acts, Is, Gets, Settles, Performs, Refuses, Decides, OnConnection, OnLarge, IsDelivery, channel_or_new, channels_up_to, empty_publish, refusal, refusal_of_large, is_awaiting, opened, paused, reply, with_channel, with_freed, with_gone}
+use Rattle.model.specs.Deliveries.{Settlement, outstanding_after, channel_after}
+use Rattle.model.specs.Step.{Settles, channel_or_new, is_awaiting}
 use Rattle.model.specs.Run.{Happening}
 use Rattle.model.specs.State.{Step}
 use Rattle.model.specs.Alone.{event_connection}
-use Rattle.model.specs.declared.messages.Entry.{Entry}
 use Rattle.model.specs.declared.messages.Taker.{Taker}
-use Rattle.model.specs.declared.messages.Taker.TheVariants as taker
-use Rattle.model.specs.declared.contents.Content.{Content}
-use Rattle.model.specs.declared.methods.Get.{Get}
-use Rattle.model.specs.declared.methods.Qos.{Qos}
-use Rattle.model.specs.declared.methods.Method.{Method}
-use Rattle.model.specs.declared.methods.Method.TheVariants.{ConnectionClose, ChannelOpen, ChannelFlow, ChannelClose, ChannelCloseOk, ExchangeDeclare, QueueDeclare, QueuePurge, BasicQos, BasicConsume, BasicCancel, BasicPublish, BasicGet, BasicAck, BasicReject, BasicNack, BasicRecover, BasicRecoverOk, ConfirmSelect}
 use Rattle.model.specs.declared.events.Send.{Send}
 use Rattle.model.specs.declared.events.Event.{Event}
-use Rattle.model.specs.declared.events.Event.TheVariants.{Open, First, Running, Command, TooLarge, Fault, Lose, Pause, Resume, Deliver}
-use Rattle.model.specs.declared.notes.Cause.TheVariants.{Acked}
 use Rattle.model.specs.declared.notes.Note.{Note}
-use Rattle.laws.proofs.Accepted.{awaited, not_open}
 use Rattle.laws.proofs.Counts.{in_front}
 use Rattle.laws.proofs.Deeds.{Deed, changes, enters, gives, settles, purges, nothing, alters, ends, clears, renews, Puts, HoldsAlike, channel_at}
 use Rattle.laws.proofs.View.{deed_at}

@@ -10,13 +10,13 @@ use Rattle.model.specs.Grammar.{Ids, ids_of}
 use Rattle.model.specs.Message.{Message}
 use Rattle.model.specs.Entries.{freed, by_channel, by_connection}
 use Rattle.model.specs.Deliveries.{Settlement, Leaves, Rejects, Returns, of_rejected, first_ready, ready_in, after_delivery, delivery_notes, after_purge, purge_notes}
-use Rattle.model.specs.Consuming.{CanDeliver, tag_for, with_consumer, without_consumer}
+use Rattle.model.specs.Consuming.{with_consumer, without_consumer}
 use Rattle.model.specs.Phases.{is_running, after_sends}
 use Rattle.model.specs.Causes.{WasGiven, IsCauseIn, IsCauseAt}
 use Rattle.model.specs.Contents.{content_in}
 use Rattle.model.specs.Alone.{event_connection}
 use Rattle.model.specs.Order.{Gives, to_get, to_consumer}
-use Rattle.model.specs.Step.{Refusal, Ignored, Of_channel, Of_connection, Acts, Does, Makes, Is, Gets, Settles, IsPublish, IsDelivery, Performs, Refuses, Decides, OnConnection, OnLarge, answer_of, channel_or_new, channels_up_to, confirm_sends, content_or_none, deliver, empty_publish, get_ok, is_awaiting, is_some_full, next_of, opened, paused, purge_sends, refusal, refusal_of_consume, refusal_of_large, reply, returned_sends, with_channel, with_closing, with_freed, with_gone}
+use Rattle.model.specs.Step.{Refusal, Ignored, Of_channel, Of_connection, Acts, Does, Makes, Is, Gets, Settles, IsPublish, IsDelivery, Performs, Refuses, Decides, OnConnection, OnLarge, answer_of, channel_or_new, channels_up_to, confirm_sends, content_or_none, empty_publish, is_awaiting, is_some_full, next_of, opened, paused, purge_sends, refusal, refusal_of_consume, refusal_of_large, reply, returned_sends, with_channel, with_freed, with_gone}
 use Rattle.model.specs.declared.messages.Entry.{Entry}
 use Rattle.model.specs.declared.messages.Holder.{Holder}
 use Rattle.model.specs.declared.messages.Mark.{Mark}
@@ -30,7 +30,7 @@ use Rattle.model.specs.declared.methods.Publish.{Publish}
 use Rattle.model.specs.declared.methods.Purge.{Purge}
 use Rattle.model.specs.declared.methods.Qos.{Qos}
 use Rattle.model.specs.declared.methods.Method.{Method}
-use Rattle.model.specs.declared.methods.Method.TheVariants.{ConnectionClose, ConnectionCloseOk, ChannelOpen, ChannelOpenOk, ChannelFlow, ChannelFlowOk, ChannelClose, ChannelCloseOk, ExchangeDeclare, ExchangeDeclareOk, QueueDeclare, QueuePurge, QueuePurgeOk, BasicQos, BasicQosOk, BasicConsume, BasicConsumeOk, BasicCancel, BasicCancelOk, BasicPublish, BasicGet, BasicGetEmpty, BasicAck, BasicReject, BasicNack, BasicRecover, BasicRecoverOk, ConfirmSelect, ConfirmSelectOk}
+use Rattle.model.specs.declared.methods.Method.TheVariants.{ConnectionClose, ChannelOpen, ChannelOpenOk, ChannelFlow, ChannelFlowOk, ChannelClose, ChannelCloseOk, ExchangeDeclare, ExchangeDeclareOk, QueueDeclare, QueuePurge, QueuePurgeOk, BasicQos, BasicQosOk, BasicConsume, BasicConsumeOk, BasicCancel, BasicCancelOk, BasicPublish, BasicGet, BasicGetEmpty, BasicAck, BasicReject, BasicNack, BasicRecover, BasicRecoverOk, ConfirmSelect, ConfirmSelectOk}
 use Rattle.model.specs.declared.events.Send.{Send}
 use Rattle.model.specs.declared.events.Event.{Event}
 use Rattle.model.specs.declared.events.Event.TheVariants.{Open, First, Running, Command, TooLarge, Fault, Lose, Pause, Resume, Deliver}

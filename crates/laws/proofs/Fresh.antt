@@ -1,5 +1,5 @@
 -- What enters a queue stands at its end, and is not marked as redelivered.
-use Rattle.std.proofs.Common.{◌≡◌, ℕ, List, [], ◌∷◌, ◌++◌, Bool, true, false, refl, sym, ap, subst, ◌∙◌, map, filter, length, not, append_assoc, append-nil, Option, Some, None, inl, inr}
+use Rattle.std.proofs.Common.{◌≡◌, ℕ, List, [], ◌∷◌, ◌++◌, Bool, true, false, refl, sym, ap, subst, ◌∙◌, map, filter, length, not, append_assoc, append-nil, Option, Some, None}
 use Rattle.std.specs.Prelude.{◌&&◌, if◌then◌else◌}
 use Rattle.std.specs.Str.{bytes_eq}
 use Rattle.std.specs.List.{AllByRecursion}
@@ -7,25 +7,19 @@ use Rattle.std.proofs.lemmas.Bool.{false≢true}
 use Rattle.std.proofs.lemmas.List.{map-append}
 use Rattle.model.specs.Words.{Text}
 use Rattle.model.specs.Topology.{Topology}
-use Rattle.model.specs.Grammar.{Ids, ids_of}
-use Rattle.model.specs.Broker.{Outstanding, Channel, Connection, Broker, is_full, is_ready}
+use Rattle.model.specs.Broker.{Outstanding, Broker, is_full, is_ready}
 use Rattle.model.specs.Entries.{is_held_as, without_first, number_of}
-use Rattle.model.specs.Deliveries.{Settlement, Leaves, Rejects, Returns, AreSettled, AreLeft, AreRejected, given_in, left_note, delivery_notes, purge_notes, first_ready, holder_of, without_given}
+use Rattle.model.specs.Deliveries.{Settlement, Leaves, Rejects, Returns, AreSettled, AreLeft, AreRejected, given_in, left_note, delivery_notes, purge_notes, holder_of, without_given}
 use Rattle.model.specs.Message.{Message}
-use Rattle.model.specs.Step.{Refusal, Ignored, Of_channel, Of_connection, Acts, Gets, Settles, Performs, Refuses, Decides, OnConnection, OnLarge, IsDelivery, channel_or_new, comes_to, empty_publish, message, refusal, refusal_of_large}
+use Rattle.model.specs.Step.{comes_to, message}
 use Rattle.model.specs.State.{State, Step}
 use Rattle.model.specs.Run.{Happening, Run}
-use Rattle.model.specs.declared.contents.Content.{Content}
 use Rattle.model.specs.declared.messages.Entry.{Entry}
 use Rattle.model.specs.declared.messages.Holder.{Holder}
 use Rattle.model.specs.declared.messages.Mark.{Mark}
 use Rattle.model.specs.declared.messages.Mark.TheVariants.{Ready, Held}
-use Rattle.model.specs.declared.methods.Get.{Get}
-use Rattle.model.specs.declared.methods.Method.{Method}
-use Rattle.model.specs.declared.methods.Method.TheVariants.{ConnectionClose, ChannelOpen, ChannelFlow, ChannelClose, ChannelCloseOk, ExchangeDeclare, QueueDeclare, QueuePurge, BasicQos, BasicConsume, BasicCancel, BasicPublish, BasicGet, BasicAck, BasicReject, BasicNack, BasicRecover, ConfirmSelect}
 use Rattle.model.specs.declared.events.Send.{Send}
 use Rattle.model.specs.declared.events.Event.{Event}
-use Rattle.model.specs.declared.events.Event.TheVariants.{Open, First, Running, Command, TooLarge, Fault, Lose, Pause, Resume, Deliver}
 use Rattle.model.specs.declared.notes.Cause.{Cause}
 use Rattle.model.specs.declared.notes.Way.TheVariants as way
 use Rattle.model.specs.declared.notes.Note.{Note}

@@ -1,34 +1,23 @@
 -- No message comes to be held but by being given out.
-use Rattle.std.proofs.Common.{◌≡◌, ℕ, List, [], ◌∷◌, Bool, true, false, cond, refl, sym, ap, subst, ◌∙◌, map, not, Option, Some, None, ◌⊎◌, inl, inr}
-use Rattle.std.specs.Prelude.{is_some, if◌then◌else◌}
+use Rattle.std.proofs.Common.{◌≡◌, ℕ, List, [], ◌∷◌, Bool, true, false, cond, sym, ap, subst, ◌∙◌, not, Some, ◌⊎◌, inl, inr}
+use Rattle.std.specs.Prelude.{is_some}
 use Rattle.std.proofs.lemmas.Bool.{false≢true}
 use Rattle.std.proofs.lemmas.Option.{same_Some}
 use Rattle.model.specs.Words.{Text}
 use Rattle.model.specs.Topology.{IsIn}
-use Rattle.model.specs.Grammar.{Ids, ids_of}
 use Rattle.model.specs.Broker.{Outstanding, Broker, is_ready}
-use Rattle.model.specs.Entries.{by_channel, by_connection, freed, held_as, change_first, without_first}
+use Rattle.model.specs.Entries.{held_as, change_first, without_first}
 use Rattle.model.specs.Deliveries.{Settlement, Leaves, Rejects, Returns, AreSettled, with_queue, first_ready, after_giving}
-use Rattle.model.specs.Phases.{is_running}
-use Rattle.model.specs.Step.{Refusal, Ignored, Of_channel, Of_connection, Acts, Does, Gets, Settles, Performs, Refuses, Decides, OnConnection, OnLarge, Is, channel_or_new, empty_publish, opened, refusal, refusal_of_large, with_freed, with_channel}
 use Rattle.model.specs.Run.{Happening}
-use Rattle.model.specs.declared.contents.Content.{Content}
 use Rattle.model.specs.declared.messages.Entry.{Entry}
 use Rattle.model.specs.declared.messages.Holder.{Holder}
 use Rattle.model.specs.declared.messages.Mark.TheVariants.{Held}
-use Rattle.model.specs.declared.methods.Get.{Get}
-use Rattle.model.specs.declared.methods.Method.{Method}
-use Rattle.model.specs.declared.methods.Method.TheVariants.{ConnectionClose, ChannelOpen, ChannelFlow, ChannelClose, ChannelCloseOk, ExchangeDeclare, QueueDeclare, QueuePurge, BasicQos, BasicConsume, BasicCancel, BasicPublish, BasicGet, BasicAck, BasicReject, BasicNack, BasicRecover, ConfirmSelect}
-use Rattle.model.specs.declared.events.Send.{Send}
-use Rattle.model.specs.declared.events.Event.{Event}
-use Rattle.model.specs.declared.events.Event.TheVariants.{Open, First, Running, Command, TooLarge, Fault, Lose, Pause, Resume, Deliver}
 use Rattle.model.specs.Alone.{event_connection}
-use Rattle.model.specs.Order.{GivesOut, to_get, to_consumer, IsHeldSince, before, by_it}
+use Rattle.model.specs.Order.{GivesOut, IsHeldSince, before, by_it}
 use Rattle.laws.specs.Order.{HeldAreGiven}
 use Rattle.laws.proofs.Agreement.{Shrinks, shrinks_same, shrinks_freed, shrinks_filter, shrinks_on, left_shrinks, returned_shrinks, same_holder}
 use Rattle.laws.proofs.Agreed.{shrinks_arrivals, rejected_shrinks}
 use Rattle.laws.proofs.Leaving.{at_queue}
-use Rattle.laws.proofs.Accepted.{is_open}
 use Rattle.laws.proofs.Deeds.{Deed, changes, enters, gives, settles, purges, freed_by}
 use Rattle.laws.proofs.View.{deed_at}
 

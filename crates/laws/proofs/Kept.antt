@@ -1,17 +1,12 @@
 -- What every run from the empty broker keeps of what is held, outstanding and settled, event by event.
-use Rattle.std.proofs.Common.{ℕ, List, [], ◌∷◌, Bool, true, false, refl, sym, ap, subst, inl, inr}
-use Rattle.std.specs.Prelude.{is_some, if◌then◌else◌}
+use Rattle.std.proofs.Common.{List, [], ◌∷◌, refl, sym, ap, subst}
+use Rattle.std.specs.Prelude.{is_some}
 use Rattle.std.specs.List.{AllByRecursion}
 use Rattle.std.proofs.lemmas.Bool.{false≢true}
-use Rattle.model.specs.Topology.{Topology}
 use Rattle.model.specs.Agreement.{IsAgreed}
-use Rattle.model.specs.Broker.{Broker}
-use Rattle.model.specs.Phases.{is_running}
-use Rattle.model.specs.Step.{Is, opened}
 use Rattle.model.specs.State.{State, Step}
 use Rattle.model.specs.Run.{Happening, Run, empty_state}
 use Rattle.model.specs.Alone.{event_connection, ArePresent}
-use Rattle.model.specs.declared.events.Event.TheVariants.{Open, Running}
 use Rattle.laws.specs.Accounts.{Lasts, DeliveriesAreAccountedFor}
 use Rattle.laws.proofs.Accounted.{step_accounts}
 use Rattle.laws.proofs.Agreed.{agreed_on, stay_agreed}

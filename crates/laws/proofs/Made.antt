@@ -5,21 +5,15 @@ use Rattle.std.proofs.lemmas.Bool.{false≢true}
 use Rattle.std.proofs.lemmas.Option.{same_Some}
 use Rattle.model.specs.Topology.{Topology, IsIn}
 use Rattle.model.specs.Alone.{event_connection}
-use Rattle.model.specs.Broker.{Consumer, Channel, Connection, Broker, new_channel, with_pair, with_row}
-use Rattle.model.specs.Entries.{by_channel}
-use Rattle.model.specs.Deliveries.{Settlement, first_ready}
+use Rattle.model.specs.Broker.{Consumer, Channel, Broker, new_channel, with_pair, with_row}
 use Rattle.model.specs.Consuming.{is_tagged, consumer_of}
-use Rattle.model.specs.Step.{Refusal, Ignored, Of_channel, Of_connection, Acts, Does, Gets, Settles, Performs, Refuses, Decides, OnConnection, OnLarge, channel_or_new, channels_up_to, empty_publish, refusal, refusal_of_large, with_freed, with_channel}
-use Rattle.model.specs.declared.messages.Entry.{Entry}
+use Rattle.model.specs.Step.{channel_or_new, channels_up_to}
 use Rattle.model.specs.declared.contents.Content.{Content}
 use Rattle.model.specs.declared.events.Send.{Send}
 use Rattle.model.specs.declared.events.Event.{Event}
-use Rattle.model.specs.declared.events.Event.TheVariants.{Open, First, Running, Command, TooLarge, Fault, Lose, Pause, Resume, Deliver}
+use Rattle.model.specs.declared.events.Event.TheVariants.{Command}
 use Rattle.model.specs.declared.methods.Consume.{Consume}
-use Rattle.model.specs.declared.methods.Get.{Get}
-use Rattle.model.specs.declared.methods.Qos.{Qos}
-use Rattle.model.specs.declared.methods.Method.{Method}
-use Rattle.model.specs.declared.methods.Method.TheVariants.{ConnectionClose, ChannelOpen, ChannelFlow, ChannelClose, ChannelCloseOk, ExchangeDeclare, QueueDeclare, QueuePurge, BasicQos, BasicConsume, BasicCancel, BasicPublish, BasicGet, BasicAck, BasicReject, BasicNack, BasicRecover, ConfirmSelect}
+use Rattle.model.specs.declared.methods.Method.TheVariants.{BasicConsume}
 use Rattle.model.specs.declared.notes.Note.{Note}
 use Rattle.laws.specs.Consumers.{WasConsumer, IsMadeBy, ConsumersAreMade}
 use Rattle.laws.proofs.Counts.{in-append}

@@ -1,6 +1,6 @@
 -- The consumers of each channel stay named, whatever the broker does, and what is delivered to them can be addressed.
 use Rattle.std.proofs.Common.{◌≡◌, ℕ, zero, suc, ◌+◌, ◌<◌, ◌≤◌, List, [], ◌∷◌, Bool, true, false, cond, refl, sym, ap, subst, ◌∙◌, filter, length, length-append, get_or, not, arith, Option, Some, None, inl, inr}
-use Rattle.std.specs.Prelude.{is_some, nat_le, nat_lt, codes, decimal, ◌==◌, ◌&&◌, ◌||◌, if◌then◌else◌}
+use Rattle.std.specs.Prelude.{is_some, nat_le, codes, decimal, ◌==◌, ◌&&◌, ◌||◌, if◌then◌else◌}
 use Rattle.std.specs.List.{AllByRecursion, AllPairs, list_any}
 use Rattle.std.specs.Str.{bytes_eq}
 use Rattle.std.proofs.lemmas.Bool.{leb-true, leb-false, ne_eqb, false≢true}
@@ -10,14 +10,12 @@ use Rattle.std.proofs.lemmas.List.Kept.{AllPairs-filter}
 use Rattle.std.proofs.lemmas.List.Quantifiers.{all_pairs_push}
 use Rattle.model.specs.Words.{Text}
 use Rattle.model.specs.Topology.{Topology, IsIn}
-use Rattle.model.specs.Grammar.{Ids, ids_of, IsMethod}
-use Rattle.model.specs.Broker.{Consumer, Outstanding, Channel, Connection, Broker, new_channel, queue_named, is_ready, with_pair, with_row}
-use Rattle.model.specs.Entries.{by_channel}
+use Rattle.model.specs.Broker.{Consumer, Outstanding, Channel, Broker, new_channel, queue_named, is_ready, with_pair, with_row}
 use Rattle.model.specs.Settling.{is_refused, kept, takes}
 use Rattle.model.specs.Prefetch.{is_to, has_tag_left}
-use Rattle.model.specs.Deliveries.{Settlement, first_ready, outstanding_after}
+use Rattle.model.specs.Deliveries.{outstanding_after}
 use Rattle.model.specs.Consuming.{is_tagged, is_in_use, server_tag, next_free, tag_for, is_tag_taken, is_tag_wanting, consumer_of, with_consumer, without_consumer}
-use Rattle.model.specs.Step.{Is, tag_of, opened, greatest, Refusal, Ignored, Of_channel, Of_connection, Acts, Does, Gets, Settles, Performs, Refuses, Decides, OnConnection, OnLarge, IsDelivery, channel_or_new, channels_up_to, empty_publish, or_else, refusal, refusal_of, refusal_in, refusal_of_asking, refusal_of_tag, refusal_of_many, refusal_of_consume, refusal_of_large, with_freed, with_channel}
+use Rattle.model.specs.Step.{tag_of, greatest, Refusal, Of_channel, channel_or_new, or_else, refusal_in, refusal_of_asking, refusal_of_tag, refusal_of_many, refusal_of_consume}
 use Rattle.model.specs.Alone.{event_connection}
 use Rattle.model.specs.Arrivals.{IsSaid}
 use Rattle.model.specs.Naming.{IsGivenBelow, AreNamedOn, AreNamed}
@@ -25,15 +23,10 @@ use Rattle.model.specs.Sending.{IsCarried, IsAddressed}
 use Rattle.model.specs.declared.messages.Entry.{Entry}
 use Rattle.model.specs.declared.messages.Taker.{Taker}
 use Rattle.model.specs.declared.messages.Taker.TheVariants as taker
-use Rattle.model.specs.declared.contents.Content.{Content}
 use Rattle.model.specs.declared.events.Send.{Send}
 use Rattle.model.specs.declared.events.Event.{Event}
-use Rattle.model.specs.declared.events.Event.TheVariants.{Open, First, Running, Command, TooLarge, Fault, Lose, Pause, Resume, Deliver}
 use Rattle.model.specs.declared.methods.Consume.{Consume}
 use Rattle.model.specs.declared.methods.Get.{Get}
-use Rattle.model.specs.declared.methods.Qos.{Qos}
-use Rattle.model.specs.declared.methods.Method.{Method}
-use Rattle.model.specs.declared.methods.Method.TheVariants.{ConnectionClose, ChannelOpen, ChannelFlow, ChannelClose, ChannelCloseOk, ExchangeDeclare, QueueDeclare, QueuePurge, BasicQos, BasicConsume, BasicCancel, BasicPublish, BasicGet, BasicAck, BasicReject, BasicNack, BasicRecover, ConfirmSelect}
 use Rattle.model.specs.declared.notes.Note.{Note}
 use Rattle.laws.specs.Consumers.{ConsumersStayNamed, DeliveriesAreAddressed}
 use Rattle.laws.proofs.Counts.{count_none, all-append, all_each, all_in, filter_all}

@@ -1,8 +1,7 @@
 -- In every world that a run reaches consumers are named as they should be.
-use Rattle.std.proofs.Common.{ℕ, List, [], ◌∷◌, refl, sym, subst, inl, inr}
+use Rattle.std.proofs.Common.{ℕ, List, [], ◌∷◌, refl, sym, subst}
 use Rattle.std.specs.List.{AllByRecursion}
 use Rattle.model.specs.State.{Config, State, Step}
-use Rattle.model.specs.Phases.{is_running}
 use Rattle.model.specs.Run.{Happening, Run}
 use Rattle.model.specs.Naming.{AreNamed}
 use Rattle.model.specs.History.{Occurrence}

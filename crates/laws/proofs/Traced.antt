@@ -1,31 +1,26 @@
 -- Where each message that stands in a queue came from, and so by which routes and deaths.
-use Rattle.std.proofs.Common.{◌≡◌, ◌≤◌, ◌+◌, arith, ℕ, List, [], ◌∷◌, Bool, true, false, refl, sym, ap, subst, ◌∙◌, map, length, not, Option, Some, None, inl, inr}
+use Rattle.std.proofs.Common.{◌≡◌, ◌≤◌, ◌+◌, arith, ℕ, List, [], ◌∷◌, Bool, true, false, refl, sym, ap, subst, ◌∙◌, map, length, not, Some, inl, inr}
 use Rattle.std.specs.Prelude.{◌&&◌, if◌then◌else◌}
 use Rattle.model.specs.Words.{Text}
 use Rattle.model.specs.Topology.{Topology, IsIn}
 use Rattle.model.specs.Arrivals.{IsSaid}
 use Rattle.model.specs.Tracing.{HasCome, by_publish, by_death, HasComeTo, AreSentAlike, AreTraced}
-use Rattle.model.specs.Grammar.{Ids, ids_of}
-use Rattle.model.specs.Broker.{Outstanding, Channel, Connection, Broker, is_ready}
-use Rattle.model.specs.Entries.{is_under, by_channel, by_connection, freed}
+use Rattle.model.specs.Broker.{Outstanding, Broker, is_ready}
+use Rattle.model.specs.Entries.{is_under, freed}
 use Rattle.model.specs.Deliveries.{Settlement, Leaves, Rejects, Returns, AreSettled, AreLeft, AreReturned, with_queue, first_ready, holder_of, after_giving}
 use Rattle.model.specs.Message.{Message}
 use Rattle.model.specs.Order.{is_fresh}
-use Rattle.model.specs.Phases.{is_running}
-use Rattle.model.specs.Step.{Refusal, Ignored, Of_channel, Of_connection, Acts, Does, Gets, Settles, Performs, Refuses, Decides, OnConnection, OnLarge, IsDelivery, Is, channel_or_new, empty_publish, message, opened, refusal, refusal_of_large, with_freed, with_channel}
+use Rattle.model.specs.Step.{Acts, message}
 use Rattle.model.specs.State.{Config, State, Step}
 use Rattle.model.specs.Run.{AreCounted}
-use Rattle.model.specs.declared.contents.Content.{Content}
 use Rattle.model.specs.declared.messages.Entry.{Entry}
 use Rattle.model.specs.declared.messages.Holder.{Holder}
 use Rattle.model.specs.declared.messages.Mark.{Mark}
 use Rattle.model.specs.declared.messages.Mark.TheVariants.{Ready, Held}
-use Rattle.model.specs.declared.methods.Get.{Get}
-use Rattle.model.specs.declared.methods.Method.{Method}
-use Rattle.model.specs.declared.methods.Method.TheVariants.{ConnectionClose, ChannelOpen, ChannelFlow, ChannelClose, ChannelCloseOk, ExchangeDeclare, QueueDeclare, QueuePurge, BasicQos, BasicConsume, BasicCancel, BasicPublish, BasicGet, BasicAck, BasicReject, BasicNack, BasicRecover, ConfirmSelect}
+use Rattle.model.specs.declared.methods.Method.TheVariants.{BasicPublish}
 use Rattle.model.specs.declared.events.Send.{Send}
 use Rattle.model.specs.declared.events.Event.{Event}
-use Rattle.model.specs.declared.events.Event.TheVariants.{Open, First, Running, Command, TooLarge, Fault, Lose, Pause, Resume, Deliver}
+use Rattle.model.specs.declared.events.Event.TheVariants.{Command}
 use Rattle.model.specs.declared.notes.Cause.{Cause}
 use Rattle.model.specs.declared.notes.Note.{Note}
 use Rattle.model.specs.Alone.{event_connection}

@@ -1,28 +1,25 @@
 -- The ways in which a step can go, and the deed that it does. Here alone all cases of `Step` are walked over, and all answers of the phases.
-use Rattle.std.proofs.Common.{◌≡◌, ℕ, ◌+◌, append-nil, filter, arith, ◌⊎◌, List, [], ◌∷◌, ◌++◌, Bool, true, false, cond, refl, sym, ap, subst, ◌∙◌, map, Option, Some, None, inl, inr}
+use Rattle.std.proofs.Common.{◌≡◌, ℕ, ◌+◌, append-nil, filter, arith, ◌⊎◌, List, [], ◌∷◌, ◌++◌, Bool, true, false, refl, sym, ap, subst, ◌∙◌, map, Option, Some, None, inl, inr}
 use Rattle.std.specs.Prelude.{codes, count_by, filter_map, ◌==◌, if◌then◌else◌}
 use Rattle.std.specs.Str.{bytes_eq}
 use Rattle.std.specs.List.{AllByRecursion}
-use Rattle.std.proofs.lemmas.Bool.{eqb-true, false≢true}
+use Rattle.std.proofs.lemmas.Bool.{false≢true}
 use Rattle.model.specs.Words.{Text}
 use Rattle.model.specs.Topology.{Topology, IsIn, AreApart, queue_names}
-use Rattle.model.specs.Broker.{Outstanding, Channel, Connection, Broker, is_ready, with_one}
-use Rattle.model.specs.Step.{Refusal, Ignored, Of_channel, Of_connection, Does, Makes, Gets, Settles, tag_of, get_ok, purge_sends, declare_sends, IsPublish, Performs, Refuses, Decides, OnConnection, OnLarge, Acts, empty_publish, refusal_of_large, with_channel, with_freed, reply, content_or_none, returned_sends, confirm_sends, is_some_full, next_of, answer_of, refusal, channel_or_new, opened, paused, consume_sends, cancel_sends, deliver}
-use Rattle.model.specs.Entries.{freed, by_channel, by_connection, is_held_as}
-use Rattle.model.specs.Grammar.{Ids, ids_of}
+use Rattle.model.specs.Broker.{Outstanding, Channel, Broker, is_ready, with_one}
+use Rattle.model.specs.Step.{tag_of, Acts, empty_publish, reply, returned_sends, confirm_sends, next_of, channel_or_new}
+use Rattle.model.specs.Entries.{freed, is_held_as}
 use Rattle.model.specs.Phases.{Session, Move, running_session, no_session, is_running, after_sends, stays_in, to_phase, while_closing, faulted}
 use Rattle.model.specs.Opening.{IsAnswered, MovesInOpening, new_session, first_move, start, opening_move, on_zero, or_closed, at_start, at_tune, at_open, answers_with, closes_with, is_taken, tuned, tune, open_ok}
 use Rattle.model.specs.State.{Config, State, Moves, OfFirst, OfCommand, OfLarge, OfFault, Step}
 use Rattle.model.specs.declared.messages.User.{User}
 use Rattle.model.specs.Run.{Happening, Balances, has_number, is_entered, is_left}
-use Rattle.model.specs.Causes.{WasGiven, IsCauseIn, IsCauseAt}
+use Rattle.model.specs.Causes.{IsCauseAt}
 use Rattle.model.specs.Letters.{AreRejections, IsOfNoRejection}
 use Rattle.model.specs.Contents.{content_in}
 use Rattle.model.specs.Alone.{event_connection}
-use Rattle.model.specs.Order.{Gives, to_get, to_consumer}
-use Rattle.model.specs.Settling.{takes}
-use Rattle.model.specs.Deliveries.{Settlement, Leaves, Rejects, Returns, of_rejected, AreSettled, with_queue, after_giving, holder_of, delivery_notes, purge_notes}
-use Rattle.model.specs.Consuming.{CanDeliver}
+use Rattle.model.specs.Order.{Gives}
+use Rattle.model.specs.Deliveries.{Settlement, Leaves, Rejects, Returns, AreSettled, with_queue, after_giving, holder_of, delivery_notes, purge_notes}
 use Rattle.model.specs.declared.messages.Holder.{Holder}
 use Rattle.model.specs.declared.messages.Entry.{Entry}
 use Rattle.model.specs.declared.contents.Content.{Content}
@@ -34,18 +31,13 @@ use Rattle.model.specs.declared.events.Event.{Event}
 use Rattle.model.specs.declared.events.Event.TheVariants.{Open, First, Running, Command, TooLarge, Fault, Lose, Pause, Resume, Deliver}
 use Rattle.model.specs.declared.methods.Publish.{Publish}
 use Rattle.model.specs.declared.methods.Method.{Method}
-use Rattle.model.specs.declared.methods.Get.{Get}
-use Rattle.model.specs.declared.methods.Ack.{Ack}
-use Rattle.model.specs.declared.methods.Purge.{Purge}
-use Rattle.model.specs.declared.methods.Method.TheVariants.{ConnectionStart, ConnectionStartOk, ConnectionTune, ConnectionTuneOk, ConnectionOpen, ConnectionOpenOk, ConnectionClose, ConnectionCloseOk, ChannelOpen, ChannelOpenOk, ChannelFlow, ChannelFlowOk, ChannelClose, ChannelCloseOk, ExchangeDeclare, ExchangeDeclareOk, QueueDeclare, QueueDeclareOk, QueuePurge, QueuePurgeOk, BasicQos, BasicQosOk, BasicPublish, BasicGet, BasicGetOk, BasicGetEmpty, BasicAck, BasicReject, BasicNack, BasicRecover, BasicRecoverOk, ConfirmSelect, ConfirmSelectOk, BasicConsume, BasicConsumeOk, BasicCancel, BasicCancelOk, BasicDeliver}
-use Rattle.model.specs.declared.messages.Taker.TheVariants as taker
+use Rattle.model.specs.declared.methods.Method.TheVariants.{ConnectionStartOk, ConnectionTuneOk, ConnectionOpen, ConnectionClose, ConnectionCloseOk}
 use Rattle.model.specs.declared.notes.Cause.{Cause}
-use Rattle.model.specs.declared.notes.Cause.TheVariants.{Acked, Auto, Rejected}
+use Rattle.model.specs.declared.notes.Cause.TheVariants.{Auto, Rejected}
 use Rattle.model.specs.declared.notes.Note.{Note}
 use Rattle.model.specs.declared.notes.Note.TheVariants.{Entered, Refused, Left}
 use Rattle.model.specs.declared.notes.Way.TheVariants as way
 use Rattle.model.specs.declared.notes.Answer.{Answer}
-use Rattle.model.specs.declared.notes.Answer.TheVariants as answered
 use Rattle.model.specs.Spelling.{eight_bytes}
 use Rattle.model.specs.Arrivals.{is_ended}
 use Rattle.laws.proofs.Counts.{count-map, count_none, all_each, all-append}
@@ -55,7 +47,7 @@ use Rattle.laws.proofs.Replies.{IsReplyAtMost, IsAnswerAtMost, reply_all, reply_
 use Rattle.laws.proofs.Speaking.{IsCommandSend, AreCommandSends, Spoken, spoken_commands, spoken_on, spoken_still}
 use Rattle.laws.proofs.Letters.{no_rejections, are_rejections}
 use Rattle.laws.proofs.Dying.{HasDied, IsQuiet, leaving_quiet, leaving_enters, rejected_quiet, rejected_balances, rejected_causes}
-use Rattle.laws.proofs.Leaving.{is_plain, is_leaving, OfLeft, at_queue, count_change, freed_number, taken_balances, left_balances, are_leaving, left_causes, returned_counts, settled_are, purge_balances, purge_leaving, purge_causes}
+use Rattle.laws.proofs.Leaving.{is_leaving, OfLeft, at_queue, count_change, freed_number, taken_balances, left_balances, are_leaving, left_causes, returned_counts, settled_are, purge_balances, purge_leaving, purge_causes}
 
 -- ---- what is sent
 

@@ -2,7 +2,7 @@
 //!
 //! Each consumer has its seat in the ring, by its numbers. A seat stays there after its consumer is gone, until the ring is full
 //! and is swept. What is picked is found by looking at one seat after another, from the one behind that which was picked last. A
-//! seat whose consumer may take nothing then falls asleep, if it can be listed, and is passed over until it is woken. Picks look at
+//! seat whose consumer may take nothing then falls asleep, and is passed over until it is woken. Picks look at
 //! the seats whose bit is 1: that of a seat that sleeps may be, after a sweep, until one looks at it.
 
 ghost use Rattle.std.specs.Prelude.{◌≡◌, ◌<◌, ◌≤◌, ◌+◌, ◌*◌, ◌⊎◌, ℕ, true, false};
@@ -16,27 +16,18 @@ ghost use Rattle.commands.specs.Picked.{CannotTake, IsPickFrom};
 ghost use Rattle.commands.specs.declared.picks.Pick.{Pick as Consumer};
 ghost use Rattle.broker.specs.declared.roster.seats.Seat.{Seat as Taken};
 ghost use Rattle.broker.specs.Lines.{turned, AreDistinct};
-ghost use Rattle.broker.specs.Roster.{ring_of, picks, is_consumer, is_seat_of, has_its_consumer, FindsSeat, IsAwakeAt, IsAwake, IsAsleep, StaysAt};
+ghost use Rattle.broker.specs.Roster.{ring_of, picks, is_consumer, is_able, is_seat_of, has_its_consumer, listing};
+ghost use Rattle.broker.specs.Roster.{AllAreNoted, FindsSeat, IsNoted, IsAwakeAt, IsAwake, IsAsleep, StaysAt};
 ghost use Rattle.broker.specs.Roster.{KeepsIn, KeepsRing, KeepsThose, KeepsOthers, NoneAwake, NoneAwakePassed, ListsMore, Wakens};
 ghost use Rattle.broker.specs.Moving.{all_awake};
 
-use crate::roster::desk::{Desks, Listed, list_seat};
+use crate::roster::desk::{Desks, mark_seat};
 use crate::roster::finding::{Found, find, is_able, is_of};
-use crate::roster::seats::Seat;
+use crate::roster::seats::{Seat, SeatMarks, is_same, mark_all};
 use commands::{Core, Pick};
 use marks::{Flat, Over, Places};
 use std::alloc::{AllocError, Global};
 use std::marker::Model;
-
-/// A set of places, by a bit for each.
-pub(crate) type SeatMarks = Over<Flat>;
-
-/// Two consumers are one.
-fn is_same(one: Pick, other: Pick) -> bool
-    ensures { result ≡ is_consumer one other }
-{
-    one.connection == other.connection && one.channel == other.channel && one.number == other.number
-}
 
 /// The first place at which this consumer's seat stands.
 fn search(seats: &[Seat], consumer: Pick) -> Option<usize>
@@ -119,17 +110,6 @@ fn staying(seats: &[Seat], core: &Core, queue: usize) -> usize
     count
 }
 
-/// Picks look at all seats at places below this from now on.
-fn mark_all(awake: &mut SeatMarks, count: usize)
-    requires { count ≤ length awake.old * 64 }
-    ensures len { length awake.new ≡ length awake.old }
-    ensures marked { (i : ℕ) → i < count → bit_of awake.new i ≡ 1 }
-{
-    for place in 0..count {
-        awake.set(place);
-    }
-}
-
 /// Makes room for one seat more. Where the list is full, the seats whose consumer is gone, or takes from another queue, are taken
 /// out, picks look at those that are left, and then there is room for as many again, so that few sweeps are made. Where memory is
 /// wanting, no other seat is gone.
@@ -203,7 +183,8 @@ fn any_marked(awake: &SeatMarks, count: usize) -> bool
     }
 }
 
-/// The seat at this place, which is awake and whose consumer may take nothing now, falls asleep if it can be listed.
+/// The seat at this place, which is awake and whose consumer may take nothing now, falls asleep: its listing tells so. It takes no
+/// memory.
 fn doze(
     core: &Core,
     queue: usize,
@@ -216,16 +197,18 @@ fn doze(
     requires room { length seats.old ≤ length awake.old * 64 }
     requires cannot { (d : Taken) → CannotTake (broker_of core.now) (slice_index_or seats.old place d).pick }
     requires up { (d : Taken) → (slice_index_or seats.old place d).asleep ≡ false }
+    requires noted { (d : Taken) → IsNoted desks.old.entries (listing queue (slice_index_or seats.old place d).pick) }
     ensures len { length awake.new ≡ length awake.old }
     ensures kept { KeepsIn core.now queue desks.old.entries desks.new.entries (ring_of seats.old awake.old) (ring_of seats.new awake.new) }
     ensures more { ListsMore desks.old.entries desks.new.entries }
     ensures others { (i : ℕ) → (i ≡ place → ⊥) → StaysAt (ring_of seats.old awake.old) (ring_of seats.new awake.new) i }
+    ensures passed { bit_of awake.new place ≡ 0 }
+    ensures fewer { (i : ℕ) → bit_of awake.old i ≡ 0 → bit_of awake.new i ≡ 0 }
     ensures same { picks seats.new ≡ picks seats.old }
 {
-    if list_seat(desks, Listed::new(queue, seats[place].pick, place)) {
-        seats[place].asleep = true;
-        awake.clear(place);
-    }
+    mark_seat(desks, queue, seats[place].pick, place);
+    seats[place].asleep = true;
+    awake.clear(place);
 }
 
 /// Picks pass over the seat at this place from now on, at which this was found, and to which nothing can be delivered.
@@ -240,11 +223,15 @@ fn rest(
 )
     requires within { place < length seats.old }
     requires room { length seats.old ≤ length awake.old * 64 }
+    requires noted { AllAreNoted (topology_kept core.now) (broker_of core.now) desks.old.entries }
     requires found { (d : Taken) → FindsSeat core.now queue (slice_index_or seats.old place d) found }
+    requires unable { is_able found ≡ false }
     ensures len { length awake.new ≡ length awake.old }
     ensures kept { KeepsIn core.now queue desks.old.entries desks.new.entries (ring_of seats.old awake.old) (ring_of seats.new awake.new) }
     ensures more { ListsMore desks.old.entries desks.new.entries }
     ensures others { (i : ℕ) → (i ≡ place → ⊥) → StaysAt (ring_of seats.old awake.old) (ring_of seats.new awake.new) i }
+    ensures passed { bit_of awake.new place ≡ 0 }
+    ensures fewer { (i : ℕ) → bit_of awake.old i ≡ 0 → bit_of awake.new i ≡ 0 }
     ensures same { picks seats.new ≡ picks seats.old }
 {
     match found {
@@ -255,7 +242,7 @@ fn rest(
 }
 
 /// The place of the first of the seats from this one on, up to that one, to whose consumer a delivery can be made from the queue
-/// at this place. Those that are looked at before it and may take nothing fall asleep, if they can be listed.
+/// at this place. Those that are looked at before it and may take nothing fall asleep.
 fn first_between(
     core: &Core,
     queue: usize,
@@ -267,6 +254,7 @@ fn first_between(
 ) -> Option<usize>
     requires placed { queue < length (topology_kept core.now).queues }
     requires ready { HasReady core.now.store queue }
+    requires noted { AllAreNoted (topology_kept core.now) (broker_of core.now) desks.old.entries }
     requires within { to ≤ length seats.old }
     requires room { length seats.old ≤ length awake.old * 64 }
     ensures len { length awake.new ≡ length awake.old }
@@ -279,6 +267,9 @@ fn first_between(
     ensures passed { IfSome result (λ i. NoneAwake core.now queue (ring_of seats.old awake.old) from i) }
     ensures least { IfSome result (λ i. from ≤ i) }
     ensures below { IfSome result (λ i. i < to) }
+    // Picks look at none of those that were passed.
+    ensures rested { result ≡ None → (i : ℕ) → from ≤ i → i < to → bit_of awake.new i ≡ 0 }
+    ensures fewer { (i : ℕ) → bit_of awake.old i ≡ 0 → bit_of awake.new i ≡ 0 }
     ensures same { picks seats.new ≡ picks seats.old }
 {
     let mut next = from;
@@ -307,6 +298,7 @@ fn first_round(
 ) -> Option<usize>
     requires placed { queue < length (topology_kept core.now).queues }
     requires ready { HasReady core.now.store queue }
+    requires noted { AllAreNoted (topology_kept core.now) (broker_of core.now) desks.old.entries }
     requires room { length seats.old ≤ length awake.old * 64 }
     ensures len { length awake.new ≡ length awake.old }
     ensures kept { KeepsIn core.now queue desks.old.entries desks.new.entries (ring_of seats.old awake.old) (ring_of seats.new awake.new) }
@@ -315,6 +307,7 @@ fn first_round(
     ensures some { IfSome result (λ i. (d : Taken) → IsPickFrom core.now queue (slice_index_or seats.new i d).pick) }
     ensures none { result ≡ None → NoneAwake core.now queue (ring_of seats.old awake.old) 0 (length seats.old) }
     ensures passed { IfSome result (λ i. NoneAwakePassed core.now queue (ring_of seats.old awake.old) next i) }
+    ensures rested { result ≡ None → (i : ℕ) → i < length seats.new → bit_of awake.new i ≡ 0 }
     ensures same { picks seats.new ≡ picks seats.old }
 {
     let turn = next.min(seats.len());
@@ -360,10 +353,11 @@ impl Ring {
     ghost use Rattle.std.specs.Prelude.{◌≡◌, ◌<◌, [], ℕ, true, false, None, IfSome, OnOk, length};
     ghost use Rattle.marks.specs.Places.{bit_of};
     ghost use Rattle.depot.specs.Store.{HasReady};
-    ghost use Rattle.commands.specs.State.{topology_kept};
+    ghost use Rattle.commands.specs.State.{broker_of, topology_kept};
     ghost use Rattle.commands.specs.declared.picks.Pick.{Pick as Consumer};
     ghost use Rattle.commands.specs.Picked.{IsPickFrom};
-    ghost use Rattle.broker.specs.Roster.{order, IsAwake, IsAsleep, KeepsIn, KeepsRing, NoneSeated, GoesLast, KeepsLine, LetsIn, IsBounded, ListsMore, Wakens};
+    ghost use Rattle.broker.specs.Roster.{order, AllAreNoted, IsAwake, IsAsleep, KeepsIn, KeepsRing};
+    ghost use Rattle.broker.specs.Roster.{NoneSeated, GoesLast, KeepsLine, LetsIn, IsBounded, ListsMore, Wakens};
     ghost use Rattle.broker.specs.Moving.{AllRoused};
 
     /// No seat. It takes no memory.
@@ -425,17 +419,20 @@ impl Ring {
     }
 
     /// The first consumer to which a delivery can be made from the queue at this place, which has something ready, from the seat
-    /// behind that which was picked last, and then from the front. Those that are looked at and may take nothing fall asleep, if they can be
-    /// listed.
+    /// behind that which was picked last, and then from the front. Those that are looked at and may take nothing fall asleep, and no memory is
+    /// taken.
     pub fn pick(&mut self, core: &Core, desks: &mut Desks, queue: usize) -> Option<Pick>
         requires placed { queue < length (topology_kept core.now).queues }
         requires ready { HasReady core.now.store queue }
+        requires noted { AllAreNoted (topology_kept core.now) (broker_of core.now) desks.old.entries }
         ensures kept { KeepsIn core.now queue desks.old.entries desks.new.entries self.old self.new }
         ensures more { ListsMore desks.old.entries desks.new.entries }
         ensures some { IfSome result (λ p. IsPickFrom core.now queue p) }
         ensures none { result ≡ None → NoneSeated core.now desks.old.entries queue self.old }
         ensures told { IfSome result (λ p. GoesLast core.now desks.old.entries queue self.old self.new p) }
         ensures same { result ≡ None → order self.new ≡ order self.old }
+        // Where nobody is told, nobody is awake any more: who may take nothing sleeps.
+        ensures rested { result ≡ None → (p : Consumer) → IsAwake self.new p → ⊥ }
     {
         match first_round(
             core,

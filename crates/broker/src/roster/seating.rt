@@ -1,21 +1,22 @@
 //! The rings of all queues, over which picks go round.
 //!
 //! A bit for each queue is 1 where some seat of its ring is awake. What is picked is found by going round the queues that have
-//! something ready and whose bit is 1. A pick that finds none to whom it may deliver at a queue, and leaves no seat awake there,
+//! something ready and whose bit is 1. A pick that finds none to whom it may deliver at a queue leaves no seat awake there, and
 //! clears the bit, and the next seat that is woken or made there sets it. So a queue that lacks one of the two is passed over.
 
 ghost use Rattle.std.specs.Prelude.{◌≡◌, ◌<◌, ◌≤◌, ◌*◌, [], ℕ, None, IfSome, IfOk, OnOk, length};
 ghost use Rattle.marks.specs.Places.{bit_of};
 ghost use Rattle.depot.specs.Store.{HasReady};
-ghost use Rattle.commands.specs.State.{topology_kept};
+ghost use Rattle.commands.specs.State.{broker_of, topology_kept};
 ghost use Rattle.commands.specs.Picked.{IsPickFrom};
-ghost use Rattle.broker.specs.Roster.{ring_at, rings_of, IsAwake, IsAsleep, QueuesAreMarked, IsNextMarked, KeepRings, KeepLines, LetsIn};
+ghost use Rattle.broker.specs.Roster.{ring_at, rings_of, AllAreNoted, IsAwake, IsAsleep, QueuesAreMarked, IsNextMarked, KeepRings, KeepLines, LetsIn};
 ghost use Rattle.broker.specs.Roster.{IsBounded, KeepsSeats, ListsMore, AllWaken, NoneSeated, NoneBetween, NonePassed, PicksFrom, SameOrders};
 ghost use Rattle.broker.specs.Moving.{IsMoved, ArePlacesApart, RingsAreMoved};
 ghost use Rattle.commands.specs.declared.picks.Pick.{Pick as Consumer};
 
 use crate::roster::desk::Desks;
-use crate::roster::ring::{Ring, SeatMarks};
+use crate::roster::ring::Ring;
+use crate::roster::seats::SeatMarks;
 use commands::{Core, Pick};
 use marks::{Flat, Over, Places};
 use std::alloc::{AllocError, Global};
@@ -100,17 +101,6 @@ fn next_both(core: &Core, awake: &SeatMarks, from: usize) -> Option<usize>
     None
 }
 
-/// The bit of the queue at this place is 0 from now on if no seat of its ring is awake.
-fn settle(rings: &[Ring], awake: &mut SeatMarks, queue: usize)
-    requires within { queue < length rings.now }
-    requires marked { QueuesAreMarked rings.now awake.old }
-    ensures { QueuesAreMarked rings.now awake.new }
-{
-    if !rings[queue].has_awake() {
-        awake.clear(queue);
-    }
-}
-
 /// The first delivery that can be made from the queue at this place, which has something ready and whose bit is 1.
 fn pick_at(
     rings: &mut [Ring],
@@ -122,6 +112,7 @@ fn pick_at(
     requires within { queue < length rings.old }
     requires placed { queue < length (topology_kept core.now).queues }
     requires ready { HasReady core.now.store queue }
+    requires noted { AllAreNoted (topology_kept core.now) (broker_of core.now) desks.old.entries }
     requires here { bit_of awake.old queue ≡ 1 }
     requires marked { QueuesAreMarked rings.old awake.old }
     ensures len { length rings.new ≡ length rings.old }
@@ -136,7 +127,7 @@ fn pick_at(
     match rings[queue].pick(core, desks, queue) {
         Some(pick) => Some(pick),
         None => {
-            settle(rings, awake, queue);
+            awake.clear(queue);
             None
         }
     }
@@ -152,6 +143,7 @@ fn first_between(
     to: usize,
 ) -> Option<FoundSeat>
     requires len { length rings.old ≡ length (topology_kept core.now).queues }
+    requires noted { AllAreNoted (topology_kept core.now) (broker_of core.now) desks.old.entries }
     requires marked { QueuesAreMarked rings.old awake.old }
     ensures kept { KeepsSeats core.now (rings_of rings.old desks.old.entries) (rings_of rings.new desks.new.entries) }
     ensures more { ListsMore desks.old.entries desks.new.entries }
@@ -187,6 +179,7 @@ fn first_round(
     next: usize,
 ) -> Option<FoundSeat>
     requires len { length rings.old ≡ length (topology_kept core.now).queues }
+    requires noted { AllAreNoted (topology_kept core.now) (broker_of core.now) desks.old.entries }
     requires marked { QueuesAreMarked rings.old awake.old }
     ensures kept { KeepsSeats core.now (rings_of rings.old desks.old.entries) (rings_of rings.new desks.new.entries) }
     ensures more { ListsMore desks.old.entries desks.new.entries }
@@ -282,9 +275,9 @@ impl Model for Seating {
 
 impl Seating {
     ghost use Rattle.std.specs.Prelude.{◌≡◌, ◌<◌, ◌+◌, ◌^◌, ℕ, None, IfSome, IfOk, OnOk, length};
-    ghost use Rattle.commands.specs.State.{topology_kept};
+    ghost use Rattle.commands.specs.State.{broker_of, topology_kept};
     ghost use Rattle.commands.specs.Picked.{IsPickFrom};
-    ghost use Rattle.broker.specs.Roster.{ring_at, rings_of, IsAwake, IsAsleep, KeepRings, KeepLines, LetsIn, IsBounded};
+    ghost use Rattle.broker.specs.Roster.{ring_at, rings_of, AllAreNoted, IsAwake, IsAsleep, KeepRings, KeepLines, LetsIn, IsBounded};
     ghost use Rattle.broker.specs.Roster.{KeepsSeats, ListsMore, AllWaken, NoneBetween, NonePassed, PicksFrom, SameOrders};
     ghost use Rattle.broker.specs.Moving.{ArePlacesApart, RingsAreMoved};
 
@@ -340,7 +333,8 @@ impl Seating {
 
     /// The first delivery that can be made from one of the queues, from this place on and then from the front.
     pub fn pick(&mut self, core: &Core, desks: &mut Desks, next: usize) -> Option<FoundSeat>
-        requires { length self.old ≡ length (topology_kept core.now).queues }
+        requires len { length self.old ≡ length (topology_kept core.now).queues }
+        requires noted { AllAreNoted (topology_kept core.now) (broker_of core.now) desks.old.entries }
         ensures kept { KeepsSeats core.now (rings_of self.old desks.old.entries) (rings_of self.new desks.new.entries) }
         ensures more { ListsMore desks.old.entries desks.new.entries }
         ensures len { length self.new ≡ length self.old }

@@ -14,7 +14,7 @@ ghost use Rattle.commands.specs.Commands.{CanCommand, Commands};
 use crate::refusals::{Stop, check_publish};
 use channels::Channel;
 use depot::Depot;
-use kept_routes::Route;
+use exchange_graph::Route;
 use model::{Body, ChannelId, Content, Properties, Publish, Send};
 use replies::{Step, answer_select, return_if};
 use std::alloc::{AllocError, Global};

@@ -59,9 +59,9 @@ impl Core {
             (by_channel connection number)) (broker_of self.new) }
         ensures topology { topology_kept self.new ≡ topology_kept self.old }
     {
-        let held = self.links.outstanding(connection, number);
+        let held = self.connections.outstanding(connection, number);
         self.depot.requeue(ChannelId { connection, number }, held);
-        self.links.put(connection, number, channel);
+        self.connections.put(connection, number, channel);
     }
 
     /// This close is sent on the channel, which awaits close-ok from now on.
@@ -128,7 +128,7 @@ impl Core {
         ensures does { PerformsOn self.old connection channel ChannelCloseOk None result.sends.items result.notes.items self.new }
         ensures topology { topology_kept self.new ≡ topology_kept self.old }
     {
-        self.links.put(connection, channel, None);
+        self.connections.put(connection, channel, None);
         Step::nothing(alloc)
     }
 

@@ -31,7 +31,7 @@ impl Core {
         self.depot.is_whole();
         self.depot.is_named(place);
         let ready = self.depot.ready_at(place);
-        let consumers = self.links.count_consumers(place);
+        let consumers = self.connections.count_consumers(place);
         answer_queue_declare(alloc, connection, channel, declare, ready, consumers)
     }
 }

@@ -37,13 +37,13 @@ impl Core {
     pub fn taking(&self, pick: Pick) -> Taking
         ensures { TellsTaking self.now pick result }
     {
-        let Some(link) = self.links.get(pick.connection) else {
+        let Some(running) = self.connections.get(pick.connection) else {
             return Taking::Gone;
         };
-        if let Some(consumer) = link.taker(pick.channel, pick.number) {
+        if let Some(consumer) = running.taker(pick.channel, pick.number) {
             return Taking::From(consumer.queue);
         }
-        match link.consumer(pick.channel, pick.number) {
+        match running.consumer(pick.channel, pick.number) {
             Some(consumer) => Taking::Nothing(consumer.queue),
             None => Taking::Gone,
         }
@@ -61,7 +61,7 @@ impl Core {
         ensures err { OnErr result (self.new ≡ self.old) }
     {
         lent_channels_are_put();
-        match self.links.channel_mut(pick.connection, pick.channel) {
+        match self.connections.channel_mut(pick.connection, pick.channel) {
             Some(channel) => deliver_on(alloc, pick, channel, &mut self.depot),
             None => unreachable!(),
         }

@@ -28,7 +28,7 @@ impl Core {
         ensures err { OnErr result (self.new ≡ self.old) }
     {
         let step = Step::sending(alloc, open_ok(connection, channel))?;
-        self.links
+        self.connections
             .open_channel(connection, channel, Channel::new(alloc))?;
         Ok(step)
     }

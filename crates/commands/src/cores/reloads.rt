@@ -41,7 +41,7 @@ impl Core {
         moves_are_unseen();
         let old = mem::replace(&mut self.depot, depot);
         self.depot.take_over(old, &places);
-        self.links.renumber(&places);
+        self.connections.renumber(&places);
         Ok(places)
     }
 }

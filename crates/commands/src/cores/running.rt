@@ -26,7 +26,9 @@ impl Core {
         ensures topology { topology_kept self.new ≡ topology_kept self.old }
         ensures err { OnErr result (self.new ≡ self.old) }
     {
-        let before = self.links.open(alloc, connection, channel_max, channels)?;
+        let before = self
+            .connections
+            .open(alloc, connection, channel_max, channels)?;
         requeue_all(&mut self.depot, connection, before.as_ref());
         Ok(())
     }
@@ -37,8 +39,12 @@ impl Core {
         ensures gone { Is (with_gone (broker_of self.old) connection) (broker_of self.new) }
         ensures topology { topology_kept self.new ≡ topology_kept self.old }
     {
-        requeue_all(&mut self.depot, connection, self.links.get(connection));
-        self.links.remove(connection);
+        requeue_all(
+            &mut self.depot,
+            connection,
+            self.connections.get(connection),
+        );
+        self.connections.remove(connection);
     }
 
     /// The connection is paused from now on, or is not.
@@ -46,7 +52,7 @@ impl Core {
         ensures paused { Is (with_paused (broker_of self.old) connection is_paused) (broker_of self.new) }
         ensures topology { topology_kept self.new ≡ topology_kept self.old }
     {
-        self.links.set_paused(connection, is_paused);
+        self.connections.set_paused(connection, is_paused);
     }
 
     /// The connection is lost: what it held is ready again, and it is gone with its channels. It takes no memory.

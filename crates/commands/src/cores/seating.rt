@@ -36,26 +36,16 @@ fn consumed(event: &Event) -> Option<&Text>
 
 impl Core {
     ghost use Rattle.std.specs.Prelude.{◌≡◌, ◌<◌, ℕ, Some, IfSome, length};
-    ghost use Rattle.channels.specs.Links.{linked_in};
+    ghost use Rattle.channels.specs.RunningConnections.{running_in};
     ghost use Rattle.commands.specs.State.{topology_kept};
-    ghost use Rattle.commands.specs.Seats.{consumers_on, next_seat, seat_of, IsConsumed};
-
-    /// How many consumers the channel of these numbers has.
-    pub fn consumers_on(&self, connection: u64, channel: u16) -> usize
-        ensures { result ≡ consumers_on self.now connection channel }
-    {
-        match self.links.channel(connection, channel) {
-            Some(channel) => channel.consumer_count(),
-            None => 0,
-        }
-    }
+    ghost use Rattle.commands.specs.Seats.{next_seat, seat_of, IsConsumed};
 
     /// The seat of the next consumer of this channel; none where a consume does nothing there.
     fn next_seat(&self, connection: u64, channel: u16) -> Option<Pick>
-        ensures { result ≡ next_seat connection channel (linked_in self.now.links connection) }
+        ensures { result ≡ next_seat connection channel (running_in self.now.connections connection) }
     {
-        let link = self.links.get(connection)?;
-        let number = link.next_number(channel)?;
+        let running = self.connections.get(connection)?;
+        let number = running.next_number(channel)?;
         Some(Pick {
             connection,
             channel,

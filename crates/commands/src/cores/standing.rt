@@ -15,14 +15,14 @@ impl Standing for Core {
 
     ghost entries = { λ kept place. queue_at kept.store place };
 
-    ghost consumed = { λ kept place. is_consumed kept.links place };
+    ghost consumed = { λ kept place. is_consumed kept.connections place };
 
     fn walk(&self, queue: usize) -> Walk<'_> {
         self.depot.walk(queue)
     }
 
     fn is_consumed(&self, queue: usize) -> bool {
-        self.links.is_consumed(queue)
+        self.connections.is_consumed(queue)
     }
 }
 
@@ -46,7 +46,7 @@ impl Core {
     {
         self.depot.is_whole();
         places_are_named();
-        self.links.takers_are_found();
+        self.connections.takers_are_found();
         obstacle(alloc, self, self.depot.topology(), topology, guarantees)
     }
 }

@@ -7,14 +7,14 @@ ghost use Rattle.model.specs.Broker.{Broker};
 ghost use Rattle.model.specs.Topology.{Topology as Handed, queue_names};
 ghost use Rattle.model.specs.Step as said;
 ghost use Rattle.model.specs.Step.{greatest};
-ghost use Rattle.kept_routes.specs.Routers.{access_to, IsRoute};
+ghost use Rattle.exchange_graph.specs.Routers.{access_to, IsRoute};
 ghost use Rattle.channels.specs.Open.{open_in};
 ghost use Rattle.commands.specs.Judged.{refused_by};
 
 use crate::refusals::Refusal;
 use channels::Channel;
 use depot::Depot;
-use kept_routes::{Access, Route};
+use exchange_graph::{Access, Route};
 use model::Publish;
 use std::sync::Arc;
 

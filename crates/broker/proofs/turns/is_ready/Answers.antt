@@ -1,5 +1,4 @@
-use Rattle.std.proofs.Common.{◌≡◌, ◌∙◌, true, ℕ, subst, sym, arith}
-use Rattle.std.specs.Prelude.{◌==◌}
+use Rattle.std.proofs.Common.{◌∙◌, subst, sym, arith}
 use Rattle.std.proofs.lemmas.Bool.{eqb-true, eq-eqb, false≢true}
 use Rattle.depot.specs.Store.{HasReady}
 use Rattle.broker.proofs.Found.{apart_less}

@@ -1,10 +1,13 @@
-//! Seats that sleep are woken, and their lists are empty then.
+//! Seats that sleep are woken.
 
-ghost use Rattle.std.specs.Prelude.{◌≡◌, ℕ, true, false, length};
-ghost use Rattle.broker.specs.Roster.{is_on_channel, listed_on, Listing, IsAt, IsListedOn, IsListed, IsWoken, WakesListed, MakesNoList, AllWaken};
+ghost use Rattle.std.specs.Prelude.{◌≡◌, ◌≤◌, ◌*◌, ℕ, true, false, length};
+ghost use Rattle.broker.specs.Roster.{is_on_channel, listings_on, Listing, IsAt, IsAsleepIn, IsListedOn, IsNotedOn, IsListed, IsWoken, WakesListed};
+ghost use Rattle.broker.specs.Roster.{NotesStay, MakesNoList, AllWaken};
 
 use crate::roster::desk::{Desk, Desks, Listed, Sleepers};
 use crate::roster::seating::Seating;
+use crate::roster::seats::SeatMarks;
+use marks::Places;
 
 impl Listed {
     ghost use Rattle.std.specs.Prelude.{◌≡◌, length};
@@ -20,37 +23,45 @@ impl Listed {
     }
 }
 
-/// The seats of these are awake from now on.
-fn wake_listed(listed: &[Listed], seating: &mut Seating)
-    ensures woken { WakesListed listed.now seating.old seating.new }
+/// The seats of these that sleep are awake from now on.
+fn wake_listed(listed: &[Listed], asleep: &mut SeatMarks, seating: &mut Seating)
+    requires { length listed.now ≤ length asleep.old * 64 }
+    ensures size { length asleep.new ≡ length asleep.old }
+    ensures woken { WakesListed (record { all = listed.now; asleep = asleep.old }) seating.old seating.new }
     ensures wakens { AllWaken seating.old seating.new }
     ensures len { length seating.new ≡ length seating.old }
 {
-    for one in listed {
-        one.wake(seating);
+    let mut next = 0;
+    'marked: while let Some(at) = asleep.next(next) {
+        if at >= listed.len() {
+            return;
+        }
+        listed[at].wake(seating);
+        asleep.clear(at);
+        next = at + 1;
     }
 }
 
 impl Sleepers {
-    ghost use Rattle.std.specs.Prelude.{◌≡◌, [], length};
+    ghost use Rattle.std.specs.Prelude.{◌≡◌, length};
     ghost use Rattle.broker.specs.Roster.{WakesListed, AllWaken};
 
     /// None sleeps from now on.
     fn wake(&mut self, seating: &mut Seating)
-        ensures empty { self.new ≡ [] }
+        ensures same { self.new.all ≡ self.old.all }
         ensures woken { WakesListed self.old seating.old seating.new }
         ensures wakens { AllWaken seating.old seating.new }
         ensures len { length seating.new ≡ length seating.old }
     {
-        wake_listed(&self.listed, seating);
-        self.listed.clear();
+        wake_listed(&self.listed, &mut self.asleep, seating);
     }
 }
 
 /// The seats that sleep on the channel of this number are awake from now on.
 fn wake_one(channels: &mut [Sleepers], seating: &mut Seating, channel: u16)
-    ensures others { (h : ℕ) → (h ≡ channel → ⊥) → listed_on channels.new h ≡ listed_on channels.old h }
-    ensures woken { WakesListed (listed_on channels.old channel) seating.old seating.new }
+    ensures others { (h : ℕ) → (h ≡ channel → ⊥) → listings_on channels.new h ≡ listings_on channels.old h }
+    ensures same { (h : ℕ) → (listings_on channels.new h).all ≡ (listings_on channels.old h).all }
+    ensures woken { WakesListed (listings_on channels.old channel) seating.old seating.new }
     ensures wakens { AllWaken seating.old seating.new }
     ensures len { length seating.new ≡ length seating.old }
 {
@@ -62,7 +73,8 @@ fn wake_one(channels: &mut [Sleepers], seating: &mut Seating, channel: u16)
 
 /// The seats that sleep on any channel are awake from now on.
 fn wake_each(channels: &mut [Sleepers], seating: &mut Seating)
-    ensures woken { (h : ℕ) → WakesListed (listed_on channels.old h) seating.old seating.new }
+    ensures same { (h : ℕ) → (listings_on channels.new h).all ≡ (listings_on channels.old h).all }
+    ensures woken { (h : ℕ) → WakesListed (listings_on channels.old h) seating.old seating.new }
     ensures wakens { AllWaken seating.old seating.new }
     ensures len { length seating.new ≡ length seating.old }
 {
@@ -74,6 +86,7 @@ fn wake_each(channels: &mut [Sleepers], seating: &mut Seating)
 /// The same of this channel, or of all where none is named.
 fn wake_on(channels: &mut [Sleepers], seating: &mut Seating, channel: Option<u16>)
     ensures others { (l : Listing) → is_on_channel channel l.seat ≡ false → IsListedOn channels.old l → IsListedOn channels.new l }
+    ensures noted { (l : Listing) → IsNotedOn channels.old l → IsNotedOn channels.new l }
     ensures woken { (l : Listing) → is_on_channel channel l.seat ≡ true → IsListedOn channels.old l → IsWoken seating.old seating.new l }
     ensures wakens { AllWaken seating.old seating.new }
     ensures len { length seating.new ≡ length seating.old }
@@ -86,11 +99,12 @@ fn wake_on(channels: &mut [Sleepers], seating: &mut Seating, channel: Option<u16
 
 impl Desk {
     ghost use Rattle.std.specs.Prelude.{◌≡◌, true, false, length};
-    ghost use Rattle.broker.specs.Roster.{is_on_channel, Listing, IsListedOn, IsWoken, AllWaken};
+    ghost use Rattle.broker.specs.Roster.{is_on_channel, Listing, IsListedOn, IsNotedOn, IsWoken, AllWaken};
 
     /// Its seats that sleep on this channel, or on any where none is named, are awake from now on.
     fn wake(&mut self, seating: &mut Seating, channel: Option<u16>)
         ensures others { (l : Listing) → is_on_channel channel l.seat ≡ false → IsListedOn self.old l → IsListedOn self.new l }
+        ensures noted { (l : Listing) → IsNotedOn self.old l → IsNotedOn self.new l }
         ensures woken { (l : Listing) → is_on_channel channel l.seat ≡ true → IsListedOn self.old l → IsWoken seating.old seating.new l }
         ensures wakens { AllWaken seating.old seating.new }
         ensures len { length seating.new ≡ length seating.old }
@@ -108,6 +122,7 @@ pub(crate) fn wake_desk(
     channel: Option<u16>,
 )
     ensures others { (l : Listing) → (IsAt connection channel l.seat → ⊥) → IsListed desks.old.entries l → IsListed desks.new.entries l }
+    ensures noted { NotesStay desks.old.entries desks.new.entries }
     ensures woken { (l : Listing) → IsAt connection channel l.seat → IsListed desks.old.entries l → IsWoken seating.old seating.new l }
     ensures none { MakesNoList desks.old.entries desks.new.entries }
     ensures wakens { AllWaken seating.old seating.new }

@@ -1,10 +1,10 @@
 use Rattle.std.proofs.Common.{◌≡◌, ℕ, Option, Some, ap, subst}
 use Rattle.std.specs.Option.{option_copied}
-use Rattle.channels.specs.Links.{Linked, channel_at, outstanding_on}
+use Rattle.channels.specs.RunningConnections.{Running, channel_at, outstanding_on}
 use Rattle.model.specs.Placed.{AreWithin}
 use Rattle.commands.proofs.freeing.requeue_all.Goals as goal
 
 pub requeue_channels-requires : goal.requeue_channels-requires
 requeue_channels-requires c =
-    let there : option_copied c.args.link ≡ Some c.in-Some.link.now = ap option_copied c.in-Some.is in
-    subst (λ (l : Option Linked). (h : ℕ) → AreWithin c.args.depot.now.topology (outstanding_on (channel_at l h))) there c.requires
+    let there : option_copied c.args.running ≡ Some c.in-Some.running.now = ap option_copied c.in-Some.is in
+    subst (λ (l : Option Running). (h : ℕ) → AreWithin c.args.depot.now.topology (outstanding_on (channel_at l h))) there c.requires

@@ -3,7 +3,7 @@ use Rattle.model.specs.Deliveries.{Returns}
 use Rattle.model.specs.declared.deliveries.Delivery.{Delivery}
 use Rattle.depot.specs.Store.{Store}
 use Rattle.depot.specs.Settled.{AreSettledBy}
-use Rattle.channels.specs.Links.{outstanding_on}
+use Rattle.channels.specs.RunningConnections.{outstanding_on}
 use Rattle.commands.proofs.Freed.{requeue_next, requeue_ends}
 use Rattle.commands.proofs.freeing.requeue_channels.Goals as goal
 
@@ -13,7 +13,7 @@ loop-place-preserved c =
     let place = c.loop-place.place in
     let old : Store = c.loop-place.depot in
     let new : Store = c.requeue.new.self in
-    let channels = c.args.link.now.channels in
+    let channels = c.args.running.now.channels in
     let places = c.places-place-end.ensures.places in
     let within = c.loop-place-test.true in
     let made : AreSettledBy Returns old connection place (outstanding_on (get_or channels place None)) [] [] new =
@@ -27,4 +27,4 @@ pub returns : goal.returns
 returns c =
     let places = c.places-place-end.ensures.places in
     let past = c.loop-place-test.false in
-    c.loop-place.invariant.returned c.loop-place.depot (requeue_ends c.args.connection c.loop-place.place c.args.link.now.channels c.loop-place.depot (omega (arith, places, past)))
+    c.loop-place.invariant.returned c.loop-place.depot (requeue_ends c.args.connection c.loop-place.place c.args.running.now.channels c.loop-place.depot (omega (arith, places, past)))

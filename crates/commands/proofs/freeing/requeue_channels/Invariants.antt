@@ -7,5 +7,5 @@ use Rattle.commands.proofs.freeing.requeue_channels.Given as goal
 abbrev pub invariant-loop-place : goal.invariant-loop-place
 invariant-loop-place l = record {
   topology : l.depot.topology ≡ l.fn.depot.topology;
-  returned : (last : Store) → AreReturnedFrom l.connection l.place l.depot (drop l.place l.link.channels) last → AreReturnedFrom l.connection 0 l.fn.depot l.link.channels last;
+  returned : (last : Store) → AreReturnedFrom l.connection l.place l.depot (drop l.place l.running.channels) last → AreReturnedFrom l.connection 0 l.fn.depot l.running.channels last;
 }

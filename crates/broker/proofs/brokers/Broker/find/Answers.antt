@@ -8,7 +8,7 @@ use Rattle.commands.specs.declared.picks.Pick.{Pick}
 use Rattle.commands.specs.Picked.{IsPick, IsPickFrom}
 use Rattle.commands.proofs.Picking.{pick_from}
 use Rattle.broker.proofs.Outcomes.{if_some, told_some}
-use Rattle.broker.proofs.Seated.{holds, serves, serves_kept, running_still}
+use Rattle.broker.proofs.Seated.{holds, serves, serves_kept, notes_keep, running_still}
 use Rattle.broker.specs.Waiting.{IsToldInTurn}
 use Rattle.broker.proofs.Turning.{told_in_turn}
 use Rattle.broker.proofs.brokers.Broker.find.Goals as goal
@@ -31,7 +31,7 @@ invariant_of-self c =
     let before : Rings = c.self.inside.roster in
     let after : Rings = c.pick-self-inside.new.self in
     serves kept after
-    (serves_kept kept before after c.pick-self-inside.ensures.kept c.pick-self-inside.ensures.len (holds kept before c.self.invariant))
+    (serves_kept kept before after c.pick-self-inside.ensures.kept (notes_keep kept before.lists after.lists c.pick-self-inside.ensures.noted) c.pick-self-inside.ensures.len (holds kept before c.self.invariant))
     (running_still (broker_of kept) (broker_of kept) before.lists after.lists (λ d none. none) c.pick-self-inside.ensures.no_list c.self.invariant.running)
 
 pub returns-clause-in_turn : goal.returns-clause-in_turn

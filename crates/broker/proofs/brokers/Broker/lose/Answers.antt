@@ -17,7 +17,7 @@ invariant_of-self c =
     let after : Rings = c.forget.new.self in
     let ended = loss_ended (topology_kept old) (broker_of old) (broker_of new) [] [] c.args.connection c.lose.ensures.acts in
     serves new after
-    (serves_kept new before after (c.forget.ensures.kept new ended.0) c.forget.ensures.len
+    (serves_kept new before after (c.forget.ensures.kept new ended.0) (c.forget.ensures.noted new ended.0).noted c.forget.ensures.len
     (serves_asleep c.brokers_stay_agreed.ensures.acts c.consumers_are_made.ensures (topology_kept old) old new (Lose c.args.connection) [] [] before c.lose.ensures.acts (λ p. refl) refl refl c.lose.ensures.topology (holds old before c.self.invariant)))
     (running_but (broker_of old) (broker_of new) before.lists after.lists c.args.connection ended.1 (λ none. c.forget.ensures.gone) c.forget.ensures.none c.self.invariant.running)
 

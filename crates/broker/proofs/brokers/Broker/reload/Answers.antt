@@ -5,7 +5,7 @@ use Rattle.depot.specs.Moving.{AreMoved}
 use Rattle.depot.proofs.Naming.{names-length}
 use Rattle.commands.specs.State.{Kept, topology_kept, names_of}
 use Rattle.broker.specs.Roster.{Rings}
-use Rattle.broker.specs.Moving.{ArePlacesApart, RingsAreMoved, ListsAreEmptied}
+use Rattle.broker.specs.Moving.{ArePlacesApart, RingsAreMoved, ListsAreMoved}
 use Rattle.broker.specs.Turns as seen
 use Rattle.broker.specs.Turns.{WithTurn, with_turn}
 use Rattle.broker.specs.Waiting.{LinesMove}
@@ -37,7 +37,7 @@ invariant_of-self-2 c =
     serves_moved old new places c.is_kept-2.ensures.whole c.is_kept.ensures.placed (subst (λ (x : Topology). AreMoved (names_of old) (queue_names x.queues) places) (sym is) c.in_ok-places.ensures.moved) c.in_ok-places.ensures.stood
     before left c.self.invariant
     (subst (λ (r : Rings). RingsAreMoved places r.rings left.rings) c.replace-old.ensures.value (subst (λ (ps : List ℕ). RingsAreMoved ps c.replace-old.result.rings left.rings) c.deref.ensures.value c.take_over.ensures.moved))
-    (subst (λ (r : Rings). ListsAreEmptied r.lists left.lists) c.replace-old.ensures.value c.take_over.ensures.lists)
+    (subst (λ (r : Rings). ListsAreMoved places r.lists left.lists) c.replace-old.ensures.value (subst (λ (ps : List ℕ). ListsAreMoved ps c.replace-old.result.lists left.lists) c.deref.ensures.value c.take_over.ensures.lists))
     (c.take_over.ensures.len ∙ count ∙ ap (λ (x : Topology). length x.queues) (sym is))
 
 pub returns-clause-lines : goal.returns-clause-lines

@@ -4,7 +4,7 @@ use Rattle.model.specs.declared.events.Event.TheVariants.{Resume}
 use Rattle.commands.specs.State.{Kept, broker_of, topology_kept}
 use Rattle.broker.specs.Roster.{Rings}
 use Rattle.commands.proofs.Ending.{resume_runs}
-use Rattle.broker.proofs.Seated.{Holds, holds, was_there, serves, serves_still, serves_kept, keeps_all, running_still}
+use Rattle.broker.proofs.Seated.{Holds, holds, was_there, serves, serves_still, serves_kept, notes_keep, keeps_all, running_still}
 use Rattle.broker.specs.Turns.{WithTurn, with_turn}
 use Rattle.broker.specs.Waiting.{NoneIsLater}
 use Rattle.broker.proofs.Turning.{none_later}
@@ -17,7 +17,7 @@ invariant_of-self c =
     let before : Rings = c.self.inside.roster in
     let after : Rings = c.wake.new.self in
     let held : Holds old after =
-    serves_kept old before after (keeps_all old before after c.wake.ensures.kept) c.wake.ensures.len (holds old before c.self.invariant) in
+    serves_kept old before after (keeps_all old before after c.wake.ensures.kept) (notes_keep old before.lists after.lists c.wake.ensures.noted) c.wake.ensures.len (holds old before c.self.invariant) in
     serves new after
     (serves_still c.brokers_stay_agreed.ensures.acts c.consumers_are_made.ensures (topology_kept old) old new (Resume c.args.connection) [] [] after c.resume.ensures.acts
     (λ place p woken has. c.wake.ensures.woken p (eqb-true p.connection c.args.connection woken, refl) (broker_of old) place (c.self.invariant.seated place p has)) refl refl c.resume.ensures.topology held)

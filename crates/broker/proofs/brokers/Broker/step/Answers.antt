@@ -24,7 +24,7 @@ invariant_of-self c =
     let before : Rings = c.self.inside.roster in
     let mid : Rings = c.seat_next.new.self in
     serves old mid
-    (serves_kept old before mid c.seat_next.ensures.kept c.seat_next.ensures.len (holds old before c.self.invariant))
+    (serves_kept old before mid c.seat_next.ensures.kept c.seat_next.ensures.noted.noted c.seat_next.ensures.len (holds old before c.self.invariant))
     (λ d none. c.seat_next.ensures.running d none (c.self.invariant.running d none))
 
 -- where it is wanting for the step
@@ -32,8 +32,8 @@ pub invariant_of-self-in_err-acted : goal.invariant_of-self-in_err-acted
 invariant_of-self-in_err-acted c =
     subst (λ (k : Kept). IsServing k c.wake_for.new.self) (sym c.in_err-acted.ensures.err)
     (serves c.self.inside.core c.wake_for.new.self
-    (held_on c.self.inside.core c.self.inside.roster c.seat_next.new.self c.wake_for.new.self c.args.event.now c.self.invariant c.seat_next.ensures.kept c.seat_next.ensures.len c.seat_next.ensures.running c.wake_for.ensures.kept c.wake_for.ensures.len c.wake_for.ensures.none)
-    (lists_on c.self.inside.core c.self.inside.roster c.seat_next.new.self c.wake_for.new.self c.args.event.now c.self.invariant c.seat_next.ensures.kept c.seat_next.ensures.len c.seat_next.ensures.running c.wake_for.ensures.kept c.wake_for.ensures.len c.wake_for.ensures.none))
+    (held_on c.self.inside.core c.self.inside.roster c.seat_next.new.self c.wake_for.new.self c.args.event.now c.self.invariant c.seat_next.ensures.kept c.seat_next.ensures.noted c.seat_next.ensures.len c.seat_next.ensures.running c.wake_for.ensures.kept c.wake_for.ensures.noted c.wake_for.ensures.len c.wake_for.ensures.none)
+    (lists_on c.self.inside.core c.self.inside.roster c.seat_next.new.self c.wake_for.new.self c.args.event.now c.self.invariant c.seat_next.ensures.kept c.seat_next.ensures.noted c.seat_next.ensures.len c.seat_next.ensures.running c.wake_for.ensures.kept c.wake_for.ensures.noted c.wake_for.ensures.len c.wake_for.ensures.none))
 
 -- where the step is made, and every connection runs still
 pub invariant_of-self-then-not-acted : goal.invariant_of-self-then-not-acted
@@ -43,10 +43,10 @@ invariant_of-self-then-not-acted c =
     let after : Rings = c.wake_for.new.self in
     let ended = subst (λ (v : Bool). TellsEnd (connection_of_event c.args.event.now) v (broker_of old) (broker_of new)) (is_running c.in_ok-acted.acted.has_ended c.if-not-acted.true) c.in_ok-acted.ensures.ended in
     serves new after
-    (held_then c.self.inside.core c.self.inside.roster c.seat_next.new.self c.wake_for.new.self c.args.event.now c.self.invariant c.seat_next.ensures.kept c.seat_next.ensures.len c.seat_next.ensures.running c.wake_for.ensures.kept c.wake_for.ensures.len c.wake_for.ensures.none
+    (held_then c.self.inside.core c.self.inside.roster c.seat_next.new.self c.wake_for.new.self c.args.event.now c.self.invariant c.seat_next.ensures.kept c.seat_next.ensures.noted c.seat_next.ensures.len c.seat_next.ensures.running c.wake_for.ensures.kept c.wake_for.ensures.noted c.wake_for.ensures.len c.wake_for.ensures.none
     c.brokers_stay_agreed.ensures.acts c.consumers_are_made.ensures new _ _ c.in_ok-seat_next.ensures.seated c.wake_for.ensures.woken c.wake_for.ensures.wakens c.in_ok-acted.ensures.ok c.step.ensures.topology)
     (running_still (broker_of old) (broker_of new) after.lists after.lists ended (λ d none. none)
-    (lists_on c.self.inside.core c.self.inside.roster c.seat_next.new.self c.wake_for.new.self c.args.event.now c.self.invariant c.seat_next.ensures.kept c.seat_next.ensures.len c.seat_next.ensures.running c.wake_for.ensures.kept c.wake_for.ensures.len c.wake_for.ensures.none))
+    (lists_on c.self.inside.core c.self.inside.roster c.seat_next.new.self c.wake_for.new.self c.args.event.now c.self.invariant c.seat_next.ensures.kept c.seat_next.ensures.noted c.seat_next.ensures.len c.seat_next.ensures.running c.wake_for.ensures.kept c.wake_for.ensures.noted c.wake_for.ensures.len c.wake_for.ensures.none))
 
 -- and where the event's connection ended
 pub invariant_of-self-2 : goal.invariant_of-self-2
@@ -58,11 +58,11 @@ invariant_of-self-2 c =
     let connection = c.connection_of.result in
     let ended = subst (λ (v : Bool). TellsEnd connection v (broker_of old) (broker_of new)) (is_ended c.in_ok-acted.acted.has_ended c.if-not-acted.false) (subst (λ (d : ℕ). TellsEnd d c.in_ok-acted.acted.has_ended (broker_of old) (broker_of new)) (sym c.connection_of.ensures) c.in_ok-acted.ensures.ended) in
     serves new left
-    (serves_kept new after left (c.forget.ensures.kept new ended.0) c.forget.ensures.len
-    (held_then c.self.inside.core c.self.inside.roster c.seat_next.new.self c.wake_for.new.self c.args.event.now c.self.invariant c.seat_next.ensures.kept c.seat_next.ensures.len c.seat_next.ensures.running c.wake_for.ensures.kept c.wake_for.ensures.len c.wake_for.ensures.none
+    (serves_kept new after left (c.forget.ensures.kept new ended.0) (c.forget.ensures.noted new ended.0).noted c.forget.ensures.len
+    (held_then c.self.inside.core c.self.inside.roster c.seat_next.new.self c.wake_for.new.self c.args.event.now c.self.invariant c.seat_next.ensures.kept c.seat_next.ensures.noted c.seat_next.ensures.len c.seat_next.ensures.running c.wake_for.ensures.kept c.wake_for.ensures.noted c.wake_for.ensures.len c.wake_for.ensures.none
     c.brokers_stay_agreed.ensures.acts c.consumers_are_made.ensures new _ _ c.in_ok-seat_next.ensures.seated c.wake_for.ensures.woken c.wake_for.ensures.wakens c.in_ok-acted.ensures.ok c.step.ensures.topology))
     (running_but (broker_of old) (broker_of new) after.lists left.lists connection ended.1 (λ none. c.forget.ensures.gone) c.forget.ensures.none
-    (lists_on c.self.inside.core c.self.inside.roster c.seat_next.new.self c.wake_for.new.self c.args.event.now c.self.invariant c.seat_next.ensures.kept c.seat_next.ensures.len c.seat_next.ensures.running c.wake_for.ensures.kept c.wake_for.ensures.len c.wake_for.ensures.none))
+    (lists_on c.self.inside.core c.self.inside.roster c.seat_next.new.self c.wake_for.new.self c.args.event.now c.self.invariant c.seat_next.ensures.kept c.seat_next.ensures.noted c.seat_next.ensures.len c.seat_next.ensures.running c.wake_for.ensures.kept c.wake_for.ensures.noted c.wake_for.ensures.len c.wake_for.ensures.none))
 
 -- those who are there are gone round as before, whether a seat was made or not
 pub returns-in_err-seat_next-clause-err : goal.returns-in_err-seat_next-clause-err

@@ -1,13 +1,13 @@
 use Rattle.std.proofs.Common.{◌+◌, length, refl, sym, ap, subst, arith}
-use Rattle.commands.specs.State.{broker_of}
-use Rattle.broker.specs.Roster.{Rings, IsSeated, PicksFirst, GoesOn}
+use Rattle.commands.specs.State.{broker_of, topology_kept}
+use Rattle.broker.specs.Roster.{Rings, AllAreNoted, IsNoted, IsSeated, PicksFirst, GoesOn}
 use Rattle.broker.proofs.roster.Roster.pick.Goals as goal
 
 pub returns-in_err-found-clause-none : goal.returns-in_err-found-clause-none
 returns-in_err-found-clause-none c = λ e place p i pick.
     let long = ap (λ (r : Rings). length r.rings) c.self.view_is in
     let lt = pick.within in
-    let len = c.requires in
+    let len = c.requires.len in
     c.in_err-found.ensures.none refl place p (omega arith) (omega (arith, lt, len, long)) (subst (λ (r : Rings). IsSeated (broker_of c.args.core.now) r place p) (sym c.self.view_is) i) pick
 
 pub returns-in_err-found-clause-on : goal.returns-in_err-found-clause-on
@@ -30,3 +30,12 @@ returns-clause-told c =
 
 pub returns-clause-kept : goal.returns-clause-kept
 returns-clause-kept c = λ place p i has. c.in_ok-found.ensures.kept place p (subst (λ (r : Rings). IsSeated (broker_of c.args.core.now) r place p) (sym c.self.view_is) i) has
+
+pub pick-requires-clause-noted : goal.pick-requires-clause-noted
+pick-requires-clause-noted c = subst (AllAreNoted (topology_kept c.args.core.now) (broker_of c.args.core.now)) (sym (ap (λ (r : Rings). r.lists) c.self.view_is)) c.requires.noted
+
+pub returns-in_err-found-clause-noted : goal.returns-in_err-found-clause-noted
+returns-in_err-found-clause-noted c = λ l i. c.in_err-found.ensures.more.noted l (subst (λ (r : Rings). IsNoted r.lists l) (sym c.self.view_is) i)
+
+pub returns-clause-noted : goal.returns-clause-noted
+returns-clause-noted c = λ l i. c.in_ok-found.ensures.more.noted l (subst (λ (r : Rings). IsNoted r.lists l) (sym c.self.view_is) i)

@@ -1,10 +1,11 @@
 use Rattle.std.proofs.Common.{sym, ap, subst}
 use Rattle.broker.specs.Roster.{Rings, Lists}
-use Rattle.broker.specs.Moving.{all_emptied, ListsAreEmptied}
-use Rattle.broker.proofs.Moving.{lists_emptied}
+use Rattle.broker.specs.Moving.{all_moved, ListsAreMoved}
+use Rattle.broker.proofs.Moving.{lists_moved}
 use Rattle.broker.proofs.roster.Roster.take_over.Goals as goal
 
 pub returns-clause-lists : goal.returns-clause-lists
 returns-clause-lists c =
     let old = c.old.inside.desks.entries in
-    subst (ListsAreEmptied c.args.old.lists) (sym c.empty_desks.ensures) (subst (λ (ls : Lists). ListsAreEmptied ls (all_emptied old)) (ap (λ (r : Rings). r.lists) c.old.view_is) (lists_emptied old))
+    subst (ListsAreMoved c.args.places.now c.args.old.lists) (sym c.move_desks.ensures)
+    (subst (λ (ls : Lists). ListsAreMoved c.args.places.now ls (all_moved c.args.places.now old)) (ap (λ (r : Rings). r.lists) c.old.view_is) (lists_moved c.args.places.now old))

@@ -1,5 +1,5 @@
 use Rattle.std.proofs.Common.{refl, sym, subst}
-use Rattle.broker.specs.Roster.{Rings, IsSeated, GoesOn}
+use Rattle.broker.specs.Roster.{Rings, IsNoted, IsSeated, GoesOn}
 use Rattle.broker.proofs.Desks.{wake_seated, wake_others}
 use Rattle.broker.proofs.Orders.{goes_on}
 use Rattle.broker.proofs.roster.Roster.wake.Goals as goal
@@ -19,3 +19,6 @@ returns-clause-on c =
     let old : Rings = record { rings = c.self.inside.seating; lists = c.self.inside.desks.entries; next = c.self.inside.next } in
     let new : Rings = record { rings = c.wake_desk.new.seating; lists = c.wake_desk.new.desks.entries; next = c.self.inside.next } in
     subst (λ (r : Rings). GoesOn r new) c.self.view_is (goes_on old new c.wake_desk.ensures.wakens c.wake_desk.ensures.len refl)
+
+pub returns-clause-noted : goal.returns-clause-noted
+returns-clause-noted c = λ l i. c.wake_desk.ensures.noted l (subst (λ (r : Rings). IsNoted r.lists l) (sym c.self.view_is) i)

@@ -1,10 +1,11 @@
-use Rattle.std.proofs.Common.{◌≡◌, ◌-◌, ℕ, vec_len}
-use Rattle.broker.specs.Roster.{listed_on}
+use Rattle.std.proofs.Common.{◌-◌, vec_len}
+use Rattle.commands.specs.State.{Kept}
+use Rattle.broker.specs.Roster.{KeepListingsOn}
 use Rattle.broker.proofs.roster.desk.grow.Given as goal
 
--- no list changes
+-- what is listed stays
 abbrev pub invariant-channels : goal.invariant-channels
-invariant-channels l = (h : ℕ) → listed_on l.channels.items h ≡ listed_on l.fn.channels.items h
+invariant-channels l = (kept : Kept) → KeepListingsOn kept l.fn.channels.items l.channels.items
 
 abbrev pub decreases-channels : goal.decreases-channels
 decreases-channels l = l.count - vec_len l.channels

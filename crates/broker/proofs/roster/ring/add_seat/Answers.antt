@@ -27,4 +27,4 @@ returns-clause-line c = λ test there none.
 pub returns-clause-bounded : goal.returns-clause-bounded
 returns-clause-bounded c =
     subst (λ (xs : List Seat). (length xs ≤ vec_capacity c.args.seats.now) ⊎ (length xs ≤ count_by (has_its_consumer c.args.core.now c.args.queue) xs + 1)) (sym c.push_reserved.ensures.items)
-    (bounded_end c.args.core.now c.args.queue c.make_room.new.seats.items (awake_seat c.args.consumer) (vec_capacity c.args.seats.now) c.make_room.ensures.bounded)
+    (bounded_end (has_its_consumer c.args.core.now c.args.queue) c.make_room.new.seats.items (awake_seat c.args.consumer) (vec_capacity c.args.seats.now) c.make_room.ensures.bounded)

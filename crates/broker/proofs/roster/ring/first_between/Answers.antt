@@ -1,11 +1,11 @@
-use Rattle.std.proofs.Common.{◌∙◌, get_or, false, ap, sym, subst, arith}
+use Rattle.std.proofs.Common.{◌∙◌, get_or, false, sym, subst, arith}
 use Rattle.channels.proofs.Setting.{same_default}
 use Rattle.commands.specs.Picked.{IsPickFrom}
 use Rattle.broker.specs.declared.roster.seats.Seat.{Seat}
-use Rattle.broker.specs.Roster.{ring_of, FindsSeat}
+use Rattle.broker.specs.Roster.{ring_of, listing, FindsSeat}
 use Rattle.broker.proofs.Desks.{more_on}
 use Rattle.broker.proofs.Found.{able_found, none_found}
-use Rattle.broker.proofs.Sleeping.{none_gap, none_more}
+use Rattle.broker.proofs.Sleeping.{none_gap, none_more, rested_on, rested_gap}
 use Rattle.broker.proofs.roster.ring.first_between.Goals as goal
 
 pub returns-then-place-to-clause-none : goal.returns-then-place-to-clause-none
@@ -49,6 +49,8 @@ seats-preserved c =
           (λ p at pick.
           none_found c.args.core.now c.args.queue (get_or c.seats.seats c.in-Some.place none) p c.find-found.result c.find-found.ensures (sym c.is_able.ensures ∙ c.if-is_able.false) ((c.seats.invariant.behind c.in-Some.place next p at).there none) pick);
       same = c.rest.ensures.same ∙ c.seats.invariant.same;
+      rested = rested_on c.seats.awake c.rest.new.awake c.args.from c.seats.next c.in-Some.place c.seats.invariant.rested c.in-Some.ensures.some.before c.rest.ensures.passed c.rest.ensures.fewer;
+      fewer = λ i zero. c.rest.ensures.fewer i (c.seats.invariant.fewer i zero);
     }
 
 pub returns-clause-none : goal.returns-clause-none
@@ -60,3 +62,14 @@ pub returns-then-is_able-clause-passed : goal.returns-then-is_able-clause-passed
 returns-then-is_able-clause-passed c =
     none_gap c.args.core.now c.args.queue (ring_of c.args.seats.now c.args.awake.now) (ring_of c.seats.seats c.seats.awake) c.args.from c.seats.next c.in-Some.place c.seats.invariant.none c.seats.invariant.behind
     (λ k le lt. c.in-Some.ensures.some.before k le lt)
+
+pub returns-then-place-to-clause-rested : goal.returns-then-place-to-clause-rested
+returns-then-place-to-clause-rested c = λ e.
+    let past = c.if-place-to.true in
+    rested_gap c.seats.awake c.args.from c.seats.next c.args.to c.seats.invariant.rested (λ k le lt. c.in-Some.ensures.some.before k le (omega (arith, lt, past)))
+
+pub returns-clause-rested : goal.returns-clause-rested
+returns-clause-rested c = λ e. rested_gap c.seats.awake c.args.from c.seats.next c.args.to c.seats.invariant.rested (λ k le lt. c.in_default.ensures.none k le)
+
+pub rest-requires-clause-noted : goal.rest-requires-clause-noted
+rest-requires-clause-noted c = λ place p has. c.seats.invariant.more.noted (listing place p) (c.requires.noted place p has)

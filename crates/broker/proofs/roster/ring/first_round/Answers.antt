@@ -1,4 +1,5 @@
-use Rattle.std.proofs.Common.{◌<◌, length, refl, arith}
+use Rattle.std.proofs.Common.{◌<◌, length, inl, inr, refl, arith}
+use Rattle.std.proofs.lemmas.Bool.Decides.{leb_tells}
 use Rattle.broker.specs.Roster.{ring_of, NoneAwake, NoneAwakePassed}
 use Rattle.broker.proofs.Orders.{none_on, none_back}
 use Rattle.broker.proofs.Outcomes.{if_both}
@@ -24,3 +25,15 @@ returns-in-None-clause-passed c =
     if_both c.first_between-in-None.result (λ i. i < c.min-turn.result) (λ i. NoneAwake c.args.core.now c.args.queue mid 0 i) (λ i. NoneAwakePassed c.args.core.now c.args.queue old c.args.next i)
     (λ i below before. none_back c.args.core.now c.args.queue old mid c.args.next c.min-turn.result i (omega (arith, turn)) below (c.in-None.ensures.none refl) c.in-None.ensures.before before)
     c.first_between-in-None.ensures.below c.first_between-in-None.ensures.passed
+
+pub returns-in-None-clause-rested : goal.returns-in-None-clause-rested
+returns-in-None-clause-rested c = λ e i lt.
+    let first = c.first_between.auto.seats in
+    let second = c.first_between-in-None.auto.seats in
+    elim (leb_tells c.min-turn.result i) [
+      | inl a ↦ c.first_between-in-None.ensures.fewer i (c.in-None.ensures.rested refl i a.1 (omega (arith, lt, first, second)))
+      | inr a ↦ c.first_between-in-None.ensures.rested e i (omega arith) a.1
+    ]
+
+pub returns-in-None-clause-kept : goal.returns-in-None-clause-kept
+returns-in-None-clause-kept c = λ p i its. c.first_between-in-None.ensures.kept p (c.in-None.ensures.kept p i its) its

@@ -44,7 +44,7 @@ returns-clause-line c =
     (c.staying.ensures ∙ ap (λ (xs : List Seat). count_by (has_its_consumer c.args.core.now c.args.queue) xs) (c.split_at.ensures.front ∙ ap (λ (xs : List Seat). take c.min-before.result xs) c.deref.ensures.value))
 
 pub returns-in_err-grow-clause-bounded : goal.returns-in_err-grow-clause-bounded
-returns-in_err-grow-clause-bounded c = inr (all_stay c.args.core.now c.args.queue c.args.seats.now.items c.sweep.new.seats.items c.sweep.ensures.seats)
+returns-in_err-grow-clause-bounded c = inr (all_stay (has_its_consumer c.args.core.now c.args.queue) c.args.seats.now.items c.sweep.new.seats.items c.sweep.ensures.seats)
 
 pub returns-clause-bounded : goal.returns-clause-bounded
-returns-clause-bounded c = inr (all_stay c.args.core.now c.args.queue c.args.seats.now.items c.reserve.new.self.items (c.reserve.ensures.items ∙ c.sweep.ensures.seats))
+returns-clause-bounded c = inr (all_stay (has_its_consumer c.args.core.now c.args.queue) c.args.seats.now.items c.reserve.new.self.items (c.reserve.ensures.items ∙ c.sweep.ensures.seats))

@@ -1,9 +1,11 @@
-use Rattle.std.proofs.Common.{get_or, subst, false}
+use Rattle.std.proofs.Common.{◌∙◌, get_or, sym, ap, subst, false}
+use Rattle.std.proofs.lemmas.Bool.{false≢true}
 use Rattle.channels.proofs.Setting.{same_default}
 use Rattle.broker.specs.declared.roster.finding.Found.{Found}
 use Rattle.broker.specs.declared.roster.seats.Seat.{Seat}
-use Rattle.broker.specs.Roster.{FindsSeat}
-use Rattle.broker.proofs.Sleeping.{passed_over}
+use Rattle.broker.specs.Roster.{is_able, FindsSeat}
+use Rattle.broker.proofs.Sleeping.{passed_over, set_less}
+use Rattle.broker.proofs.Takers.{of_has}
 use Rattle.broker.proofs.roster.ring.rest.Goals as goal
 
 pub doze-requires-clause-cannot : goal.doze-requires-clause-cannot
@@ -19,3 +21,15 @@ returns-in-Over-clause-kept c =
     passed_over c.args.core.now c.args.queue c.args.desks.now.entries c.args.seats.now c.args.awake.now c.clear.new.self c.args.place s
     (λ d. same_default c.args.seats.now c.args.place d none c.requires.within)
     (subst (λ (f : Found). FindsSeat c.args.core.now c.args.queue s f) c.in-Over.is (c.requires.found none)) c.clear.ensures.cleared.others
+
+pub doze-requires-clause-noted : goal.doze-requires-clause-noted
+doze-requires-clause-noted c = λ d. c.requires.noted c.args.queue (get_or c.args.seats.now c.args.place d).pick (of_has c.args.core.now c.args.queue _ (subst (λ (f : Found). FindsSeat c.args.core.now c.args.queue (get_or c.args.seats.now c.args.place d) f) c.in-Unable.is (c.requires.found d)).2)
+
+pub returns-in-Able-clause-passed : goal.returns-in-Able-clause-passed
+returns-in-Able-clause-passed c = absurd (false≢true (sym c.requires.unable ∙ ap is_able c.in-Able.is))
+
+pub returns-in-Over-clause-passed : goal.returns-in-Over-clause-passed
+returns-in-Over-clause-passed c = c.clear.ensures.cleared.there
+
+pub returns-in-Over-clause-fewer : goal.returns-in-Over-clause-fewer
+returns-in-Over-clause-fewer c = λ i zero. set_less _ _ c.args.place i c.clear.ensures.cleared zero

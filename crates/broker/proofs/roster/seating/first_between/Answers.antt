@@ -2,7 +2,7 @@ use Rattle.std.proofs.Common.{◌≡◌, ◌∙◌, ◌+◌, ℕ, inl, inr, refl
 use Rattle.std.proofs.lemmas.Bool.Decides.{leb_tells}
 use Rattle.commands.specs.Picked.{IsPickFrom}
 use Rattle.commands.specs.State.{broker_of}
-use Rattle.broker.specs.Roster.{rings_of, IsSeated}
+use Rattle.broker.specs.Roster.{rings_of, listing, IsSeated}
 use Rattle.broker.proofs.Desks.{more_on}
 use Rattle.broker.proofs.Marked.{marked_by}
 use Rattle.broker.proofs.Orders.{picks_since}
@@ -71,3 +71,6 @@ returns-in-Some-pick_at-clause-passed c = λ place p from lt i pick.
 pub returns-in-Some-pick_at-clause-told : goal.returns-in-Some-pick_at-clause-told
 returns-in-Some-pick_at-clause-told c =
     picks_since c.args.core.now (rings_of c.args.rings.now c.args.desks.now.entries) (rings_of c.queues.rings c.queues.desks.entries) c.pick_at.new.rings c.in-Some.queue c.in-Some-pick_at.pick c.queues.invariant.same c.queues.invariant.kept c.in-Some-pick_at.ensures.told
+
+pub pick_at-requires-clause-noted : goal.pick_at-requires-clause-noted
+pick_at-requires-clause-noted c = λ place p has. c.queues.invariant.more.noted (listing place p) (c.requires.noted place p has)

@@ -1,13 +1,11 @@
-use Rattle.std.proofs.Common.{◌∙◌, [], refl, sym, ap, subst}
+use Rattle.std.proofs.Common.{◌∙◌, [], set, refl, sym, ap, subst}
+use Rattle.std.proofs.lemmas.List.{get_or-set_same}
 use Rattle.commands.specs.State.{broker_of}
 use Rattle.channels.proofs.Setting.{same_default}
-use Rattle.broker.specs.Roster.{Seats, order, IsSeatedIn, GoesLast, KeepsIn}
-use Rattle.broker.proofs.Marked.{marked_set, keeps_set}
+use Rattle.broker.specs.Roster.{Seats, order, IsAwake, IsSeatedIn, GoesLast, KeepsIn}
+use Rattle.broker.proofs.Marked.{marked_less, marked_set, keeps_set}
 use Rattle.broker.proofs.Orders.{picks_in, orders_set}
 use Rattle.broker.proofs.roster.seating.pick_at.Goals as goal
-
-pub settle-requires-clause-marked : goal.settle-requires-clause-marked
-settle-requires-clause-marked c = marked_set c.args.rings.now c.args.awake.now c.args.queue c.pick.new.self c.requires.here c.requires.marked
 
 pub returns-in-Some-clause-kept : goal.returns-in-Some-clause-kept
 returns-in-Some-clause-kept c =
@@ -16,6 +14,13 @@ returns-in-Some-clause-kept c =
 
 pub returns-in-Some-clause-marked : goal.returns-in-Some-clause-marked
 returns-in-Some-clause-marked c = marked_set c.args.rings.now c.args.awake.now c.args.queue c.pick.new.self c.requires.here c.requires.marked
+
+-- where none is told nobody is awake there
+pub returns-in-None-clause-marked : goal.returns-in-None-clause-marked
+returns-in-None-clause-marked c =
+    marked_less (set c.args.rings.now c.args.queue c.pick.new.self) c.args.awake.now c.clear.new.self c.args.queue c.clear.ensures.size c.clear.ensures.cleared
+    (λ p up. c.in-None.ensures.rested refl p (subst (λ (r : Seats). IsAwake r p) (get_or-set_same c.args.rings.now c.args.queue c.pick.new.self (record { seats = []; marks = []; next = 0; room = 0 }) c.requires.within) up))
+    (marked_set c.args.rings.now c.args.awake.now c.args.queue c.pick.new.self c.requires.here c.requires.marked)
 
 pub returns-in-None-clause-kept : goal.returns-in-None-clause-kept
 returns-in-None-clause-kept c =

@@ -1,103 +1,103 @@
 use Rattle.std.proofs.Common.{◌≡◌, ◌∙◌, refl, sym, ap, subst, Some, None}
 use Rattle.std.specs.Option.{option_copied_mut}
 use Rattle.model.specs.Sending.{AreCarried}
-use Rattle.channels.specs.Links.{linked_in, channel_in, with_channel_in}
+use Rattle.channels.specs.RunningConnections.{running_in, channel_in, with_channel_in}
 use Rattle.commands.specs.State.{Kept, broker_of}
 use Rattle.commands.specs.Commands.{AnswersOn}
-use Rattle.commands.proofs.Lending.{can_command, there_in, is_lent, answers_on, answers_none, lent_placed, lent_same, link_same, still_agreed, still_placed, unless, always}
+use Rattle.commands.proofs.Lending.{can_command, there_in, is_lent, answers_on, answers_none, lent_placed, lent_same, running_same, still_agreed, still_placed, unless, always}
 use Rattle.commands.specs.Ended.{AllRunStill}
 use Rattle.commands.proofs.Ending.{same_run}
 use Rattle.commands.proofs.cores.Core.decide.Goals as goal
 
 pub on_channel-requires : goal.on_channel-requires
 on_channel-requires c =
-    let old : Kept = record { store = c.self.inside.depot; links = c.self.inside.links } in
-    let found : linked_in old.links c.args.id.connection ≡ Some c.in_ok-link.link.now = sym c.link_mut.ensures.value ∙ ap option_copied_mut c.in_ok-link.was in
-    let there : channel_in c.in_ok-link.link.now c.args.id.number ≡ Some c.in-Some.channel.now = sym c.channel_mut.ensures.value ∙ ap option_copied_mut c.in-Some.is in
+    let old : Kept = record { store = c.self.inside.depot; connections = c.self.inside.connections } in
+    let found : running_in old.connections c.args.id.connection ≡ Some c.in_ok-running.running.now = sym c.running_mut.ensures.value ∙ ap option_copied_mut c.in_ok-running.was in
+    let there : channel_in c.in_ok-running.running.now c.args.id.number ≡ Some c.in-Some.channel.now = sym c.channel_mut.ensures.value ∙ ap option_copied_mut c.in-Some.is in
     can_command old c.args.id.connection c.args.id.number c.in-Some.channel.now (still_agreed c.args.self.now old c.self.view_is c.requires) c.self.invariant
-    (there_in old.links c.args.id.connection c.args.id.number c.in_ok-link.link.now (Some c.in-Some.channel.now) found there)
+    (there_in old.connections c.args.id.connection c.args.id.number c.in_ok-running.running.now (Some c.in-Some.channel.now) found there)
 
 pub returns-in-Some-clause-answers : goal.returns-in-Some-clause-answers
 returns-in-Some-clause-answers c =
-    let old : Kept = record { store = c.self.inside.depot; links = c.self.inside.links } in
-    let link = c.in_ok-link.link.now in
+    let old : Kept = record { store = c.self.inside.depot; connections = c.self.inside.connections } in
+    let running = c.in_ok-running.running.now in
     let ch = c.on_channel.new.channel in
-    let new : Kept = record { store = c.on_channel.new.depot; links = c.link_mut.follows.lender (with_channel_in link c.args.id.number ch) } in
-    let found : linked_in old.links c.args.id.connection ≡ Some link = sym c.link_mut.ensures.value ∙ ap option_copied_mut c.in_ok-link.was in
-    let there : channel_in link c.args.id.number ≡ Some c.in-Some.channel.now = sym c.channel_mut.ensures.value ∙ ap option_copied_mut c.in-Some.is in
-    let lent = is_lent c.lent_channels_are_put.ensures old new c.args.id.connection c.args.id.number link c.in-Some.channel.now ch found there (c.link_mut.follows.holds (with_channel_in link c.args.id.number ch)) c.on_channel.ensures.topology in
+    let new : Kept = record { store = c.on_channel.new.depot; connections = c.running_mut.follows.lender (with_channel_in running c.args.id.number ch) } in
+    let found : running_in old.connections c.args.id.connection ≡ Some running = sym c.running_mut.ensures.value ∙ ap option_copied_mut c.in_ok-running.was in
+    let there : channel_in running c.args.id.number ≡ Some c.in-Some.channel.now = sym c.channel_mut.ensures.value ∙ ap option_copied_mut c.in-Some.is in
+    let lent = is_lent c.lent_channels_are_put.ensures old new c.args.id.connection c.args.id.number running c.in-Some.channel.now ch found there (c.running_mut.follows.holds (with_channel_in running c.args.id.number ch)) c.on_channel.ensures.topology in
     subst (λ (k : Kept). AnswersOn k c.args.id.connection c.args.id.number c.args.method.now c.args.content.now (Some c.on_channel.result) new) c.self.view_is
-    (answers_on old new c.args.id.connection c.args.id.number c.channel_max-channel_max.result link c.in-Some.channel.now ch c.args.method.now c.args.content.now c.on_channel.result lent (sym c.channel_max-channel_max.ensures) c.on_channel.ensures.answers)
+    (answers_on old new c.args.id.connection c.args.id.number c.channel_max-channel_max.result running c.in-Some.channel.now ch c.args.method.now c.args.content.now c.on_channel.result lent (sym c.channel_max-channel_max.ensures) c.on_channel.ensures.answers)
 
 pub invariant_of-self-in-Some : goal.invariant_of-self-in-Some
 invariant_of-self-in-Some c =
-    let old : Kept = record { store = c.self.inside.depot; links = c.self.inside.links } in
-    let link = c.in_ok-link.link.now in
+    let old : Kept = record { store = c.self.inside.depot; connections = c.self.inside.connections } in
+    let running = c.in_ok-running.running.now in
     let ch = c.on_channel.new.channel in
-    let new : Kept = record { store = c.on_channel.new.depot; links = c.link_mut.follows.lender (with_channel_in link c.args.id.number ch) } in
-    let found : linked_in old.links c.args.id.connection ≡ Some link = sym c.link_mut.ensures.value ∙ ap option_copied_mut c.in_ok-link.was in
-    let there : channel_in link c.args.id.number ≡ Some c.in-Some.channel.now = sym c.channel_mut.ensures.value ∙ ap option_copied_mut c.in-Some.is in
-    let lent = is_lent c.lent_channels_are_put.ensures old new c.args.id.connection c.args.id.number link c.in-Some.channel.now ch found there (c.link_mut.follows.holds (with_channel_in link c.args.id.number ch)) c.on_channel.ensures.topology in
-    lent_placed old new c.args.id.connection c.args.id.number link c.in-Some.channel.now ch lent c.on_channel.ensures.placed c.self.invariant
+    let new : Kept = record { store = c.on_channel.new.depot; connections = c.running_mut.follows.lender (with_channel_in running c.args.id.number ch) } in
+    let found : running_in old.connections c.args.id.connection ≡ Some running = sym c.running_mut.ensures.value ∙ ap option_copied_mut c.in_ok-running.was in
+    let there : channel_in running c.args.id.number ≡ Some c.in-Some.channel.now = sym c.channel_mut.ensures.value ∙ ap option_copied_mut c.in-Some.is in
+    let lent = is_lent c.lent_channels_are_put.ensures old new c.args.id.connection c.args.id.number running c.in-Some.channel.now ch found there (c.running_mut.follows.holds (with_channel_in running c.args.id.number ch)) c.on_channel.ensures.topology in
+    lent_placed old new c.args.id.connection c.args.id.number running c.in-Some.channel.now ch lent c.on_channel.ensures.placed c.self.invariant
 
 pub returns-in-Some-clause-kept : goal.returns-in-Some-clause-kept
 returns-in-Some-clause-kept c =
-    let old : Kept = record { store = c.self.inside.depot; links = c.self.inside.links } in
-    let link = c.in_ok-link.link.now in
+    let old : Kept = record { store = c.self.inside.depot; connections = c.self.inside.connections } in
+    let running = c.in_ok-running.running.now in
     let ch = c.on_channel.new.channel in
-    let new : Kept = record { store = c.on_channel.new.depot; links = c.link_mut.follows.lender (with_channel_in link c.args.id.number ch) } in
-    let found : linked_in old.links c.args.id.connection ≡ Some link = sym c.link_mut.ensures.value ∙ ap option_copied_mut c.in_ok-link.was in
-    let there : channel_in link c.args.id.number ≡ Some c.in-Some.channel.now = sym c.channel_mut.ensures.value ∙ ap option_copied_mut c.in-Some.is in
-    let lent = is_lent c.lent_channels_are_put.ensures old new c.args.id.connection c.args.id.number link c.in-Some.channel.now ch found there (c.link_mut.follows.holds (with_channel_in link c.args.id.number ch)) c.on_channel.ensures.topology in
-    unless _ (new ≡ c.args.self.now) c.on_channel.result c.on_channel.ensures.kept (λ same. lent_same old new c.args.id.connection c.args.id.number link c.in-Some.channel.now ch lent same.0 same.1 ∙ c.self.view_is)
+    let new : Kept = record { store = c.on_channel.new.depot; connections = c.running_mut.follows.lender (with_channel_in running c.args.id.number ch) } in
+    let found : running_in old.connections c.args.id.connection ≡ Some running = sym c.running_mut.ensures.value ∙ ap option_copied_mut c.in_ok-running.was in
+    let there : channel_in running c.args.id.number ≡ Some c.in-Some.channel.now = sym c.channel_mut.ensures.value ∙ ap option_copied_mut c.in-Some.is in
+    let lent = is_lent c.lent_channels_are_put.ensures old new c.args.id.connection c.args.id.number running c.in-Some.channel.now ch found there (c.running_mut.follows.holds (with_channel_in running c.args.id.number ch)) c.on_channel.ensures.topology in
+    unless _ (new ≡ c.args.self.now) c.on_channel.result c.on_channel.ensures.kept (λ same. lent_same old new c.args.id.connection c.args.id.number running c.in-Some.channel.now ch lent same.0 same.1 ∙ c.self.view_is)
 
 pub returns-in-Some-clause-addressed : goal.returns-in-Some-clause-addressed
 returns-in-Some-clause-addressed c = λ said carried. c.on_channel.ensures.addressed (said, subst (λ (k : Kept). AreCarried (broker_of k)) (sym c.self.view_is) carried)
 
 pub returns-in-None-clause-answers : goal.returns-in-None-clause-answers
 returns-in-None-clause-answers c =
-    let old : Kept = record { store = c.self.inside.depot; links = c.self.inside.links } in
-    let link = c.in_ok-link.link.now in
-    let new : Kept = record { store = c.self.inside.depot; links = c.link_mut.follows.lender link } in
-    let found : linked_in old.links c.args.id.connection ≡ Some link = sym c.link_mut.ensures.value ∙ ap option_copied_mut c.in_ok-link.was in
-    let none : channel_in link c.args.id.number ≡ None = sym c.channel_mut.ensures.value ∙ ap option_copied_mut c.in-None.is in
+    let old : Kept = record { store = c.self.inside.depot; connections = c.self.inside.connections } in
+    let running = c.in_ok-running.running.now in
+    let new : Kept = record { store = c.self.inside.depot; connections = c.running_mut.follows.lender running } in
+    let found : running_in old.connections c.args.id.connection ≡ Some running = sym c.running_mut.ensures.value ∙ ap option_copied_mut c.in_ok-running.was in
+    let none : channel_in running c.args.id.number ≡ None = sym c.channel_mut.ensures.value ∙ ap option_copied_mut c.in-None.is in
     subst (λ (k : Kept). AnswersOn k c.args.id.connection c.args.id.number c.args.method.now c.args.content.now (Some c.on_none.result) new) c.self.view_is
-    (answers_none old new c.args.id.connection c.args.id.number c.channel_max-channel_max.result link c.args.method.now c.args.content.now c.on_none.result found none (sym c.channel_max-channel_max.ensures) c.on_none.ensures.answers)
+    (answers_none old new c.args.id.connection c.args.id.number c.channel_max-channel_max.result running c.args.method.now c.args.content.now c.on_none.result found none (sym c.channel_max-channel_max.ensures) c.on_none.ensures.answers)
 
 pub returns-in-None-clause-addressed : goal.returns-in-None-clause-addressed
 returns-in-None-clause-addressed c = λ said carried. c.on_none.ensures.addressed c.args.id.connection
 
 pub invariant_of-self-in-None : goal.invariant_of-self-in-None
 invariant_of-self-in-None c =
-    let old : Kept = record { store = c.self.inside.depot; links = c.self.inside.links } in
-    let link = c.in_ok-link.link.now in
-    let new : Kept = record { store = c.self.inside.depot; links = c.link_mut.follows.lender link } in
-    let found : linked_in old.links c.args.id.connection ≡ Some link = sym c.link_mut.ensures.value ∙ ap option_copied_mut c.in_ok-link.was in
-    still_placed old new (link_same old new c.args.id.connection link link found (c.link_mut.follows.holds link) refl refl) c.self.invariant
+    let old : Kept = record { store = c.self.inside.depot; connections = c.self.inside.connections } in
+    let running = c.in_ok-running.running.now in
+    let new : Kept = record { store = c.self.inside.depot; connections = c.running_mut.follows.lender running } in
+    let found : running_in old.connections c.args.id.connection ≡ Some running = sym c.running_mut.ensures.value ∙ ap option_copied_mut c.in_ok-running.was in
+    still_placed old new (running_same old new c.args.id.connection running running found (c.running_mut.follows.holds running) refl refl) c.self.invariant
 
 pub returns-in-None-clause-kept : goal.returns-in-None-clause-kept
 returns-in-None-clause-kept c =
-    let old : Kept = record { store = c.self.inside.depot; links = c.self.inside.links } in
-    let link = c.in_ok-link.link.now in
-    let new : Kept = record { store = c.self.inside.depot; links = c.link_mut.follows.lender link } in
-    let found : linked_in old.links c.args.id.connection ≡ Some link = sym c.link_mut.ensures.value ∙ ap option_copied_mut c.in_ok-link.was in
-    always (new ≡ c.args.self.now) c.on_none.result (link_same old new c.args.id.connection link link found (c.link_mut.follows.holds link) refl refl ∙ c.self.view_is)
+    let old : Kept = record { store = c.self.inside.depot; connections = c.self.inside.connections } in
+    let running = c.in_ok-running.running.now in
+    let new : Kept = record { store = c.self.inside.depot; connections = c.running_mut.follows.lender running } in
+    let found : running_in old.connections c.args.id.connection ≡ Some running = sym c.running_mut.ensures.value ∙ ap option_copied_mut c.in_ok-running.was in
+    always (new ≡ c.args.self.now) c.on_none.result (running_same old new c.args.id.connection running running found (c.running_mut.follows.holds running) refl refl ∙ c.self.view_is)
 
 pub returns-in-Some-clause-running : goal.returns-in-Some-clause-running
 returns-in-Some-clause-running c =
-    let old : Kept = record { store = c.self.inside.depot; links = c.self.inside.links } in
-    let link = c.in_ok-link.link.now in
+    let old : Kept = record { store = c.self.inside.depot; connections = c.self.inside.connections } in
+    let running = c.in_ok-running.running.now in
     let ch = c.on_channel.new.channel in
-    let new : Kept = record { store = c.on_channel.new.depot; links = c.link_mut.follows.lender (with_channel_in link c.args.id.number ch) } in
-    let found : linked_in old.links c.args.id.connection ≡ Some link = sym c.link_mut.ensures.value ∙ ap option_copied_mut c.in_ok-link.was in
-    let there : channel_in link c.args.id.number ≡ Some c.in-Some.channel.now = sym c.channel_mut.ensures.value ∙ ap option_copied_mut c.in-Some.is in
-    let lent = is_lent c.lent_channels_are_put.ensures old new c.args.id.connection c.args.id.number link c.in-Some.channel.now ch found there (c.link_mut.follows.holds (with_channel_in link c.args.id.number ch)) c.on_channel.ensures.topology in
+    let new : Kept = record { store = c.on_channel.new.depot; connections = c.running_mut.follows.lender (with_channel_in running c.args.id.number ch) } in
+    let found : running_in old.connections c.args.id.connection ≡ Some running = sym c.running_mut.ensures.value ∙ ap option_copied_mut c.in_ok-running.was in
+    let there : channel_in running c.args.id.number ≡ Some c.in-Some.channel.now = sym c.channel_mut.ensures.value ∙ ap option_copied_mut c.in-Some.is in
+    let lent = is_lent c.lent_channels_are_put.ensures old new c.args.id.connection c.args.id.number running c.in-Some.channel.now ch found there (c.running_mut.follows.holds (with_channel_in running c.args.id.number ch)) c.on_channel.ensures.topology in
     subst (λ (k : Kept). AllRunStill (broker_of k) (broker_of new)) c.self.view_is (same_run (broker_of old) (broker_of new) lent.put.connections)
 
 pub returns-in-None-clause-running : goal.returns-in-None-clause-running
 returns-in-None-clause-running c =
-    let old : Kept = record { store = c.self.inside.depot; links = c.self.inside.links } in
-    let link = c.in_ok-link.link.now in
-    let new : Kept = record { store = c.self.inside.depot; links = c.link_mut.follows.lender link } in
-    let found : linked_in old.links c.args.id.connection ≡ Some link = sym c.link_mut.ensures.value ∙ ap option_copied_mut c.in_ok-link.was in
-    subst (λ (k : Kept). AllRunStill (broker_of c.args.self.now) (broker_of k)) (sym (link_same old new c.args.id.connection link link found (c.link_mut.follows.holds link) refl refl ∙ c.self.view_is)) (λ d none. none)
+    let old : Kept = record { store = c.self.inside.depot; connections = c.self.inside.connections } in
+    let running = c.in_ok-running.running.now in
+    let new : Kept = record { store = c.self.inside.depot; connections = c.running_mut.follows.lender running } in
+    let found : running_in old.connections c.args.id.connection ≡ Some running = sym c.running_mut.ensures.value ∙ ap option_copied_mut c.in_ok-running.was in
+    subst (λ (k : Kept). AllRunStill (broker_of c.args.self.now) (broker_of k)) (sym (running_same old new c.args.id.connection running running found (c.running_mut.follows.holds running) refl refl ∙ c.self.view_is)) (λ d none. none)

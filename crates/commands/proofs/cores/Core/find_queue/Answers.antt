@@ -11,7 +11,7 @@ pub returns-clause-ok : goal.returns-clause-ok
 returns-clause-ok c =
     let place = c.args.place in
     let asked = c.args.declare.now in
-    let kept : Kept = record { store = c.self.inside.depot; links = c.self.inside.links } in
+    let kept : Kept = record { store = c.self.inside.depot; connections = c.self.inside.connections } in
     let at : IsQueuePlace (topology_kept kept) asked.queue place = subst (λ (k : Kept). IsQueuePlace (topology_kept k) asked.queue place) (sym c.self.view_is) c.requires in
     subst (λ (k : Kept). IfOk c.answer_queue_declare.result (λ s. Finds (broker_of k) c.args.connection c.args.channel asked s.sends.items s.notes.items (broker_of k))) c.self.view_is
     (both_ok c.answer_queue_declare.result _ _ _ c.answer_queue_declare.ensures.sends c.answer_queue_declare.ensures.notes

@@ -6,6 +6,6 @@ use Rattle.commands.proofs.cores.Core.next_ready.Goals as goal
 
 pub returns : goal.returns
 returns c =
-    let kept : Kept = record { store = c.self.inside.depot; links = c.self.inside.links } in
+    let kept : Kept = record { store = c.self.inside.depot; connections = c.self.inside.connections } in
     subst (λ (k : Kept). IsNextPicked k c.args.from c.next_ready.result) c.self.view_is
     (next_is kept c.args.from c.next_ready.result (λ place lt. c.places_are_named.ensures kept.store place c.is_whole.ensures lt) c.next_ready.ensures.told)

@@ -1,7 +1,7 @@
 use Rattle.std.proofs.Common.{◌≡◌, ◌∙◌, ap, refl}
 use Rattle.std.specs.Option.{option_copied}
 use Rattle.model.specs.Entries.{by_connection}
-use Rattle.channels.specs.Links.{linked_in}
+use Rattle.channels.specs.RunningConnections.{running_in}
 use Rattle.commands.specs.State.{Kept, topology_kept}
 use Rattle.commands.proofs.Freed.{connection_is_freed, within_at}
 use Rattle.commands.proofs.Placing.{placed_opened}
@@ -10,15 +10,15 @@ use Rattle.commands.proofs.cores.Core.open.Goals as goal
 
 pub requeue_all-requires : goal.requeue_all-requires
 requeue_all-requires c =
-    let old : Kept = record { store = c.self.inside.depot; links = c.self.inside.links } in
-    let before : option_copied c.as_ref.result ≡ linked_in old.links c.args.connection = c.as_ref.ensures.value ∙ c.in_ok-before.ensures.before in
+    let old : Kept = record { store = c.self.inside.depot; connections = c.self.inside.connections } in
+    let before : option_copied c.as_ref.result ≡ running_in old.connections c.args.connection = c.as_ref.ensures.value ∙ c.in_ok-before.ensures.before in
     within_at old c.args.connection (option_copied c.as_ref.result) before c.self.invariant
 
 pub returns-clause-ok : goal.returns-clause-ok
 returns-clause-ok c =
-    let old : Kept = record { store = c.self.inside.depot; links = c.self.inside.links } in
-    let new : Kept = record { store = c.requeue_all.new.depot; links = c.open.new.self } in
-    let before : option_copied c.as_ref.result ≡ linked_in old.links c.args.connection = c.as_ref.ensures.value ∙ c.in_ok-before.ensures.before in
+    let old : Kept = record { store = c.self.inside.depot; connections = c.self.inside.connections } in
+    let new : Kept = record { store = c.requeue_all.new.depot; connections = c.open.new.self } in
+    let before : option_copied c.as_ref.result ≡ running_in old.connections c.args.connection = c.as_ref.ensures.value ∙ c.in_ok-before.ensures.before in
     let freed : IsFreed (by_connection c.args.connection) old.store new.store =
     connection_is_freed old c.args.self.now c.args.connection (option_copied c.as_ref.result) new.store c.self.view_is c.requires before c.requeue_all.ensures in
     rw (← c.self.view_is)
@@ -30,17 +30,17 @@ returns-clause-ok c =
 
 pub invariant_of-self-2 : goal.invariant_of-self-2
 invariant_of-self-2 c =
-    let old : Kept = record { store = c.self.inside.depot; links = c.self.inside.links } in
-    let new : Kept = record { store = c.requeue_all.new.depot; links = c.open.new.self } in
-    let before : option_copied c.as_ref.result ≡ linked_in old.links c.args.connection = c.as_ref.ensures.value ∙ c.in_ok-before.ensures.before in
+    let old : Kept = record { store = c.self.inside.depot; connections = c.self.inside.connections } in
+    let new : Kept = record { store = c.requeue_all.new.depot; connections = c.open.new.self } in
+    let before : option_copied c.as_ref.result ≡ running_in old.connections c.args.connection = c.as_ref.ensures.value ∙ c.in_ok-before.ensures.before in
     let freed : IsFreed (by_connection c.args.connection) old.store new.store =
     connection_is_freed old c.args.self.now c.args.connection (option_copied c.as_ref.result) new.store c.self.view_is c.requires before c.requeue_all.ensures in
     placed_opened old new c.args.connection c.args.channel_max c.args.channels freed.topology c.in_ok-before.ensures.ok c.self.invariant
 
 pub returns-clause-topology : goal.returns-clause-topology
 returns-clause-topology c =
-    let old : Kept = record { store = c.self.inside.depot; links = c.self.inside.links } in
-    let before : option_copied c.as_ref.result ≡ linked_in old.links c.args.connection = c.as_ref.ensures.value ∙ c.in_ok-before.ensures.before in
+    let old : Kept = record { store = c.self.inside.depot; connections = c.self.inside.connections } in
+    let before : option_copied c.as_ref.result ≡ running_in old.connections c.args.connection = c.as_ref.ensures.value ∙ c.in_ok-before.ensures.before in
     let freed : IsFreed (by_connection c.args.connection) old.store c.requeue_all.new.depot =
     connection_is_freed old c.args.self.now c.args.connection (option_copied c.as_ref.result) c.requeue_all.new.depot c.self.view_is c.requires before c.requeue_all.ensures in
     freed.topology ∙ ap topology_kept c.self.view_is

@@ -4,19 +4,19 @@ use Rattle.model.specs.Step.{Is, with_channel}
 use Rattle.model.specs.declared.events.Send.{Send}
 use Rattle.channels.specs.Open.{Open, open_in}
 use Rattle.commands.specs.State.{Kept, broker_of, topology_kept, names_of}
-use Rattle.commands.proofs.Stepping.{put_is, link_there}
+use Rattle.commands.proofs.Stepping.{put_is, running_there}
 use Rattle.commands.proofs.Placing.{placed_put, placed_new, placed_some}
 use Rattle.commands.proofs.cores.Core.open_channel.Goals as goal
 
 pub open_channel-requires : goal.open_channel-requires
-open_channel-requires c = link_there (record { store = c.self.inside.depot; links = c.self.inside.links }) c.args.self.now c.args.connection c.self.view_is c.requires
+open_channel-requires c = running_there (record { store = c.self.inside.depot; connections = c.self.inside.connections }) c.args.self.now c.args.connection c.self.view_is c.requires
 
 pub returns-clause-ok : goal.returns-clause-ok
 returns-clause-ok c =
     let connection = c.args.connection in
     let number = c.args.channel in
-    let old : Kept = record { store = c.self.inside.depot; links = c.self.inside.links } in
-    let new : Kept = record { store = c.self.inside.depot; links = c.open_channel.new.self } in
+    let old : Kept = record { store = c.self.inside.depot; connections = c.self.inside.connections } in
+    let new : Kept = record { store = c.self.inside.depot; connections = c.open_channel.new.self } in
     let fresh : open_in (names_of old) c.new.result ≡ new_channel = ap (open_in (names_of old)) c.new.ensures in
     rw (← c.self.view_is)
     (record {
@@ -28,8 +28,8 @@ returns-clause-ok c =
 
 pub invariant_of-self-2 : goal.invariant_of-self-2
 invariant_of-self-2 c =
-    let old : Kept = record { store = c.self.inside.depot; links = c.self.inside.links } in
-    let new : Kept = record { store = c.self.inside.depot; links = c.open_channel.new.self } in
+    let old : Kept = record { store = c.self.inside.depot; connections = c.self.inside.connections } in
+    let new : Kept = record { store = c.self.inside.depot; connections = c.open_channel.new.self } in
     placed_put old new c.args.connection c.args.channel (Some c.new.result) refl c.in_ok-open_channel.ensures.ok
     (placed_some (topology_kept old) c.new.result
     (placed_new (topology_kept old) c.new.result (ap (λ (x : Open). x.given.outstanding) c.new.ensures) (ap (λ (x : Open). x.given.consumers) c.new.ensures)))

@@ -10,7 +10,7 @@ use Rattle.commands.proofs.cores.Core.queue_consumed.Goals as goal
 
 pub returns-clause-told : goal.returns-clause-told
 returns-clause-told c = λ place is.
-    let kept : Kept = record { store = c.self.inside.depot; links = c.self.inside.links } in
+    let kept : Kept = record { store = c.self.inside.depot; connections = c.self.inside.connections } in
     let t : Topology = topology_kept kept in
     let name = c.as_bytes.result.now in
     let here : IsConsumed t c.args.event.now place = subst (λ (k : Kept). IsConsumed (topology_kept k) c.args.event.now place) (sym c.self.view_is) is in

@@ -4,14 +4,14 @@ use Rattle.model.specs.Agreement.{IsAgreed}
 use Rattle.model.specs.Reloading.{NoneIsStranded, stood_now}
 use Rattle.depot.specs.Store.{Store, entries_named}
 use Rattle.depot.specs.Moving.{GoneAreEmpty}
-use Rattle.channels.specs.LinksMoving.{links_moved}
+use Rattle.channels.specs.ConnectionsMoving.{connections_moved}
 use Rattle.commands.specs.State.{Kept, broker_of, topology_kept}
 use Rattle.commands.proofs.Reloading.{gone_empty, placed_moved, all_stood}
 use Rattle.commands.proofs.cores.Core.reload.Goals as goal
 
 pub take_over-requires-clause-gone : goal.take_over-requires-clause-gone
 take_over-requires-clause-gone c =
-    let old : Kept = record { store = c.self.inside.depot; links = c.self.inside.links } in
+    let old : Kept = record { store = c.self.inside.depot; connections = c.self.inside.connections } in
     let t = c.args.topology in
     let agreed : IsAgreed (broker_of old) = subst (λ (k : Kept). IsAgreed (broker_of k)) (sym c.self.view_is) c.requires.agreed in
     let none : NoneIsStranded (topology_kept old) t (broker_of old) = subst (λ (k : Kept). NoneIsStranded (topology_kept k) t (broker_of k)) (sym c.self.view_is) c.requires.kept in
@@ -21,26 +21,26 @@ take_over-requires-clause-gone c =
 
 pub invariant_of-self : goal.invariant_of-self
 invariant_of-self c =
-    let old : Kept = record { store = c.self.inside.depot; links = c.self.inside.links } in
-    let new : Kept = record { store = c.take_over.new.self; links = c.renumber.new.self } in
+    let old : Kept = record { store = c.self.inside.depot; connections = c.self.inside.connections } in
+    let new : Kept = record { store = c.take_over.new.self; connections = c.renumber.new.self } in
     let t = c.args.topology in
     let places = c.in_ok-places.places.items in
     let agreed : IsAgreed (broker_of old) = subst (λ (k : Kept). IsAgreed (broker_of k)) (sym c.self.view_is) c.requires.agreed in
     let none : NoneIsStranded (topology_kept old) t (broker_of old) = subst (λ (k : Kept). NoneIsStranded (topology_kept k) t (broker_of k)) (sym c.self.view_is) c.requires.kept in
     let topology : topology_kept new ≡ t = c.take_over.ensures.topology ∙ ap (λ (s : Store). s.topology) (c.replace-old.ensures.after ∙ c.in_ok-depot.ensures) in
-    let made : new.links ≡ links_moved places old.links = c.renumber.ensures ∙ ap (λ (ps : List ℕ). links_moved ps old.links) c.deref-2.ensures.value in
+    let made : new.connections ≡ connections_moved places old.connections = c.renumber.ensures ∙ ap (λ (ps : List ℕ). connections_moved ps old.connections) c.deref-2.ensures.value in
     placed_moved old t places c.self.invariant agreed none c.in_ok-places.ensures new topology made
 
 pub returns-clause-stood : goal.returns-clause-stood
 returns-clause-stood c =
-    let old : Kept = record { store = c.self.inside.depot; links = c.self.inside.links } in
-    let new : Kept = record { store = c.take_over.new.self; links = c.renumber.new.self } in
+    let old : Kept = record { store = c.self.inside.depot; connections = c.self.inside.connections } in
+    let new : Kept = record { store = c.take_over.new.self; connections = c.renumber.new.self } in
     let t = c.args.topology in
     let places = c.in_ok-places.places.items in
     let agreed : IsAgreed (broker_of old) = subst (λ (k : Kept). IsAgreed (broker_of k)) (sym c.self.view_is) c.requires.agreed in
     let none : NoneIsStranded (topology_kept old) t (broker_of old) = subst (λ (k : Kept). NoneIsStranded (topology_kept k) t (broker_of k)) (sym c.self.view_is) c.requires.kept in
     let topology : topology_kept new ≡ t = c.take_over.ensures.topology ∙ ap (λ (s : Store). s.topology) (c.replace-old.ensures.after ∙ c.in_ok-depot.ensures) in
-    let made : new.links ≡ links_moved places old.links = c.renumber.ensures ∙ ap (λ (ps : List ℕ). links_moved ps old.links) c.deref-2.ensures.value in
+    let made : new.connections ≡ connections_moved places old.connections = c.renumber.ensures ∙ ap (λ (ps : List ℕ). connections_moved ps old.connections) c.deref-2.ensures.value in
     let published : new.store.published ≡ old.store.published = c.take_over.ensures.published ∙ ap (λ (s : Store). s.published) c.replace-old.ensures.value in
     rw (← c.self.view_is) (all_stood old t places c.self.invariant agreed none c.in_ok-places.ensures c.moves_are_unseen.ensures new topology made published
     (λ q. c.take_over.ensures.entries q ∙ ap (λ (s : Store). map stood_now (entries_named s q)) c.replace-old.ensures.value))

@@ -1,4 +1,4 @@
-use Rattle.kept_routes.specs.declared.routes.Access.TheVariants.{Open, Internal, Absent}
+use Rattle.exchange_graph.specs.declared.routes.Access.TheVariants.{Open, Internal, Absent}
 use Rattle.commands.proofs.Exchanges.{refused_by}
 use Rattle.commands.proofs.refusals.publishes.check_access.Goals as goal
 

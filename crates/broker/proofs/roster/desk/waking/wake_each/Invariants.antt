@@ -1,12 +1,13 @@
 use Rattle.std.proofs.Common.{◌≡◌, ◌<◌, ◌≤◌, ℕ, length}
-use Rattle.broker.specs.Roster.{listed_on, AllWaken, WakesListed}
+use Rattle.broker.specs.Roster.{listings_on, AllWaken, WakesListed}
 use Rattle.broker.proofs.roster.desk.waking.wake_each.Given as goal
 
--- those of the channels before this place are awake, and those behind are listed as they were
+-- those that slept on the channels before this place are awake, and those behind are listed as they were
 abbrev pub invariant-loop-place : goal.invariant-loop-place
 invariant-loop-place l = record {
   len : length l.seating ≡ length l.fn.seating;
   wakens : AllWaken l.fn.seating l.seating;
-  behind : (h : ℕ) → l.place ≤ h → listed_on l.channels h ≡ listed_on l.fn.channels h;
-  woken : (h : ℕ) → h < l.place → WakesListed (listed_on l.fn.channels h) l.fn.seating l.seating;
+  same : (h : ℕ) → (listings_on l.channels h).all ≡ (listings_on l.fn.channels h).all;
+  behind : (h : ℕ) → l.place ≤ h → listings_on l.channels h ≡ listings_on l.fn.channels h;
+  woken : (h : ℕ) → h < l.place → WakesListed (listings_on l.fn.channels h) l.fn.seating l.seating;
 }

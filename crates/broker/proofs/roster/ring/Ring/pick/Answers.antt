@@ -5,10 +5,10 @@ use Rattle.commands.specs.Picked.{IsPickFrom}
 use Rattle.commands.specs.declared.picks.Pick.{Pick}
 use Rattle.broker.specs.declared.roster.seats.Seat.{Seat}
 use Rattle.broker.specs.Lines.{turned, AreDistinct}
-use Rattle.broker.specs.Roster.{Seats, ring_of, picks, order, KeepsIn, NoneAwake, NoneAwakePassed, GoesLast}
+use Rattle.broker.specs.Roster.{Seats, ring_of, picks, order, IsAwake, KeepsIn, NoneAwake, NoneAwakePassed, GoesLast}
 use Rattle.broker.proofs.Orders.{goes_last}
 use Rattle.broker.proofs.Picks.{picks_at}
-use Rattle.broker.proofs.Sleeping.{none_seated}
+use Rattle.broker.proofs.Sleeping.{none_seated, none_awake}
 use Rattle.broker.proofs.roster.ring.Ring.pick.Goals as goal
 
 pub returns-in-Some-clause-kept : goal.returns-in-Some-clause-kept
@@ -70,3 +70,8 @@ pub returns-in-None-clause-same : goal.returns-in-None-clause-same
 returns-in-None-clause-same c = λ e.
     let back = take_at c.first_round.new.seats (drop (length c.first_round.new.seats) c.self.inside.seats.items) c.self.inside.seats.len (c.first_round.auto.seats ∙ c.deref_mut.ensures.len) in
     ap (turned c.self.inside.next) (ap picks back ∙ c.first_round.ensures.same ∙ ap picks c.deref_mut.ensures.value) ∙ ap order c.self.view_is
+
+pub returns-in-None-clause-rested : goal.returns-in-None-clause-rested
+returns-in-None-clause-rested c = λ e p up.
+    let back = take_at c.first_round.new.seats (drop (length c.first_round.new.seats) c.self.inside.seats.items) c.self.inside.seats.len (c.first_round.auto.seats ∙ c.deref_mut.ensures.len) in
+    none_awake (ring_of c.first_round.new.seats c.first_round.new.awake) p (c.in-None.ensures.rested refl) (subst (λ (xs : List Seat). IsAwake (ring_of xs c.first_round.new.awake) p) back up)

@@ -12,7 +12,7 @@ use Rattle.broker.proofs.roster.ring.Ring.wake_all.Goals as goal
 pub returns-clause-roused : goal.returns-clause-roused
 returns-clause-roused c = λ p stands.
     let old = c.self.inside.awake in
-    let new = c.mark_all.new.awake in
+    let new = c.mark_all.new.marks in
     let seats = c.deref_mut.result.now in
     let count = c.len.ensures in
     let long = c.deref_mut.ensures.len in

@@ -1,0 +1,13 @@
+use Rattle.std.proofs.Common.{[], arith}
+use Rattle.channels.proofs.Opening.{opened_at, opened_few}
+use Rattle.channels.proofs.running.RunningConnection.new.Goals as goal
+
+pub returns-clause-channels : goal.returns-clause-channels
+returns-clause-channels c = λ names h. opened_at names c.in_ok-open_channels.field-0.items c.args.channels h (c.in_ok-open_channels.ensures names)
+
+pub invariant_of-result : goal.invariant_of-result
+invariant_of-result c =
+    let channels = c.in_ok-open_channels.field-0 in
+    let few = opened_few channels.items c.args.channels c.ranges.channels.fits (c.in_ok-open_channels.ensures []) in
+    let len = channels.ok.0 in
+    omega (arith, few, len)

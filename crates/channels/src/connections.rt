@@ -1,0 +1,243 @@
+//! Connections that run, and their channels.
+//!
+//! A connection is looked up by its number in a map, and a channel stands in its connection at its number.
+
+ghost use Rattle.std.specs.Prelude.{◌≡◌, min};
+ghost use Rattle.model.specs.Step.{greatest};
+ghost use Rattle.channels.specs.Counting.{CountsConsumers, all_consumers};
+ghost use Rattle.channels.specs.ConnectionsMoving.{connections_moved, MovesAreUnseen};
+ghost use Rattle.channels.specs.Lends.{LentArePut};
+
+use crate::channels::Channel;
+use crate::running::RunningConnection;
+use model::Delivery;
+use std::alloc::{AllocError, Global};
+use std::collections::HashMap;
+use std::marker::Model;
+
+/// The connections that run, each under its number.
+#[derive(Drop)]
+pub struct RunningConnections {
+    connections: HashMap<u64, RunningConnection>,
+}
+
+impl Model for RunningConnections {
+    ghost use Rattle.std.specs.Prelude.{ℕ, List};
+    ghost use Rattle.channels.specs.RunningConnections.{Running};
+
+    ghost Value = { List (ℕ × Running) };
+
+    ghost view = { λ l. l.connections.entries };
+}
+
+impl RunningConnections {
+    ghost use Rattle.std.specs.Prelude.{
+      ◌≡◌,
+      ◌+◌,
+      ◌*◌,
+      ◌≤◌,
+      length,
+      [],
+      ℕ,
+      None,
+      Some,
+      IsSome,
+      IfOk,
+      OnOk,
+      OnErr,
+      Decides,
+    };
+    ghost use Rattle.std.specs.Option.{option_copied, option_copied_mut};
+    ghost use Rattle.std.specs.Borrow.{sem};
+    ghost use Rattle.channels.specs.Lends.{LendsConnection, LendsChannel};
+    ghost use Rattle.model.specs.Broker.{with_one, with_row};
+    ghost use Rattle.model.specs.Step.{paused};
+    ghost use Rattle.model.specs.Placed.{waiting};
+    ghost use Rattle.channels.specs.Counting.{CountsConsumers, HasTaker, is_consumed};
+    ghost use Rattle.channels.specs.ConnectionsMoving.{connections_moved};
+    ghost use Rattle.channels.specs.RunningConnections.{running_in, connection_of, channel_of, outstanding_on, PutsChannel, OpensConnection, HoldsConnections};
+
+    /// No connection runs. It takes no memory.
+    pub fn new(alloc: Global) -> RunningConnections
+        ensures { result ≡ [] }
+    {
+        RunningConnections {
+            connections: HashMap::new(alloc),
+        }
+    }
+
+    /// The connection of this number, if it runs.
+    pub fn get(&self, connection: u64) -> Option<&RunningConnection>
+        ensures { option_copied result ≡ running_in self.now connection }
+    {
+        self.connections.get(&connection)
+    }
+
+    /// The open channel of this number on the connection, if that runs.
+    pub fn channel(&self, connection: u64, number: u16) -> Option<&Channel>
+        ensures { option_copied result ≡ channel_of self.now connection number }
+    {
+        match self.get(connection) {
+            Some(running) => running.channel(number),
+            None => None,
+        }
+    }
+
+    /// The connection of this number, if it runs, to be changed.
+    pub fn running_mut(&mut self, connection: u64) -> Option<&mut RunningConnection>
+        ensures* writes_back { sem 𝓛 (LendsConnection self.entry connection result) }
+        ensures value { option_copied_mut result ≡ running_in self.old connection }
+    {
+        self.connections.get_mut(&connection)
+    }
+
+    /// The open channel of these numbers, to be changed.
+    pub fn channel_mut(&mut self, connection: u64, number: u16) -> Option<&mut Channel>
+        ensures* writes_back { sem 𝓛 (LendsChannel self.entry connection number result) }
+        ensures value { option_copied_mut result ≡ channel_of self.old connection number }
+    {
+        match self.connections.get_mut(&connection) {
+            Some(running) => running.channel_mut(number),
+            None => None,
+        }
+    }
+
+    /// All that is outstanding on this channel, in tag order, with the places between of what was settled before; nothing where
+    /// it is not open, or its connection doesn't run. There are at most as many places between as wait, and 32.
+    pub fn outstanding(&self, connection: u64, number: u16) -> &[Delivery]
+        ensures all { waiting result.now ≡ outstanding_on (channel_of self.now connection number) }
+        ensures few { length result.now ≤ 2 * length (outstanding_on (channel_of self.now connection number)) + 32 }
+    {
+        match self.get(connection) {
+            Some(running) => running.outstanding(number),
+            None => &[],
+        }
+    }
+
+    /// How many consumers on all channels together take from the queue at this place, at most the greatest number. It passes
+    /// every channel that is kept, and takes no memory.
+    pub fn count_consumers(&self, queue: usize) -> usize
+        ensures { CountsConsumers self.now queue result }
+    {
+        count_consumers(&self.connections, queue)
+    }
+
+    /// Whether some consumer on some channel takes from the queue at this place. It passes every channel that is kept, and takes
+    /// no memory.
+    pub fn is_consumed(&self, queue: usize) -> bool
+        ensures { result ≡ is_consumed self.now queue }
+    {
+        count_consumers(&self.connections, queue) != 0
+    }
+
+    /// Consumers take from a queue exactly where some channel has one that does.
+    pub fn takers_are_found(&self)
+        ensures { (queue : ℕ) → Decides (is_consumed self.now queue) (HasTaker self.now queue) }
+    {
+        self.connections.values();
+    }
+
+    /// The connection runs from now on, with channels 1 to `channels` open and new. Gives what ran under its number before, if
+    /// anything did.
+    pub fn open(
+        &mut self,
+        alloc: Global,
+        connection: u64,
+        channel_max: u16,
+        channels: u16,
+    ) -> Result<Option<RunningConnection>, AllocError>
+        ensures ok { OnOk result (OpensConnection self.old connection channel_max channels self.new) }
+        ensures before { IfOk result (λ running. running ≡ running_in self.old connection) }
+        ensures err { OnErr result (self.new ≡ self.old) }
+    {
+        let running = RunningConnection::new(alloc, channel_max, channels)?;
+        match self.connections.insert(connection, running) {
+            Ok(before) => Ok(before),
+            Err(_) => Err(AllocError),
+        }
+    }
+
+    /// The connection runs no more, and its channels are gone with it.
+    pub fn remove(&mut self, connection: u64)
+        ensures { HoldsConnections self.new (with_one (connection_of self.old) connection None) (with_row (channel_of self.old) connection (λ h. None)) }
+    {
+        self.connections.remove(&connection);
+    }
+
+    /// The connection is paused from now on, or is not, if it runs.
+    pub fn set_paused(&mut self, connection: u64, is_paused: bool)
+        ensures { HoldsConnections self.new
+            (with_one (connection_of self.old) connection (paused is_paused (connection_of self.old connection))) (channel_of self.old) }
+    {
+        if let Some(running) = self.connections.get_mut(&connection) {
+            running.set_paused(is_paused);
+        }
+    }
+
+    /// This stands at this channel from now on, where none may have been open yet. Where memory is wanting, nothing has
+    /// changed.
+    pub fn open_channel(
+        &mut self,
+        connection: u64,
+        number: u16,
+        channel: Channel,
+    ) -> Result<(), AllocError>
+        requires { IsSome (running_in self.old connection) }
+        ensures ok { OnOk result (PutsChannel self.old connection number (Some channel) self.new) }
+        ensures err { OnErr result (self.new ≡ self.old) }
+    {
+        match self.connections.get_mut(&connection) {
+            Some(running) => running.open_channel(number, channel),
+            None => Ok(()),
+        }
+    }
+
+    /// This stands at this channel from now on.
+    pub fn put(&mut self, connection: u64, number: u16, channel: Option<Channel>)
+        requires { IsSome (channel_of self.old connection number) }
+        ensures { PutsChannel self.old connection number channel self.new }
+    {
+        if let Some(running) = self.connections.get_mut(&connection) {
+            running.put(number, channel);
+        }
+    }
+
+    /// Each queue that stood at a place of the table stands now at the place that it has there. It takes no memory.
+    pub fn renumber(&mut self, places: &[usize])
+        ensures { self.new ≡ connections_moved places.now self.old }
+    {
+        renumber_all(&mut self.connections, places);
+    }
+}
+
+/// A channel that was lent and written stands at its number now, and everything else stays.
+pub fn lent_channels_are_put()
+    ensures { LentArePut }
+{}
+
+/// Where each queue that a channel names has its name at its new place too, all is seen of the channels that was seen before.
+pub fn moves_are_unseen()
+    ensures { MovesAreUnseen }
+{}
+
+/// The same for these connections.
+fn renumber_all(connections: &mut HashMap<u64, RunningConnection>, places: &[usize])
+    ensures { connections.new.entries ≡ connections_moved places.now connections.old.entries }
+{
+    connections.retain(|_, running| {
+        running.renumber(places);
+        true
+    });
+}
+
+/// How many consumers on all channels of these connections take from the queue at this place, at most the greatest number.
+fn count_consumers(connections: &HashMap<u64, RunningConnection>, queue: usize) -> usize
+    ensures counts { CountsConsumers connections.now.entries queue result }
+    ensures all { result ≡ min (all_consumers connections.now.entries queue) greatest }
+{
+    let mut count: usize = 0;
+    for running in connections.values() {
+        count = count.saturating_add(running.count_consumers(queue));
+    }
+    count
+}

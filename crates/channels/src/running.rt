@@ -1,0 +1,184 @@
+//! A connection that runs, with its channels.
+
+use crate::channels::Channel;
+use crate::consumers::Consumer;
+use crate::slots::{
+    count_consumers, number_of, open_at, open_channels, put_at, renumber_each, taker_of,
+};
+use model::Delivery;
+use std::alloc::{AllocError, Global};
+use std::marker::Model;
+
+/// What is kept of a connection that runs.
+#[derive(Drop)]
+pub struct RunningConnection {
+    channel_max: u16,
+    is_paused: bool,
+    /// Each open channel at its number.
+    channels: Vec<Option<Channel>>,
+}
+
+impl Model for RunningConnection {
+    ghost use Rattle.std.specs.Prelude.{◌≤◌, ◌^◌, vec_len};
+    ghost use Rattle.channels.specs.RunningConnections.{Running};
+
+    ghost Value = { Running };
+
+    ghost view = { λ l. record { channel_max = l.channel_max; is_paused = l.is_paused; channels = l.channels.items } };
+
+    ghost invariant = { λ l. vec_len l.channels ≤ 2 ^ 16 };
+}
+
+impl RunningConnection {
+    ghost use Rattle.std.specs.Prelude.{◌≡◌, ◌≤◌, ◌+◌, ◌*◌, ◌^◌, ℕ, List, length, min, None, Some, false};
+    ghost use Rattle.std.specs.Prelude.{IsSome, IfSome, IfOk, OnOk, OnErr, option_map, option_copied};
+    ghost use Rattle.std.specs.Option.{option_copied_mut};
+    ghost use Rattle.std.specs.Borrow.{sem};
+    ghost use Rattle.model.specs.Words.{Text as Name};
+    ghost use Rattle.model.specs.Step.{channels_up_to, greatest};
+    ghost use Rattle.model.specs.Placed.{waiting};
+    ghost use Rattle.channels.specs.Open.{open_in};
+    ghost use Rattle.channels.specs.Consumers.{TellsOn, IsOneOn, consumer_numbered, next_number};
+    ghost use Rattle.channels.specs.Counting.{consumers_counted};
+    ghost use Rattle.channels.specs.ConnectionsMoving.{running_moved};
+    ghost use Rattle.channels.specs.RunningConnections.{channel_in, outstanding_on, PutsIn};
+    ghost use Rattle.channels.specs.Lends.{LendsChannelIn};
+
+    /// A connection with channels 1 to `channels` open and new.
+    pub(crate) fn new(
+        alloc: Global,
+        channel_max: u16,
+        channels: u16,
+    ) -> Result<RunningConnection, AllocError>
+        ensures max { IfOk result (λ l. l.channel_max ≡ channel_max) }
+        ensures paused { IfOk result (λ l. l.is_paused ≡ false) }
+        ensures channels { IfOk result (λ l. (names : List Name) (h : ℕ) → option_map (open_in names) (channel_in l h) ≡ channels_up_to channels h) }
+    {
+        Ok(RunningConnection {
+            channel_max,
+            is_paused: false,
+            channels: open_channels(alloc, channels)?,
+        })
+    }
+
+    /// The greatest channel number that was agreed on.
+    pub fn channel_max(&self) -> u16
+        ensures { result ≡ self.now.channel_max }
+    {
+        self.channel_max
+    }
+
+    /// The open channel of this number.
+    pub fn channel(&self, number: u16) -> Option<&Channel>
+        ensures { option_copied result ≡ channel_in self.now number }
+    {
+        match self.channels.get(number as usize) {
+            Some(Some(channel)) => Some(channel),
+            _ => None,
+        }
+    }
+
+    /// The open channel of this number, to be changed.
+    pub fn channel_mut(&mut self, number: u16) -> Option<&mut Channel>
+        ensures* writes_back { sem 𝓛 (LendsChannelIn self.entry number result) }
+        ensures value { option_copied_mut result ≡ channel_in self.old number }
+    {
+        match self.channels.get_mut(number as usize) {
+            Some(slot) => slot.as_mut(),
+            None => None,
+        }
+    }
+
+    /// How many numbers have a place for a channel, from 0 on: no channel of a greater number is open.
+    pub fn places(&self) -> usize
+        ensures places { result ≡ length self.now.channels }
+        ensures few { result ≤ 2 ^ 16 }
+    {
+        self.channels.len()
+    }
+
+    /// All that is outstanding on this channel, in tag order, with the places between of what was settled before; nothing where
+    /// it is not open. There are at most as many places between as wait, and 32.
+    pub fn outstanding(&self, number: u16) -> &[Delivery]
+        ensures all { waiting result.now ≡ outstanding_on (channel_in self.now number) }
+        ensures few { length result.now ≤ 2 * length (outstanding_on (channel_in self.now number)) + 32 }
+    {
+        match self.channel(number) {
+            Some(channel) => channel.outstanding(),
+            None => &[],
+        }
+    }
+
+    /// The number of the next consumer on this channel, 1 where it is not open; none where close-ok is awaited.
+    pub fn next_number(&self, number: u16) -> Option<u64>
+        ensures { result ≡ next_number (channel_in self.now number) }
+    {
+        match self.channel(number) {
+            Some(channel) => number_of(channel),
+            None => Some(1),
+        }
+    }
+
+    /// The consumer of this number on the channel, if that is open and has it.
+    pub fn consumer(&self, channel: u16, number: u64) -> Option<&Consumer>
+        ensures found { option_map (λ k. k.now) result ≡ consumer_numbered (channel_in self.now channel) number }
+        ensures one { IfSome result (λ k. IsOneOn self.now channel number k.now) }
+    {
+        match self.channel(channel) {
+            Some(channel) => channel.consumer(number),
+            None => None,
+        }
+    }
+
+    /// The consumer of this number on the channel, exactly where it may be given a message now: the connection is not paused,
+    /// the channel is open, and the consumer is its and may take one.
+    pub fn taker(&self, channel: u16, number: u64) -> Option<&Consumer>
+        ensures { TellsOn self.now channel number (option_map (λ k. k.now) result) }
+    {
+        if self.is_paused {
+            return None;
+        }
+        match self.channel(channel) {
+            Some(channel) => taker_of(channel, number),
+            None => None,
+        }
+    }
+
+    /// How many consumers on its channels take from the queue at this place, at most the greatest number.
+    pub(crate) fn count_consumers(&self, queue: usize) -> usize
+        ensures { result ≡ min (consumers_counted queue self.now) greatest }
+    {
+        count_consumers(&self.channels, queue)
+    }
+
+    /// This stands at the channel of this number from now on, where none may have been open yet. Where memory is wanting,
+    /// nothing has changed.
+    pub(crate) fn open_channel(&mut self, number: u16, channel: Channel) -> Result<(), AllocError>
+        ensures ok { OnOk result (PutsIn self.old number (Some channel) self.new) }
+        ensures err { OnErr result (self.new ≡ self.old) }
+    {
+        open_at(&mut self.channels, number, channel)
+    }
+
+    /// This stands at the channel of this number from now on.
+    pub(crate) fn put(&mut self, number: u16, channel: Option<Channel>)
+        requires { IsSome (channel_in self.old number) }
+        ensures { PutsIn self.old number channel self.new }
+    {
+        put_at(&mut self.channels, number, channel);
+    }
+
+    /// The connection is paused from now on, or is not.
+    pub(crate) fn set_paused(&mut self, is_paused: bool)
+        ensures { self.new ≡ record self.old { is_paused = is_paused } }
+    {
+        self.is_paused = is_paused;
+    }
+
+    /// Each queue that stood at a place of the table stands now at the place that it has there. It takes no memory.
+    pub(crate) fn renumber(&mut self, places: &[usize])
+        ensures { self.new ≡ running_moved places.now self.old }
+    {
+        renumber_each(&mut self.channels, places);
+    }
+}
