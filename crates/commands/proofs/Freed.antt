@@ -225,9 +225,9 @@ none_held kept c none agreed = record {
 }
 
 -- what is outstanding on the channels of a connection is put back
-connection_is_freed : (kept : Kept) (c : ℕ) (l : Option Running) (new : Store) → IsAgreed (broker_of kept) → l ≡ running_in kept.connections c → AreReturnedAt c kept.store l new → IsFreed (by_connection c) kept.store new
-connection_is_freed kept c None new agreed at made = subst (IsFreed (by_connection c) kept.store) (sym made) (none_held kept c (sym at) agreed)
-connection_is_freed kept c (Some l) new agreed at made = record {
+running_is_freed : (kept : Kept) (c : ℕ) (l : Option Running) (new : Store) → IsAgreed (broker_of kept) → l ≡ running_in kept.connections c → AreReturnedAt c kept.store l new → IsFreed (by_connection c) kept.store new
+running_is_freed kept c None new agreed at made = subst (IsFreed (by_connection c) kept.store) (sym made) (none_held kept c (sym at) agreed)
+running_is_freed kept c (Some l) new agreed at made = record {
   topology = from_topology c 0 l.channels kept.store new made;
   published = from_published c 0 l.channels kept.store new made;
   queues = connection_freed c 0 (names_of kept) l.channels kept.store new refl made
@@ -235,7 +235,7 @@ connection_is_freed kept c (Some l) new agreed at made = record {
 }
 
 pub connection_is_freed : (old kept : Kept) (c : ℕ) (l : Option Running) (new : Store) → old ≡ kept → IsAgreed (broker_of kept) → l ≡ running_in old.connections c → AreReturnedAt c old.store l new → IsFreed (by_connection c) old.store new
-connection_is_freed old kept c l new e agreed = connection_is_freed old c l new (subst (λ (k : Kept). IsAgreed (broker_of k)) (sym e) agreed)
+connection_is_freed old kept c l new e agreed = running_is_freed old c l new (subst (λ (k : Kept). IsAgreed (broker_of k)) (sym e) agreed)
 
 -- ---- a loop over the channels of a connection
 
