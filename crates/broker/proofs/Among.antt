@@ -1,16 +1,16 @@
--- A seat among others, and what is left of them after a sweep.
+-- A waiter among others, and what is left of them after a sweep.
 use Rattle.std.proofs.Common.{Some, None, ◌+◌, ◌≡◌, ◌∙◌, ◌<◌, ℕ, zero, suc, List, [], ◌∷◌, ◌++◌, Bool, true, false, cond, length, get_or, filter, inl, inr, refl, sym, ap, subst, arith, if◌then◌else◌}
 use Rattle.std.specs.Prelude.{is_some, ◌==◌, ◌&&◌}
 use Rattle.std.specs.List.{position_from}
 use Rattle.std.proofs.lemmas.Bool.{eqb-true, eq-eqb, false≢true}
 use Rattle.model.specs.Topology.{IsIn}
-use Rattle.broker.specs.Roster.{is_consumer, is_seat_of}
-use Rattle.broker.specs.declared.roster.seats.Seat.{Seat}
+use Rattle.broker.specs.Rounds.{is_consumer, is_waiter_of}
+use Rattle.broker.specs.declared.rounds.waiters.Waiter.{Waiter}
 use Rattle.commands.specs.declared.picks.Pick.{Pick}
 use Rattle.broker.proofs.Waking.{both}
 
 -- what passes a test stays
-pub stays : {X : Type 0} (test : X → Bool) (p : X) (seats : List X) → IsIn p seats → test p ≡ true → IsIn p (filter test seats)
+pub stays : {X : Type 0} (test : X → Bool) (p : X) (waiters : List X) → IsIn p waiters → test p ≡ true → IsIn p (filter test waiters)
 stays test p [] i e = absurd i
 stays test p (x ∷ xs) (inl s) e = subst (λ (v : Bool). IsIn p (cond v (x ∷ filter test xs) (filter test xs))) (sym (ap test (sym s) ∙ e)) (inl s)
 stays test p (x ∷ xs) (inr i) e = go (test x) (stays test p xs i e)
@@ -20,12 +20,12 @@ stays test p (x ∷ xs) (inr i) e = go (test x) (stays test p xs i e)
     go false more = more
 
 -- before what is appended
-pub in_front : {X : Type 0} (p : X) (seats more : List X) → IsIn p seats → IsIn p (seats ++ more)
+pub in_front : {X : Type 0} (p : X) (waiters more : List X) → IsIn p waiters → IsIn p (waiters ++ more)
 in_front p [] more i = absurd i
 in_front p (x ∷ xs) more (inl s) = inl s
 in_front p (x ∷ xs) more (inr i) = inr (in_front p xs more i)
 
-pub at_end : {X : Type 0} (p : X) (seats : List X) → IsIn p (seats ++ p ∷ [])
+pub at_end : {X : Type 0} (p : X) (waiters : List X) → IsIn p (waiters ++ p ∷ [])
 at_end p [] = inl refl
 at_end p (x ∷ xs) = inr (at_end p xs)
 
@@ -39,13 +39,13 @@ pushed_still true p q old new e i = subst (λ (xs : List _). IsIn q xs) (sym e) 
 pushed_still false p q old new e i = subst (λ (xs : List _). IsIn q xs) (sym e) i
 
 -- the place at which it stands
-pub place_in : {X : Type 0} (p : X) (seats : List X) → IsIn p seats → (i : ℕ) × (i < length seats) × (get_or seats i p ≡ p)
+pub place_in : {X : Type 0} (p : X) (waiters : List X) → IsIn p waiters → (i : ℕ) × (i < length waiters) × (get_or waiters i p ≡ p)
 place_in p [] i = absurd i
 place_in p (x ∷ xs) (inl s) = (zero, (omega arith), sym s)
 place_in p (x ∷ xs) (inr i) = let (n, lt, e) = place_in p xs i in (suc n, (omega (arith, lt)), e)
 
 -- what stands at a place is there
-pub in_at : {X : Type 0} (seats : List X) (i : ℕ) (p d : X) → i < length seats → get_or seats i d ≡ p → IsIn p seats
+pub in_at : {X : Type 0} (waiters : List X) (i : ℕ) (p d : X) → i < length waiters → get_or waiters i d ≡ p → IsIn p waiters
 in_at [] i p d lt e = absurd (omega (arith, lt))
 in_at (x ∷ xs) zero p d lt e = inl (sym e)
 in_at (x ∷ xs) (suc i) p d lt e = inr (in_at xs i p d (omega (arith, lt)) e)
@@ -74,12 +74,12 @@ same_consumer p q e =
     one : ℕ → ℕ → ℕ → Pick
     one c h n = record { connection = c; channel = h; number = n }
 
--- no seat of the consumer is there where none is found
-pub not_found : (p : Pick) (seats : List Seat) (n : ℕ) → position_from (is_seat_of p) n seats ≡ None → (s : Seat) → IsIn s seats → s.pick ≡ p → ⊥
+-- no waiter of the consumer is there where none is found
+pub not_found : (p : Pick) (waiters : List Waiter) (n : ℕ) → position_from (is_waiter_of p) n waiters ≡ None → (s : Waiter) → IsIn s waiters → s.pick ≡ p → ⊥
 not_found p [] n e s i same = i
-not_found p (x ∷ xs) n e s i same = go (is_seat_of p x) refl e i (λ f j. not_found p xs (n + 1) f s j same)
+not_found p (x ∷ xs) n e s i same = go (is_waiter_of p x) refl e i (λ f j. not_found p xs (n + 1) f s j same)
   where
-    go : (v : Bool) → is_seat_of p x ≡ v → cond v (Some n) (position_from (is_seat_of p) (n + 1) xs) ≡ None → IsIn s (x ∷ xs) → (position_from (is_seat_of p) (n + 1) xs ≡ None → IsIn s xs → ⊥) → ⊥
+    go : (v : Bool) → is_waiter_of p x ≡ v → cond v (Some n) (position_from (is_waiter_of p) (n + 1) xs) ≡ None → IsIn s (x ∷ xs) → (position_from (is_waiter_of p) (n + 1) xs ≡ None → IsIn s xs → ⊥) → ⊥
     go true is f j more = false≢true (sym (ap is_some f))
-    go false is f (inl here) more = false≢true (sym is ∙ ap (is_consumer p) (ap (λ (z : Seat). z.pick) (sym here) ∙ same) ∙ one_consumer p)
+    go false is f (inl here) more = false≢true (sym is ∙ ap (is_consumer p) (ap (λ (z : Waiter). z.pick) (sym here) ∙ same) ∙ one_consumer p)
     go false is f (inr j) more = more f j

@@ -1,4 +1,4 @@
--- What a pick finds at a seat.
+-- What a pick finds at a waiter.
 use Rattle.std.proofs.Common.{◌≡◌, ◌∙◌, ◌<◌, ◌≤◌, ℕ, List, [], ◌∷◌, Bool, true, false, cond, Some, length, filter, find, inl, inr, refl, sym, ap, subst, arith}
 use Rattle.std.specs.Prelude.{◌==◌}
 use Rattle.std.proofs.lemmas.Bool.{eqb-true, eq-eqb, false≢true}
@@ -20,10 +20,10 @@ use Rattle.commands.specs.Picked.{IsPick, IsPickFrom, TakesAs, IsKeptAs, CannotT
 use Rattle.commands.specs.Seats.{has_consumer}
 use Rattle.commands.specs.declared.picks.Pick.{Pick}
 use Rattle.commands.proofs.Picking.{same_place}
-use Rattle.broker.specs.declared.roster.finding.Found.{Found}
-use Rattle.broker.specs.declared.roster.finding.Found.TheVariants.{Able, Unable, Over}
-use Rattle.broker.specs.declared.roster.seats.Seat.{Seat}
-use Rattle.broker.specs.Roster.{is_able, is_of, awake_seat, FindsSeat, HasConsumer}
+use Rattle.broker.specs.declared.rounds.finding.Found.{Found}
+use Rattle.broker.specs.declared.rounds.finding.Found.TheVariants.{Able, Unable, Over}
+use Rattle.broker.specs.declared.rounds.waiters.Waiter.{Waiter}
+use Rattle.broker.specs.Rounds.{is_able, is_of, awake_waiter, FindsWaiter, HasConsumer}
 use Rattle.broker.proofs.Present.{has_kept}
 use Rattle.broker.proofs.Sleeping.{cannot_pick}
 use Rattle.broker.proofs.Takers.{has_of, not_of, picked_of}
@@ -111,10 +111,10 @@ from_its kept p k t (made, at, numbered) =
 
 -- ---- what is found
 
--- at a seat that is awake, by what its consumer may take
-module _ (kept : Kept) (queue place : ℕ) (s : Seat) (k : Consumer) (f : Found) (whole : IsStoreWhole kept.store) (awake : s.asleep ≡ false) (here : k.queue ≡ place) (elsewhere : (place ≡ queue → ⊥) → f ≡ Over) where
-  at_other : (is_of kept queue s.pick ≡ false) → (place ≡ queue → ⊥) → FindsSeat kept queue s f
-  at_other none far = subst (FindsSeat kept queue s) (sym (elsewhere far)) (λ up. none)
+-- at a waiter that is awake, by what its consumer may take
+module _ (kept : Kept) (queue place : ℕ) (s : Waiter) (k : Consumer) (f : Found) (whole : IsStoreWhole kept.store) (awake : s.asleep ≡ false) (here : k.queue ≡ place) (elsewhere : (place ≡ queue → ⊥) → f ≡ Over) where
+  at_other : (is_of kept queue s.pick ≡ false) → (place ≡ queue → ⊥) → FindsWaiter kept queue s f
+  at_other none far = subst (FindsWaiter kept queue s) (sym (elsewhere far)) (λ up. none)
 
   by_place : (P : Type 0) → ((place ≡ queue) → P) → ((place ≡ queue → ⊥) → P) → P
   by_place P same far = go (place == queue) refl
@@ -123,23 +123,23 @@ module _ (kept : Kept) (queue place : ℕ) (s : Seat) (k : Consumer) (f : Found)
       go true e = same (eqb-true place queue e)
       go false e = far (λ is. false≢true (sym e ∙ eq-eqb place queue is))
 
-  pub unable_found : (place ≡ queue → f ≡ Unable) → IsKeptAs kept s.pick k → CannotTake (broker_of kept) s.pick → FindsSeat kept queue s f
-  unable_found its t cannot = by_place (FindsSeat kept queue s f)
-      (λ same. subst (FindsSeat kept queue s) (sym (its same)) (awake, cannot, has_of kept queue s.pick (subst (λ (n : ℕ). HasConsumer (topology_kept kept) (broker_of kept) n s.pick) (here ∙ same) (kept_has kept s.pick k t))))
+  pub unable_found : (place ≡ queue → f ≡ Unable) → IsKeptAs kept s.pick k → CannotTake (broker_of kept) s.pick → FindsWaiter kept queue s f
+  unable_found its t cannot = by_place (FindsWaiter kept queue s f)
+      (λ same. subst (FindsWaiter kept queue s) (sym (its same)) (awake, cannot, has_of kept queue s.pick (subst (λ (n : ℕ). HasConsumer (topology_kept kept) (broker_of kept) n s.pick) (here ∙ same) (kept_has kept s.pick k t))))
       (λ far. at_other (not_of kept queue s.pick (λ has. far (sym here ∙ kept_queue kept queue s.pick k whole t has))) far)
 
-  pub taker_found : HasReady kept.store queue → (place ≡ queue → f ≡ Able) → TakesAs kept s.pick k → FindsSeat kept queue s f
-  taker_found ready its t = by_place (FindsSeat kept queue s f)
-      (λ same. subst (FindsSeat kept queue s) (sym (its same)) (awake, able kept queue s.pick k whole ready t (here ∙ same)))
+  pub taker_found : HasReady kept.store queue → (place ≡ queue → f ≡ Able) → TakesAs kept s.pick k → FindsWaiter kept queue s f
+  taker_found ready its t = by_place (FindsWaiter kept queue s f)
+      (λ same. subst (FindsWaiter kept queue s) (sym (its same)) (awake, able kept queue s.pick k whole ready t (here ∙ same)))
       (λ far. at_other (not_of kept queue s.pick (λ has. far (sym here ∙ taken_queue kept queue s.pick k whole t has))) far)
 
 -- no delivery can be made where another thing is found
-pub none_found : (kept : Kept) (queue : ℕ) (s : Seat) (p : Pick) (f : Found) → FindsSeat kept queue s f → is_able f ≡ false → s ≡ awake_seat p → IsPickFrom kept queue p → ⊥
+pub none_found : (kept : Kept) (queue : ℕ) (s : Waiter) (p : Pick) (f : Found) → FindsWaiter kept queue s f → is_able f ≡ false → s ≡ awake_waiter p → IsPickFrom kept queue p → ⊥
 none_found kept queue s p Able finds none is pick = false≢true (sym none)
-none_found kept queue s p Unable finds none is pick = cannot_pick kept queue p (subst (λ (z : Seat). CannotTake (broker_of kept) z.pick) is finds.1) pick
-none_found kept queue s p Over finds none is pick = false≢true (sym (subst (λ (z : Seat). is_of kept queue z.pick ≡ false) is (finds (ap (λ (z : Seat). z.asleep) is))) ∙ picked_of kept queue p pick)
+none_found kept queue s p Unable finds none is pick = cannot_pick kept queue p (subst (λ (z : Waiter). CannotTake (broker_of kept) z.pick) is finds.1) pick
+none_found kept queue s p Over finds none is pick = false≢true (sym (subst (λ (z : Waiter). is_of kept queue z.pick ≡ false) is (finds (ap (λ (z : Waiter). z.asleep) is))) ∙ picked_of kept queue p pick)
 
-pub able_found : (kept : Kept) (queue : ℕ) (s : Seat) (f : Found) → FindsSeat kept queue s f → is_able f ≡ true → IsPickFrom kept queue s.pick
+pub able_found : (kept : Kept) (queue : ℕ) (s : Waiter) (f : Found) → FindsWaiter kept queue s f → is_able f ≡ true → IsPickFrom kept queue s.pick
 able_found kept queue s Able finds e = finds.1
 able_found kept queue s Unable finds e = absurd (false≢true e)
 able_found kept queue s Over finds e = absurd (false≢true e)

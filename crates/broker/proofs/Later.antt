@@ -1,4 +1,4 @@
--- A seat is made, and those of consumers that are gone may go: those who are there are gone round as before.
+-- A waiter is made, and those of consumers that are gone may go: those who are there are gone round as before.
 use Rattle.std.proofs.Common.{◌≡◌, ◌∙◌, ◌<◌, ◌≤◌, ◌+◌, ◌++◌, ◌⊎◌, ℕ, zero, suc, List, [], ◌∷◌, Bool, true, false, cond, length, take, drop, filter, min, inl, inr, refl, sym, ap, subst, arith}
 use Rattle.std.specs.Prelude.{count_by}
 use Rattle.std.proofs.lemmas.List.{drop_min, take_min, length-append}
@@ -6,9 +6,9 @@ use Rattle.std.proofs.lemmas.List.Elements.{filter-append}
 use Rattle.laws.proofs.Counts.{count-append, count-cons, count-cons_yes}
 use Rattle.commands.specs.State.{Kept}
 use Rattle.commands.specs.declared.picks.Pick.{Pick}
-use Rattle.broker.specs.declared.roster.seats.Seat.{Seat}
+use Rattle.broker.specs.declared.rounds.waiters.Waiter.{Waiter}
 use Rattle.broker.specs.Lines.{turned, standing, AreDistinct}
-use Rattle.broker.specs.Roster.{Seats, picks, order, is_consumer, has_its_consumer, is_of, KeepsThose, KeepsLine, LetsIn}
+use Rattle.broker.specs.Rounds.{Waiters, picks, order, is_consumer, has_its_consumer, is_of, KeepsThose, KeepsLine, LetsIn}
 use Rattle.broker.proofs.Among.{one_consumer, same_consumer}
 use Rattle.broker.proofs.Picks.{picks_length, picks_swept, picks_end}
 use Rattle.broker.proofs.Standing.{one_more, distinct_turned, filter_twice, filter_end}
@@ -41,15 +41,15 @@ module _ {X : Type 0} (test : X → Bool) where
   pub turned_filter : (n : ℕ) (xs : List X) → turned (count_by test (take n xs)) (filter test xs) ≡ filter test (turned n xs)
   turned_filter n xs = cc (take_filter n xs, drop_filter n xs, filter-append test (drop n xs) (take n xs))
 
--- of the consumers of seats as many are there
-count_picks : (kept : Kept) (queue : ℕ) (n : ℕ) (seats : List Seat) → count_by (has_its_consumer kept queue) (take n seats) ≡ count_by (is_of kept queue) (take n (picks seats))
-count_picks kept queue zero seats = refl
+-- of the consumers of waiters as many are there
+count_picks : (kept : Kept) (queue : ℕ) (n : ℕ) (waiters : List Waiter) → count_by (has_its_consumer kept queue) (take n waiters) ≡ count_by (is_of kept queue) (take n (picks waiters))
+count_picks kept queue zero waiters = refl
 count_picks kept queue (suc n) [] = refl
-count_picks kept queue (suc n) (s ∷ seats) =
-    count-cons (has_its_consumer kept queue) s (take n seats) ∙ ap (λ (k : ℕ). cond (is_of kept queue s.pick) 1 0 + k) (count_picks kept queue n seats) ∙ sym (count-cons (is_of kept queue) s.pick (take n (picks seats)))
+count_picks kept queue (suc n) (s ∷ waiters) =
+    count-cons (has_its_consumer kept queue) s (take n waiters) ∙ ap (λ (k : ℕ). cond (is_of kept queue s.pick) 1 0 + k) (count_picks kept queue n waiters) ∙ sym (count-cons (is_of kept queue) s.pick (take n (picks waiters)))
 
 -- those who are there are gone round as before
-pub order_swept : (kept : Kept) (queue : ℕ) (old new : List Seat) (next before now : ℕ) → new ≡ filter (has_its_consumer kept queue) old → before ≡ min next (length old) → now ≡ count_by (has_its_consumer kept queue) (take before old)
+pub order_swept : (kept : Kept) (queue : ℕ) (old new : List Waiter) (next before now : ℕ) → new ≡ filter (has_its_consumer kept queue) old → before ≡ min next (length old) → now ≡ count_by (has_its_consumer kept queue) (take before old)
     → turned now (picks new) ≡ filter (is_of kept queue) (turned next (picks old))
 order_swept kept queue old new next before now is first count =
     ap (λ (n : ℕ). turned n (picks new)) (count ∙ count_picks kept queue before old) ∙ ap (turned (count_by (is_of kept queue) (take before (picks old)))) (ap picks is ∙ picks_swept kept queue old)
@@ -58,20 +58,20 @@ order_swept kept queue old new next before now is first count =
     from_end : turned before (picks old) ≡ turned next (picks old)
     from_end = subst (λ (n : ℕ). turned n (picks old) ≡ turned next (picks old)) (sym (first ∙ ap (min next) (sym (picks_length old)))) (cc (drop_min next (picks old), take_min next (picks old)))
 
-pub those_swept : (kept : Kept) (queue : ℕ) (old new : List Seat) (next before now : ℕ) → new ≡ filter (has_its_consumer kept queue) old → before ≡ min next (length old) → now ≡ count_by (has_its_consumer kept queue) (take before old)
+pub those_swept : (kept : Kept) (queue : ℕ) (old new : List Waiter) (next before now : ℕ) → new ≡ filter (has_its_consumer kept queue) old → before ≡ min next (length old) → now ≡ count_by (has_its_consumer kept queue) (take before old)
     → KeepsThose kept queue (turned next (picks old)) (turned now (picks new))
 those_swept kept queue old new next before now is first count test there = ap (filter test) (order_swept kept queue old new next before now is first count) ∙ filter_twice test (is_of kept queue) (turned next (picks old)) there
 
 -- ---- one more at the end
 
-pub others_end : (seats : List Seat) (s : Seat) (next : ℕ) (test : Pick → Bool) → test s.pick ≡ false → filter test (turned next (picks (seats ++ s ∷ []))) ≡ filter test (turned next (picks seats))
-others_end seats s next test none = ap (λ (ps : List Pick). filter test (turned next ps)) (picks_end seats s) ∙ filter_end test s.pick next (picks seats) none
+pub others_end : (waiters : List Waiter) (s : Waiter) (next : ℕ) (test : Pick → Bool) → test s.pick ≡ false → filter test (turned next (picks (waiters ++ s ∷ []))) ≡ filter test (turned next (picks waiters))
+others_end waiters s next test none = ap (λ (ps : List Pick). filter test (turned next ps)) (picks_end waiters s) ∙ filter_end test s.pick next (picks waiters) none
 
 -- where no two are one, and those who were there are gone round as before, this one comes in
-pub lets_in : (kept : Kept) (queue : ℕ) (p : Pick) (old new : Seats) → AreDistinct (picks new.seats) → KeepsLine kept queue old new → LetsIn kept queue p old new
+pub lets_in : (kept : Kept) (queue : ℕ) (p : Pick) (old new : Waiters) → AreDistinct (picks new.waiters) → KeepsLine kept queue old new → LetsIn kept queue p old new
 lets_in kept queue p old new apart keeps before after stand more q its =
     subst (λ (ps : List Pick). standing (is_consumer q) (filter after (order new)) ≤ standing (is_consumer q) ps + 1) (keeps before stand)
-    (one_more (is_consumer q) q (one_consumer q) (same_consumer q) p after before (order new) more (distinct_turned new.next (picks new.seats) apart) its)
+    (one_more (is_consumer q) q (one_consumer q) (same_consumer q) p after before (order new) more (distinct_turned new.next (picks new.waiters) apart) its)
 
 -- ---- how many there are
 

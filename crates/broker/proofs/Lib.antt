@@ -1,6 +1,6 @@
 mod Among
-mod Desks
 mod Found
+mod Joined
 mod Later
 mod Lining
 mod Listed
@@ -12,7 +12,7 @@ mod Outcomes
 mod Picks
 mod Present
 mod Reloading
-mod Seated
+mod Sleepers
 mod Sleeping
 mod Standing
 mod Stepped

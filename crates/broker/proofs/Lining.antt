@@ -162,7 +162,7 @@ passed_least count next turn to at is lt p = elim (leb_tells next count) [
 -- ---- lists that are gone round
 
 -- Gone round from `next`, the list has this element behind those in front, which stand at places that are passed; and gone round from behind it, all others stand before it.
-pub record Rounds {X : Type 0} (xs : List X) (next place : ℕ) (x : X) : Type 0 where
+pub record GoneRound {X : Type 0} (xs : List X) (next place : ℕ) (x : X) : Type 0 where
   pub front : List X
   pub back : List X
   pub was : turned next xs ≡ front ++ x ∷ back
@@ -209,8 +209,8 @@ in_either y (x ∷ xs) ys (inl s) = inl (inl s)
 in_either y (x ∷ xs) ys (inr i) = elim (in_either y xs ys i) [ inl j ↦ inl (inr j) | inr j ↦ inr j ]
 
 -- on to a place behind
-rounds_on : {X : Type 0} (xs : List X) (next place : ℕ) (d : X) → next ≤ place → place < length xs → Rounds xs next place (get_or xs place d)
-rounds_on xs next place d le lt =
+gone_on : {X : Type 0} (xs : List X) (next place : ℕ) (d : X) → next ≤ place → place < length xs → GoneRound xs next place (get_or xs place d)
+gone_on xs next place d le lt =
     let s = splits xs place d lt in
     let x = get_or xs place d in
     let a = take next s.front in
@@ -238,8 +238,8 @@ rounds_on xs next place d le lt =
     }
 
 -- round to one before
-rounds_back : {X : Type 0} (xs : List X) (next place : ℕ) (d : X) → place < next → next ≤ length xs → Rounds xs next place (get_or xs place d)
-rounds_back xs next place d lt most =
+gone_back : {X : Type 0} (xs : List X) (next place : ℕ) (d : X) → place < next → next ≤ length xs → GoneRound xs next place (get_or xs place d)
+gone_back xs next place d lt most =
     let y = take next xs in
     let c = drop next xs in
     let size : length y ≡ next = let e = length-take next xs in omega (arith, e, most) in
@@ -274,16 +274,16 @@ rounds_back xs next place d lt most =
       ];
     }
 
-pub rounds : {X : Type 0} (xs : List X) (next place : ℕ) (d : X) → place < length xs → Rounds xs next place (get_or xs place d)
-rounds xs next place d lt = elim (leb_tells next place) [
-  | inl a ↦ rounds_on xs next place d a.1 lt
+pub gone_round : {X : Type 0} (xs : List X) (next place : ℕ) (d : X) → place < length xs → GoneRound xs next place (get_or xs place d)
+gone_round xs next place d lt = elim (leb_tells next place) [
+  | inl a ↦ gone_on xs next place d a.1 lt
   | inr a ↦
       let less = a.1 in
       elim (leb_tells next (length xs)) [
-        | inl b ↦ rounds_back xs next place d (omega (arith, less)) b.1
+        | inl b ↦ gone_back xs next place d (omega (arith, less)) b.1
         | inr b ↦
             let over = b.1 in
-            let r = rounds_back xs (length xs) place d lt (omega arith) in
+            let r = gone_back xs (length xs) place d lt (omega arith) in
             let all : turned next xs ≡ turned (length xs) xs =
             cc (drop_all next xs (omega (arith, over)), take_all next xs (omega (arith, over)), drop_all (length xs) xs (omega arith), take_all (length xs) xs (omega arith)) in
             record {

@@ -1,4 +1,4 @@
--- Lists of the channels: which seats are listed, and which of them sleep.
+-- Lists of the channels: which waiters are listed, and which of them sleep.
 use Rattle.std.proofs.Common.{◌≡◌, ◌∙◌, ◌<◌, ◌≤◌, ◌+◌, ◌++◌, ℕ, zero, suc, List, [], ◌∷◌, Bool, true, false, cond, Some, None, length, get_or, set, filter, inl, inr, refl, sym, ap, subst, arith, if◌then◌else◌}
 use Rattle.std.specs.Prelude.{is_some, ◌==◌}
 use Rattle.std.specs.List.{position_from}
@@ -10,7 +10,7 @@ use Rattle.model.specs.Topology.{IsIn}
 use Rattle.marks.specs.Places.{bit_of, Differs}
 use Rattle.channels.proofs.Setting.{same_default}
 use Rattle.commands.specs.State.{Kept}
-use Rattle.broker.specs.Roster.{Seats, Listing, Listings, is_consumer, is_listing, is_listed_there, is_of, listing, listings_on, IsAsleepAt, IsAsleepIn, KeepsListings, KeepListingsOn, SleepMore, IsWoken}
+use Rattle.broker.specs.Rounds.{Waiters, Listing, Listings, is_consumer, is_listing, is_listed_there, is_of, listing, listings_on, IsAsleepAt, IsAsleepIn, KeepsListings, KeepListingsOn, SleepMore, IsWoken}
 use Rattle.broker.proofs.Among.{stays, place_in, in_at, in_front, front_at, one_consumer, same_consumer}
 use Rattle.broker.proofs.Sleeping.{apart, set_more}
 use Rattle.broker.proofs.Waking.{both, and}
@@ -18,12 +18,12 @@ use Rattle.broker.proofs.Waking.{both, and}
 -- ---- one listing
 
 pub one_listing : (l : Listing) → is_listing l l ≡ true
-one_listing l = and (l.queue == l.queue) (is_consumer l.seat l.seat) (eq-eqb l.queue l.queue refl) (one_consumer l.seat)
+one_listing l = and (l.queue == l.queue) (is_consumer l.consumer l.consumer) (eq-eqb l.queue l.queue refl) (one_consumer l.consumer)
 
 pub same_listing : (l m : Listing) → is_listing l m ≡ true → l ≡ m
 same_listing l m e =
-    let parts = both (l.queue == m.queue) (is_consumer l.seat m.seat) e in
-    ap (λ (n : ℕ). listing n l.seat) (eqb-true l.queue m.queue parts.0) ∙ ap (listing m.queue) (same_consumer l.seat m.seat parts.1)
+    let parts = both (l.queue == m.queue) (is_consumer l.consumer m.consumer) e in
+    ap (λ (n : ℕ). listing n l.consumer) (eqb-true l.queue m.queue parts.0) ∙ ap (listing m.queue) (same_consumer l.consumer m.consumer parts.1)
 
 -- what is found stands at or behind the place from which it is looked for
 far_behind : (l : Listing) (n from : ℕ) (ls : List Listing) → position_from (is_listing l) from ls ≡ Some n → n < from → ⊥
@@ -89,7 +89,7 @@ kept_swept kept old new is ones = record {
   asleep = λ l i its. all_asleep new.all new.asleep ones l (left l (asleep_noted old l i) its);
 }
   where
-    left : (l : Listing) → IsIn l old.all → is_of kept l.queue l.seat ≡ true → IsIn l new.all
+    left : (l : Listing) → IsIn l old.all → is_of kept l.queue l.consumer ≡ true → IsIn l new.all
     left l i its = subst (λ (ls : List Listing). IsIn l ls) (sym is) (stays (is_listed_there kept) l old.all i its)
 
 -- one more at the end
@@ -115,29 +115,29 @@ keeps_grown kept all old new same = record { noted = λ l i its. i; asleep = λ 
 -- ---- the lists of all channels
 
 -- one of them changes
-module _ (desk : List Listings) (at : ℕ) (s : Listings) (lt : at < length desk) where
+module _ (channels : List Listings) (at : ℕ) (s : Listings) (lt : at < length channels) where
   abbrev nothing_listed : Listings
   nothing_listed = record { all = []; asleep = [] }
 
-  pub on_same : listings_on (set desk at s) at ≡ s
-  on_same = get_or-set_same desk at s nothing_listed lt
+  pub on_same : listings_on (set channels at s) at ≡ s
+  on_same = get_or-set_same channels at s nothing_listed lt
 
-  pub on_other : (h : ℕ) → (h ≡ at → ⊥) → listings_on (set desk at s) h ≡ listings_on desk h
-  on_other h far = get_or-set_other desk at h s nothing_listed far
+  pub on_other : (h : ℕ) → (h ≡ at → ⊥) → listings_on (set channels at s) h ≡ listings_on channels h
+  on_other h far = get_or-set_other channels at h s nothing_listed far
 
   -- what is so of the one that changed, and of each that did not, is so of all
-  pub on_each : (P : Listings → Listings → Type 0) → P (listings_on desk at) s → ((h : ℕ) → P (listings_on desk h) (listings_on desk h)) → (h : ℕ) → P (listings_on desk h) (listings_on (set desk at s) h)
+  pub on_each : (P : Listings → Listings → Type 0) → P (listings_on channels at) s → ((h : ℕ) → P (listings_on channels h) (listings_on channels h)) → (h : ℕ) → P (listings_on channels h) (listings_on (set channels at s) h)
   on_each P one others h = go (h == at) refl
     where
-      go : (v : Bool) → (h == at) ≡ v → P (listings_on desk h) (listings_on (set desk at s) h)
-      go true f = subst (λ (n : ℕ). P (listings_on desk n) (listings_on (set desk at s) n)) (sym (eqb-true h at f)) (subst (P (listings_on desk at)) (sym on_same) one)
-      go false f = subst (P (listings_on desk h)) (sym (on_other h (apart h at f))) (others h)
+      go : (v : Bool) → (h == at) ≡ v → P (listings_on channels h) (listings_on (set channels at s) h)
+      go true f = subst (λ (n : ℕ). P (listings_on channels n) (listings_on (set channels at s) n)) (sym (eqb-true h at f)) (subst (P (listings_on channels at)) (sym on_same) one)
+      go false f = subst (P (listings_on channels h)) (sym (on_other h (apart h at f))) (others h)
 
 -- past the end nothing is listed
-pub past_end : (desk : List Listings) (h : ℕ) → (h < length desk → ⊥) → (listings_on desk h).all ≡ []
+pub past_end : (channels : List Listings) (h : ℕ) → (h < length channels → ⊥) → (listings_on channels h).all ≡ []
 past_end [] h far = refl
-past_end (x ∷ desk) zero far = absurd (far (omega arith))
-past_end (x ∷ desk) (suc h) far = past_end desk h (λ lt. far (omega (arith, lt)))
+past_end (x ∷ channels) zero far = absurd (far (omega arith))
+past_end (x ∷ channels) (suc h) far = past_end channels h (λ lt. far (omega (arith, lt)))
 
 pub more_same : (s : Listings) → SleepMore s s
 more_same s = record { same = refl; stay = λ l i. i }
@@ -159,7 +159,7 @@ kept_then kept old mid new f g h = record { noted = λ l i its. (g h).noted l ((
 -- ---- those of a list that sleep are woken
 
 -- those up to the next bit that is 1
-pub woken_gap : (s : Listings) (now : List ℕ) (old mid : List Seats) (next bound : ℕ) → ((i : ℕ) (l : Listing) → i < next → IsAsleepAt s i l → IsWoken old mid l) → ((i : ℕ) → next ≤ i → bit_of now i ≡ bit_of s.asleep i)
+pub woken_gap : (s : Listings) (now : List ℕ) (old mid : List Waiters) (next bound : ℕ) → ((i : ℕ) (l : Listing) → i < next → IsAsleepAt s i l → IsWoken old mid l) → ((i : ℕ) → next ≤ i → bit_of now i ≡ bit_of s.asleep i)
     → ((k : ℕ) → next ≤ k → k < bound → bit_of now k ≡ 0) → (i : ℕ) (l : Listing) → i < bound → IsAsleepAt s i l → IsWoken old mid l
 woken_gap s now old mid next bound woken behind zeros i l lt at = elim (leb_tells (i + 1) next) [
   | inl a ↦ let le = a.1 in woken i l (omega (arith, le)) at

@@ -11,16 +11,16 @@ use Rattle.exchange_graph.specs.Marks.{queue_name}
 use Rattle.commands.specs.State.{Kept, broker_of, topology_kept}
 use Rattle.commands.specs.Picked.{IsPickFrom}
 use Rattle.commands.specs.declared.picks.Pick.{Pick}
-use Rattle.broker.specs.declared.roster.seats.Seat.{Seat}
+use Rattle.broker.specs.declared.rounds.waiters.Waiter.{Waiter}
 use Rattle.broker.specs.Lines.{turned, ahead, standing, IsPassed}
-use Rattle.broker.specs.Roster.{Seats, Rings, Lists, ring_at, picks, order, line_of, takes_from, awake_seat, asleep_seat, is_consumer, IsSeatedIn, GoesLast, PicksFirst}
+use Rattle.broker.specs.Rounds.{Waiters, Rounds, Lists, round_at, picks, order, line_of, takes_from, awake_waiter, asleep_waiter, is_consumer, IsInRound, GoesLast, PicksFirst}
 use Rattle.broker.specs.Turns.{WithTurn, with_turn}
 use Rattle.broker.specs.Waiting.{line_at, standing_at, before, IsToldInTurn}
 use Rattle.broker.proofs.Among.{one_consumer, same_consumer, stays}
 use Rattle.broker.proofs.Lining.{in_either, in_place, filter_in, ahead_nearer, ahead_last}
 use Rattle.broker.proofs.Picks.{picks_length, picks_at}
 use Rattle.broker.proofs.Present.{has_picked}
-use Rattle.broker.proofs.Seated.{Holds}
+use Rattle.broker.proofs.Joined.{Holds}
 use Rattle.broker.proofs.Sleeping.{apart}
 use Rattle.broker.proofs.Standing.{in_left, in_right}
 use Rattle.broker.proofs.Takers.{has_takes, line_is}
@@ -35,19 +35,19 @@ in_turned y xs next i = go (in_either y (take next xs) (drop next xs) (subst (Is
     go (inl j) = in_right y (drop next xs) (take next xs) j
     go (inr j) = in_left y (drop next xs) (take next xs) j
 
-in_picks : (s : Seat) (seats : List Seat) → IsIn s seats → IsIn s.pick (picks seats)
+in_picks : (s : Waiter) (waiters : List Waiter) → IsIn s waiters → IsIn s.pick (picks waiters)
 in_picks s [] i = absurd i
-in_picks s (x ∷ xs) (inl e) = inl (ap (λ (z : Seat). z.pick) e)
+in_picks s (x ∷ xs) (inl e) = inl (ap (λ (z : Waiter). z.pick) e)
 in_picks s (x ∷ xs) (inr i) = inr (in_picks s xs i)
 
--- whoever has a seat stands in the line of its ring
-pub in_order : (b : Broker) (lists : Lists) (queue : ℕ) (r : Seats) (p : Pick) → IsSeatedIn b lists queue r p → IsIn p (order r)
+-- whoever has a waiter stands in the line of its round
+pub in_order : (b : Broker) (lists : Lists) (queue : ℕ) (r : Waiters) (p : Pick) → IsInRound b lists queue r p → IsIn p (order r)
 in_order b lists queue r p (inl (i, at)) =
     let within = at.within in
-    let long = picks_length r.seats in
-    in_turned p (picks r.seats) r.next
-    (in_place p p (picks r.seats) i (omega (arith, within, long)) (picks_at r.seats i (awake_seat p) ∙ ap (λ (s : Seat). s.pick) (at.there (awake_seat p))))
-in_order b lists queue r p (inr s) = in_turned p (picks r.seats) r.next (in_picks (asleep_seat p) r.seats s.asleep)
+    let long = picks_length r.waiters in
+    in_turned p (picks r.waiters) r.next
+    (in_place p p (picks r.waiters) i (omega (arith, within, long)) (picks_at r.waiters i (awake_waiter p) ∙ ap (λ (s : Waiter). s.pick) (at.there (awake_waiter p))))
+in_order b lists queue r p (inr s) = in_turned p (picks r.waiters) r.next (in_picks (asleep_waiter p) r.waiters s.asleep)
 
 -- ---- how many stand before one
 
@@ -104,7 +104,7 @@ less_on m x y lt = omega (arith, lt)
 -- ---- whoever is not told
 
 -- a consumer that is told from the queue at this place, of those who take from it
-module _ (kept : Kept) (lists : Lists) (place : ℕ) (r s : Seats) (q : Pick) (test : Pick → Bool) (goes : GoesLast kept lists place r s q) (own : test q ≡ true) where
+module _ (kept : Kept) (lists : Lists) (place : ℕ) (r s : Waiters) (q : Pick) (test : Pick → Bool) (goes : GoesLast kept lists place r s q) (own : test q ≡ true) where
   line_was : filter test (order r) ≡ filter test goes.front ++ q ∷ filter test goes.back
   line_was = ap (filter test) goes.was ∙ filter-append test goes.front (q ∷ goes.back) ∙ ap (λ (v : Bool). filter test goes.front ++ cond v (q ∷ filter test goes.back) (filter test goes.back)) own
 
@@ -113,15 +113,15 @@ module _ (kept : Kept) (lists : Lists) (place : ℕ) (r s : Seats) (q : Pick) (t
       ap (filter test) goes.now ∙ filter-append test (goes.back ++ goes.front) (q ∷ []) ∙ ap (λ (ps : List Pick). ps ++ filter test (q ∷ [])) (filter-append test goes.back goes.front)
       ∙ ap (λ (v : Bool). (filter test goes.back ++ filter test goes.front) ++ cond v (q ∷ []) []) own
 
-  pub nearer_here : (p : Pick) → IsSeatedIn (broker_of kept) lists place r p → IsPickFrom kept place p → test p ≡ true → (p ≡ q → ⊥)
+  pub nearer_here : (p : Pick) → IsInRound (broker_of kept) lists place r p → IsPickFrom kept place p → test p ≡ true → (p ≡ q → ⊥)
       → standing (is_consumer p) (filter test (order s)) < standing (is_consumer p) (filter test (order r))
-  nearer_here p seated pick its far =
+  nearer_here p joined pick its far =
       subst (λ (ps : List Pick). standing (is_consumer p) ps < standing (is_consumer p) (filter test (order r))) (sym line_now)
       (subst (λ (ps : List Pick). standing (is_consumer p) (filter test goes.back ++ filter test goes.front ++ q ∷ []) < standing (is_consumer p) ps) (sym line_was)
-      (told_last p q (filter test goes.front) (filter test goes.back) (λ i. goes.passed p (filter_in test p goes.front i) seated pick) far
-      (subst (IsIn p) line_was (stays test p (order r) (in_order (broker_of kept) lists place r p seated) its))))
+      (told_last p q (filter test goes.front) (filter test goes.back) (λ i. goes.passed p (filter_in test p goes.front i) joined pick) far
+      (subst (IsIn p) line_was (stays test p (order r) (in_order (broker_of kept) lists place r p joined) its))))
 
-module _ (kept : Kept) (old new : Rings) (x : Option Pick) (q : Pick) (held : Holds kept old) (len : length new.rings ≡ length old.rings) (t : PicksFirst kept old new q) where
+module _ (kept : Kept) (old new : Rounds) (x : Option Pick) (q : Pick) (held : Holds kept old) (len : length new.rounds ≡ length old.rounds) (t : PicksFirst kept old new q) where
   abbrev pub was : WithTurn
   was = with_turn kept old x
 
@@ -131,34 +131,34 @@ module _ (kept : Kept) (old new : Rings) (x : Option Pick) (q : Pick) (held : Ho
   abbrev n : ℕ
   n = length (topology_kept kept).queues
 
-  line_in : (r : Rings) (y : Option Pick) (place : ℕ) → length r.rings ≡ n → place < n → line_at (with_turn kept r y) place ≡ line_of (broker_of kept) (queue_name (topology_kept kept) place) (ring_at r.rings place)
-  line_in r y place long lt = line_is kept r.rings place long lt
+  line_in : (r : Rounds) (y : Option Pick) (place : ℕ) → length r.rounds ≡ n → place < n → line_at (with_turn kept r y) place ≡ line_of (broker_of kept) (queue_name (topology_kept kept) place) (round_at r.rounds place)
+  line_in r y place long lt = line_is kept r.rounds place long lt
 
   -- from the queue from which one was told
   of_this : (p : Pick) → IsPickFrom kept t.queue p → (p ≡ q → ⊥) → standing_at now t.queue p * n + ahead n new.next t.queue < standing_at was t.queue p * n + ahead n old.next t.queue
   of_this p pick far =
       let lt = pick.within in
-      let long = len ∙ held.rings_for in
+      let long = len ∙ held.rounds_for in
       let test = takes_from (broker_of kept) (queue_name (topology_kept kept) t.queue) in
       let its = has_takes (topology_kept kept) (broker_of kept) t.queue p (has_picked kept t.queue p pick) in
       let own = has_takes (topology_kept kept) (broker_of kept) t.queue q (has_picked kept t.queue q t.could) in
-      let less = nearer_here kept old.lists t.queue (ring_at old.rings t.queue) (ring_at new.rings t.queue) q test t.told.ring own p (held.seated t.queue p (has_picked kept t.queue p pick)) pick its far in
+      let less = nearer_here kept old.lists t.queue (round_at old.rounds t.queue) (round_at new.rounds t.queue) q test t.told.round own p (held.joined t.queue p (has_picked kept t.queue p pick)) pick its far in
       let last = subst (λ (k : ℕ). ahead n k t.queue < n) (sym t.next) (ahead_last n t.queue lt) in
       less_each (standing_at now t.queue p) (standing_at was t.queue p) n (ahead n new.next t.queue) (ahead n old.next t.queue)
       (subst (λ (ps : List Pick). standing (is_consumer p) ps < standing_at was t.queue p) (sym (line_in new (Some q) t.queue long lt))
-      (subst (λ (ps : List Pick). standing (is_consumer p) (line_of (broker_of kept) (queue_name (topology_kept kept) t.queue) (ring_at new.rings t.queue)) < standing (is_consumer p) ps) (sym (line_in old x t.queue held.rings_for lt)) less))
+      (subst (λ (ps : List Pick). standing (is_consumer p) (line_of (broker_of kept) (queue_name (topology_kept kept) t.queue) (round_at new.rounds t.queue)) < standing (is_consumer p) ps) (sym (line_in old x t.queue held.rounds_for lt)) less))
       last
 
   -- and from each other
   of_other : (place : ℕ) (p : Pick) → (place ≡ t.queue → ⊥) → IsPickFrom kept place p → standing_at now place p * n + ahead n new.next place < standing_at was place p * n + ahead n old.next place
   of_other place p far pick =
-      let long = held.rings_for in
+      let long = held.rounds_for in
       let lt = pick.within in
       let within = t.within in
       let same : line_at now place ≡ line_at was place =
       line_in new (Some q) place (len ∙ long) lt ∙ ap (filter (takes_from (broker_of kept) (queue_name (topology_kept kept) place))) (t.told.others place far) ∙ sym (line_in old x place long lt) in
       let passed : IsPassed n old.next t.queue place → ⊥ =
-      λ p'. t.passed place p (subst (λ (k : ℕ). IsPassed k old.next t.queue place) (sym long) p') (held.seated place p (has_picked kept place p pick)) pick in
+      λ p'. t.passed place p (subst (λ (k : ℕ). IsPassed k old.next t.queue place) (sym long) p') (held.joined place p (has_picked kept place p pick)) pick in
       let less = ahead_nearer n old.next t.queue place (omega (arith, within, long)) lt far passed in
       subst (λ (ps : List Pick). standing (is_consumer p) ps * n + ahead n new.next place < standing_at was place p * n + ahead n old.next place) (sym same)
       (subst (λ (k : ℕ). standing_at was place p * n + ahead n k place < standing_at was place p * n + ahead n old.next place) (sym t.next)

@@ -1,59 +1,59 @@
--- The consumers of seats, in their order.
+-- The consumers of waiters, in their order.
 use Rattle.std.proofs.Common.{◌≡◌, ◌∙◌, ◌<◌, ℕ, zero, suc, List, [], ◌∷◌, Bool, true, false, cond, length, get_or, set, filter, refl, sym, ap, subst, inl, inr, ◌++◌, arith}
 use Rattle.model.specs.Topology.{IsIn}
 use Rattle.commands.specs.State.{Kept}
 use Rattle.commands.specs.declared.picks.Pick.{Pick}
-use Rattle.broker.specs.declared.roster.seats.Seat.{Seat}
+use Rattle.broker.specs.declared.rounds.waiters.Waiter.{Waiter}
 use Rattle.broker.specs.Lines.{AreDistinct}
-use Rattle.broker.specs.Roster.{picks, has_its_consumer, is_of}
+use Rattle.broker.specs.Rounds.{picks, has_its_consumer, is_of}
 use Rattle.broker.specs.Moving.{all_awake}
 use Rattle.broker.proofs.Lining.{filter_in, filter_distinct, distinct_end}
 
-pub picks_length : (seats : List Seat) → length (picks seats) ≡ length seats
+pub picks_length : (waiters : List Waiter) → length (picks waiters) ≡ length waiters
 picks_length [] = refl
-picks_length (s ∷ seats) = let more = picks_length seats in omega (arith, more)
+picks_length (s ∷ waiters) = let more = picks_length waiters in omega (arith, more)
 
-pub picks_at : (seats : List Seat) (i : ℕ) (d : Seat) → get_or (picks seats) i d.pick ≡ (get_or seats i d).pick
+pub picks_at : (waiters : List Waiter) (i : ℕ) (d : Waiter) → get_or (picks waiters) i d.pick ≡ (get_or waiters i d).pick
 picks_at [] i d = refl
-picks_at (s ∷ seats) zero d = refl
-picks_at (s ∷ seats) (suc i) d = picks_at seats i d
+picks_at (s ∷ waiters) zero d = refl
+picks_at (s ∷ waiters) (suc i) d = picks_at waiters i d
 
--- a seat of the same consumer is put in the place of another
-pub picks_set : (seats : List Seat) (place : ℕ) (t d : Seat) → place < length seats → t.pick ≡ (get_or seats place d).pick → picks (set seats place t) ≡ picks seats
+-- a waiter of the same consumer is put in the place of another
+pub picks_set : (waiters : List Waiter) (place : ℕ) (t d : Waiter) → place < length waiters → t.pick ≡ (get_or waiters place d).pick → picks (set waiters place t) ≡ picks waiters
 picks_set [] place t d lt same = absurd (omega (arith, lt))
-picks_set (s ∷ seats) zero t d lt same = ap (λ (p : Pick). p ∷ picks seats) same
-picks_set (s ∷ seats) (suc place) t d lt same = ap (λ (ps : List Pick). s.pick ∷ ps) (picks_set seats place t d (omega (arith, lt)) same)
+picks_set (s ∷ waiters) zero t d lt same = ap (λ (p : Pick). p ∷ picks waiters) same
+picks_set (s ∷ waiters) (suc place) t d lt same = ap (λ (ps : List Pick). s.pick ∷ ps) (picks_set waiters place t d (omega (arith, lt)) same)
 
-pub picks_awake : (seats : List Seat) → picks (all_awake seats) ≡ picks seats
+pub picks_awake : (waiters : List Waiter) → picks (all_awake waiters) ≡ picks waiters
 picks_awake [] = refl
-picks_awake (s ∷ seats) = ap (λ (ps : List Pick). s.pick ∷ ps) (picks_awake seats)
+picks_awake (s ∷ waiters) = ap (λ (ps : List Pick). s.pick ∷ ps) (picks_awake waiters)
 
 -- of those that are left after a sweep
-pub picks_swept : (kept : Kept) (queue : ℕ) (seats : List Seat) → picks (filter (has_its_consumer kept queue) seats) ≡ filter (is_of kept queue) (picks seats)
+pub picks_swept : (kept : Kept) (queue : ℕ) (waiters : List Waiter) → picks (filter (has_its_consumer kept queue) waiters) ≡ filter (is_of kept queue) (picks waiters)
 picks_swept kept queue [] = refl
-picks_swept kept queue (s ∷ seats) = go (is_of kept queue s.pick) (picks_swept kept queue seats)
+picks_swept kept queue (s ∷ waiters) = go (is_of kept queue s.pick) (picks_swept kept queue waiters)
   where
-    go : (v : Bool) → picks (filter (has_its_consumer kept queue) seats) ≡ filter (is_of kept queue) (picks seats)
-        → picks (cond v (s ∷ filter (has_its_consumer kept queue) seats) (filter (has_its_consumer kept queue) seats)) ≡ cond v (s.pick ∷ filter (is_of kept queue) (picks seats)) (filter (is_of kept queue) (picks seats))
+    go : (v : Bool) → picks (filter (has_its_consumer kept queue) waiters) ≡ filter (is_of kept queue) (picks waiters)
+        → picks (cond v (s ∷ filter (has_its_consumer kept queue) waiters) (filter (has_its_consumer kept queue) waiters)) ≡ cond v (s.pick ∷ filter (is_of kept queue) (picks waiters)) (filter (is_of kept queue) (picks waiters))
     go true e = ap (λ (ps : List Pick). s.pick ∷ ps) e
     go false e = e
 
-pub fewer_swept : (kept : Kept) (queue : ℕ) (old new : List Seat) → new ≡ filter (has_its_consumer kept queue) old → (p : Pick) → IsIn p (picks new) → IsIn p (picks old)
+pub fewer_swept : (kept : Kept) (queue : ℕ) (old new : List Waiter) → new ≡ filter (has_its_consumer kept queue) old → (p : Pick) → IsIn p (picks new) → IsIn p (picks old)
 fewer_swept kept queue old new is p i = filter_in (is_of kept queue) p (picks old) (subst (IsIn p) (ap picks is ∙ picks_swept kept queue old) i)
 
-pub apart_swept : (kept : Kept) (queue : ℕ) (old new : List Seat) → new ≡ filter (has_its_consumer kept queue) old → AreDistinct (picks old) → AreDistinct (picks new)
+pub apart_swept : (kept : Kept) (queue : ℕ) (old new : List Waiter) → new ≡ filter (has_its_consumer kept queue) old → AreDistinct (picks old) → AreDistinct (picks new)
 apart_swept kept queue old new is apart = subst (λ (ps : List Pick). AreDistinct ps) (sym (ap picks is ∙ picks_swept kept queue old)) (filter_distinct (is_of kept queue) (picks old) apart)
 
--- a seat more at the end, of a consumer that had none
-pub picks_end : (seats : List Seat) (s : Seat) → picks (seats ++ s ∷ []) ≡ picks seats ++ s.pick ∷ []
+-- a waiter more at the end, of a consumer that had none
+pub picks_end : (waiters : List Waiter) (s : Waiter) → picks (waiters ++ s ∷ []) ≡ picks waiters ++ s.pick ∷ []
 picks_end [] s = refl
-picks_end (x ∷ seats) s = ap (λ (ps : List Pick). x.pick ∷ ps) (picks_end seats s)
+picks_end (x ∷ waiters) s = ap (λ (ps : List Pick). x.pick ∷ ps) (picks_end waiters s)
 
-pub apart_end : (seats : List Seat) (s : Seat) → AreDistinct (picks seats) → (IsIn s.pick (picks seats) → ⊥) → AreDistinct (picks (seats ++ s ∷ []))
-apart_end seats s apart absent = subst (λ (ps : List Pick). AreDistinct ps) (sym (picks_end seats s)) (distinct_end s.pick (picks seats) apart absent)
+pub apart_end : (waiters : List Waiter) (s : Waiter) → AreDistinct (picks waiters) → (IsIn s.pick (picks waiters) → ⊥) → AreDistinct (picks (waiters ++ s ∷ []))
+apart_end waiters s apart absent = subst (λ (ps : List Pick). AreDistinct ps) (sym (picks_end waiters s)) (distinct_end s.pick (picks waiters) apart absent)
 
--- where no seat is the consumer's
-pub no_pick : (p : Pick) (seats : List Seat) → ((s : Seat) → IsIn s seats → s.pick ≡ p → ⊥) → IsIn p (picks seats) → ⊥
+-- where no waiter is the consumer's
+pub no_pick : (p : Pick) (waiters : List Waiter) → ((s : Waiter) → IsIn s waiters → s.pick ≡ p → ⊥) → IsIn p (picks waiters) → ⊥
 no_pick p [] none i = i
-no_pick p (s ∷ seats) none (inl e) = none s (inl refl) (sym e)
-no_pick p (s ∷ seats) none (inr i) = no_pick p seats (λ x j. none x (inr j)) i
+no_pick p (s ∷ waiters) none (inl e) = none s (inl refl) (sym e)
+no_pick p (s ∷ waiters) none (inr i) = no_pick p waiters (λ x j. none x (inr j)) i

@@ -16,7 +16,7 @@ use Rattle.commands.specs.Picked.{IsPickFrom}
 use Rattle.commands.specs.Seats.{has_consumer}
 use Rattle.commands.specs.declared.picks.Pick.{Pick}
 use Rattle.commands.proofs.Stepping.{seen_there}
-use Rattle.broker.specs.Roster.{HasConsumer}
+use Rattle.broker.specs.Rounds.{HasConsumer}
 
 found_by : (names : List Text) (cs : List Consumer) (k : seen.Consumer) (n : ℕ) → IsIn k (map (consumer_in names) cs) → k.number ≡ n → is_some (find (λ (c : Consumer). c.number == n) cs) ≡ true
 found_by names [] k n i e = absurd i

@@ -25,11 +25,11 @@ use Rattle.commands.proofs.Placing.{takes_within}
 use Rattle.commands.proofs.Reloading.{in_mapped, seen_of, one_place}
 use Rattle.commands.proofs.Stepping.{seen_there}
 use Rattle.exchange_graph.specs.Marks.{queue_name}
-use Rattle.broker.specs.Roster.{Rings, Lists, Seats, ring_at, order, has_taker, takes_from, IsAwake, IsSeatedIn, listing, HasConsumer, AllHaveSeats, AllAreNoted, IsNoted, IsServing}
-use Rattle.broker.specs.Moving.{StandsIn, ArePlacesApart, RingsAreMoved, ListsAreMoved}
+use Rattle.broker.specs.Rounds.{Rounds, Lists, Waiters, round_at, order, has_taker, takes_from, IsAwake, IsInRound, listing, HasConsumer, AllAreInRounds, AllAreNoted, IsNoted, IsServing}
+use Rattle.broker.specs.Moving.{StandsIn, ArePlacesApart, RoundsAreMoved, ListsAreMoved}
 use Rattle.broker.specs.Turns.{with_turn}
 use Rattle.broker.specs.Waiting.{line_at, LinesMove}
-use Rattle.broker.proofs.Seated.{Holds, serves, running_still}
+use Rattle.broker.proofs.Joined.{Holds, serves, running_still}
 use Rattle.broker.proofs.Takers.{line_is}
 
 -- ---- what is held and what is outstanding
@@ -87,8 +87,8 @@ pub record Was (old : Kept) (places : List ℕ) (place : ℕ) (p : Pick) : Type 
   pub now : place_now places from ≡ place
   pub has : HasConsumer (topology_kept old) (broker_of old) from p
 
--- who has a seat stands in the ring
-stands : (b : Broker) (lists : Lists) (queue : ℕ) (r : Seats) (p : Pick) → IsSeatedIn b lists queue r p → StandsIn r p
+-- who has a waiter stands in the round
+stands : (b : Broker) (lists : Lists) (queue : ℕ) (r : Waiters) (p : Pick) → IsInRound b lists queue r p → StandsIn r p
 stands b lists queue r p (inl up) = inl up
 stands b lists queue r p (inr s) = inr s.asleep
 
@@ -118,26 +118,26 @@ module _ (old new : Kept) (places : List ℕ) (after : IsStoreWhole new.store) (
         has = record { consumer = has.consumer; was = (has.was.0, there, has.was.2); numbered = has.numbered; within = lt; named = named };
       }
 
-  -- each consumer has its seat, awake, in the ring of its queue
-  seated_moved : (before left : Rings) → AllHaveSeats (topology_kept old) (broker_of old) before → RingsAreMoved places before.rings left.rings → length left.rings ≡ length (topology_kept new).queues
-      → AllHaveSeats (topology_kept new) (broker_of new) left
-  seated_moved before left seated rings len place p has =
+  -- each consumer waits, awake, in the round of its queue
+  joined_moved : (before left : Rounds) → AllAreInRounds (topology_kept old) (broker_of old) before → RoundsAreMoved places before.rounds left.rounds → length left.rounds ≡ length (topology_kept new).queues
+      → AllAreInRounds (topology_kept new) (broker_of new) left
+  joined_moved before left joined rounds len place p has =
       let was = was_at place p has in
       let within = has.within in
       let now = was.now in
-      inl (subst (λ (n : ℕ). IsAwake (ring_at left.rings n) p) was.now
-      ((rings was.from was.within (omega (arith, within, now, len))).roused p (stands (broker_of old) before.lists was.from (ring_at before.rings was.from) p (seated was.from p was.has))))
+      inl (subst (λ (n : ℕ). IsAwake (round_at left.rounds n) p) was.now
+      ((rounds was.from was.within (omega (arith, within, now, len))).roused p (stands (broker_of old) before.lists was.from (round_at before.rounds was.from) p (joined was.from p was.has))))
 
   -- and is listed there
-  noted_moved : (before left : Rings) → AllAreNoted (topology_kept old) (broker_of old) before.lists → ListsAreMoved places before.lists left.lists → AllAreNoted (topology_kept new) (broker_of new) left.lists
+  noted_moved : (before left : Rounds) → AllAreNoted (topology_kept old) (broker_of old) before.lists → ListsAreMoved places before.lists left.lists → AllAreNoted (topology_kept new) (broker_of new) left.lists
   noted_moved before left noted lists place p has =
       let was = was_at place p has in
       subst (λ (n : ℕ). IsNoted left.lists (listing n p)) was.now (lists.noted (listing was.from p) (noted was.from p was.has))
 
-  pub serves_moved : (before left : Rings) → IsServing old before → RingsAreMoved places before.rings left.rings → ListsAreMoved places before.lists left.lists → length left.rings ≡ length (topology_kept new).queues → IsServing new left
-  serves_moved before left serving rings lists len =
+  pub serves_moved : (before left : Rounds) → IsServing old before → RoundsAreMoved places before.rounds left.rounds → ListsAreMoved places before.lists left.lists → length left.rounds ≡ length (topology_kept new).queues → IsServing new left
+  serves_moved before left serving rounds lists len =
       serves new left
-      (record { agreed = agreed_stood (broker_of old) (broker_of new) stood serving.agreed; rings_for = len; seated = seated_moved before left serving.seated rings len; noted = noted_moved before left serving.noted lists })
+      (record { agreed = agreed_stood (broker_of old) (broker_of new) stood serving.agreed; rounds_for = len; joined = joined_moved before left serving.joined rounds len; noted = noted_moved before left serving.noted lists })
       (running_still (broker_of old) (broker_of new) before.lists left.lists (λ d none. sym (stood.connections d) ∙ none) lists.made serving.running)
 
   -- whoever takes from a queue takes from it still
@@ -145,9 +145,9 @@ module _ (old new : Kept) (places : List ℕ) (after : IsStoreWhole new.store) (
   takes_still q = fun_ext (λ p. ap (has_taker q p.number) (stood.channels p.connection p.channel))
 
   -- so each queue that is there still has its line
-  pub lines_moved : (before left : Rings) (x : Option Pick) → Holds old before → RingsAreMoved places before.rings left.rings → length left.rings ≡ length (topology_kept new).queues → left.next ≡ 0
+  pub lines_moved : (before left : Rounds) (x : Option Pick) → Holds old before → RoundsAreMoved places before.rounds left.rounds → length left.rounds ≡ length (topology_kept new).queues → left.next ≡ 0
       → LinesMove (with_turn old before x) (with_turn new left None)
-  lines_moved before left x held rings len next = record { next = next; lines = lines }
+  lines_moved before left x held rounds len next = record { next = next; lines = lines }
     where
       lines : (from to : ℕ) → from < length (topology_kept old).queues → to < length (topology_kept new).queues → queue_name (topology_kept old) from ≡ queue_name (topology_kept new) to
           → line_at (with_turn new left None) to ≡ line_at (with_turn old before x) from
@@ -161,10 +161,10 @@ module _ (old new : Kept) (places : List ℕ) (after : IsStoreWhole new.store) (
             | goes gone behind ↦ absurd (gone (subst (λ (q : Text). IsIn q (names_of new)) (sym named) (is_in (names_of new) to (omega (arith, within, more)))))
           ] in
           let now : place_now places from ≡ to = same_default places from from 0 (omega (arith, lt, long, size)) ∙ stands_at in
-          let ring = rings from (omega (arith, lt, long, size)) (omega (arith, now, within, len)) in
-          let same : order (ring_at left.rings to) ≡ order (ring_at before.rings from) = subst (λ (n : ℕ). order (ring_at left.rings n) ≡ order (ring_at before.rings from)) now ring.same in
-          line_is new left.rings to len within
-          ∙ ap (λ (q : Text). filter (takes_from (broker_of new) q) (order (ring_at left.rings to))) (sym named)
-          ∙ ap (λ (test : Pick → Bool). filter test (order (ring_at left.rings to))) (takes_still (queue_name (topology_kept old) from))
+          let round = rounds from (omega (arith, lt, long, size)) (omega (arith, now, within, len)) in
+          let same : order (round_at left.rounds to) ≡ order (round_at before.rounds from) = subst (λ (n : ℕ). order (round_at left.rounds n) ≡ order (round_at before.rounds from)) now round.same in
+          line_is new left.rounds to len within
+          ∙ ap (λ (q : Text). filter (takes_from (broker_of new) q) (order (round_at left.rounds to))) (sym named)
+          ∙ ap (λ (test : Pick → Bool). filter test (order (round_at left.rounds to))) (takes_still (queue_name (topology_kept old) from))
           ∙ ap (filter (takes_from (broker_of old) (queue_name (topology_kept old) from))) same
-          ∙ sym (line_is old before.rings from held.rings_for lt)
+          ∙ sym (line_is old before.rounds from held.rounds_for lt)

@@ -1,4 +1,4 @@
--- Seats that fall asleep and are woken.
+-- Waiters that fall asleep and are woken.
 use Rattle.std.proofs.Common.{◌≡◌, ◌∙◌, ◌<◌, ◌≤◌, ◌+◌, ℕ, List, ◌++◌, Bool, true, false, length, get_or, set, filter, inl, inr, ◌⊎◌, refl, sym, ap, subst, arith}
 use Rattle.std.specs.Prelude.{◌==◌}
 use Rattle.std.proofs.lemmas.Bool.{eqb-true, eq-eqb, false≢true}
@@ -12,8 +12,8 @@ use Rattle.channels.proofs.Setting.{same_default}
 use Rattle.commands.specs.State.{Kept, broker_of}
 use Rattle.commands.specs.Picked.{IsPickFrom, CannotTake}
 use Rattle.commands.specs.declared.picks.Pick.{Pick}
-use Rattle.broker.specs.declared.roster.seats.Seat.{Seat}
-use Rattle.broker.specs.Roster.{Seats, Lists, Listing, ring_of, awake_seat, asleep_seat, has_its_consumer, is_of, listing, IsAwakeAt, IsAwake, IsAsleep, IsListed, IsSeatedIn, KeepsIn, KeepsRing, ListsMore, ListsStay, NoneAwake, Dozes, FallsAsleep, NoneSeated, StaysAt, Wakens, AllWaken, IsWoken}
+use Rattle.broker.specs.declared.rounds.waiters.Waiter.{Waiter}
+use Rattle.broker.specs.Rounds.{Waiters, Lists, Listing, round_of, awake_waiter, asleep_waiter, has_its_consumer, is_of, listing, IsAwakeAt, IsAwake, IsAsleep, IsListed, IsInRound, KeepsIn, KeepsRound, ListsMore, ListsStay, NoneAwake, Dozes, FallsAsleep, NoneInRound, StaysAt, Wakens, AllWaken, IsWoken}
 use Rattle.broker.proofs.Picks.{picks_set}
 use Rattle.broker.proofs.Among.{stays, place_in, in_at, in_front, front_at}
 
@@ -45,117 +45,117 @@ set_less old new place i d e = go (i == place) refl
     go true f = subst (λ (n : ℕ). new n ≡ 0) (sym (eqb-true i place f)) d.there
     go false f = d.others i (apart i place f) ∙ e
 
--- ---- one seat is set
+-- ---- one waiter is set
 
--- the place of a seat that sleeps
-asleep_at : (seats : List Seat) (p : Pick) → IsIn (asleep_seat p) seats → (i : ℕ) × (i < length seats) × ((d : Seat) → get_or seats i d ≡ asleep_seat p)
-asleep_at seats p i = let (j, lt, e) = place_in (asleep_seat p) seats i in (j, lt, λ d. same_default seats j d (asleep_seat p) lt ∙ e)
+-- the place of a waiter that sleeps
+asleep_at : (waiters : List Waiter) (p : Pick) → IsIn (asleep_waiter p) waiters → (i : ℕ) × (i < length waiters) × ((d : Waiter) → get_or waiters i d ≡ asleep_waiter p)
+asleep_at waiters p i = let (j, lt, e) = place_in (asleep_waiter p) waiters i in (j, lt, λ d. same_default waiters j d (asleep_waiter p) lt ∙ e)
 
-module _ (seats : List Seat) (old new : List ℕ) (place : ℕ) (s : Seat) (within : place < length seats) where
-  -- a seat at another place is as it was
-  pub awake_apart : (t : Seat) → ((k : ℕ) → (k ≡ place → ⊥) → bit_of new k ≡ bit_of old k) → (i : ℕ) → (i ≡ place → ⊥) → StaysAt (ring_of seats old) (ring_of (set seats place t) new) i
+module _ (waiters : List Waiter) (old new : List ℕ) (place : ℕ) (s : Waiter) (within : place < length waiters) where
+  -- a waiter at another place is as it was
+  pub awake_apart : (t : Waiter) → ((k : ℕ) → (k ≡ place → ⊥) → bit_of new k ≡ bit_of old k) → (i : ℕ) → (i ≡ place → ⊥) → StaysAt (round_of waiters old) (round_of (set waiters place t) new) i
   awake_apart t others i far p at = record {
-    within = let lt = at.within in let long = length-set seats place t in omega (arith, lt, long);
-    there = λ d. get_or-set_other seats place i t d far ∙ at.there d;
+    within = let lt = at.within in let long = length-set waiters place t in omega (arith, lt, long);
+    there = λ d. get_or-set_other waiters place i t d far ∙ at.there d;
     marked = others i far ∙ at.marked;
   }
 
   -- so is one that sleeps
-  asleep_apart : (t : Seat) (p : Pick) (i : ℕ) → (i ≡ place → ⊥) → i < length seats → ((d : Seat) → get_or seats i d ≡ asleep_seat p) → IsAsleep (ring_of (set seats place t) new) p
-  asleep_apart t p i far lt there = in_at (set seats place t) i (asleep_seat p) s (let long = length-set seats place t in omega (arith, lt, long)) (get_or-set_other seats place i t s far ∙ there s)
+  asleep_apart : (t : Waiter) (p : Pick) (i : ℕ) → (i ≡ place → ⊥) → i < length waiters → ((d : Waiter) → get_or waiters i d ≡ asleep_waiter p) → IsAsleep (round_of (set waiters place t) new) p
+  asleep_apart t p i far lt there = in_at (set waiters place t) i (asleep_waiter p) s (let long = length-set waiters place t in omega (arith, lt, long)) (get_or-set_other waiters place i t s far ∙ there s)
 
-  -- the seat that was set
-  pub awake_here : (t : Seat) (p : Pick) → t ≡ awake_seat p → bit_of new place ≡ 1 → IsAwakeAt (ring_of (set seats place t) new) place p
+  -- the waiter that was set
+  pub awake_here : (t : Waiter) (p : Pick) → t ≡ awake_waiter p → bit_of new place ≡ 1 → IsAwakeAt (round_of (set waiters place t) new) place p
   awake_here t p is one = record {
-    within = let long = length-set seats place t in omega (arith, within, long);
-    there = λ d. get_or-set_same seats place t d within ∙ is;
+    within = let long = length-set waiters place t in omega (arith, within, long);
+    there = λ d. get_or-set_same waiters place t d within ∙ is;
     marked = one;
   }
 
-  asleep_here : (t : Seat) (p : Pick) → t ≡ asleep_seat p → IsAsleep (ring_of (set seats place t) new) p
-  asleep_here t p is = in_at (set seats place t) place (asleep_seat p) s (let long = length-set seats place t in omega (arith, within, long)) (get_or-set_same seats place t s within ∙ is)
+  asleep_here : (t : Waiter) (p : Pick) → t ≡ asleep_waiter p → IsAsleep (round_of (set waiters place t) new) p
+  asleep_here t p is = in_at (set waiters place t) place (asleep_waiter p) s (let long = length-set waiters place t in omega (arith, within, long)) (get_or-set_same waiters place t s within ∙ is)
 
   -- it is woken
-  pub roused : ((d : Seat) → get_or seats place d ≡ s) → Differs (bit_of old) (bit_of new) place 1 → Wakens (ring_of seats old) (ring_of (set seats place (awake_seat s.pick)) new)
-  roused there d = record { awake = awake; asleep = asleep; same = picks_set seats place (awake_seat s.pick) s within (ap (λ (z : Seat). z.pick) (sym (there s))); next = refl }
+  pub roused : ((d : Waiter) → get_or waiters place d ≡ s) → Differs (bit_of old) (bit_of new) place 1 → Wakens (round_of waiters old) (round_of (set waiters place (awake_waiter s.pick)) new)
+  roused there d = record { awake = awake; asleep = asleep; same = picks_set waiters place (awake_waiter s.pick) s within (ap (λ (z : Waiter). z.pick) (sym (there s))); next = refl }
     where
-      here : (p : Pick) → s.pick ≡ p → IsAwake (ring_of (set seats place (awake_seat s.pick)) new) p
-      here p is = (place, awake_here (awake_seat s.pick) p (ap awake_seat is) d.there)
+      here : (p : Pick) → s.pick ≡ p → IsAwake (round_of (set waiters place (awake_waiter s.pick)) new) p
+      here p is = (place, awake_here (awake_waiter s.pick) p (ap awake_waiter is) d.there)
 
-      awake : (p : Pick) → IsAwake (ring_of seats old) p → IsAwake (ring_of (set seats place (awake_seat s.pick)) new) p
+      awake : (p : Pick) → IsAwake (round_of waiters old) p → IsAwake (round_of (set waiters place (awake_waiter s.pick)) new) p
       awake p (i, at) = go (i == place) refl
         where
-          go : (v : Bool) → (i == place) ≡ v → IsAwake (ring_of (set seats place (awake_seat s.pick)) new) p
-          go true f = here p (ap (λ (z : Seat). z.pick) (sym (there s) ∙ ap (λ (n : ℕ). get_or seats n s) (sym (eqb-true i place f)) ∙ at.there s))
-          go false f = (i, awake_apart (awake_seat s.pick) d.others i (apart i place f) p at)
+          go : (v : Bool) → (i == place) ≡ v → IsAwake (round_of (set waiters place (awake_waiter s.pick)) new) p
+          go true f = here p (ap (λ (z : Waiter). z.pick) (sym (there s) ∙ ap (λ (n : ℕ). get_or waiters n s) (sym (eqb-true i place f)) ∙ at.there s))
+          go false f = (i, awake_apart (awake_waiter s.pick) d.others i (apart i place f) p at)
 
-      asleep : (p : Pick) → IsAsleep (ring_of seats old) p → IsAsleep (ring_of (set seats place (awake_seat s.pick)) new) p ⊎ IsAwake (ring_of (set seats place (awake_seat s.pick)) new) p
-      asleep p i = go (asleep_at seats p i)
+      asleep : (p : Pick) → IsAsleep (round_of waiters old) p → IsAsleep (round_of (set waiters place (awake_waiter s.pick)) new) p ⊎ IsAwake (round_of (set waiters place (awake_waiter s.pick)) new) p
+      asleep p i = go (asleep_at waiters p i)
         where
-          go : (j : ℕ) × (j < length seats) × ((d : Seat) → get_or seats j d ≡ asleep_seat p) → IsAsleep (ring_of (set seats place (awake_seat s.pick)) new) p ⊎ IsAwake (ring_of (set seats place (awake_seat s.pick)) new) p
+          go : (j : ℕ) × (j < length waiters) × ((d : Waiter) → get_or waiters j d ≡ asleep_waiter p) → IsAsleep (round_of (set waiters place (awake_waiter s.pick)) new) p ⊎ IsAwake (round_of (set waiters place (awake_waiter s.pick)) new) p
           go (j, lt, at) = by (j == place) refl
             where
-              by : (v : Bool) → (j == place) ≡ v → IsAsleep (ring_of (set seats place (awake_seat s.pick)) new) p ⊎ IsAwake (ring_of (set seats place (awake_seat s.pick)) new) p
-              by true f = inr (here p (ap (λ (z : Seat). z.pick) (sym (there s) ∙ ap (λ (n : ℕ). get_or seats n s) (sym (eqb-true j place f)) ∙ at s)))
-              by false f = inl (asleep_apart (awake_seat s.pick) p j (apart j place f) lt at)
+              by : (v : Bool) → (j == place) ≡ v → IsAsleep (round_of (set waiters place (awake_waiter s.pick)) new) p ⊎ IsAwake (round_of (set waiters place (awake_waiter s.pick)) new) p
+              by true f = inr (here p (ap (λ (z : Waiter). z.pick) (sym (there s) ∙ ap (λ (n : ℕ). get_or waiters n s) (sym (eqb-true j place f)) ∙ at s)))
+              by false f = inl (asleep_apart (awake_waiter s.pick) p j (apart j place f) lt at)
 
   -- it was looked at, and fell asleep if it might
-  pub rested : (kept : Kept) (queue : ℕ) (before after : Lists) (t : Seat) → ((d : Seat) → get_or seats place d ≡ s) → ListsMore before after → (s.asleep ≡ true → t ≡ s)
+  pub rested : (kept : Kept) (queue : ℕ) (before after : Lists) (t : Waiter) → ((d : Waiter) → get_or waiters place d ≡ s) → ListsMore before after → (s.asleep ≡ true → t ≡ s)
       → ((bit_of new place ≡ bit_of old place) × (t ≡ s)) ⊎ Dozes kept after queue s t
-      → ((k : ℕ) → (k ≡ place → ⊥) → bit_of new k ≡ bit_of old k) → KeepsIn kept queue before after (ring_of seats old) (ring_of (set seats place t) new)
+      → ((k : ℕ) → (k ≡ place → ⊥) → bit_of new k ≡ bit_of old k) → KeepsIn kept queue before after (round_of waiters old) (round_of (set waiters place t) new)
   rested kept queue before after t there more still fell others p = keep
     where
       Now : Type 0
-      Now = IsSeatedIn (broker_of kept) after queue (ring_of (set seats place t) new) p
+      Now = IsInRound (broker_of kept) after queue (round_of (set waiters place t) new) p
 
-      fallen : s ≡ awake_seat p → FallsAsleep (broker_of kept) after queue s t → Now
+      fallen : s ≡ awake_waiter p → FallsAsleep (broker_of kept) after queue s t → Now
       fallen is f =
-          let own : s.pick ≡ p = ap (λ (z : Seat). z.pick) is in
+          let own : s.pick ≡ p = ap (λ (z : Waiter). z.pick) is in
           inr (record {
-            asleep = asleep_here t p (f.asleep ∙ ap asleep_seat own);
+            asleep = asleep_here t p (f.asleep ∙ ap asleep_waiter own);
             cannot = subst (CannotTake (broker_of kept)) own f.cannot;
-            listed = subst (λ (q : Pick). IsListed after (record { queue = queue; seat = q })) own f.listed;
+            listed = subst (λ (q : Pick). IsListed after (record { queue = queue; consumer = q })) own f.listed;
           })
 
-      looked : s ≡ awake_seat p → bit_of old place ≡ 1 → is_of kept queue p ≡ true → ((bit_of new place ≡ bit_of old place) × (t ≡ s)) ⊎ Dozes kept after queue s t → Now
+      looked : s ≡ awake_waiter p → bit_of old place ≡ 1 → is_of kept queue p ≡ true → ((bit_of new place ≡ bit_of old place) × (t ≡ s)) ⊎ Dozes kept after queue s t → Now
       looked is one has (inl same) = inl (place, awake_here t p (same.1 ∙ is) (same.0 ∙ one))
-      looked is one has (inr f) = fallen is (f (ap (λ (z : Seat). z.asleep) is) (ap (λ (z : Seat). is_of kept queue z.pick) is ∙ has))
+      looked is one has (inr f) = fallen is (f (ap (λ (z : Waiter). z.asleep) is) (ap (λ (z : Waiter). is_of kept queue z.pick) is ∙ has))
 
-      keep : IsSeatedIn (broker_of kept) before queue (ring_of seats old) p → is_of kept queue p ≡ true → Now
+      keep : IsInRound (broker_of kept) before queue (round_of waiters old) p → is_of kept queue p ≡ true → Now
       keep (inl (i, at)) has = go (i == place) refl
         where
           go : (v : Bool) → (i == place) ≡ v → Now
           go true f =
               let same = eqb-true i place f in
-              looked (sym (there s) ∙ ap (λ (n : ℕ). get_or seats n s) (sym same) ∙ at.there s) (ap (bit_of old) (sym same) ∙ at.marked) has fell
+              looked (sym (there s) ∙ ap (λ (n : ℕ). get_or waiters n s) (sym same) ∙ at.there s) (ap (bit_of old) (sym same) ∙ at.marked) has fell
           go false f = inl (i, awake_apart t others i (apart i place f) p at)
-      keep (inr f) has = inr (record { asleep = go (asleep_at seats p f.asleep); cannot = f.cannot; listed = more.stay (record { queue = queue; seat = p }) f.listed })
+      keep (inr f) has = inr (record { asleep = go (asleep_at waiters p f.asleep); cannot = f.cannot; listed = more.stay (record { queue = queue; consumer = p }) f.listed })
         where
-          go : (j : ℕ) × (j < length seats) × ((d : Seat) → get_or seats j d ≡ asleep_seat p) → IsAsleep (ring_of (set seats place t) new) p
+          go : (j : ℕ) × (j < length waiters) × ((d : Waiter) → get_or waiters j d ≡ asleep_waiter p) → IsAsleep (round_of (set waiters place t) new) p
           go (j, lt, at) = by (j == place) refl
             where
-              by : (v : Bool) → (j == place) ≡ v → IsAsleep (ring_of (set seats place t) new) p
+              by : (v : Bool) → (j == place) ≡ v → IsAsleep (round_of (set waiters place t) new) p
               by true e =
-                  let is : s ≡ asleep_seat p = sym (there s) ∙ ap (λ (n : ℕ). get_or seats n s) (sym (eqb-true j place e)) ∙ at s in
-                  asleep_here t p (still (ap (λ (z : Seat). z.asleep) is) ∙ is)
+                  let is : s ≡ asleep_waiter p = sym (there s) ∙ ap (λ (n : ℕ). get_or waiters n s) (sym (eqb-true j place e)) ∙ at s in
+                  asleep_here t p (still (ap (λ (z : Waiter). z.asleep) is) ∙ is)
               by false e = asleep_apart t p j (apart j place e) lt at
 
 -- picks pass over one whose consumer is gone, or takes from another queue
-pub passed_over : (kept : Kept) (queue : ℕ) (lists : Lists) (seats : List Seat) (old new : List ℕ) (place : ℕ) (s : Seat) → ((d : Seat) → get_or seats place d ≡ s) → (s.asleep ≡ false → is_of kept queue s.pick ≡ false)
-    → ((k : ℕ) → (k ≡ place → ⊥) → bit_of new k ≡ bit_of old k) → KeepsIn kept queue lists lists (ring_of seats old) (ring_of seats new)
-passed_over kept queue lists seats old new place s there none others p (inr f) has = inr (record { asleep = f.asleep; cannot = f.cannot; listed = f.listed })
-passed_over kept queue lists seats old new place s there none others p (inl (i, at)) has = go (i == place) refl
+pub passed_over : (kept : Kept) (queue : ℕ) (lists : Lists) (waiters : List Waiter) (old new : List ℕ) (place : ℕ) (s : Waiter) → ((d : Waiter) → get_or waiters place d ≡ s) → (s.asleep ≡ false → is_of kept queue s.pick ≡ false)
+    → ((k : ℕ) → (k ≡ place → ⊥) → bit_of new k ≡ bit_of old k) → KeepsIn kept queue lists lists (round_of waiters old) (round_of waiters new)
+passed_over kept queue lists waiters old new place s there none others p (inr f) has = inr (record { asleep = f.asleep; cannot = f.cannot; listed = f.listed })
+passed_over kept queue lists waiters old new place s there none others p (inl (i, at)) has = go (i == place) refl
   where
-    go : (v : Bool) → (i == place) ≡ v → IsSeatedIn (broker_of kept) lists queue (ring_of seats new) p
+    go : (v : Bool) → (i == place) ≡ v → IsInRound (broker_of kept) lists queue (round_of waiters new) p
     go true f =
-        let is : s ≡ awake_seat p = sym (there s) ∙ ap (λ (n : ℕ). get_or seats n s) (sym (eqb-true i place f)) ∙ at.there s in
-        absurd (false≢true (sym (none (ap (λ (z : Seat). z.asleep) is)) ∙ ap (λ (z : Seat). is_of kept queue z.pick) is ∙ has))
+        let is : s ≡ awake_waiter p = sym (there s) ∙ ap (λ (n : ℕ). get_or waiters n s) (sym (eqb-true i place f)) ∙ at.there s in
+        absurd (false≢true (sym (none (ap (λ (z : Waiter). z.asleep) is)) ∙ ap (λ (z : Waiter). is_of kept queue z.pick) is ∙ has))
     go false f = inl (i, record { within = at.within; there = at.there; marked = others i (apart i place f) ∙ at.marked })
 
 -- ---- those to whom no delivery can be made
 
 -- nor to those at places that are passed over
-pub none_gap : (kept : Kept) (queue : ℕ) (old mid : Seats) (from next bound : ℕ) → NoneAwake kept queue old from next → ((i : ℕ) → next ≤ i → StaysAt old mid i)
+pub none_gap : (kept : Kept) (queue : ℕ) (old mid : Waiters) (from next bound : ℕ) → NoneAwake kept queue old from next → ((i : ℕ) → next ≤ i → StaysAt old mid i)
     → ((k : ℕ) → next ≤ k → k < bound → bit_of mid.marks k ≡ 0) → NoneAwake kept queue old from bound
 none_gap kept queue old mid from next bound none behind zeros i p least lt at pick = elim (leb_tells (i + 1) next) [
   | inl a ↦ let le = a.1 in none i p least (omega (arith, le)) at pick
@@ -166,7 +166,7 @@ none_gap kept queue old mid from next bound none behind zeros i p least lt at pi
 ]
 
 -- one place more
-pub none_more : (kept : Kept) (queue : ℕ) (old : Seats) (from place : ℕ) → NoneAwake kept queue old from place → ((p : Pick) → IsAwakeAt old place p → IsPickFrom kept queue p → ⊥) → NoneAwake kept queue old from (place + 1)
+pub none_more : (kept : Kept) (queue : ℕ) (old : Waiters) (from place : ℕ) → NoneAwake kept queue old from place → ((p : Pick) → IsAwakeAt old place p → IsPickFrom kept queue p → ⊥) → NoneAwake kept queue old from (place + 1)
 none_more kept queue old from place none never i p least lt at pick = elim (leb_tells (i + 1) place) [
   | inl a ↦ let le = a.1 in none i p least (omega (arith, le)) at pick
   | inr a ↦
@@ -189,73 +189,73 @@ rested_on old new from next place rested zeros passed fewer i least lt = elim (l
   | inr a ↦ let gt = a.1 in let here : i ≡ place = omega (arith, lt, gt) in subst (λ (n : ℕ). bit_of new n ≡ 0) (sym here) passed
 ]
 
--- nobody is awake in a ring at none of whose seats picks look
-pub none_awake : (r : Seats) (p : Pick) → ((i : ℕ) → i < length r.seats → bit_of r.marks i ≡ 0) → IsAwake r p → ⊥
+-- nobody is awake in a round at none of whose waiters picks look
+pub none_awake : (r : Waiters) (p : Pick) → ((i : ℕ) → i < length r.waiters → bit_of r.marks i ≡ 0) → IsAwake r p → ⊥
 none_awake r p zeros (i, at) = let one = sym (zeros i at.within) ∙ at.marked in omega (arith, one)
 
 -- in two parts
-pub none_round : (kept : Kept) (queue : ℕ) (old mid : Seats) (turn bound : ℕ) → NoneAwake kept queue old turn bound → ((i : ℕ) → i < turn → StaysAt old mid i) → NoneAwake kept queue mid 0 turn
+pub none_round : (kept : Kept) (queue : ℕ) (old mid : Waiters) (turn bound : ℕ) → NoneAwake kept queue old turn bound → ((i : ℕ) → i < turn → StaysAt old mid i) → NoneAwake kept queue mid 0 turn
     → NoneAwake kept queue old 0 bound
 none_round kept queue old mid turn bound behind still before i p least lt at pick = elim (leb_tells turn i) [
   | inl a ↦ behind i p a.1 lt at pick
   | inr a ↦ let gt = a.1 in before i p (omega arith) (omega (arith, gt)) (still i (omega (arith, gt)) p at) pick
 ]
 
-pub none_seated : (kept : Kept) (lists : Lists) (queue : ℕ) (r : Seats) → NoneAwake kept queue r 0 (length r.seats) → NoneSeated kept lists queue r
-none_seated kept lists queue r none p (inl (i, at)) pick = none i p (omega arith) at.within at pick
-none_seated kept lists queue r none p (inr f) pick = cannot_pick kept queue p f.cannot pick
+pub none_in_round : (kept : Kept) (lists : Lists) (queue : ℕ) (r : Waiters) → NoneAwake kept queue r 0 (length r.waiters) → NoneInRound kept lists queue r
+none_in_round kept lists queue r none p (inl (i, at)) pick = none i p (omega arith) at.within at pick
+none_in_round kept lists queue r none p (inr f) pick = cannot_pick kept queue p f.cannot pick
 
--- ---- rings
+-- ---- rounds
 
--- where more is listed who was seated is so still
-pub seated_more : (b : Broker) (before after : Lists) (queue : ℕ) (r : Seats) (p : Pick) → ListsStay before after → IsSeatedIn b before queue r p → IsSeatedIn b after queue r p
-seated_more b before after queue r p stay (inl up) = inl up
-seated_more b before after queue r p stay (inr f) = inr (record { asleep = f.asleep; cannot = f.cannot; listed = stay (record { queue = queue; seat = p }) f.listed })
+-- where more is listed who joined is so still
+pub joined_more : (b : Broker) (before after : Lists) (queue : ℕ) (r : Waiters) (p : Pick) → ListsStay before after → IsInRound b before queue r p → IsInRound b after queue r p
+joined_more b before after queue r p stay (inl up) = inl up
+joined_more b before after queue r p stay (inr f) = inr (record { asleep = f.asleep; cannot = f.cannot; listed = stay (record { queue = queue; consumer = p }) f.listed })
 
 -- and where those of consumers that are there are listed as before, who takes from the queue is so still
-pub seated_kept : (kept : Kept) (before after : Lists) (queue : ℕ) (r : Seats) (p : Pick) → (IsListed before (listing queue p) → is_of kept queue p ≡ true → IsListed after (listing queue p)) → is_of kept queue p ≡ true
-    → IsSeatedIn (broker_of kept) before queue r p → IsSeatedIn (broker_of kept) after queue r p
-seated_kept kept before after queue r p stay its (inl up) = inl up
-seated_kept kept before after queue r p stay its (inr f) = inr (record { asleep = f.asleep; cannot = f.cannot; listed = stay f.listed its })
+pub joined_kept : (kept : Kept) (before after : Lists) (queue : ℕ) (r : Waiters) (p : Pick) → (IsListed before (listing queue p) → is_of kept queue p ≡ true → IsListed after (listing queue p)) → is_of kept queue p ≡ true
+    → IsInRound (broker_of kept) before queue r p → IsInRound (broker_of kept) after queue r p
+joined_kept kept before after queue r p stay its (inl up) = inl up
+joined_kept kept before after queue r p stay its (inr f) = inr (record { asleep = f.asleep; cannot = f.cannot; listed = stay f.listed its })
 
--- so is one where seats are woken
-pub seated_woken : (b : Broker) (lists : Lists) (queue : ℕ) (old new : Seats) (p : Pick) → Wakens old new → IsSeatedIn b lists queue old p → IsSeatedIn b lists queue new p
-seated_woken b lists queue old new p w (inl up) = inl (w.awake p up)
-seated_woken b lists queue old new p w (inr f) = elim (w.asleep p f.asleep) [
+-- so is one where waiters are woken
+pub joined_woken : (b : Broker) (lists : Lists) (queue : ℕ) (old new : Waiters) (p : Pick) → Wakens old new → IsInRound b lists queue old p → IsInRound b lists queue new p
+joined_woken b lists queue old new p w (inl up) = inl (w.awake p up)
+joined_woken b lists queue old new p w (inr f) = elim (w.asleep p f.asleep) [
   | inl still ↦ inr (record { asleep = still; cannot = f.cannot; listed = f.listed })
   | inr up ↦ inl up
 ]
 
-pub waken_on : (old mid new : Seats) → Wakens old mid → Wakens mid new → Wakens old new
+pub waken_on : (old mid new : Waiters) → Wakens old mid → Wakens mid new → Wakens old new
 waken_on old mid new v w = record { awake = λ p up. w.awake p (v.awake p up); asleep = λ p i. elim (v.asleep p i) [ inl still ↦ w.asleep p still | inr up ↦ inr (w.awake p up) ]; same = w.same ∙ v.same; next = w.next ∙ v.next }
 
 -- after a sweep picks look at all that are left
-pub swept : (kept : Kept) (queue : ℕ) (old new : Seats) → new.seats ≡ filter (has_its_consumer kept queue) old.seats → ((i : ℕ) → i < length new.seats → bit_of new.marks i ≡ 1) → KeepsRing kept queue old new
+pub swept : (kept : Kept) (queue : ℕ) (old new : Waiters) → new.waiters ≡ filter (has_its_consumer kept queue) old.waiters → ((i : ℕ) → i < length new.waiters → bit_of new.marks i ≡ 1) → KeepsRound kept queue old new
 swept kept queue old new is marked lists p = keep
   where
-    left : (s : Seat) → IsIn s old.seats → has_its_consumer kept queue s ≡ true → IsIn s new.seats
-    left s i has = subst (λ (xs : List Seat). IsIn s xs) (sym is) (stays (has_its_consumer kept queue) s old.seats i has)
+    left : (s : Waiter) → IsIn s old.waiters → has_its_consumer kept queue s ≡ true → IsIn s new.waiters
+    left s i has = subst (λ (xs : List Waiter). IsIn s xs) (sym is) (stays (has_its_consumer kept queue) s old.waiters i has)
 
-    keep : IsSeatedIn (broker_of kept) lists queue old p → is_of kept queue p ≡ true → IsSeatedIn (broker_of kept) lists queue new p
+    keep : IsInRound (broker_of kept) lists queue old p → is_of kept queue p ≡ true → IsInRound (broker_of kept) lists queue new p
     keep (inl (i, at)) has =
-        let (j, lt, e) = place_in (awake_seat p) new.seats (left (awake_seat p) (in_at old.seats i (awake_seat p) (awake_seat p) at.within (at.there (awake_seat p))) has) in
-        inl (j, record { within = lt; there = λ d. same_default new.seats j d (awake_seat p) lt ∙ e; marked = marked j lt })
-    keep (inr f) has = inr (record { asleep = left (asleep_seat p) f.asleep has; cannot = f.cannot; listed = f.listed })
+        let (j, lt, e) = place_in (awake_waiter p) new.waiters (left (awake_waiter p) (in_at old.waiters i (awake_waiter p) (awake_waiter p) at.within (at.there (awake_waiter p))) has) in
+        inl (j, record { within = lt; there = λ d. same_default new.waiters j d (awake_waiter p) lt ∙ e; marked = marked j lt })
+    keep (inr f) has = inr (record { asleep = left (asleep_waiter p) f.asleep has; cannot = f.cannot; listed = f.listed })
 
--- seats more at the end, and one more at which picks look
-pub pushed : (kept : Kept) (queue : ℕ) (seats more : List Seat) (old new : List ℕ) (place : ℕ) → Differs (bit_of old) (bit_of new) place 1 → KeepsRing kept queue (ring_of seats old) (ring_of (seats ++ more) new)
-pushed kept queue seats more old new place d lists p (inl (i, at)) has =
+-- waiters more at the end, and one more at which picks look
+pub pushed : (kept : Kept) (queue : ℕ) (waiters more : List Waiter) (old new : List ℕ) (place : ℕ) → Differs (bit_of old) (bit_of new) place 1 → KeepsRound kept queue (round_of waiters old) (round_of (waiters ++ more) new)
+pushed kept queue waiters more old new place d lists p (inl (i, at)) has =
     let lt = at.within in
-    let long = length-append seats more in
-    inl (i, record { within = omega (arith, lt, long); there = λ e. front_at seats more i e at.within ∙ at.there e; marked = set_more (bit_of old) (bit_of new) place i d at.marked })
-pushed kept queue seats more old new place d lists p (inr f) has = inr (record { asleep = in_front (asleep_seat p) seats more f.asleep; cannot = f.cannot; listed = f.listed })
+    let long = length-append waiters more in
+    inl (i, record { within = omega (arith, lt, long); there = λ e. front_at waiters more i e at.within ∙ at.there e; marked = set_more (bit_of old) (bit_of new) place i d at.marked })
+pushed kept queue waiters more old new place d lists p (inr f) has = inr (record { asleep = in_front (asleep_waiter p) waiters more f.asleep; cannot = f.cannot; listed = f.listed })
 
 -- ---- what is listed is woken
 
 -- who was woken is awake still
-pub woken_still : (old mid new : List Seats) (l : Listing) → IsWoken old mid l → AllWaken mid new → IsWoken old new l
-woken_still old mid new l woken w i = (w l.queue).awake l.seat (woken i)
+pub woken_still : (old mid new : List Waiters) (l : Listing) → IsWoken old mid l → AllWaken mid new → IsWoken old new l
+woken_still old mid new l woken w i = (w l.queue).awake l.consumer (woken i)
 
 -- and one is woken now
-pub woken_one : (old mid new : List Seats) (l : Listing) → AllWaken old mid → IsWoken mid new l → AllWaken mid new → IsWoken old new l
-woken_one old mid new l v woken w i = elim ((v l.queue).asleep l.seat i) [ inl still ↦ woken still | inr up ↦ (w l.queue).awake l.seat up ]
+pub woken_one : (old mid new : List Waiters) (l : Listing) → AllWaken old mid → IsWoken mid new l → AllWaken mid new → IsWoken old new l
+woken_one old mid new l v woken w i = elim ((v l.queue).asleep l.consumer i) [ inl still ↦ woken still | inr up ↦ (w l.queue).awake l.consumer up ]

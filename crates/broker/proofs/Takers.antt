@@ -13,7 +13,7 @@ use Rattle.exchange_graph.specs.Marks.{queue_name}
 use Rattle.commands.specs.State.{Kept, broker_of, topology_kept, names_of}
 use Rattle.commands.specs.Picked.{IsPickFrom}
 use Rattle.commands.specs.declared.picks.Pick.{Pick}
-use Rattle.broker.specs.Roster.{Seats, ring_at, is_numbered_of, has_taker, takes_from, is_of, line_of, lines_of, HasConsumer}
+use Rattle.broker.specs.Rounds.{Waiters, round_at, is_numbered_of, has_taker, takes_from, is_of, line_of, lines_of, HasConsumer}
 use Rattle.broker.proofs.Waking.{both, and}
 use Rattle.broker.proofs.Present.{has_picked}
 
@@ -86,33 +86,33 @@ picked_of kept place p from = has_of kept place p (has_picked kept place p from)
 
 -- ---- the lines of queues
 
-lines_at : (b : Broker) (names : List Text) (rings : List Seats) (place : ℕ) → length rings ≡ length names → place < length names → get_or (lines_of b names rings) place [] ≡ line_of b (get_or names place []) (ring_at rings place)
-lines_at b [] rings place long lt = absurd (omega (arith, lt))
+lines_at : (b : Broker) (names : List Text) (rounds : List Waiters) (place : ℕ) → length rounds ≡ length names → place < length names → get_or (lines_of b names rounds) place [] ≡ line_of b (get_or names place []) (round_at rounds place)
+lines_at b [] rounds place long lt = absurd (omega (arith, lt))
 lines_at b (q ∷ qs) [] place long lt = absurd (omega (arith, long))
 lines_at b (q ∷ qs) (r ∷ rs) zero long lt = refl
 lines_at b (q ∷ qs) (r ∷ rs) (suc place) long lt = lines_at b qs rs place (omega (arith, long)) (omega (arith, lt))
 
-pub line_is : (kept : Kept) (rings : List Seats) (place : ℕ) → length rings ≡ length (topology_kept kept).queues → place < length (topology_kept kept).queues
-    → get_or (lines_of (broker_of kept) (names_of kept) rings) place [] ≡ line_of (broker_of kept) (queue_name (topology_kept kept) place) (ring_at rings place)
-line_is kept rings place long lt =
+pub line_is : (kept : Kept) (rounds : List Waiters) (place : ℕ) → length rounds ≡ length (topology_kept kept).queues → place < length (topology_kept kept).queues
+    → get_or (lines_of (broker_of kept) (names_of kept) rounds) place [] ≡ line_of (broker_of kept) (queue_name (topology_kept kept) place) (round_at rounds place)
+line_is kept rounds place long lt =
     let more = names-length (topology_kept kept).queues in
-    lines_at (broker_of kept) (names_of kept) rings place (omega (arith, long, more)) (omega (arith, lt, more))
+    lines_at (broker_of kept) (names_of kept) rounds place (omega (arith, long, more)) (omega (arith, lt, more))
 
 -- whoever stands in a line stands in that of a queue
-in_lines : (b : Broker) (names : List Text) (rings : List Seats) (place : ℕ) (p : Pick) → IsIn p (get_or (lines_of b names rings) place []) → place < length names
-in_lines b [] rings place p i = absurd i
+in_lines : (b : Broker) (names : List Text) (rounds : List Waiters) (place : ℕ) (p : Pick) → IsIn p (get_or (lines_of b names rounds) place []) → place < length names
+in_lines b [] rounds place p i = absurd i
 in_lines b (q ∷ qs) [] place p i = absurd i
 in_lines b (q ∷ qs) (r ∷ rs) zero p i = omega arith
 in_lines b (q ∷ qs) (r ∷ rs) (suc place) p i = let lt = in_lines b qs rs place p i in omega (arith, lt)
 
-pub in_line_of : (kept : Kept) (rings : List Seats) (place : ℕ) (p : Pick) → IsIn p (get_or (lines_of (broker_of kept) (names_of kept) rings) place []) → place < length (topology_kept kept).queues
-in_line_of kept rings place p i =
-    let lt = in_lines (broker_of kept) (names_of kept) rings place p i in
+pub in_line_of : (kept : Kept) (rounds : List Waiters) (place : ℕ) (p : Pick) → IsIn p (get_or (lines_of (broker_of kept) (names_of kept) rounds) place []) → place < length (topology_kept kept).queues
+in_line_of kept rounds place p i =
+    let lt = in_lines (broker_of kept) (names_of kept) rounds place p i in
     let more = names-length (topology_kept kept).queues in
     omega (arith, lt, more)
 
-pub lines_same : (b : Broker) (names : List Text) (old new : List Seats) → length new ≡ length old
-    → ((place : ℕ) → place < length names → line_of b (get_or names place []) (ring_at new place) ≡ line_of b (get_or names place []) (ring_at old place)) → lines_of b names new ≡ lines_of b names old
+pub lines_same : (b : Broker) (names : List Text) (old new : List Waiters) → length new ≡ length old
+    → ((place : ℕ) → place < length names → line_of b (get_or names place []) (round_at new place) ≡ line_of b (get_or names place []) (round_at old place)) → lines_of b names new ≡ lines_of b names old
 lines_same b [] old new long same = refl
 lines_same b (q ∷ qs) [] [] long same = refl
 lines_same b (q ∷ qs) [] (s ∷ ss) long same = absurd (omega (arith, long))

@@ -1,4 +1,4 @@
--- A broker with its rings, as its callers see it: who stands in the lines of its queues.
+-- A broker with its rounds, as its callers see it: who stands in the lines of its queues.
 use Rattle.std.proofs.Common.{◌≡◌, ◌∙◌, ◌<◌, ◌≤◌, ◌+◌, ◌⊎◌, ℕ, List, Bool, true, false, Option, Some, None, length, filter, inl, inr, refl, sym, ap, subst, arith}
 use Rattle.std.specs.Prelude.{is_some}
 use Rattle.std.specs.Str.{bytes_eq}
@@ -15,13 +15,13 @@ use Rattle.commands.specs.Picked.{IsPickFrom}
 use Rattle.commands.specs.Seats.{seat_of, consumed, IsConsumed}
 use Rattle.commands.specs.declared.picks.Pick.{Pick}
 use Rattle.broker.specs.Lines.{standing}
-use Rattle.broker.specs.Roster.{Seats, Rings, ring_at, order, is_consumer, takes_from, line_of, lines_of, HasConsumer, AllStandIn, KeepLines, LetsNextIn, SameOrders, IsSeated, PicksFirst}
+use Rattle.broker.specs.Rounds.{Waiters, Rounds, round_at, order, is_consumer, takes_from, line_of, lines_of, HasConsumer, AllStandIn, KeepLines, LetsNextIn, SameOrders, IsInItsRound, PicksFirst}
 use Rattle.broker.specs.Turns.{with_turn}
 use Rattle.broker.specs.Waiting.{line_at, standing_at, AllStand, NoneIsLater, OneComesIn, IsToldInTurn}
 use Rattle.broker.proofs.Among.{one_consumer, same_consumer, stays}
 use Rattle.broker.proofs.Nearer.{in_order, in_turn}
 use Rattle.broker.proofs.Present.{has_picked}
-use Rattle.broker.proofs.Seated.{Holds}
+use Rattle.broker.proofs.Joined.{Holds}
 use Rattle.broker.proofs.Standing.{fewer, passes}
 use Rattle.broker.proofs.Takers.{has_of, has_takes, takes_has, line_is, in_line_of, lines_same}
 
@@ -31,78 +31,78 @@ use Rattle.broker.proofs.Takers.{has_of, has_takes, takes_has, line_is, in_line_
 abbrev test_at : Kept → ℕ → Pick → Bool
 test_at kept place = takes_from (broker_of kept) (queue_name (topology_kept kept) place)
 
--- is there, and has its seat in the queue's ring
-pub stand_in : (kept : Kept) (r : Rings) (place : ℕ) → Holds kept r → place < length (topology_kept kept).queues → AllStandIn kept place (takes_from (broker_of kept) (queue_name (topology_kept kept) place)) (order (ring_at r.rings place))
+-- is there, and waits in the queue's round
+pub stand_in : (kept : Kept) (r : Rounds) (place : ℕ) → Holds kept r → place < length (topology_kept kept).queues → AllStandIn kept place (takes_from (broker_of kept) (queue_name (topology_kept kept) place)) (order (round_at r.rounds place))
 stand_in kept r place held lt p takes =
     let has = takes_has (topology_kept kept) (broker_of kept) place p lt takes in
-    (has_of kept place p has, in_order (broker_of kept) r.lists place (ring_at r.rings place) p (held.seated place p has))
+    (has_of kept place p has, in_order (broker_of kept) r.lists place (round_at r.rounds place) p (held.joined place p has))
 
 -- so it stands in the queue's line, and nobody else does
-pub all_stand : (kept : Kept) (r : Rings) (x : Option Pick) → Holds kept r → AllStand (with_turn kept r x)
+pub all_stand : (kept : Kept) (r : Rounds) (x : Option Pick) → Holds kept r → AllStand (with_turn kept r x)
 all_stand kept r x held place p = (into, out)
   where
-    is : place < length (topology_kept kept).queues → line_at (with_turn kept r x) place ≡ line_of (broker_of kept) (queue_name (topology_kept kept) place) (ring_at r.rings place)
-    is lt = line_is kept r.rings place held.rings_for lt
+    is : place < length (topology_kept kept).queues → line_at (with_turn kept r x) place ≡ line_of (broker_of kept) (queue_name (topology_kept kept) place) (round_at r.rounds place)
+    is lt = line_is kept r.rounds place held.rounds_for lt
 
     into : HasConsumer (topology_kept kept) (broker_of kept) place p → IsIn p (line_at (with_turn kept r x) place)
     into has =
         let its = has_takes (topology_kept kept) (broker_of kept) place p has in
         let stand = stand_in kept r place held has.within p its in
-        subst (IsIn p) (sym (is has.within)) (stays (test_at kept place) p (order (ring_at r.rings place)) stand.1 its)
+        subst (IsIn p) (sym (is has.within)) (stays (test_at kept place) p (order (round_at r.rounds place)) stand.1 its)
 
     out : IsIn p (line_at (with_turn kept r x) place) → HasConsumer (topology_kept kept) (broker_of kept) place p
     out i =
-        let lt = in_line_of kept r.rings place p i in
-        takes_has (topology_kept kept) (broker_of kept) place p lt (passes (test_at kept place) p (order (ring_at r.rings place)) (subst (IsIn p) (is lt) i))
+        let lt = in_line_of kept r.rounds place p i in
+        takes_has (topology_kept kept) (broker_of kept) place p lt (passes (test_at kept place) p (order (round_at r.rounds place)) (subst (IsIn p) (is lt) i))
 
 -- where those who are there are gone round as before, the lines are as they were
-pub same_turns : (kept : Kept) (old new : Rings) (x : Option Pick) → Holds kept old → length new.rings ≡ length old.rings → KeepLines kept old.rings new.rings → new.next ≡ old.next → with_turn kept new x ≡ with_turn kept old x
+pub same_turns : (kept : Kept) (old new : Rounds) (x : Option Pick) → Holds kept old → length new.rounds ≡ length old.rounds → KeepLines kept old.rounds new.rounds → new.next ≡ old.next → with_turn kept new x ≡ with_turn kept old x
 same_turns kept old new x held len keeps next = cc (lines, next)
   where
-    lines : lines_of (broker_of kept) (names_of kept) new.rings ≡ lines_of (broker_of kept) (names_of kept) old.rings
+    lines : lines_of (broker_of kept) (names_of kept) new.rounds ≡ lines_of (broker_of kept) (names_of kept) old.rounds
     lines =
         let more = names-length (topology_kept kept).queues in
-        lines_same (broker_of kept) (names_of kept) old.rings new.rings len (λ place lt. keeps place (test_at kept place) (stand_in kept old place held (omega (arith, lt, more))))
+        lines_same (broker_of kept) (names_of kept) old.rounds new.rounds len (λ place lt. keeps place (test_at kept place) (stand_in kept old place held (omega (arith, lt, more))))
 
 -- ---- one after another
 
-pub keep_then : (kept : Kept) (old mid new : List Seats) → KeepLines kept old mid → SameOrders mid new → KeepLines kept old new
+pub keep_then : (kept : Kept) (old mid new : List Waiters) → KeepLines kept old mid → SameOrders mid new → KeepLines kept old new
 keep_then kept old mid new keeps same place test stand = ap (filter test) (same place) ∙ keeps place test stand
 
-pub lets_then : (kept : Kept) (e : Event) (old mid new : List Seats) → LetsNextIn kept e old mid → SameOrders mid new → LetsNextIn kept e old new
+pub lets_then : (kept : Kept) (e : Event) (old mid new : List Waiters) → LetsNextIn kept e old mid → SameOrders mid new → LetsNextIn kept e old new
 lets_then kept e old mid new lets same place p here is first last stand more q its =
-    subst (λ (ps : List Pick). standing (is_consumer q) (filter last ps) ≤ standing (is_consumer q) (filter first (order (ring_at old place))) + 1) (sym (same place)) (lets place p here is first last stand more q its)
+    subst (λ (ps : List Pick). standing (is_consumer q) (filter last ps) ≤ standing (is_consumer q) (filter first (order (round_at old place))) + 1) (sym (same place)) (lets place p here is first last stand more q its)
 
-pub orders_then : (old mid new : List Seats) → SameOrders old mid → SameOrders mid new → SameOrders old new
+pub orders_then : (old mid new : List Waiters) → SameOrders old mid → SameOrders mid new → SameOrders old new
 orders_then old mid new same more place = more place ∙ same place
 
 -- ---- events
 
 -- where nobody comes, and all are gone round as before, nobody has more before it
-module _ (old new : Kept) (r s : Rings) (x y : Option Pick) (is : topology_kept new ≡ topology_kept old) (held : Holds old r) (len : length s.rings ≡ length r.rings) where
+module _ (old new : Kept) (r s : Rounds) (x y : Option Pick) (is : topology_kept new ≡ topology_kept old) (held : Holds old r) (len : length s.rounds ≡ length r.rounds) where
   abbrev pub t : Topology
   t = topology_kept old
 
   -- the line after an event, of the same queue
-  line_then : (place : ℕ) → place < length t.queues → line_at (with_turn new s y) place ≡ filter (takes_from (broker_of new) (queue_name t place)) (order (ring_at s.rings place))
+  line_then : (place : ℕ) → place < length t.queues → line_at (with_turn new s y) place ≡ filter (takes_from (broker_of new) (queue_name t place)) (order (round_at s.rounds place))
   line_then place lt =
-      line_is new s.rings place (len ∙ held.rings_for ∙ ap (λ (z : Topology). length z.queues) (sym is)) (subst (λ (z : Topology). place < length z.queues) (sym is) lt)
-      ∙ ap (λ (z : Topology). line_of (broker_of new) (queue_name z place) (ring_at s.rings place)) is
+      line_is new s.rounds place (len ∙ held.rounds_for ∙ ap (λ (z : Topology). length z.queues) (sym is)) (subst (λ (z : Topology). place < length z.queues) (sym is) lt)
+      ∙ ap (λ (z : Topology). line_of (broker_of new) (queue_name z place) (round_at s.rounds place)) is
 
   -- where those who were there are gone round as before, and nobody came
-  pub not_later : (place : ℕ) (p : Pick) → KeepLines old r.rings s.rings → ((q : Pick) → HasConsumer t (broker_of new) place q → HasConsumer t (broker_of old) place q) → HasConsumer t (broker_of new) place p
+  pub not_later : (place : ℕ) (p : Pick) → KeepLines old r.rounds s.rounds → ((q : Pick) → HasConsumer t (broker_of new) place q → HasConsumer t (broker_of old) place q) → HasConsumer t (broker_of new) place p
       → standing_at (with_turn new s y) place p ≤ standing_at (with_turn old r x) place p
   not_later place p keeps was has =
       let f = takes_from (broker_of new) (queue_name t place) in
       let g = takes_from (broker_of old) (queue_name t place) in
       let lt = has.within in
       let sub : (q : Pick) → f q ≡ true → g q ≡ true = λ q e. has_takes t (broker_of old) place q (was q (takes_has t (broker_of new) place q lt e)) in
-      let same : filter f (order (ring_at s.rings place)) ≡ filter f (order (ring_at r.rings place)) = keeps place f (λ q e. stand_in old r place held lt q (sub q e)) in
+      let same : filter f (order (round_at s.rounds place)) ≡ filter f (order (round_at r.rounds place)) = keeps place f (λ q e. stand_in old r place held lt q (sub q e)) in
       subst (λ (ps : List Pick). standing (is_consumer p) ps ≤ standing_at (with_turn old r x) place p) (sym (line_then place lt ∙ same))
-      (subst (λ (ps : List Pick). standing (is_consumer p) (filter f (order (ring_at r.rings place))) ≤ standing (is_consumer p) ps) (sym (line_is old r.rings place held.rings_for lt))
-      (fewer (is_consumer p) p (one_consumer p) (same_consumer p) f g (order (ring_at r.rings place)) (λ q i e. sub q e) (has_takes t (broker_of new) place p has)))
+      (subst (λ (ps : List Pick). standing (is_consumer p) (filter f (order (round_at r.rounds place))) ≤ standing (is_consumer p) ps) (sym (line_is old r.rounds place held.rounds_for lt))
+      (fewer (is_consumer p) p (one_consumer p) (same_consumer p) f g (order (round_at r.rounds place)) (λ q i e. sub q e) (has_takes t (broker_of new) place p has)))
 
-  pub none_later : SameOrders r.rings s.rings → s.next ≡ r.next → ((place : ℕ) (q : Pick) → HasConsumer t (broker_of new) place q → HasConsumer t (broker_of old) place q) → NoneIsLater (with_turn old r x) (with_turn new s y)
+  pub none_later : SameOrders r.rounds s.rounds → s.next ≡ r.next → ((place : ℕ) (q : Pick) → HasConsumer t (broker_of new) place q → HasConsumer t (broker_of old) place q) → NoneIsLater (with_turn old r x) (with_turn new s y)
   none_later same next was = record {
     next = next;
     took = λ place p has. was place p (subst (λ (z : Topology). HasConsumer z (broker_of new) place p) is has);
@@ -110,7 +110,7 @@ module _ (old new : Kept) (r s : Rings) (x y : Option Pick) (is : topology_kept 
   }
 
   -- where one came that the event makes
-  module _ (e : Event) (keeps : KeepLines old r.rings s.rings) (comes : LetsNextIn old e r.rings s.rings) (next : s.next ≡ r.next)
+  module _ (e : Event) (keeps : KeepLines old r.rounds s.rounds) (comes : LetsNextIn old e r.rounds s.rounds) (next : s.next ≡ r.next)
       (came : (place : ℕ) (q : Pick) → HasConsumer t (broker_of new) place q → HasConsumer t (broker_of old) place q ⊎ (IsConsumed t e place × (seat_of old e ≡ Some q))) where
     abbrev Later : ℕ → Pick → Type 0
     Later place p = standing_at (with_turn new s y) place p ≤ standing_at (with_turn old r x) place p + 1
@@ -129,7 +129,7 @@ module _ (old new : Kept) (r s : Rings) (x y : Option Pick) (is : topology_kept 
         let sub : (q : Pick) → f' q ≡ true → (g q ≡ true) ⊎ (q ≡ c) =
         λ q e'. elim (came place q (takes_has t (broker_of new) place q lt e')) [ inl was ↦ inl (has_takes t (broker_of old) place q was) | inr both ↦ inr (same_Some q c (sym both.1 ∙ f)) ] in
         subst (λ (ps : List Pick). standing (is_consumer p) ps ≤ standing_at (with_turn old r x) place p + 1) (sym (line_then place lt))
-        (subst (λ (ps : List Pick). standing (is_consumer p) (filter f' (order (ring_at s.rings place))) ≤ standing (is_consumer p) ps + 1) (sym (line_is old r.rings place held.rings_for lt))
+        (subst (λ (ps : List Pick). standing (is_consumer p) (filter f' (order (round_at s.rounds place))) ≤ standing (is_consumer p) ps + 1) (sym (line_is old r.rounds place held.rounds_for lt))
         (comes place c here f g f' (stand_in old r place held lt) sub p (has_takes t (broker_of new) place p has)))
 
     -- in each other
@@ -157,7 +157,7 @@ module _ (old new : Kept) (r s : Rings) (x y : Option Pick) (is : topology_kept 
 -- ---- picks
 
 -- whoever is told by a pick is told in turn; where nobody is, nobody could be
-pub told_in_turn : (kept : Kept) (old new : Rings) (x : Option Pick) (o : Option Pick) → Holds kept old → length new.rings ≡ length old.rings → ((p : Pick) → o ≡ Some p → PicksFirst kept old new p)
-    → (o ≡ None → (place : ℕ) (p : Pick) → IsSeated (broker_of kept) old place p → IsPickFrom kept place p → ⊥) → IsToldInTurn (with_turn kept old x) o (with_turn kept new o)
+pub told_in_turn : (kept : Kept) (old new : Rounds) (x : Option Pick) (o : Option Pick) → Holds kept old → length new.rounds ≡ length old.rounds → ((p : Pick) → o ≡ Some p → PicksFirst kept old new p)
+    → (o ≡ None → (place : ℕ) (p : Pick) → IsInItsRound (broker_of kept) old place p → IsPickFrom kept place p → ⊥) → IsToldInTurn (with_turn kept old x) o (with_turn kept new o)
 told_in_turn kept old new x (Some q) held len told none = in_turn kept old new x q held len (told q refl)
-told_in_turn kept old new x None held len told none = λ place p pick. absurd (none refl place p (held.seated place p (has_picked kept place p pick)) pick)
+told_in_turn kept old new x None held len told none = λ place p pick. absurd (none refl place p (held.joined place p (has_picked kept place p pick)) pick)

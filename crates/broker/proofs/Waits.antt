@@ -6,7 +6,7 @@ use Rattle.model.specs.Topology.{Topology, IsIn}
 use Rattle.commands.specs.State as core
 use Rattle.commands.specs.declared.picks.Pick.{Pick}
 use Rattle.broker.specs.Lines.{ahead, standing}
-use Rattle.broker.specs.Roster.{is_consumer}
+use Rattle.broker.specs.Rounds.{is_consumer}
 use Rattle.broker.specs.Turns.{WithTurn, topology_kept}
 use Rattle.broker.specs.Waiting.{line_at, queues, standing_at, owed, before, NoneIsLater, Waits, Stands, IsServedSoon, NobodyWaits, ServesSoon}
 use Rattle.broker.specs.Waiting.Waits.{begins, passed, other, stays, beside, comes}
@@ -56,11 +56,11 @@ record Nears (place : ℕ) (p : Pick) (start : WithTurn) (served came : ℕ) (no
   topology : topology_kept now ≡ topology_kept start
   near : served + before now place p ≤ before start place p + came * queues start
 
-one_round : (came n : ℕ) → (came + 1) * n ≡ came * n + n
-one_round came n = omega arith
+times_one_more : (came n : ℕ) → (came + 1) * n ≡ came * n + n
+times_one_more came n = omega arith
 
-no_round : (n : ℕ) → 0 * n ≡ 0
-no_round n = omega arith
+times_none : (n : ℕ) → 0 * n ≡ 0
+times_none n = omega arith
 
 same_queues : (a b : WithTurn) → topology_kept a ≡ topology_kept b → queues a ≡ queues b
 same_queues a b same = ap (λ (t : Topology). length t.queues) same
@@ -83,31 +83,31 @@ nears place p start _ _ _ (other {served} {came} {old} {new} w done) =
     let le = before_some old new place p done.topology done.later.next 0 (let less = done.later.lines place p done.still in omega (arith, less)) in
     let one = owed_one p done.told old.turn done.owed done.other in
     let none = ap (λ (o : Option Pick). owed o p) done.over in
-    let zero_rounds = no_round (queues old) in
-    record { topology = done.topology ∙ n.topology; near = omega (arith, near, le, one, none, zero_rounds) }
+    let none_times = times_none (queues old) in
+    record { topology = done.topology ∙ n.topology; near = omega (arith, near, le, one, none, none_times) }
 nears place p start _ _ _ (stays {served} {came} {old} {new} w left later) =
     let n = nears place p start served came old w in
     let near = n.near in
     let le = before_some old new place p left.topology later.next 0 (let less = later.lines place p left.still in omega (arith, less)) in
     let same = same_owed old new p left.turn in
-    let zero_rounds = no_round (queues old) in
-    record { topology = left.topology ∙ n.topology; near = omega (arith, near, le, same, zero_rounds) }
+    let none_times = times_none (queues old) in
+    record { topology = left.topology ∙ n.topology; near = omega (arith, near, le, same, none_times) }
 nears place p start _ _ _ (beside {served} {came} {old} {new} e w left one none) =
     let n = nears place p start served came old w in
     let near = n.near in
     let le = before_some old new place p left.topology one.next 0 (let less = one.lines place p none left.still in omega (arith, less)) in
     let same = same_owed old new p left.turn in
-    let zero_rounds = no_round (queues old) in
-    record { topology = left.topology ∙ n.topology; near = omega (arith, near, le, same, zero_rounds) }
+    let none_times = times_none (queues old) in
+    record { topology = left.topology ∙ n.topology; near = omega (arith, near, le, same, none_times) }
 nears place p start _ _ _ (comes {served} {came} {old} {new} e w left one) =
     let n = nears place p start served came old w in
     let near = n.near in
     let le = before_some old new place p left.topology one.next 1 (one.one place p left.still) in
     let same = same_owed old new p left.turn in
-    let round = one_round came (queues start) in
+    let one_more = times_one_more came (queues start) in
     let long = same_queues old start n.topology in
     let once : 1 * queues old ≡ queues old = omega arith in
-    record { topology = left.topology ∙ n.topology; near = omega (arith, near, le, same, round, long, once) }
+    record { topology = left.topology ∙ n.topology; near = omega (arith, near, le, same, one_more, long, once) }
 
 -- ---- the bound
 
@@ -127,14 +127,14 @@ bounded place p start st =
     let most = less_each (standing_at start place p) (length (line_at start place)) (queues start) (ahead (queues start) start.next place) 0 less within in
     omega (arith, most)
 
-rounds_of : (a b n : ℕ) → (a + b) * n ≡ a * n + b * n
-rounds_of a b n = omega arith
+times_sum : (a b n : ℕ) → (a + b) * n ≡ a * n + b * n
+times_sum a b n = omega arith
 
 fewer : (place : ℕ) (p : Pick) (start now : WithTurn) (served came : ℕ) → Stands start place p → Waits place p start served came now → IsServedSoon start place p served came
 fewer place p start now served came st w =
     let near = (nears place p start served came now w).near in
     let less = bounded place p start st in
-    let parts = rounds_of (length (line_at start place)) came (queues start) in
+    let parts = times_sum (length (line_at start place)) came (queues start) in
     omega (arith, near, less, parts)
 
 pub nobody_waits : NobodyWaits
@@ -145,7 +145,7 @@ pub serves_soon : (b : WithTurn) (told : Pick) → ServesSoon b told
 serves_soon b told place p start served came st w is far =
     let near = (nears place p start served came b w).near in
     let less = bounded place p start st in
-    let parts = rounds_of (length (line_at start place)) came (queues start) in
+    let parts = times_sum (length (line_at start place)) came (queues start) in
     let one = owed_one p told b.turn is far in
     omega (arith, near, less, parts, one)
 

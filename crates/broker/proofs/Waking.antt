@@ -26,7 +26,7 @@ use Rattle.model.specs.declared.methods.Qos.{Qos}
 use Rattle.model.specs.declared.methods.Method.{Method}
 use Rattle.model.specs.declared.methods.Method.TheVariants.{ConnectionClose, ChannelOpen, ChannelFlow, ChannelClose, ChannelCloseOk, ExchangeDeclare, QueueDeclare, QueuePurge, BasicQos, BasicConsume, BasicCancel, BasicPublish, BasicGet, BasicAck, BasicReject, BasicNack, BasicRecover, ConfirmSelect}
 use Rattle.model.specs.declared.notes.Note.{Note}
-use Rattle.broker.specs.Roster.{wakes, wakes_on}
+use Rattle.broker.specs.Rounds.{wakes, wakes_on}
 use Rattle.commands.specs.Picked.{CannotTake}
 use Rattle.commands.specs.declared.picks.Pick.{Pick}
 
@@ -80,13 +80,13 @@ may_before no_ack queue by ch k e =
 
 -- ---- all cases
 
-abbrev seat_of_consumer : ℕ → ℕ → ℕ → Pick
-seat_of_consumer c h n = record { connection = c; channel = h; number = n }
+abbrev pick_numbered : ℕ → ℕ → ℕ → Pick
+pick_numbered c h n = record { connection = c; channel = h; number = n }
 
 module _ (t : Topology) (old new : Broker) (e : Event) (sends : List Send) (notes : List Note) where
-  -- a consumer of this number on channel h of connection c might take a message before, or the event wakes its seat
+  -- a consumer of this number on channel h of connection c might take a message before, or the event wakes its waiter
   abbrev Could : ℕ → ℕ → ℕ → Type 0
-  Could c h n = ((ch : Channel) × (k : Consumer) × MayTake old c h ch k × (k.number ≡ n)) ⊎ (wakes e (seat_of_consumer c h n) ≡ true)
+  Could c h n = ((ch : Channel) × (k : Consumer) × MayTake old c h ch k × (k.number ≡ n)) ⊎ (wakes e (pick_numbered c h n) ≡ true)
 
   -- each that may take one now could
   abbrev AllCould : Type 0
@@ -127,8 +127,8 @@ module _ (t : Topology) (old new : Broker) (e : Event) (sends : List Send) (note
       go true false first second e = before d l ch k may.connection (sym (conns d) ∙ may.runs) may.awake e may.open_still may.its may.may
       go false w first second e = before d l ch k may.connection (sym (conns d) ∙ may.runs) may.awake e may.open_still may.its may.may
 
-  -- and the event wakes the seats of its consumers
-  woken : (c h : ℕ) (x : Option Channel) → ((n : ℕ) → wakes e (seat_of_consumer c h n) ≡ true) → SameConnections → ((d l : ℕ) → new.channel d l ≡ with_pair old.channel c h x d l) → AllCould
+  -- and the event wakes the waiters of its consumers
+  woken : (c h : ℕ) (x : Option Channel) → ((n : ℕ) → wakes e (pick_numbered c h n) ≡ true) → SameConnections → ((d l : ℕ) → new.channel d l ≡ with_pair old.channel c h x d l) → AllCould
   woken c h x wake conns is = with_this c h x conns is (λ ch k conn e runs awake still its may. inr (wake k.number))
 
   -- one that no consumer may take from on it
@@ -171,18 +171,18 @@ module _ (t : Topology) (old new : Broker) (e : Event) (sends : List Send) (note
       go false a = before d l ch k may.connection a may.awake (sym (is d l) ∙ may.there) may.open_still may.its may.may
 
   -- or is not
-  resumes : (c : ℕ) → ((n h : ℕ) → wakes e (seat_of_consumer c h n) ≡ true) → ((d : ℕ) → new.connection d ≡ with_one old.connection c (paused false (old.connection c)) d) → ((d l : ℕ) → new.channel d l ≡ old.channel d l) → AllCould
+  resumes : (c : ℕ) → ((n h : ℕ) → wakes e (pick_numbered c h n) ≡ true) → ((d : ℕ) → new.connection d ≡ with_one old.connection c (paused false (old.connection c)) d) → ((d l : ℕ) → new.channel d l ≡ old.channel d l) → AllCould
   resumes c wake conns is d l ch k may = go (d == c) refl (sym (conns d) ∙ may.runs)
     where
       go : (v : Bool) → (d == c) ≡ v → (if v then paused false (old.connection c) else old.connection d) ≡ Some may.connection → Could d l k.number
-      go true at a = inr (subst (λ (n : ℕ). wakes e (seat_of_consumer n l k.number) ≡ true) (sym (eqb-true d c at)) (wake k.number l))
+      go true at a = inr (subst (λ (n : ℕ). wakes e (pick_numbered n l k.number) ≡ true) (sym (eqb-true d c at)) (wake k.number l))
       go false at a = before d l ch k may.connection a may.awake (sym (is d l) ∙ may.there) may.open_still may.its may.may
 
-  closes : (wanted : List Send) (c h : ℕ) (v : Bool) → ((n : ℕ) → wakes e (seat_of_consumer c h n) ≡ true) → Does sends notes new wanted (if v then old else with_freed (with_channel old c h None) (by_channel c h)) → AllCould
+  closes : (wanted : List Send) (c h : ℕ) (v : Bool) → ((n : ℕ) → wakes e (pick_numbered c h n) ≡ true) → Does sends notes new wanted (if v then old else with_freed (with_channel old c h None) (by_channel c h)) → AllCould
   closes wanted c h true wake p = same p.left.connections p.left.channels
   closes wanted c h false wake p = woken c h None wake p.left.connections p.left.channels
 
-  limits : (wanted : List Send) (c h : ℕ) (m : Qos) (v : Bool) → ((n : ℕ) → wakes e (seat_of_consumer c h n) ≡ true) → Does sends notes new wanted (with_channel old c h (Some (if v then record (mine c h) { limit = m.prefetch_count } else record (mine c h) { each_limit = m.prefetch_count }))) → AllCould
+  limits : (wanted : List Send) (c h : ℕ) (m : Qos) (v : Bool) → ((n : ℕ) → wakes e (pick_numbered c h n) ≡ true) → Does sends notes new wanted (with_channel old c h (Some (if v then record (mine c h) { limit = m.prefetch_count } else record (mine c h) { each_limit = m.prefetch_count }))) → AllCould
   limits wanted c h m true wake p = woken c h _ wake p.left.connections p.left.channels
   limits wanted c h m false wake p = woken c h _ wake p.left.connections p.left.channels
 
@@ -193,7 +193,7 @@ module _ (t : Topology) (old new : Broker) (e : Event) (sends : List Send) (note
   gets c h m None p = same p.left.connections p.left.channels
   gets c h m (Some x) p = with_some c h _ p.left.connections p.left.channels (gives c h m.no_ack m.queue taker.Get)
 
-  performs : (c h : ℕ) (m : Method) (content : Option Content) → e ≡ Command c h m content → (wakes_on m ≡ true → (n : ℕ) → wakes e (seat_of_consumer c h n) ≡ true) → Performs t old c h (mine c h) m content sends notes new → AllCould
+  performs : (c h : ℕ) (m : Method) (content : Option Content) → e ≡ Command c h m content → (wakes_on m ≡ true → (n : ℕ) → wakes e (pick_numbered c h n) ≡ true) → Performs t old c h (mine c h) m content sends notes new → AllCould
   performs c h (ConfirmSelect no_wait) content is wake p = woken c h _ (wake refl) p.left.connections p.left.channels
   performs c h (BasicPublish publish) content is wake p = with_some c h _ p.left.connections p.left.channels (before_mine c h)
   performs c h (ChannelOpen reserved) content is wake p = woken c h _ (wake refl) p.left.connections p.left.channels
@@ -219,8 +219,8 @@ module _ (t : Topology) (old new : Broker) (e : Event) (sends : List Send) (note
   refuses c h cause (Of_channel code) p = closed c h _ p.left.connections p.left.channels refl
   refuses c h cause (Of_connection code) p = gone c p.left.connections p.left.channels
 
-  wakes_its : (c h : ℕ) (m : Method) (content : Option Content) → e ≡ Command c h m content → wakes_on m ≡ true → (n : ℕ) → wakes e (seat_of_consumer c h n) ≡ true
-  wakes_its c h m content is on n = ap (λ (x : Event). wakes x (seat_of_consumer c h n)) is ∙ and (wakes_on m) ((c == c) && (h == h)) on (and (c == c) (h == h) (eq-eqb c c refl) (eq-eqb h h refl))
+  wakes_its : (c h : ℕ) (m : Method) (content : Option Content) → e ≡ Command c h m content → wakes_on m ≡ true → (n : ℕ) → wakes e (pick_numbered c h n) ≡ true
+  wakes_its c h m content is on n = ap (λ (x : Event). wakes x (pick_numbered c h n)) is ∙ and (wakes_on m) ((c == c) && (h == h)) on (and (c == c) (h == h) (eq-eqb c c refl) (eq-eqb h h refl))
 
   decides : (c h : ℕ) (m : Method) (content : Option Content) (r : Option Refusal) → e ≡ Command c h m content → Decides t old c h m content r sends notes new → AllCould
   decides c h m content None is p = performs c h m content is (wakes_its c h m content is) p
@@ -243,15 +243,15 @@ module _ (t : Topology) (old new : Broker) (e : Event) (sends : List Send) (note
   could (Fault c code) is p = gone c p.left.connections p.left.channels
   could (Lose c) is p = gone c p.left.connections p.left.channels
   could (Pause c) is p = pauses c p.left.connections p.left.channels
-  could (Resume c) is p = resumes c (λ n h. ap (λ (x : Event). wakes x (seat_of_consumer c h n)) is ∙ eq-eqb c c refl) p.left.connections p.left.channels
+  could (Resume c) is p = resumes c (λ n h. ap (λ (x : Event). wakes x (pick_numbered c h n)) is ∙ eq-eqb c c refl) p.left.connections p.left.channels
   could (Deliver c) is p =
       with_some c p.made.number _ p.makes.left.connections p.makes.left.channels
       (λ k conn runs awake still its may. before c p.made.number p.made.channel k conn runs awake p.made.taker.there still its (may_before p.made.consumer.no_ack p.made.consumer.queue (taker.Consumer p.made.consumer.number) p.made.channel k may))
 
--- who could take nothing can take nothing after an event that does not wake its seat
+-- who could take nothing can take nothing after an event that does not wake its waiter
 pub cannot_still : (t : Topology) (old new : Broker) (e : Event) (sends : List Send) (notes : List Note) (p : Pick) → Acts t old e sends notes new → wakes e p ≡ false → CannotTake old p → CannotTake new p
 cannot_still t old new e sends notes p acts none cannot = λ ch k may numbered. go k numbered (could t old new e sends notes e refl acts p.connection p.channel ch k may)
   where
     go : (k : Consumer) → k.number ≡ p.number → Could t old new e sends notes p.connection p.channel k.number → ⊥
     go k numbered (inl (ch, was, may, same)) = cannot ch was may (same ∙ numbered)
-    go k numbered (inr woken) = false≢true (sym none ∙ subst (λ (n : ℕ). wakes e (seat_of_consumer p.connection p.channel n) ≡ true) numbered woken)
+    go k numbered (inr woken) = false≢true (sym none ∙ subst (λ (n : ℕ). wakes e (pick_numbered p.connection p.channel n) ≡ true) numbered woken)

@@ -1,5 +1,5 @@
 pub mod Lines
-pub mod Roster
 pub mod Moving
+pub mod Rounds
 pub mod Turns
 pub mod Waiting

@@ -5,7 +5,7 @@ use Rattle.model.specs.Broker.{Broker}
 use Rattle.commands.specs.State as core
 use Rattle.commands.specs.State.{Kept, names_of}
 use Rattle.commands.specs.declared.picks.Pick.{Pick}
-use Rattle.broker.specs.Roster.{Rings, lines_of}
+use Rattle.broker.specs.Rounds.{Rounds, lines_of}
 
 -- What is kept, and who is served when.
 pub record WithTurn : Type 0 where
@@ -17,9 +17,9 @@ pub record WithTurn : Type 0 where
   -- the place from which the queues are gone round
   pub next : ℕ
 
--- what is kept is served by these rings
-abbrev pub with_turn : Kept → Rings → Option Pick → WithTurn
-with_turn kept r turn = record { kept = kept; turn = turn; lines = lines_of (core.broker_of kept) (names_of kept) r.rings; next = r.next }
+-- what is kept is served by these rounds
+abbrev pub with_turn : Kept → Rounds → Option Pick → WithTurn
+with_turn kept r turn = record { kept = kept; turn = turn; lines = lines_of (core.broker_of kept) (names_of kept) r.rounds; next = r.next }
 
 -- the topology that the broker runs
 abbrev pub topology_kept : WithTurn → Topology

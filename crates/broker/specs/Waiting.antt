@@ -8,7 +8,7 @@ use Rattle.commands.specs.Picked.{IsPickFrom}
 use Rattle.commands.specs.Seats.{IsConsumed}
 use Rattle.commands.specs.declared.picks.Pick.{Pick}
 use Rattle.broker.specs.Lines.{ahead, standing}
-use Rattle.broker.specs.Roster.{is_consumer, HasConsumer}
+use Rattle.broker.specs.Rounds.{is_consumer, HasConsumer}
 use Rattle.broker.specs.Turns.{WithTurn, topology_kept, broker_of}
 
 -- ---- how far off a turn is

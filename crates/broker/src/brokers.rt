@@ -3,7 +3,7 @@
 ghost use Rattle.std.specs.Prelude.{◌≡◌};
 ghost use Rattle.replies.specs.Sent.{connection_of_event};
 
-use crate::roster::Roster;
+use crate::rounds::ConsumerRounds;
 use crate::turns::turn_kept;
 use commands::{Core, Pick};
 use exchange_graph::Topology;
@@ -36,7 +36,7 @@ fn connection_of(event: &Event) -> u64
 /// Queues, and the connections that run with their channels and consumers.
 pub struct Broker {
     core: Core,
-    roster: Roster,
+    rounds: ConsumerRounds,
     /// Whose turn it is: the consumer that was told last, until something is delivered.
     turn: Option<Pick>,
 }
@@ -46,21 +46,21 @@ impl Drop for Broker {
     fn drop(self) {
         let Broker {
             core: _,
-            roster: _,
+            rounds: _,
             turn: _,
         } = self;
     }
 }
 
 impl Model for Broker {
-    ghost use Rattle.broker.specs.Roster.{IsServing};
+    ghost use Rattle.broker.specs.Rounds.{IsServing};
     ghost use Rattle.broker.specs.Turns.{WithTurn, with_turn};
 
     ghost Value = { WithTurn };
 
-    ghost view = { λ b. with_turn b.core b.roster b.turn };
+    ghost view = { λ b. with_turn b.core b.rounds b.turn };
 
-    ghost invariant = { λ b. IsServing b.core b.roster };
+    ghost invariant = { λ b. IsServing b.core b.rounds };
 }
 
 impl Broker {
@@ -88,11 +88,11 @@ impl Broker {
         ensures empty { IfOk result (λ b. Is nothing (broker_of b)) }
     {
         brokers_stay_agreed();
-        let roster = Roster::new(alloc, topology.queues().len())?;
+        let rounds = ConsumerRounds::new(alloc, topology.queues().len())?;
         let core = Core::new(alloc, topology)?;
         Ok(Broker {
             core,
-            roster,
+            rounds,
             turn: None,
         })
     }
@@ -113,13 +113,13 @@ impl Broker {
     {
         brokers_stay_agreed();
         consumers_are_made();
-        self.roster.seat_next(alloc, &self.core, event)?;
-        self.roster.wake_for(event);
+        self.rounds.join_next(alloc, &self.core, event)?;
+        self.rounds.wake_for(event);
         let acted = self.core.step(alloc, event)?;
         if !acted.has_ended {
             return Ok(acted.step);
         }
-        self.roster.forget(connection_of(event));
+        self.rounds.forget(connection_of(event));
         Ok(acted.step)
     }
 
@@ -155,7 +155,7 @@ impl Broker {
         ensures some { IfSome result (λ p. IsPick (broker_of self.old) p) }
         ensures none { result ≡ None → (c : ℕ) → CanDeliver (broker_of self.old) c → ⊥ }
     {
-        self.turn = self.roster.pick(&self.core);
+        self.turn = self.rounds.pick(&self.core);
         self.turn
     }
 
@@ -213,7 +213,7 @@ impl Broker {
         brokers_stay_agreed();
         consumers_are_made();
         self.core.lose(connection);
-        self.roster.forget(connection);
+        self.rounds.forget(connection);
     }
 
     /// The output of the connection holds 1,048,576 bytes or more from now on. It takes no memory.
@@ -237,7 +237,7 @@ impl Broker {
     {
         brokers_stay_agreed();
         consumers_are_made();
-        self.roster.wake(connection, None);
+        self.rounds.wake(connection, None);
         self.core.resume(connection);
     }
 
@@ -267,12 +267,12 @@ impl Broker {
         ensures lines { OnOk result (LinesMove self.old self.new) }
         ensures err { OnErr result (self.new ≡ self.old) }
     {
-        let empty = Roster::new(alloc, topology.queues().len())?;
+        let empty = ConsumerRounds::new(alloc, topology.queues().len())?;
         self.core.is_kept();
         let places = self.core.reload(alloc, topology)?;
         self.core.is_kept();
-        let old = mem::replace(&mut self.roster, empty);
-        self.roster.take_over(old, &places);
+        let old = mem::replace(&mut self.rounds, empty);
+        self.rounds.take_over(old, &places);
         self.turn = None;
         Ok(())
     }

@@ -1,11 +1,11 @@
 //! The broker: queues, running connections and their channels, and what each event does to them.
 //!
-//! What an event does is done by `Core` of crate `commands`; the broker adds the seats of consumers, over which deliveries go
-//! round.
+//! What an event does is done by `Core` of crate `commands`; the broker adds the rounds of consumers, over which
+//! deliveries go.
 #![tactic(auto)]
 
 mod brokers;
-mod roster;
+mod rounds;
 mod turns;
 mod waiting;
 

@@ -1,6 +1,6 @@
 use Rattle.std.proofs.Common.{ℕ, refl, sym, subst}
 use Rattle.model.specs.Consuming.{CanDeliver}
-use Rattle.broker.specs.Roster.{Rings, HasConsumer, PicksFirst}
+use Rattle.broker.specs.Rounds.{Rounds, HasConsumer, PicksFirst}
 use Rattle.broker.specs.Turns as seen
 use Rattle.broker.specs.Turns.{WithTurn, with_turn}
 use Rattle.commands.specs.State.{Kept, broker_of, topology_kept}
@@ -8,7 +8,7 @@ use Rattle.commands.specs.declared.picks.Pick.{Pick}
 use Rattle.commands.specs.Picked.{IsPick, IsPickFrom}
 use Rattle.commands.proofs.Picking.{pick_from}
 use Rattle.broker.proofs.Outcomes.{if_some, told_some}
-use Rattle.broker.proofs.Seated.{holds, serves, serves_kept, notes_keep, running_still}
+use Rattle.broker.proofs.Joined.{holds, serves, serves_kept, notes_keep, running_still}
 use Rattle.broker.specs.Waiting.{IsToldInTurn}
 use Rattle.broker.proofs.Turning.{told_in_turn}
 use Rattle.broker.proofs.brokers.Broker.find.Goals as goal
@@ -19,7 +19,7 @@ returns-clause-none c = λ e d can.
     let p : Pick = record { connection = d; channel = made.number; number = made.consumer.number } in
     let from = pick_from c.self.inside.core d made in
     let has : HasConsumer (topology_kept c.self.inside.core) (broker_of c.self.inside.core) from.place p = record { consumer = made.consumer; was = (made.channel, made.taker.there, made.taker.its); numbered = refl; within = from.within; named = from.named } in
-    c.pick-self-inside.ensures.none e from.place p (c.self.invariant.seated from.place p has) (record { pick = (made, refl, refl); within = from.within; named = from.named })
+    c.pick-self-inside.ensures.none e from.place p (c.self.invariant.joined from.place p has) (record { pick = (made, refl, refl); within = from.within; named = from.named })
 
 pub returns-clause-some : goal.returns-clause-some
 returns-clause-some c =
@@ -28,8 +28,8 @@ returns-clause-some c =
 pub invariant_of-self : goal.invariant_of-self
 invariant_of-self c =
     let kept : Kept = c.self.inside.core in
-    let before : Rings = c.self.inside.roster in
-    let after : Rings = c.pick-self-inside.new.self in
+    let before : Rounds = c.self.inside.rounds in
+    let after : Rounds = c.pick-self-inside.new.self in
     serves kept after
     (serves_kept kept before after c.pick-self-inside.ensures.kept (notes_keep kept before.lists after.lists c.pick-self-inside.ensures.noted) c.pick-self-inside.ensures.len (holds kept before c.self.invariant))
     (running_still (broker_of kept) (broker_of kept) before.lists after.lists (λ d none. none) c.pick-self-inside.ensures.no_list c.self.invariant.running)
@@ -37,8 +37,8 @@ invariant_of-self c =
 pub returns-clause-in_turn : goal.returns-clause-in_turn
 returns-clause-in_turn c =
     let kept : Kept = c.self.inside.core in
-    let before : Rings = c.self.inside.roster in
-    let after : Rings = c.pick-self-inside.new.self in
+    let before : Rounds = c.self.inside.rounds in
+    let after : Rounds = c.pick-self-inside.new.self in
     subst (λ (b : WithTurn). IsToldInTurn b c.pick-self-inside.result (with_turn kept after c.pick-self-inside.result)) c.self.view_is
     (told_in_turn kept before after c.self.inside.turn c.pick-self-inside.result (holds kept before c.self.invariant) c.pick-self-inside.ensures.len
     (λ p is. told_some c.pick-self-inside.result p (PicksFirst kept before after) is c.pick-self-inside.ensures.told) c.pick-self-inside.ensures.none)

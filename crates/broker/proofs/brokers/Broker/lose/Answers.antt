@@ -1,9 +1,9 @@
 use Rattle.std.proofs.Common.{[], refl, subst}
 use Rattle.model.specs.declared.events.Event.TheVariants.{Lose}
 use Rattle.commands.specs.State.{Kept, broker_of, topology_kept}
-use Rattle.broker.specs.Roster.{Rings}
+use Rattle.broker.specs.Rounds.{Rounds}
 use Rattle.commands.proofs.Ending.{loss_ended}
-use Rattle.broker.proofs.Seated.{holds, was_there, serves, serves_asleep, serves_kept, running_but}
+use Rattle.broker.proofs.Joined.{holds, was_there, serves, serves_asleep, serves_kept, running_but}
 use Rattle.broker.specs.Turns.{WithTurn, with_turn}
 use Rattle.broker.specs.Waiting.{NoneIsLater}
 use Rattle.broker.proofs.Turning.{none_later}
@@ -13,8 +13,8 @@ pub invariant_of-self : goal.invariant_of-self
 invariant_of-self c =
     let old : Kept = c.self.inside.core in
     let new : Kept = c.lose.new.self in
-    let before : Rings = c.self.inside.roster in
-    let after : Rings = c.forget.new.self in
+    let before : Rounds = c.self.inside.rounds in
+    let after : Rounds = c.forget.new.self in
     let ended = loss_ended (topology_kept old) (broker_of old) (broker_of new) [] [] c.args.connection c.lose.ensures.acts in
     serves new after
     (serves_kept new before after (c.forget.ensures.kept new ended.0) (c.forget.ensures.noted new ended.0).noted c.forget.ensures.len
@@ -25,8 +25,8 @@ pub returns-clause-later : goal.returns-clause-later
 returns-clause-later c =
     let old : Kept = c.self.inside.core in
     let new : Kept = c.lose.new.self in
-    let before : Rings = c.self.inside.roster in
-    let after : Rings = c.forget.new.self in
+    let before : Rounds = c.self.inside.rounds in
+    let after : Rounds = c.forget.new.self in
     subst (λ (b : WithTurn). NoneIsLater b (with_turn new after c.self.inside.turn)) c.self.view_is
     (none_later old new before after c.self.inside.turn c.self.inside.turn c.lose.ensures.topology (holds old before c.self.invariant) c.forget.ensures.len c.forget.ensures.on.same c.forget.ensures.on.next
     (was_there c.consumers_are_made.ensures (topology_kept old) (broker_of old) (broker_of new) (Lose c.args.connection) [] [] c.lose.ensures.acts refl))

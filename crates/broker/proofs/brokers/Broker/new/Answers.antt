@@ -8,8 +8,8 @@ use Rattle.model.specs.Entries.{is_held_as}
 use Rattle.model.specs.Step.{Is}
 use Rattle.model.specs.declared.messages.Entry.{Entry}
 use Rattle.commands.specs.State.{Kept, broker_of, topology_kept, nothing}
-use Rattle.broker.specs.Roster.{Rings, Lists, HasNoList}
-use Rattle.broker.proofs.Seated.{serves, serves_none}
+use Rattle.broker.specs.Rounds.{Rounds, Lists, HasNoList}
+use Rattle.broker.proofs.Joined.{serves, serves_none}
 use Rattle.broker.proofs.brokers.Broker.new.Goals as goal
 
 no_channel : (b : Broker) → Is nothing b → (c h : ℕ) (ch : Channel) → b.channel c h ≡ Some ch → ⊥
@@ -29,7 +29,7 @@ nothing_agreed b is = record {
 pub invariant_of-result : goal.invariant_of-result
 invariant_of-result c =
     let core : Kept = c.in_ok-core.core in
-    let rings : Rings = c.in_ok-roster.roster in
-    let long : length rings.rings ≡ length (topology_kept core).queues = c.in_ok-roster.ensures.rings ∙ ap length c.queues.ensures ∙ ap (λ (t : Topology). length t.queues) (sym c.in_ok-core.ensures.topology) in
-    serves core rings (serves_none core rings (nothing_agreed (broker_of core) c.in_ok-core.ensures.empty) long (λ d h. c.in_ok-core.ensures.empty.channels d h))
-    (λ d none. subst (λ (ls : Lists). HasNoList ls d) (sym c.in_ok-roster.ensures.lists) refl)
+    let rounds : Rounds = c.in_ok-rounds.rounds in
+    let long : length rounds.rounds ≡ length (topology_kept core).queues = c.in_ok-rounds.ensures.rounds ∙ ap length c.queues.ensures ∙ ap (λ (t : Topology). length t.queues) (sym c.in_ok-core.ensures.topology) in
+    serves core rounds (serves_none core rounds (nothing_agreed (broker_of core) c.in_ok-core.ensures.empty) long (λ d h. c.in_ok-core.ensures.empty.channels d h))
+    (λ d none. subst (λ (ls : Lists). HasNoList ls d) (sym c.in_ok-rounds.ensures.lists) refl)

@@ -1,10 +1,10 @@
 use Rattle.std.proofs.Common.{[], refl, sym, subst}
 use Rattle.model.specs.declared.events.Event.TheVariants.{Running}
-use Rattle.broker.specs.Roster.{Rings, IsServing}
+use Rattle.broker.specs.Rounds.{Rounds, IsServing}
 use Rattle.commands.specs.State.{Kept, broker_of, topology_kept}
 use Rattle.commands.proofs.Ending.{opening_runs}
 use Rattle.broker.proofs.Outcomes.{either_way, on_ok}
-use Rattle.broker.proofs.Seated.{holds, was_there, serves, serves_asleep, running_still}
+use Rattle.broker.proofs.Joined.{holds, was_there, serves, serves_asleep, running_still}
 use Rattle.broker.specs.Turns.{WithTurn, with_turn}
 use Rattle.broker.specs.Waiting.{NoneIsLater}
 use Rattle.broker.proofs.Turning.{none_later}
@@ -14,20 +14,20 @@ pub invariant_of-self : goal.invariant_of-self
 invariant_of-self c =
     let old : Kept = c.self.inside.core in
     let new : Kept = c.open.new.self in
-    let rings : Rings = c.self.inside.roster in
+    let rounds : Rounds = c.self.inside.rounds in
     either_way c.open.result c.open.ensures.ok c.open.ensures.err
-    (λ acts. serves new rings
-    (serves_asleep c.brokers_stay_agreed.ensures.acts c.consumers_are_made.ensures (topology_kept old) old new (Running c.args.connection c.args.channel_max c.args.channels) [] [] rings acts (λ p. refl) refl refl c.open.ensures.topology (holds old rings c.self.invariant))
-    (running_still (broker_of old) (broker_of new) rings.lists rings.lists (opening_runs (topology_kept old) (broker_of old) (broker_of new) [] [] c.args.connection c.args.channel_max c.args.channels acts) (λ d none. none) c.self.invariant.running))
-    (λ same. subst (λ (k : Kept). IsServing k rings) (sym same) c.self.invariant)
+    (λ acts. serves new rounds
+    (serves_asleep c.brokers_stay_agreed.ensures.acts c.consumers_are_made.ensures (topology_kept old) old new (Running c.args.connection c.args.channel_max c.args.channels) [] [] rounds acts (λ p. refl) refl refl c.open.ensures.topology (holds old rounds c.self.invariant))
+    (running_still (broker_of old) (broker_of new) rounds.lists rounds.lists (opening_runs (topology_kept old) (broker_of old) (broker_of new) [] [] c.args.connection c.args.channel_max c.args.channels acts) (λ d none. none) c.self.invariant.running))
+    (λ same. subst (λ (k : Kept). IsServing k rounds) (sym same) c.self.invariant)
 
 pub returns-clause-later : goal.returns-clause-later
 returns-clause-later c =
     let old : Kept = c.self.inside.core in
     let new : Kept = c.open.new.self in
-    let rings : Rings = c.self.inside.roster in
+    let rounds : Rounds = c.self.inside.rounds in
     on_ok c.open.result
-    (λ acts. subst (λ (b : WithTurn). NoneIsLater b (with_turn new rings c.self.inside.turn)) c.self.view_is
-    (none_later old new rings rings c.self.inside.turn c.self.inside.turn c.open.ensures.topology (holds old rings c.self.invariant) refl (λ at. refl) refl
+    (λ acts. subst (λ (b : WithTurn). NoneIsLater b (with_turn new rounds c.self.inside.turn)) c.self.view_is
+    (none_later old new rounds rounds c.self.inside.turn c.self.inside.turn c.open.ensures.topology (holds old rounds c.self.invariant) refl (λ at. refl) refl
     (was_there c.consumers_are_made.ensures (topology_kept old) (broker_of old) (broker_of new) (Running c.args.connection c.args.channel_max c.args.channels) [] [] acts refl)))
     c.open.ensures.ok

@@ -1,9 +1,9 @@
 use Rattle.std.proofs.Common.{[], refl, subst}
 use Rattle.model.specs.declared.events.Event.TheVariants.{Pause}
-use Rattle.broker.specs.Roster.{Rings}
+use Rattle.broker.specs.Rounds.{Rounds}
 use Rattle.commands.specs.State.{Kept, broker_of, topology_kept}
 use Rattle.commands.proofs.Ending.{pause_runs}
-use Rattle.broker.proofs.Seated.{holds, was_there, serves, serves_asleep, running_still}
+use Rattle.broker.proofs.Joined.{holds, was_there, serves, serves_asleep, running_still}
 use Rattle.broker.specs.Turns.{WithTurn, with_turn}
 use Rattle.broker.specs.Waiting.{NoneIsLater}
 use Rattle.broker.proofs.Turning.{none_later}
@@ -13,16 +13,16 @@ pub invariant_of-self : goal.invariant_of-self
 invariant_of-self c =
     let old : Kept = c.self.inside.core in
     let new : Kept = c.pause.new.self in
-    let rings : Rings = c.self.inside.roster in
-    serves new rings
-    (serves_asleep c.brokers_stay_agreed.ensures.acts c.consumers_are_made.ensures (topology_kept old) old new (Pause c.args.connection) [] [] rings c.pause.ensures.acts (λ p. refl) refl refl c.pause.ensures.topology (holds old rings c.self.invariant))
-    (running_still (broker_of old) (broker_of new) rings.lists rings.lists (pause_runs (topology_kept old) (broker_of old) (broker_of new) [] [] c.args.connection c.pause.ensures.acts) (λ d none. none) c.self.invariant.running)
+    let rounds : Rounds = c.self.inside.rounds in
+    serves new rounds
+    (serves_asleep c.brokers_stay_agreed.ensures.acts c.consumers_are_made.ensures (topology_kept old) old new (Pause c.args.connection) [] [] rounds c.pause.ensures.acts (λ p. refl) refl refl c.pause.ensures.topology (holds old rounds c.self.invariant))
+    (running_still (broker_of old) (broker_of new) rounds.lists rounds.lists (pause_runs (topology_kept old) (broker_of old) (broker_of new) [] [] c.args.connection c.pause.ensures.acts) (λ d none. none) c.self.invariant.running)
 
 pub returns-clause-later : goal.returns-clause-later
 returns-clause-later c =
     let old : Kept = c.self.inside.core in
     let new : Kept = c.pause.new.self in
-    let rings : Rings = c.self.inside.roster in
-    subst (λ (b : WithTurn). NoneIsLater b (with_turn new rings c.self.inside.turn)) c.self.view_is
-    (none_later old new rings rings c.self.inside.turn c.self.inside.turn c.pause.ensures.topology (holds old rings c.self.invariant) refl (λ at. refl) refl
+    let rounds : Rounds = c.self.inside.rounds in
+    subst (λ (b : WithTurn). NoneIsLater b (with_turn new rounds c.self.inside.turn)) c.self.view_is
+    (none_later old new rounds rounds c.self.inside.turn c.self.inside.turn c.pause.ensures.topology (holds old rounds c.self.invariant) refl (λ at. refl) refl
     (was_there c.consumers_are_made.ensures (topology_kept old) (broker_of old) (broker_of new) (Pause c.args.connection) [] [] c.pause.ensures.acts refl))

@@ -2,7 +2,7 @@ use Rattle.std.proofs.Common.{◌∙◌, refl, sym, ap, subst}
 use Rattle.commands.specs.Picked.{IsPick}
 use Rattle.broker.specs.Turns.{WithTurn, broker_of}
 use Rattle.broker.specs.Waiting.{AllStand}
-use Rattle.broker.proofs.Seated.{holds}
+use Rattle.broker.proofs.Joined.{holds}
 use Rattle.broker.proofs.Turning.{all_stand}
 use Rattle.broker.proofs.brokers.Broker.pick.Goals as goal
 
@@ -15,8 +15,8 @@ returns-in-None-clause-again c = λ p is pick.
 
 pub returns-in-Some-clause-stand : goal.returns-in-Some-clause-stand
 returns-in-Some-clause-stand c =
-    subst AllStand c.self.view_is (all_stand c.self.inside.core c.self.inside.roster c.self.inside.turn (holds c.self.inside.core c.self.inside.roster c.self.invariant))
+    subst AllStand c.self.view_is (all_stand c.self.inside.core c.self.inside.rounds c.self.inside.turn (holds c.self.inside.core c.self.inside.rounds c.self.invariant))
 
 pub returns-in-None-clause-stand : goal.returns-in-None-clause-stand
 returns-in-None-clause-stand c =
-    subst AllStand c.self.view_is (all_stand c.self.inside.core c.self.inside.roster c.self.inside.turn (holds c.self.inside.core c.self.inside.roster c.self.invariant))
+    subst AllStand c.self.view_is (all_stand c.self.inside.core c.self.inside.rounds c.self.inside.turn (holds c.self.inside.core c.self.inside.rounds c.self.invariant))

@@ -1,12 +1,12 @@
 use Rattle.std.proofs.Common.{None, refl, sym, subst}
 use Rattle.model.specs.declared.events.Event.TheVariants.{Deliver}
 use Rattle.commands.specs.Picked.{IsPick}
-use Rattle.broker.specs.Roster.{Rings, IsServing}
+use Rattle.broker.specs.Rounds.{Rounds, IsServing}
 use Rattle.broker.specs.Turns as seen
 use Rattle.broker.specs.Turns.{WithTurn, with_turn}
 use Rattle.commands.specs.State.{Kept, broker_of, topology_kept}
 use Rattle.commands.proofs.Ending.{delivery_runs}
-use Rattle.broker.proofs.Seated.{holds, was_there, serves, serves_asleep, running_still}
+use Rattle.broker.proofs.Joined.{holds, was_there, serves, serves_asleep, running_still}
 use Rattle.broker.specs.Waiting.{NoneIsLater}
 use Rattle.broker.proofs.Turning.{none_later}
 use Rattle.broker.proofs.Waits.{serves_soon}
@@ -17,18 +17,18 @@ deliver-requires-clause-picked c = subst (λ (b : WithTurn). IsPick (seen.broker
 
 -- where memory is wanting
 pub invariant_of-self : goal.invariant_of-self
-invariant_of-self c = subst (λ (k : Kept). IsServing k c.self.inside.roster) (sym c.in_err-step.ensures.err) c.self.invariant
+invariant_of-self c = subst (λ (k : Kept). IsServing k c.self.inside.rounds) (sym c.in_err-step.ensures.err) c.self.invariant
 
 -- where the delivery is made
 pub invariant_of-self-2 : goal.invariant_of-self-2
 invariant_of-self-2 c =
     let old : Kept = c.self.inside.core in
     let new : Kept = c.deliver.new.self in
-    let rings : Rings = c.self.inside.roster in
+    let rounds : Rounds = c.self.inside.rounds in
     let acts = c.in_ok-step.ensures.ok in
-    serves new rings
-    (serves_asleep c.brokers_stay_agreed.ensures.acts c.consumers_are_made.ensures (topology_kept old) old new (Deliver c.args.pick.connection) _ _ rings acts (λ p. refl) refl refl c.deliver.ensures.topology (holds old rings c.self.invariant))
-    (running_still (broker_of old) (broker_of new) rings.lists rings.lists (delivery_runs (topology_kept old) (broker_of old) (broker_of new) _ _ c.args.pick.connection acts) (λ d none. none) c.self.invariant.running)
+    serves new rounds
+    (serves_asleep c.brokers_stay_agreed.ensures.acts c.consumers_are_made.ensures (topology_kept old) old new (Deliver c.args.pick.connection) _ _ rounds acts (λ p. refl) refl refl c.deliver.ensures.topology (holds old rounds c.self.invariant))
+    (running_still (broker_of old) (broker_of new) rounds.lists rounds.lists (delivery_runs (topology_kept old) (broker_of old) (broker_of new) _ _ c.args.pick.connection acts) (λ d none. none) c.self.invariant.running)
 
 pub returns-clause-addressed : goal.returns-clause-addressed
 returns-clause-addressed c = rw (← c.self.view_is) c.in_ok-step.ensures.addressed
@@ -37,9 +37,9 @@ pub returns-clause-later : goal.returns-clause-later
 returns-clause-later c =
     let old : Kept = c.self.inside.core in
     let new : Kept = c.deliver.new.self in
-    let rings : Rings = c.self.inside.roster in
-    subst (λ (b : WithTurn). NoneIsLater b (with_turn new rings None)) c.self.view_is
-    (none_later old new rings rings c.self.inside.turn None c.deliver.ensures.topology (holds old rings c.self.invariant) refl (λ at. refl) refl
+    let rounds : Rounds = c.self.inside.rounds in
+    subst (λ (b : WithTurn). NoneIsLater b (with_turn new rounds None)) c.self.view_is
+    (none_later old new rounds rounds c.self.inside.turn None c.deliver.ensures.topology (holds old rounds c.self.invariant) refl (λ at. refl) refl
     (was_there c.consumers_are_made.ensures (topology_kept old) (broker_of old) (broker_of new) (Deliver c.args.pick.connection) _ _ c.in_ok-step.ensures.ok refl))
 
 pub returns-clause-soon : goal.returns-clause-soon

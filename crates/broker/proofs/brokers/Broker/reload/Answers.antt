@@ -4,12 +4,12 @@ use Rattle.model.specs.Reloading.{NoneIsStranded}
 use Rattle.depot.specs.Moving.{AreMoved}
 use Rattle.depot.proofs.Naming.{names-length}
 use Rattle.commands.specs.State.{Kept, topology_kept, names_of}
-use Rattle.broker.specs.Roster.{Rings}
-use Rattle.broker.specs.Moving.{ArePlacesApart, RingsAreMoved, ListsAreMoved}
+use Rattle.broker.specs.Rounds.{Rounds}
+use Rattle.broker.specs.Moving.{ArePlacesApart, RoundsAreMoved, ListsAreMoved}
 use Rattle.broker.specs.Turns as seen
 use Rattle.broker.specs.Turns.{WithTurn, with_turn}
 use Rattle.broker.specs.Waiting.{LinesMove}
-use Rattle.broker.proofs.Seated.{holds}
+use Rattle.broker.proofs.Joined.{holds}
 use Rattle.broker.proofs.Reloading.{places_apart, serves_moved, lines_moved}
 use Rattle.broker.proofs.brokers.Broker.reload.Goals as goal
 
@@ -20,8 +20,8 @@ pub take_over-requires-clause-apart : goal.take_over-requires-clause-apart
 take_over-requires-clause-apart c =
     let old : Kept = c.self.inside.core in
     let t = c.args.topology in
-    let count = length c.replace-old.new.dest.rings in
-    let all : count ≡ length (queue_names t.queues) = ap (λ (r : Rings). length r.rings) c.replace-old.ensures.after ∙ c.in_ok-empty.ensures.rings ∙ ap length c.queues.ensures ∙ sym (names-length t.queues) in
+    let count = length c.replace-old.new.dest.rounds in
+    let all : count ≡ length (queue_names t.queues) = ap (λ (r : Rounds). length r.rounds) c.replace-old.ensures.after ∙ c.in_ok-empty.ensures.rounds ∙ ap length c.queues.ensures ∙ sym (names-length t.queues) in
     subst (λ (ps : List ℕ). ArePlacesApart ps count) (sym c.deref.ensures.value)
     (places_apart (names_of old) (queue_names t.queues) c.in_ok-places.places.items count c.is_kept.ensures.whole.formed.queues_apart c.in_ok-places.ensures.moved all)
 
@@ -29,29 +29,29 @@ pub invariant_of-self-2 : goal.invariant_of-self-2
 invariant_of-self-2 c =
     let old : Kept = c.self.inside.core in
     let new : Kept = c.reload.new.self in
-    let before : Rings = c.self.inside.roster in
-    let left : Rings = c.take_over.new.self in
+    let before : Rounds = c.self.inside.rounds in
+    let left : Rounds = c.take_over.new.self in
     let places = c.in_ok-places.places.items in
     let is : topology_kept new ≡ c.args.topology = c.in_ok-places.ensures.topology in
-    let count : length c.replace-old.new.dest.rings ≡ length c.args.topology.queues = ap (λ (r : Rings). length r.rings) c.replace-old.ensures.after ∙ c.in_ok-empty.ensures.rings ∙ ap length c.queues.ensures in
+    let count : length c.replace-old.new.dest.rounds ≡ length c.args.topology.queues = ap (λ (r : Rounds). length r.rounds) c.replace-old.ensures.after ∙ c.in_ok-empty.ensures.rounds ∙ ap length c.queues.ensures in
     serves_moved old new places c.is_kept-2.ensures.whole c.is_kept.ensures.placed (subst (λ (x : Topology). AreMoved (names_of old) (queue_names x.queues) places) (sym is) c.in_ok-places.ensures.moved) c.in_ok-places.ensures.stood
     before left c.self.invariant
-    (subst (λ (r : Rings). RingsAreMoved places r.rings left.rings) c.replace-old.ensures.value (subst (λ (ps : List ℕ). RingsAreMoved ps c.replace-old.result.rings left.rings) c.deref.ensures.value c.take_over.ensures.moved))
-    (subst (λ (r : Rings). ListsAreMoved places r.lists left.lists) c.replace-old.ensures.value (subst (λ (ps : List ℕ). ListsAreMoved ps c.replace-old.result.lists left.lists) c.deref.ensures.value c.take_over.ensures.lists))
+    (subst (λ (r : Rounds). RoundsAreMoved places r.rounds left.rounds) c.replace-old.ensures.value (subst (λ (ps : List ℕ). RoundsAreMoved ps c.replace-old.result.rounds left.rounds) c.deref.ensures.value c.take_over.ensures.moved))
+    (subst (λ (r : Rounds). ListsAreMoved places r.lists left.lists) c.replace-old.ensures.value (subst (λ (ps : List ℕ). ListsAreMoved ps c.replace-old.result.lists left.lists) c.deref.ensures.value c.take_over.ensures.lists))
     (c.take_over.ensures.len ∙ count ∙ ap (λ (x : Topology). length x.queues) (sym is))
 
 pub returns-clause-lines : goal.returns-clause-lines
 returns-clause-lines c =
     let old : Kept = c.self.inside.core in
     let new : Kept = c.reload.new.self in
-    let before : Rings = c.self.inside.roster in
-    let left : Rings = c.take_over.new.self in
+    let before : Rounds = c.self.inside.rounds in
+    let left : Rounds = c.take_over.new.self in
     let places = c.in_ok-places.places.items in
     let is : topology_kept new ≡ c.args.topology = c.in_ok-places.ensures.topology in
-    let count : length c.replace-old.new.dest.rings ≡ length c.args.topology.queues = ap (λ (r : Rings). length r.rings) c.replace-old.ensures.after ∙ c.in_ok-empty.ensures.rings ∙ ap length c.queues.ensures in
+    let count : length c.replace-old.new.dest.rounds ≡ length c.args.topology.queues = ap (λ (r : Rounds). length r.rounds) c.replace-old.ensures.after ∙ c.in_ok-empty.ensures.rounds ∙ ap length c.queues.ensures in
     subst (λ (b : WithTurn). LinesMove b (with_turn new left None)) c.self.view_is
     (lines_moved old new places c.is_kept-2.ensures.whole c.is_kept.ensures.placed (subst (λ (x : Topology). AreMoved (names_of old) (queue_names x.queues) places) (sym is) c.in_ok-places.ensures.moved) c.in_ok-places.ensures.stood
     before left c.self.inside.turn (holds old before c.self.invariant)
-    (subst (λ (r : Rings). RingsAreMoved places r.rings left.rings) c.replace-old.ensures.value (subst (λ (ps : List ℕ). RingsAreMoved ps c.replace-old.result.rings left.rings) c.deref.ensures.value c.take_over.ensures.moved))
+    (subst (λ (r : Rounds). RoundsAreMoved places r.rounds left.rounds) c.replace-old.ensures.value (subst (λ (ps : List ℕ). RoundsAreMoved ps c.replace-old.result.rounds left.rounds) c.deref.ensures.value c.take_over.ensures.moved))
     (c.take_over.ensures.len ∙ count ∙ ap (λ (x : Topology). length x.queues) (sym is))
-    (c.take_over.ensures.next ∙ ap (λ (r : Rings). r.next) c.replace-old.ensures.after ∙ c.in_ok-empty.ensures.next))
+    (c.take_over.ensures.next ∙ ap (λ (r : Rounds). r.next) c.replace-old.ensures.after ∙ c.in_ok-empty.ensures.next))

@@ -2,9 +2,9 @@ use Rattle.std.proofs.Common.{[], refl, subst}
 use Rattle.std.proofs.lemmas.Bool.{eqb-true}
 use Rattle.model.specs.declared.events.Event.TheVariants.{Resume}
 use Rattle.commands.specs.State.{Kept, broker_of, topology_kept}
-use Rattle.broker.specs.Roster.{Rings}
+use Rattle.broker.specs.Rounds.{Rounds}
 use Rattle.commands.proofs.Ending.{resume_runs}
-use Rattle.broker.proofs.Seated.{Holds, holds, was_there, serves, serves_still, serves_kept, notes_keep, keeps_all, running_still}
+use Rattle.broker.proofs.Joined.{Holds, holds, was_there, serves, serves_still, serves_kept, notes_keep, keeps_all, running_still}
 use Rattle.broker.specs.Turns.{WithTurn, with_turn}
 use Rattle.broker.specs.Waiting.{NoneIsLater}
 use Rattle.broker.proofs.Turning.{none_later}
@@ -14,21 +14,21 @@ pub invariant_of-self : goal.invariant_of-self
 invariant_of-self c =
     let old : Kept = c.self.inside.core in
     let new : Kept = c.resume.new.self in
-    let before : Rings = c.self.inside.roster in
-    let after : Rings = c.wake.new.self in
+    let before : Rounds = c.self.inside.rounds in
+    let after : Rounds = c.wake.new.self in
     let held : Holds old after =
     serves_kept old before after (keeps_all old before after c.wake.ensures.kept) (notes_keep old before.lists after.lists c.wake.ensures.noted) c.wake.ensures.len (holds old before c.self.invariant) in
     serves new after
     (serves_still c.brokers_stay_agreed.ensures.acts c.consumers_are_made.ensures (topology_kept old) old new (Resume c.args.connection) [] [] after c.resume.ensures.acts
-    (λ place p woken has. c.wake.ensures.woken p (eqb-true p.connection c.args.connection woken, refl) (broker_of old) place (c.self.invariant.seated place p has)) refl refl c.resume.ensures.topology held)
+    (λ place p woken has. c.wake.ensures.woken p (eqb-true p.connection c.args.connection woken, refl) (broker_of old) place (c.self.invariant.joined place p has)) refl refl c.resume.ensures.topology held)
     (running_still (broker_of old) (broker_of new) before.lists after.lists (resume_runs (topology_kept old) (broker_of old) (broker_of new) [] [] c.args.connection c.resume.ensures.acts) c.wake.ensures.none c.self.invariant.running)
 
 pub returns-clause-later : goal.returns-clause-later
 returns-clause-later c =
     let old : Kept = c.self.inside.core in
     let new : Kept = c.resume.new.self in
-    let before : Rings = c.self.inside.roster in
-    let after : Rings = c.wake.new.self in
+    let before : Rounds = c.self.inside.rounds in
+    let after : Rounds = c.wake.new.self in
     subst (λ (b : WithTurn). NoneIsLater b (with_turn new after c.self.inside.turn)) c.self.view_is
     (none_later old new before after c.self.inside.turn c.self.inside.turn c.resume.ensures.topology (holds old before c.self.invariant) c.wake.ensures.len c.wake.ensures.on.same c.wake.ensures.on.next
     (was_there c.consumers_are_made.ensures (topology_kept old) (broker_of old) (broker_of new) (Resume c.args.connection) [] [] c.resume.ensures.acts refl))

@@ -1,7 +1,0 @@
-use Rattle.std.proofs.Common.{rules}
-use Rattle.std.proofs.lemmas.Map.Made.{map_same_pairs}
-use Rattle.broker.specs.Moving.{desk_moved}
-use Rattle.broker.proofs.roster.desk.moving.move_desks.Goals as goal
-
-pub returns : goal.returns
-returns c = map_same_pairs _ (desk_moved c.args.places.now) _ (λ k v b w f' t. search rules) _ _ c.retain.ensures.filtered

@@ -1,7 +1,0 @@
-use Rattle.std.proofs.Common.{rules}
-use Rattle.std.proofs.lemmas.Fn.{filter_same}
-use Rattle.broker.specs.Roster.{is_listed_there}
-use Rattle.broker.proofs.roster.desk.sweep.Goals as goal
-
-pub returns-clause-listed : goal.returns-clause-listed
-returns-clause-listed c = filter_same _ (is_listed_there c.args.core.now) _ (λ x b f' r. search rules) _ _ c.retain.ensures.filtered

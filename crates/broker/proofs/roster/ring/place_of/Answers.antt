@@ -1,6 +1,0 @@
-use Rattle.std.proofs.Common.{◌∙◌, sym}
-use Rattle.broker.proofs.Among.{not_found}
-use Rattle.broker.proofs.roster.ring.place_of.Goals as goal
-
-pub returns-clause-none : goal.returns-clause-none
-returns-clause-none c = λ e. not_found c.args.consumer c.args.seats.now 0 (sym c.search.ensures.is ∙ e)

@@ -1,9 +1,0 @@
-use Rattle.std.proofs.Common.{arith}
-use Rattle.broker.proofs.Marked.{marked_empty}
-use Rattle.broker.proofs.roster.seating.Seating.new.Goals as goal
-
-pub invariant_of-result : goal.invariant_of-result
-invariant_of-result c =
-    let long = c.in_ok-rings.ensures.len in
-    let room = c.in_ok-awake.ensures in
-    marked_empty c.in_ok-rings.rings.items c.in_ok-awake.awake (omega (arith, long, room)) c.in_ok-rings.ensures.empty

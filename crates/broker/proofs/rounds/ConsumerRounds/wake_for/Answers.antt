@@ -1,0 +1,18 @@
+use Rattle.std.proofs.Common.{◌∙◌, refl, ap, sym}
+use Rattle.std.specs.Prelude.{◌==◌, ◌&&◌}
+use Rattle.std.proofs.lemmas.Bool.{eqb-true}
+use Rattle.model.specs.declared.events.Event.{Event}
+use Rattle.broker.specs.Rounds.{wakes, wakes_on}
+use Rattle.broker.proofs.Waking.{both}
+use Rattle.broker.proofs.rounds.ConsumerRounds.wake_for.Goals as goal
+
+pub returns-then-wakes_on-clause-woken : goal.returns-then-wakes_on-clause-woken
+returns-then-wakes_on-clause-woken c = λ p woken.
+    let told = sym (ap (λ (e : Event). wakes e p) c.in-Command.is) ∙ woken in
+    let its = both (wakes_on c.in-Command.method) ((p.connection == c.in-Command.connection) && (p.channel == c.in-Command.channel)) told in
+    let here = both (p.connection == c.in-Command.connection) (p.channel == c.in-Command.channel) its.1 in
+    c.wake.ensures.woken p (eqb-true p.connection c.in-Command.connection here.0, here.1)
+
+pub returns-in-Resume-clause-woken : goal.returns-in-Resume-clause-woken
+returns-in-Resume-clause-woken c = λ p woken.
+    c.wake-in-Resume.ensures.woken p (eqb-true p.connection c.in-Resume.connection (sym (ap (λ (e : Event). wakes e p) c.in-Resume.is) ∙ woken), refl)

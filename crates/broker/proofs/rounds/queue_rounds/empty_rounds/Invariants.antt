@@ -1,0 +1,10 @@
+use Rattle.std.proofs.Common.{◌≡◌, ℕ, [], length}
+use Rattle.broker.specs.Rounds.{round_at}
+use Rattle.broker.proofs.rounds.queue_rounds.empty_rounds.Given as goal
+
+-- so many stand there, with no waiter
+abbrev pub invariant-loop : goal.invariant-loop
+invariant-loop l = record {
+  count : length l.rounds.items ≡ l.counter;
+  empty : (place : ℕ) → (round_at l.rounds.items place).waiters ≡ [];
+}

@@ -1,0 +1,13 @@
+use Rattle.std.proofs.Common.{◌≡◌, ◌<◌, ◌≤◌, ℕ, length}
+use Rattle.channels.specs.Moving.{place_now}
+use Rattle.broker.specs.Rounds.{round_at, QueuesAreMarked}
+use Rattle.broker.specs.Moving.{IsMoved}
+use Rattle.broker.proofs.rounds.queue_rounds.move_rounds.Given as goal
+
+-- the rounds before this place are moved, and those from it on are as they were
+abbrev pub invariant-loop-from : goal.invariant-loop-from
+invariant-loop-from l = record {
+  behind : (i : ℕ) → l.from ≤ i → round_at l.old i ≡ round_at l.initial.old i;
+  moved : (i : ℕ) → i < l.from → place_now l.places i < length l.initial.rounds → IsMoved (round_at l.initial.old i) (round_at l.rounds (place_now l.places i));
+  marked : QueuesAreMarked l.rounds l.awake;
+}

@@ -1,0 +1,38 @@
+use Rattle.std.proofs.Common.{◌∙◌, List, length, sym, ap, subst, arith}
+use Rattle.std.proofs.lemmas.List.{take_at}
+use Rattle.commands.specs.declared.picks.Pick.{Pick}
+use Rattle.broker.specs.declared.rounds.waiters.Waiter.{Waiter}
+use Rattle.broker.specs.Lines.{turned, AreDistinct}
+use Rattle.broker.specs.Rounds.{Waiters, round_of, picks, order, IsAwake}
+use Rattle.broker.specs.Moving.{StandsIn}
+use Rattle.broker.proofs.Moving.{all_roused}
+use Rattle.broker.proofs.Picks.{picks_awake}
+use Rattle.broker.proofs.rounds.round.Round.wake_all.Goals as goal
+
+pub returns-clause-roused : goal.returns-clause-roused
+returns-clause-roused c = λ p stands.
+    let old = c.self.inside.awake in
+    let new = c.mark_all.new.marks in
+    let waiters = c.deref_mut.result.now in
+    let count = c.len.ensures in
+    let long = c.deref_mut.ensures.len in
+    subst (λ (xs : List Waiter). IsAwake (round_of xs new) p) (sym (take_at c.rouse_each.new.waiters _ c.self.inside.waiters.len (c.rouse_each.auto.waiters ∙ long) ∙ c.rouse_each.ensures))
+    (all_roused waiters old new (λ i lt. c.mark_all.ensures.marked i (omega (arith, lt, count, long))) p
+    (subst (λ (xs : List Waiter). StandsIn (round_of xs old) p) (sym c.deref_mut.ensures.value) (subst (λ (r : Waiters). StandsIn r p) (sym c.self.view_is) stands)))
+
+pub returns-clause-same : goal.returns-clause-same
+returns-clause-same c =
+    let back = take_at c.rouse_each.new.waiters _ c.self.inside.waiters.len (c.rouse_each.auto.waiters ∙ c.deref_mut.ensures.len) in
+    let same = ap picks (back ∙ c.rouse_each.ensures) ∙ picks_awake c.deref_mut.result.now ∙ ap picks c.deref_mut.ensures.value in
+    ap (turned c.self.inside.next) same ∙ ap order c.self.view_is
+
+pub invariant_of-self : goal.invariant_of-self
+invariant_of-self c =
+    let back = take_at c.rouse_each.new.waiters _ c.self.inside.waiters.len (c.rouse_each.auto.waiters ∙ c.deref_mut.ensures.len) in
+    let same = ap picks (back ∙ c.rouse_each.ensures) ∙ picks_awake c.deref_mut.result.now ∙ ap picks c.deref_mut.ensures.value in
+    let one = ap (λ (xs : List Waiter). length xs) back in
+    let two = c.rouse_each.auto.waiters in
+    let three = ap (λ (xs : List Waiter). length xs) c.deref_mut.ensures.value in
+    let room = c.self.invariant.0 in
+    let marks = c.mark_all.ensures.len in
+    (omega (arith, one, two, three, room, marks), subst (λ (ps : List Pick). AreDistinct ps) (sym same) c.self.invariant.1)

@@ -1,0 +1,30 @@
+use Rattle.std.proofs.Common.{◌∙◌, ◌≤◌, ◌+◌, ◌⊎◌, List, [], ◌∷◌, length, filter, count_by, sym, ap, subst}
+use Rattle.std.specs.Prelude.{vec_capacity}
+use Rattle.commands.specs.State.{broker_of}
+use Rattle.broker.specs.declared.rounds.waiters.Waiter.{Waiter}
+use Rattle.broker.specs.Lines.{turned, AreDistinct}
+use Rattle.broker.specs.Rounds.{round_of, picks, has_its_consumer, awake_waiter, IsInRound}
+use Rattle.broker.proofs.Later.{others_end, bounded_end}
+use Rattle.broker.proofs.Picks.{apart_end}
+use Rattle.broker.proofs.Sleeping.{pushed}
+use Rattle.broker.proofs.rounds.round.add_waiter.Goals as goal
+
+pub returns-clause-kept : goal.returns-clause-kept
+returns-clause-kept c = λ lists p i has.
+    subst (λ (xs : List Waiter). IsInRound (broker_of c.args.core.now) lists c.args.queue (round_of xs c.set.new.self) p) (sym c.push_reserved.ensures.items)
+    (pushed c.args.core.now c.args.queue c.make_room.new.waiters.items (awake_waiter c.args.consumer ∷ []) c.make_room.new.awake c.set.new.self _ c.set.ensures.set lists p (c.make_room.ensures.kept lists p i has) has)
+
+pub returns-clause-apart : goal.returns-clause-apart
+returns-clause-apart c = λ apart.
+    subst (λ (xs : List Waiter). AreDistinct (picks xs)) (sym c.push_reserved.ensures.items)
+    (apart_end c.make_room.new.waiters.items (awake_waiter c.args.consumer) (c.make_room.ensures.apart apart) (λ i. c.requires.absent (c.make_room.ensures.fewer c.args.consumer i)))
+
+pub returns-clause-line : goal.returns-clause-line
+returns-clause-line c = λ test there none.
+    ap (λ (xs : List Waiter). filter test (turned c.make_room.new.next (picks xs))) c.push_reserved.ensures.items
+    ∙ others_end c.make_room.new.waiters.items (awake_waiter c.args.consumer) c.make_room.new.next test none ∙ c.make_room.ensures.line test there
+
+pub returns-clause-bounded : goal.returns-clause-bounded
+returns-clause-bounded c =
+    subst (λ (xs : List Waiter). (length xs ≤ vec_capacity c.args.waiters.now) ⊎ (length xs ≤ count_by (has_its_consumer c.args.core.now c.args.queue) xs + 1)) (sym c.push_reserved.ensures.items)
+    (bounded_end (has_its_consumer c.args.core.now c.args.queue) c.make_room.new.waiters.items (awake_waiter c.args.consumer) (vec_capacity c.args.waiters.now) c.make_room.ensures.bounded)

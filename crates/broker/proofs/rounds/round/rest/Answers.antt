@@ -1,0 +1,35 @@
+use Rattle.std.proofs.Common.{◌∙◌, get_or, sym, ap, subst, false}
+use Rattle.std.proofs.lemmas.Bool.{false≢true}
+use Rattle.channels.proofs.Setting.{same_default}
+use Rattle.broker.specs.declared.rounds.finding.Found.{Found}
+use Rattle.broker.specs.declared.rounds.waiters.Waiter.{Waiter}
+use Rattle.broker.specs.Rounds.{is_able, FindsWaiter}
+use Rattle.broker.proofs.Sleeping.{passed_over, set_less}
+use Rattle.broker.proofs.Takers.{of_has}
+use Rattle.broker.proofs.rounds.round.rest.Goals as goal
+
+pub doze-requires-clause-cannot : goal.doze-requires-clause-cannot
+doze-requires-clause-cannot c = λ d. (subst (λ (f : Found). FindsWaiter c.args.core.now c.args.queue (get_or c.args.waiters.now c.args.place d) f) c.in-Unable.is (c.requires.found d)).1
+
+pub doze-requires-clause-up : goal.doze-requires-clause-up
+doze-requires-clause-up c = λ d. (subst (λ (f : Found). FindsWaiter c.args.core.now c.args.queue (get_or c.args.waiters.now c.args.place d) f) c.in-Unable.is (c.requires.found d)).0
+
+pub returns-in-Over-clause-kept : goal.returns-in-Over-clause-kept
+returns-in-Over-clause-kept c =
+    let none : Waiter = record { pick = record { connection = 0; channel = 0; number = 0 }; asleep = false } in
+    let s = get_or c.args.waiters.now c.args.place none in
+    passed_over c.args.core.now c.args.queue c.args.sleepers.now.entries c.args.waiters.now c.args.awake.now c.clear.new.self c.args.place s
+    (λ d. same_default c.args.waiters.now c.args.place d none c.requires.within)
+    (subst (λ (f : Found). FindsWaiter c.args.core.now c.args.queue s f) c.in-Over.is (c.requires.found none)) c.clear.ensures.cleared.others
+
+pub doze-requires-clause-noted : goal.doze-requires-clause-noted
+doze-requires-clause-noted c = λ d. c.requires.noted c.args.queue (get_or c.args.waiters.now c.args.place d).pick (of_has c.args.core.now c.args.queue _ (subst (λ (f : Found). FindsWaiter c.args.core.now c.args.queue (get_or c.args.waiters.now c.args.place d) f) c.in-Unable.is (c.requires.found d)).2)
+
+pub returns-in-Able-clause-passed : goal.returns-in-Able-clause-passed
+returns-in-Able-clause-passed c = absurd (false≢true (sym c.requires.unable ∙ ap is_able c.in-Able.is))
+
+pub returns-in-Over-clause-passed : goal.returns-in-Over-clause-passed
+returns-in-Over-clause-passed c = c.clear.ensures.cleared.there
+
+pub returns-in-Over-clause-fewer : goal.returns-in-Over-clause-fewer
+returns-in-Over-clause-fewer c = λ i zero. set_less _ _ c.args.place i c.clear.ensures.cleared zero

@@ -1,0 +1,29 @@
+use Rattle.std.proofs.Common.{◌≡◌, ◌∙◌, ◌+◌, ℕ, Some, List, set, arith, sym, ap, subst}
+use Rattle.std.proofs.lemmas.List.{set-get_or}
+use Rattle.broker.specs.Rounds.{Listing, listing, IsAsleepIn}
+use Rattle.broker.proofs.Listed.{found_there, not_listed, asleep_more}
+use Rattle.broker.proofs.rounds.sleepers.mark_in.Goals as goal
+
+-- the list is as it was
+pub returns-in-Some-clause-same : goal.returns-in-Some-clause-same
+returns-in-Some-clause-same c = ap (λ (l : Listing). set c.args.listed.now c.in-Some.at l) c.stand.ensures ∙ set-get_or c.args.listed.now c.in-Some.at _
+
+pub returns-in-Some-clause-marked : goal.returns-in-Some-clause-marked
+returns-in-Some-clause-marked c =
+    let l = listing c.args.queue c.args.consumer in
+    subst (λ (ls : List Listing). IsAsleepIn (record { all = ls; asleep = c.set.new.self }) l) (sym (returns-in-Some-clause-same c)) (
+      c.in-Some.at,
+      record {
+        within = c.in-Some.ensures.within;
+        there = λ d. found_there l 0 c.in-Some.at c.args.listed.now d (let none : c.in-Some.at ≡ 0 + c.in-Some.at = omega arith in sym c.search.ensures.is ∙ c.in-Some.is ∙ ap (λ (k : ℕ). Some k) none) c.in-Some.ensures.within;
+        marked = c.set.ensures.set.there;
+      },
+    )
+
+pub returns-in-Some-clause-stay : goal.returns-in-Some-clause-stay
+returns-in-Some-clause-stay c = λ l i.
+    subst (λ (ls : List Listing). IsAsleepIn (record { all = ls; asleep = c.set.new.self }) l) (sym (returns-in-Some-clause-same c))
+    (asleep_more c.args.listed.now c.args.asleep.now c.set.new.self c.in-Some.at c.set.ensures.set l i)
+
+pub returns-in-None-clause-marked : goal.returns-in-None-clause-marked
+returns-in-None-clause-marked c = absurd (not_listed (listing c.args.queue c.args.consumer) 0 c.args.listed.now (sym c.search.ensures.is ∙ c.in-None.is) c.requires.noted)

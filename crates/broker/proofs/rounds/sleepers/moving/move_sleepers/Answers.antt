@@ -1,0 +1,7 @@
+use Rattle.std.proofs.Common.{rules}
+use Rattle.std.proofs.lemmas.Map.Made.{map_same_pairs}
+use Rattle.broker.specs.Moving.{channels_moved}
+use Rattle.broker.proofs.rounds.sleepers.moving.move_sleepers.Goals as goal
+
+pub returns : goal.returns
+returns c = map_same_pairs _ (channels_moved c.args.places.now) _ (λ k v b w f' t. search rules) _ _ c.retain.ensures.filtered

@@ -1,0 +1,45 @@
+use Rattle.std.proofs.Common.{◌≡◌, ◌∙◌, ◌+◌, ℕ, inl, inr, sym, ap, subst, arith, get_or}
+use Rattle.std.proofs.lemmas.Bool.Decides.{leb_tells}
+use Rattle.broker.specs.Rounds.{Listings, IsWoken}
+use Rattle.broker.proofs.Listed.{woken_gap}
+use Rattle.broker.proofs.Sleeping.{waken_on, woken_still, woken_one}
+use Rattle.broker.proofs.rounds.sleepers.waking.wake_listed.Goals as goal
+
+pub marked-preserved : goal.marked-preserved
+marked-preserved c =
+    let old = c.args.rounds.now in
+    let mid = c.marked.rounds in
+    let new = c.wake.new.rounds in
+    let s : Listings = record { all = c.args.listed.now; asleep = c.args.asleep.now } in
+    let size = c.clear.ensures.size in
+    let was = c.marked.invariant.size in
+    let least = c.in-Some.ensures.some.least in
+    record {
+      size = omega (arith, size, was);
+      len = c.wake.ensures.len ∙ c.marked.invariant.len;
+      wakens = λ q. waken_on _ _ _ (c.marked.invariant.wakens q) (c.wake.ensures.wakens q);
+      behind = λ i le. c.clear.ensures.cleared.others i (λ same. omega (arith, same, le)) ∙ c.marked.invariant.behind i (omega (arith, le, least));
+      woken = λ i m lt at. elim (leb_tells (i + 1) c.in-Some.at) [
+        | inl a ↦
+            let le = a.1 in
+            woken_still old mid new m (woken_gap s c.marked.asleep old mid c.marked.next c.in-Some.at c.marked.invariant.woken c.marked.invariant.behind c.in-Some.ensures.some.before i m (omega (arith, le)) at) c.wake.ensures.wakens
+        | inr a ↦
+            let gt = a.1 in
+            let here : i ≡ c.in-Some.at = omega (arith, lt, gt) in
+            let one = c.index-listed-at.result in
+            woken_one old mid new m c.marked.invariant.wakens
+            (subst (IsWoken mid new) (c.index-listed-at.is ∙ ap (λ (n : ℕ). get_or c.args.listed.now n one) (sym here) ∙ at.there one) c.wake.ensures.woken) c.wake.ensures.wakens
+      ];
+    }
+
+pub returns-then-at-listed-clause-woken : goal.returns-then-at-listed-clause-woken
+returns-then-at-listed-clause-woken c = λ m slept.
+    let past = c.if-at-listed.true in
+    let lt = slept.1.within in
+    woken_gap (record { all = c.args.listed.now; asleep = c.args.asleep.now }) c.marked.asleep c.args.rounds.now c.marked.rounds c.marked.next c.in-Some.at c.marked.invariant.woken c.marked.invariant.behind c.in-Some.ensures.some.before
+    slept.0 m (omega (arith, past, lt)) slept.1
+
+pub returns-clause-woken : goal.returns-clause-woken
+returns-clause-woken c = λ m slept.
+    woken_gap (record { all = c.args.listed.now; asleep = c.args.asleep.now }) c.marked.asleep c.args.rounds.now c.marked.rounds c.marked.next (slept.0 + 1) c.marked.invariant.woken c.marked.invariant.behind
+    (λ k le lt. c.in_default.ensures.none k le) slept.0 m (omega arith) slept.1

@@ -1,0 +1,65 @@
+//! What a pick finds at a waiter.
+
+ghost use Rattle.std.specs.Prelude.{◌≡◌, ◌<◌, true, false, length};
+ghost use Rattle.depot.specs.Store.{HasReady};
+ghost use Rattle.commands.specs.State.{topology_kept};
+ghost use Rattle.broker.specs.declared.rounds.finding.Found.TheVariants.{Over};
+ghost use Rattle.broker.specs.Rounds.{is_able, is_of, FindsWaiter};
+
+use crate::rounds::waiters::Waiter;
+use commands::{Core, Pick, Taking};
+
+/// What a pick finds at a waiter of the round of a queue that has something ready.
+#[derive(Clone, Copy, PartialEq, Eq, Debug, Drop)]
+pub(crate) enum Found {
+    /// It is awake, and a delivery can be made to its consumer.
+    Able,
+    /// It is awake, and its consumer may take nothing now.
+    Unable,
+    /// Picks may pass over it: it sleeps, or its consumer is gone, or takes from another queue.
+    Over,
+}
+
+/// Whether a delivery can be made.
+pub(crate) fn is_able(found: Found) -> bool
+    ensures { result ≡ is_able found }
+{
+    matches!(found, Found::Able)
+}
+
+/// Whether the consumer of these numbers is there, and takes from the queue at this place.
+pub(crate) fn is_of(core: &Core, queue: usize, pick: Pick) -> bool
+    ensures { result ≡ is_of core.now queue pick }
+{
+    core.is_kept();
+    match core.taking(pick) {
+        Taking::Gone => false,
+        Taking::Nothing(place) => place == queue,
+        Taking::From(place) => place == queue,
+    }
+}
+
+/// This, where the place is the queue's; else picks may pass over.
+fn found_at(place: usize, queue: usize, found: Found) -> Found
+    ensures here { place ≡ queue → result ≡ found }
+    ensures elsewhere { (place ≡ queue → ⊥) → result ≡ Over }
+{
+    if place == queue { found } else { Found::Over }
+}
+
+/// What a pick finds at this waiter of the round of the queue at this place. Its consumer is looked up once.
+pub(crate) fn find(core: &Core, queue: usize, waiter: Waiter) -> Found
+    requires within { queue < length (topology_kept core.now).queues }
+    requires ready { HasReady core.now.store queue }
+    ensures { FindsWaiter core.now queue waiter result }
+{
+    if waiter.asleep {
+        return Found::Over;
+    }
+    core.is_kept();
+    match core.taking(waiter.pick) {
+        Taking::Gone => Found::Over,
+        Taking::Nothing(place) => found_at(place, queue, Found::Unable),
+        Taking::From(place) => found_at(place, queue, Found::Able),
+    }
+}

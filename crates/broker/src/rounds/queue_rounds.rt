@@ -1,0 +1,354 @@
+//! The rounds of all queues, over which picks go round.
+//!
+//! A bit for each queue is 1 where some waiter of its round is awake. What is picked is found by going round the queues that have
+//! something ready and whose bit is 1. A pick that finds none to whom it may deliver at a queue leaves no waiter awake there, and
+//! clears the bit, and the next waiter that is woken or made there sets it. So a queue that lacks one of the two is passed over.
+
+ghost use Rattle.std.specs.Prelude.{◌≡◌, ◌<◌, ◌≤◌, ◌*◌, [], ℕ, None, IfSome, IfOk, OnOk, length};
+ghost use Rattle.marks.specs.Places.{bit_of};
+ghost use Rattle.depot.specs.Store.{HasReady};
+ghost use Rattle.commands.specs.State.{broker_of, topology_kept};
+ghost use Rattle.commands.specs.Picked.{IsPickFrom};
+ghost use Rattle.broker.specs.Rounds.{round_at, rounds_of, AllAreNoted, IsAwake, IsAsleep, QueuesAreMarked, IsNextMarked, KeepRounds, KeepLines, LetsIn};
+ghost use Rattle.broker.specs.Rounds.{IsBounded, KeepsWaiters, ListsMore, AllWaken, NoneInRound, NoneBetween, NonePassed, PicksFrom, SameOrders};
+ghost use Rattle.broker.specs.Moving.{IsMoved, ArePlacesApart, RoundsAreMoved};
+ghost use Rattle.commands.specs.declared.picks.Pick.{Pick as Consumer};
+
+use crate::rounds::round::Round;
+use crate::rounds::sleepers::Sleepers;
+use crate::rounds::waiters::PlaceMarks;
+use commands::{Core, Pick};
+use marks::{Flat, Over, Places};
+use std::alloc::{AllocError, Global};
+use std::marker::Model;
+use std::mem::swap;
+
+/// A consumer to which a delivery can be made, from the queue at this place.
+#[derive(Clone, Copy, PartialEq, Eq, Debug, Drop)]
+pub(crate) struct FoundWaiter {
+    pub queue: usize,
+    pub pick: Pick,
+}
+
+/// So many rounds with no waiter.
+fn empty_rounds(alloc: Global, count: usize) -> Result<Vec<Round>, AllocError>
+    ensures len { IfOk result (λ rounds. length rounds.items ≡ count) }
+    ensures empty { IfOk result (λ rounds. (place : ℕ) → (round_at rounds.items place).waiters ≡ []) }
+{
+    let mut rounds = Vec::new(alloc);
+    for _ in 0..count {
+        rounds.push(Round::new(alloc))?;
+    }
+    Ok(rounds)
+}
+
+/// A bit for each of so many queues, none of which is 1.
+fn empty_marks(alloc: Global, count: usize) -> Result<PlaceMarks, AllocError>
+    ensures { IfOk result (λ marks. count ≤ length marks * 64) }
+{
+    let mut marks = <Over<Flat>>::empty(alloc);
+    marks.grow(count)?;
+    Ok(marks)
+}
+
+/// This consumer waits in the round of the queue at this place from now on, and is awake. Where memory is wanting it may
+/// not; no waiter of a consumer that is there is gone.
+fn join_at(
+    rounds: &mut [Round],
+    awake: &mut PlaceMarks,
+    core: &Core,
+    queue: usize,
+    consumer: Pick,
+) -> Result<(), AllocError>
+    requires within { queue < length rounds.old }
+    requires marked { QueuesAreMarked rounds.old awake.old }
+    ensures joined { OnOk result (IsAwake (round_at rounds.new queue) consumer) }
+    ensures kept { KeepRounds core.now rounds.old rounds.new }
+    ensures lines { KeepLines core.now rounds.old rounds.new }
+    ensures comes { OnOk result (LetsIn core.now queue consumer (round_at rounds.old queue) (round_at rounds.new queue)) }
+    ensures bounded { IsBounded core.now queue (round_at rounds.old queue) (round_at rounds.new queue) }
+    ensures marked { QueuesAreMarked rounds.new awake.new }
+{
+    awake.set(queue);
+    rounds[queue].join(core, queue, consumer)
+}
+
+/// This consumer's waiter is awake from now on in the round of the queue at this place, where it is looked for at this place first.
+fn wake_at(rounds: &mut [Round], awake: &mut PlaceMarks, queue: usize, consumer: Pick, guess: usize)
+    requires within { queue < length rounds.old }
+    requires marked { QueuesAreMarked rounds.old awake.old }
+    ensures woken { IsAsleep (round_at rounds.old queue) consumer → IsAwake (round_at rounds.new queue) consumer }
+    ensures wakens { AllWaken rounds.old rounds.new }
+    ensures marked { QueuesAreMarked rounds.new awake.new }
+{
+    awake.set(queue);
+    rounds[queue].wake(consumer, guess);
+}
+
+/// The first place at or behind this one whose queue has something ready and whose bit is 1. The two sets are gone over by
+/// turns, so that no queue is looked at that is in one of them alone.
+fn next_both(core: &Core, awake: &PlaceMarks, from: usize) -> Option<usize>
+    ensures { IsNextMarked core.now awake.now from result }
+{
+    let mut next = from;
+    'turns: while let Some(ready) = core.next_ready(next) {
+        let place = awake.next(ready)?;
+        if place == ready {
+            return Some(place);
+        }
+        next = place;
+    }
+    None
+}
+
+/// The first delivery that can be made from the queue at this place, which has something ready and whose bit is 1.
+fn pick_at(
+    rounds: &mut [Round],
+    awake: &mut PlaceMarks,
+    core: &Core,
+    sleepers: &mut Sleepers,
+    queue: usize,
+) -> Option<Pick>
+    requires within { queue < length rounds.old }
+    requires placed { queue < length (topology_kept core.now).queues }
+    requires ready { HasReady core.now.store queue }
+    requires noted { AllAreNoted (topology_kept core.now) (broker_of core.now) sleepers.old.entries }
+    requires here { bit_of awake.old queue ≡ 1 }
+    requires marked { QueuesAreMarked rounds.old awake.old }
+    ensures len { length rounds.new ≡ length rounds.old }
+    ensures kept { KeepsWaiters core.now (rounds_of rounds.old sleepers.old.entries) (rounds_of rounds.new sleepers.new.entries) }
+    ensures more { ListsMore sleepers.old.entries sleepers.new.entries }
+    ensures marked { QueuesAreMarked rounds.new awake.new }
+    ensures some { IfSome result (λ p. IsPickFrom core.now queue p) }
+    ensures none { result ≡ None → NoneInRound core.now sleepers.old.entries queue (round_at rounds.old queue) }
+    ensures told { IfSome result (λ p. PicksFrom core.now sleepers.old.entries rounds.old rounds.new queue p) }
+    ensures same { result ≡ None → SameOrders rounds.old rounds.new }
+{
+    match rounds[queue].pick(core, sleepers, queue) {
+        Some(pick) => Some(pick),
+        None => {
+            awake.clear(queue);
+            None
+        }
+    }
+}
+
+/// The first delivery that can be made from one of the queues from this place on, up to that one.
+fn first_between(
+    rounds: &mut [Round],
+    awake: &mut PlaceMarks,
+    core: &Core,
+    sleepers: &mut Sleepers,
+    from: usize,
+    to: usize,
+) -> Option<FoundWaiter>
+    requires len { length rounds.old ≡ length (topology_kept core.now).queues }
+    requires noted { AllAreNoted (topology_kept core.now) (broker_of core.now) sleepers.old.entries }
+    requires marked { QueuesAreMarked rounds.old awake.old }
+    ensures kept { KeepsWaiters core.now (rounds_of rounds.old sleepers.old.entries) (rounds_of rounds.new sleepers.new.entries) }
+    ensures more { ListsMore sleepers.old.entries sleepers.new.entries }
+    ensures marked { QueuesAreMarked rounds.new awake.new }
+    ensures within { IfSome result (λ f. f.queue < length rounds.new) }
+    ensures some { IfSome result (λ f. IsPickFrom core.now f.queue f.pick) }
+    ensures none { result ≡ None → NoneBetween core.now (rounds_of rounds.old sleepers.old.entries) from to }
+    ensures passed { IfSome result (λ f. NoneBetween core.now (rounds_of rounds.old sleepers.old.entries) from f.queue) }
+    ensures least { IfSome result (λ f. from ≤ f.queue) }
+    ensures below { IfSome result (λ f. f.queue < to) }
+    ensures told { IfSome result (λ f. PicksFrom core.now sleepers.old.entries rounds.old rounds.new f.queue f.pick) }
+    ensures same { result ≡ None → SameOrders rounds.old rounds.new }
+{
+    let mut next = from;
+    'queues: while let Some(queue) = next_both(core, awake, next) {
+        if queue >= to {
+            return None;
+        }
+        if let Some(pick) = pick_at(rounds, awake, core, sleepers, queue) {
+            return Some(FoundWaiter { queue, pick });
+        }
+        next = queue + 1;
+    }
+    None
+}
+
+/// The first delivery that can be made from one of the queues, from this place on and then from the front.
+fn first_from(
+    rounds: &mut [Round],
+    awake: &mut PlaceMarks,
+    core: &Core,
+    sleepers: &mut Sleepers,
+    next: usize,
+) -> Option<FoundWaiter>
+    requires len { length rounds.old ≡ length (topology_kept core.now).queues }
+    requires noted { AllAreNoted (topology_kept core.now) (broker_of core.now) sleepers.old.entries }
+    requires marked { QueuesAreMarked rounds.old awake.old }
+    ensures kept { KeepsWaiters core.now (rounds_of rounds.old sleepers.old.entries) (rounds_of rounds.new sleepers.new.entries) }
+    ensures more { ListsMore sleepers.old.entries sleepers.new.entries }
+    ensures marked { QueuesAreMarked rounds.new awake.new }
+    ensures within { IfSome result (λ f. f.queue < length rounds.new) }
+    ensures some { IfSome result (λ f. IsPickFrom core.now f.queue f.pick) }
+    ensures none { result ≡ None → NoneBetween core.now (rounds_of rounds.old sleepers.old.entries) 0 (length rounds.old) }
+    ensures passed { IfSome result (λ f. NonePassed core.now (rounds_of rounds.old sleepers.old.entries) next f.queue) }
+    ensures told { IfSome result (λ f. PicksFrom core.now sleepers.old.entries rounds.old rounds.new f.queue f.pick) }
+    ensures same { result ≡ None → SameOrders rounds.old rounds.new }
+{
+    let turn = next.min(rounds.len());
+    match first_between(rounds, awake, core, sleepers, turn, rounds.len()) {
+        Some(found) => Some(found),
+        None => first_between(rounds, awake, core, sleepers, 0, turn),
+    }
+}
+
+/// The bit of the queue at this place is 1 from now on if picks look at some waiter of this round, which is to stand there.
+fn mark_round(awake: &mut PlaceMarks, round: &Round, place: usize)
+    requires { place < length awake.old * 64 }
+    ensures len { length awake.new ≡ length awake.old }
+    ensures here { (p : Consumer) → IsAwake round.now p → bit_of awake.new place ≡ 1 }
+    ensures stay { (k : ℕ) → bit_of awake.old k ≡ 1 → bit_of awake.new k ≡ 1 }
+{
+    if round.has_awake() {
+        awake.set(place);
+    }
+}
+
+/// The waiters of this round stand in that of the queue at this place from now on, and all are awake. What stood there stands in this.
+fn take_round(rounds: &mut [Round], awake: &mut PlaceMarks, place: usize, round: &mut Round)
+    requires within { place < length rounds.old }
+    requires marked { QueuesAreMarked rounds.old awake.old }
+    ensures moved { IsMoved round.old (round_at rounds.new place) }
+    ensures others { (i : ℕ) → (i ≡ place → ⊥) → round_at rounds.new i ≡ round_at rounds.old i }
+    ensures marked { QueuesAreMarked rounds.new awake.new }
+{
+    round.wake_all();
+    mark_round(awake, round, place);
+    swap(&mut rounds[place], round);
+}
+
+/// The same, where the place is there.
+fn move_round(rounds: &mut [Round], awake: &mut PlaceMarks, place: usize, round: &mut Round)
+    requires { QueuesAreMarked rounds.old awake.old }
+    ensures moved { place < length rounds.old → IsMoved round.old (round_at rounds.new place) }
+    ensures others { (i : ℕ) → (i ≡ place → ⊥) → round_at rounds.new i ≡ round_at rounds.old i }
+    ensures marked { QueuesAreMarked rounds.new awake.new }
+{
+    if place < rounds.len() {
+        take_round(rounds, awake, place, round);
+    }
+}
+
+/// The waiters of each round of `old` stand, awake, in the round at the place that the table has for it, where that is there.
+fn move_rounds(rounds: &mut [Round], awake: &mut PlaceMarks, old: &mut [Round], places: &[usize])
+    requires len { length places.now ≡ length old.old }
+    requires apart { ArePlacesApart places.now (length rounds.old) }
+    requires marked { QueuesAreMarked rounds.old awake.old }
+    ensures moved { RoundsAreMoved places.now old.old rounds.new }
+    ensures marked { QueuesAreMarked rounds.new awake.new }
+{
+    for (from, place) in places.iter().enumerate() {
+        move_round(rounds, awake, *place, &mut old[from]);
+    }
+}
+
+/// The rounds of all queues, in the order of the file.
+pub(crate) struct QueueRounds {
+    rounds: Vec<Round>,
+    /// A bit for each queue, 1 where some waiter of its round is awake.
+    awake: PlaceMarks,
+}
+
+/// Written out, so that a drop is one call.
+impl Drop for QueueRounds {
+    fn drop(self) {
+        let QueueRounds {
+            rounds: _,
+            awake: _,
+        } = self;
+    }
+}
+
+impl Model for QueueRounds {
+    ghost use Rattle.std.specs.Prelude.{List};
+    ghost use Rattle.broker.specs.Rounds.{Waiters, QueuesAreMarked};
+
+    ghost Value = { List Waiters };
+
+    ghost view = { λ s. s.rounds.items };
+
+    ghost invariant = { λ s. QueuesAreMarked s.rounds.items s.awake };
+}
+
+impl QueueRounds {
+    ghost use Rattle.std.specs.Prelude.{◌≡◌, ◌<◌, ◌+◌, ◌^◌, ℕ, None, IfSome, IfOk, OnOk, length};
+    ghost use Rattle.commands.specs.State.{broker_of, topology_kept};
+    ghost use Rattle.commands.specs.Picked.{IsPickFrom};
+    ghost use Rattle.broker.specs.Rounds.{round_at, rounds_of, AllAreNoted, IsAwake, IsAsleep, KeepRounds, KeepLines, LetsIn, IsBounded};
+    ghost use Rattle.broker.specs.Rounds.{KeepsWaiters, ListsMore, AllWaken, NoneBetween, NonePassed, PicksFrom, SameOrders};
+    ghost use Rattle.broker.specs.Moving.{ArePlacesApart, RoundsAreMoved};
+
+    /// So many rounds with no waiter.
+    pub fn new(alloc: Global, queues: usize) -> Result<QueueRounds, AllocError>
+        ensures { IfOk result (λ s. length s ≡ queues) }
+    {
+        let rounds = empty_rounds(alloc, queues)?;
+        let awake = empty_marks(alloc, queues)?;
+        Ok(QueueRounds { rounds, awake })
+    }
+
+    /// This consumer waits in the round of the queue at this place from now on, and is awake. Where memory is wanting it
+    /// may not; no waiter of a consumer that is there is gone.
+    pub fn join(&mut self, core: &Core, queue: usize, consumer: Pick) -> Result<(), AllocError>
+        requires { queue < length self.old }
+        ensures joined { OnOk result (IsAwake (round_at self.new queue) consumer) }
+        ensures kept { KeepRounds core.now self.old self.new }
+        ensures lines { KeepLines core.now self.old self.new }
+        ensures comes { OnOk result (LetsIn core.now queue consumer (round_at self.old queue) (round_at self.new queue)) }
+        ensures bounded { IsBounded core.now queue (round_at self.old queue) (round_at self.new queue) }
+        ensures len { length self.new ≡ length self.old }
+    {
+        join_at(&mut self.rounds, &mut self.awake, core, queue, consumer)
+    }
+
+    /// This consumer's waiter is awake from now on in the round of the queue at this place, if it is there; it is looked for at this
+    /// place first. It takes no memory.
+    pub fn wake(&mut self, queue: usize, consumer: Pick, guess: usize)
+        ensures woken { IsAsleep (round_at self.old queue) consumer → IsAwake (round_at self.new queue) consumer }
+        ensures wakens { AllWaken self.old self.new }
+        ensures len { length self.new ≡ length self.old }
+    {
+        if queue < self.rounds.len() {
+            wake_at(&mut self.rounds, &mut self.awake, queue, consumer, guess);
+        }
+    }
+
+    /// The waiters of each round of `old` stand from now on, awake, in the round at the place that the table has for it; those of a
+    /// round whose place is behind the end are gone. It takes no memory.
+    pub fn take_over(&mut self, old: QueueRounds, places: &[usize])
+        requires len { length places.now ≡ length old }
+        requires apart { ArePlacesApart places.now (length self.old) }
+        ensures moved { RoundsAreMoved places.now old self.new }
+        ensures len { length self.new ≡ length self.old }
+    {
+        let QueueRounds {
+            rounds: mut left,
+            awake: _,
+        } = old;
+        move_rounds(&mut self.rounds, &mut self.awake, &mut left, places);
+    }
+
+    /// The first delivery that can be made from one of the queues, from this place on and then from the front.
+    pub fn pick(&mut self, core: &Core, sleepers: &mut Sleepers, next: usize) -> Option<FoundWaiter>
+        requires len { length self.old ≡ length (topology_kept core.now).queues }
+        requires noted { AllAreNoted (topology_kept core.now) (broker_of core.now) sleepers.old.entries }
+        ensures kept { KeepsWaiters core.now (rounds_of self.old sleepers.old.entries) (rounds_of self.new sleepers.new.entries) }
+        ensures more { ListsMore sleepers.old.entries sleepers.new.entries }
+        ensures len { length self.new ≡ length self.old }
+        ensures within { IfSome result (λ f. f.queue < length self.new) }
+        ensures fits { IfSome result (λ f. f.queue + 1 < 2 ^ 64) }
+        ensures some { IfSome result (λ f. IsPickFrom core.now f.queue f.pick) }
+        ensures none { result ≡ None → NoneBetween core.now (rounds_of self.old sleepers.old.entries) 0 (length self.old) }
+        ensures passed { IfSome result (λ f. NonePassed core.now (rounds_of self.old sleepers.old.entries) next f.queue) }
+        ensures told { IfSome result (λ f. PicksFrom core.now sleepers.old.entries self.old self.new f.queue f.pick) }
+        ensures same { result ≡ None → SameOrders self.old self.new }
+    {
+        first_from(&mut self.rounds, &mut self.awake, core, sleepers, next)
+    }
+}

@@ -1,0 +1,454 @@
+//! The consumers of one queue, over which its deliveries go round.
+//!
+//! Each consumer waits in the round, by its numbers. A waiter stays there after its consumer is gone, until the round is full
+//! and is swept. What is picked is found by looking at one waiter after another, from the one behind that which was picked last. A
+//! waiter whose consumer may take nothing then falls asleep, and is passed over until it is woken. Picks look at
+//! the waiters whose bit is 1: that of a waiter that sleeps may be, after a sweep, until one looks at it.
+
+ghost use Rattle.std.specs.Prelude.{◌≡◌, ◌<◌, ◌≤◌, ◌+◌, ◌*◌, ◌⊎◌, ℕ, true, false};
+ghost use Rattle.std.specs.Prelude.{None, IfSome, OnOk, length, count_by, filter, slice_index_or, vec_len, vec_capacity};
+ghost use Rattle.std.specs.List.{position_from};
+ghost use Rattle.model.specs.Topology.{IsIn};
+ghost use Rattle.marks.specs.Places.{bit_of};
+ghost use Rattle.depot.specs.Store.{HasReady};
+ghost use Rattle.commands.specs.State.{broker_of, topology_kept};
+ghost use Rattle.commands.specs.Picked.{CannotTake, IsPickFrom};
+ghost use Rattle.commands.specs.declared.picks.Pick.{Pick as Consumer};
+ghost use Rattle.broker.specs.declared.rounds.waiters.Waiter.{Waiter as InRound};
+ghost use Rattle.broker.specs.Lines.{turned, AreDistinct};
+ghost use Rattle.broker.specs.Rounds.{round_of, picks, is_consumer, is_able, is_waiter_of, has_its_consumer, listing};
+ghost use Rattle.broker.specs.Rounds.{AllAreNoted, FindsWaiter, IsNoted, IsAwakeAt, IsAwake, IsAsleep, StaysAt};
+ghost use Rattle.broker.specs.Rounds.{KeepsIn, KeepsRound, KeepsThose, KeepsOthers, NoneAwake, NoneAwakePassed, ListsMore, Wakens};
+ghost use Rattle.broker.specs.Moving.{all_awake};
+
+use crate::rounds::finding::{Found, find, is_able, is_of};
+use crate::rounds::sleepers::{Sleepers, mark_waiter};
+use crate::rounds::waiters::{PlaceMarks, Waiter, is_same, mark_all};
+use commands::{Core, Pick};
+use marks::{Flat, Over, Places};
+use std::alloc::{AllocError, Global};
+use std::marker::Model;
+
+/// The first place at which this consumer's waiter stands.
+fn search(waiters: &[Waiter], consumer: Pick) -> Option<usize>
+    ensures is { result ≡ position_from (is_waiter_of consumer) 0 waiters.now }
+    ensures within { IfSome result (λ i. i < length waiters.now) }
+    ensures there { IfSome result (λ i. (d : InRound) → (slice_index_or waiters.now i d).pick ≡ consumer) }
+{
+    waiters
+        .iter()
+        .position(|waiter| is_same(consumer, waiter.pick))
+}
+
+/// The place at which this consumer's waiter stands; this one is looked at first.
+fn place_of(waiters: &[Waiter], consumer: Pick, guess: usize) -> Option<usize>
+    ensures within { IfSome result (λ i. i < length waiters.now) }
+    ensures there { IfSome result (λ i. (d : InRound) → (slice_index_or waiters.now i d).pick ≡ consumer) }
+    ensures none { result ≡ None → (s : InRound) → IsIn s waiters.now → s.pick ≡ consumer → ⊥ }
+{
+    if guess < waiters.len() && is_same(consumer, waiters[guess].pick) {
+        return Some(guess);
+    }
+    search(waiters, consumer)
+}
+
+/// The waiter at this place is awake from now on.
+fn rouse(waiters: &mut [Waiter], awake: &mut PlaceMarks, place: usize)
+    requires within { place < length waiters.old }
+    requires room { length waiters.old ≤ length awake.old * 64 }
+    ensures len { length awake.new ≡ length awake.old }
+    ensures up { (d : InRound) → IsAwakeAt (round_of waiters.new awake.new) place (slice_index_or waiters.old place d).pick }
+    ensures wakens { Wakens (round_of waiters.old awake.old) (round_of waiters.new awake.new) }
+{
+    waiters[place].asleep = false;
+    awake.set(place);
+}
+
+/// This consumer's waiter is awake from now on, if it is there; it is looked for at this place first. Tells whether it is there.
+fn wake_waiter(waiters: &mut [Waiter], awake: &mut PlaceMarks, consumer: Pick, guess: usize) -> bool
+    requires { length waiters.old ≤ length awake.old * 64 }
+    ensures len { length awake.new ≡ length awake.old }
+    ensures yes { result ≡ true → IsAwake (round_of waiters.new awake.new) consumer }
+    ensures no { result ≡ false → IsAsleep (round_of waiters.old awake.old) consumer → ⊥ }
+    ensures absent { result ≡ false → IsIn consumer (picks waiters.new) → ⊥ }
+    ensures wakens { Wakens (round_of waiters.old awake.old) (round_of waiters.new awake.new) }
+{
+    match place_of(waiters, consumer, guess) {
+        Some(place) => {
+            rouse(waiters, awake, place);
+            true
+        }
+        None => false,
+    }
+}
+
+/// Each of the waiters is awake from now on.
+fn rouse_each(waiters: &mut [Waiter])
+    ensures { waiters.new ≡ all_awake waiters.old }
+{
+    for waiter in waiters.iter_mut() {
+        waiter.asleep = false;
+    }
+}
+
+/// Takes out the waiters whose consumer is gone, or takes from another queue than that at this place.
+fn sweep(waiters: &mut Vec<Waiter>, core: &Core, queue: usize)
+    ensures waiters { waiters.new.items ≡ filter (has_its_consumer core.now queue) waiters.old.items }
+    ensures capacity { vec_capacity waiters.new ≡ vec_capacity waiters.old }
+{
+    waiters.retain(|waiter| is_of(core, queue, waiter.pick));
+}
+
+/// How many of the waiters have their consumer still, which takes from the queue at this place.
+fn staying(waiters: &[Waiter], core: &Core, queue: usize) -> usize
+    ensures { result ≡ count_by (has_its_consumer core.now queue) waiters.now }
+{
+    let mut count = 0;
+    for waiter in waiters {
+        if is_of(core, queue, waiter.pick) {
+            count += 1;
+        }
+    }
+    count
+}
+
+/// Makes room for one waiter more. Where the list is full, the waiters whose consumer is gone, or takes from another queue, are taken
+/// out, picks look at those that are left, and then there is room for as many again, so that few sweeps are made. Where memory is
+/// wanting, no other waiter is gone.
+fn make_room(
+    waiters: &mut Vec<Waiter>,
+    awake: &mut PlaceMarks,
+    next: &mut usize,
+    core: &Core,
+    queue: usize,
+) -> Result<(), AllocError>
+    requires { length waiters.old.items ≤ length awake.old * 64 }
+    ensures room { OnOk result (vec_len waiters.new < vec_capacity waiters.new) }
+    ensures mark { OnOk result (vec_len waiters.new + 1 ≤ length awake.new * 64) }
+    ensures marks { length waiters.new.items ≤ length awake.new * 64 }
+    ensures kept { KeepsRound core.now queue (round_of waiters.old.items awake.old) (round_of waiters.new.items awake.new) }
+    ensures fewer { (p : Consumer) → IsIn p (picks waiters.new.items) → IsIn p (picks waiters.old.items) }
+    ensures apart { AreDistinct (picks waiters.old.items) → AreDistinct (picks waiters.new.items) }
+    ensures line { KeepsThose core.now queue (turned next.old (picks waiters.old.items)) (turned next.new (picks waiters.new.items)) }
+    ensures bounded { (length waiters.new.items < vec_capacity waiters.old)
+        ⊎ (length waiters.new.items ≤ count_by (has_its_consumer core.now queue) waiters.new.items) }
+{
+    if waiters.len() < waiters.capacity() {
+        return awake.grow(waiters.len() + 1);
+    }
+    let before = (*next).min(waiters.len());
+    *next = staying(waiters.split_at(before).0, core, queue);
+    sweep(waiters, core, queue);
+    mark_all(awake, waiters.len());
+    awake.grow(waiters.len() + 1)?;
+    waiters.reserve(waiters.len().max(1))
+}
+
+/// This consumer has a waiter behind all others from now on, which is awake. Where memory is wanting it may not; no waiter of a
+/// consumer that is there is gone.
+fn add_waiter(
+    waiters: &mut Vec<Waiter>,
+    awake: &mut PlaceMarks,
+    next: &mut usize,
+    core: &Core,
+    queue: usize,
+    consumer: Pick,
+) -> Result<(), AllocError>
+    requires room { length waiters.old.items ≤ length awake.old * 64 }
+    requires absent { IsIn consumer (picks waiters.old.items) → ⊥ }
+    ensures marks { length waiters.new.items ≤ length awake.new * 64 }
+    ensures apart { AreDistinct (picks waiters.old.items) → AreDistinct (picks waiters.new.items) }
+    ensures line { KeepsOthers core.now queue consumer (turned next.old (picks waiters.old.items)) (turned next.new (picks waiters.new.items)) }
+    ensures bounded { (length waiters.new.items ≤ vec_capacity waiters.old)
+        ⊎ (length waiters.new.items ≤ count_by (has_its_consumer core.now queue) waiters.new.items + 1) }
+    ensures joined { OnOk result (IsAwake (round_of waiters.new.items awake.new) consumer) }
+    ensures kept { KeepsRound core.now queue (round_of waiters.old.items awake.old) (round_of waiters.new.items awake.new) }
+{
+    make_room(waiters, awake, next, core, queue)?;
+    let place = waiters.len();
+    waiters.push_reserved(Waiter {
+        pick: consumer,
+        asleep: false,
+    });
+    awake.set(place);
+    Ok(())
+}
+
+/// Whether picks look at one of the waiters at places below this.
+fn any_marked(awake: &PlaceMarks, count: usize) -> bool
+    ensures yes { result ≡ true → (i : ℕ) × (i < count) × (bit_of awake.now i ≡ 1) }
+    ensures no { result ≡ false → (i : ℕ) → i < count → bit_of awake.now i ≡ 0 }
+{
+    match awake.first() {
+        Some(place) => place < count,
+        None => false,
+    }
+}
+
+/// The waiter at this place, which is awake and whose consumer may take nothing now, falls asleep: its listing tells so. It takes no
+/// memory.
+fn doze(
+    core: &Core,
+    queue: usize,
+    waiters: &mut [Waiter],
+    awake: &mut PlaceMarks,
+    sleepers: &mut Sleepers,
+    place: usize,
+)
+    requires within { place < length waiters.old }
+    requires room { length waiters.old ≤ length awake.old * 64 }
+    requires cannot { (d : InRound) → CannotTake (broker_of core.now) (slice_index_or waiters.old place d).pick }
+    requires up { (d : InRound) → (slice_index_or waiters.old place d).asleep ≡ false }
+    requires noted { (d : InRound) → IsNoted sleepers.old.entries (listing queue (slice_index_or waiters.old place d).pick) }
+    ensures len { length awake.new ≡ length awake.old }
+    ensures kept { KeepsIn core.now queue sleepers.old.entries sleepers.new.entries (round_of waiters.old awake.old) (round_of waiters.new awake.new) }
+    ensures more { ListsMore sleepers.old.entries sleepers.new.entries }
+    ensures others { (i : ℕ) → (i ≡ place → ⊥) → StaysAt (round_of waiters.old awake.old) (round_of waiters.new awake.new) i }
+    ensures passed { bit_of awake.new place ≡ 0 }
+    ensures fewer { (i : ℕ) → bit_of awake.old i ≡ 0 → bit_of awake.new i ≡ 0 }
+    ensures same { picks waiters.new ≡ picks waiters.old }
+{
+    mark_waiter(sleepers, queue, waiters[place].pick, place);
+    waiters[place].asleep = true;
+    awake.clear(place);
+}
+
+/// Picks pass over the waiter at this place from now on, at which this was found, and to which nothing can be delivered.
+fn rest(
+    core: &Core,
+    queue: usize,
+    waiters: &mut [Waiter],
+    awake: &mut PlaceMarks,
+    sleepers: &mut Sleepers,
+    place: usize,
+    found: Found,
+)
+    requires within { place < length waiters.old }
+    requires room { length waiters.old ≤ length awake.old * 64 }
+    requires noted { AllAreNoted (topology_kept core.now) (broker_of core.now) sleepers.old.entries }
+    requires found { (d : InRound) → FindsWaiter core.now queue (slice_index_or waiters.old place d) found }
+    requires unable { is_able found ≡ false }
+    ensures len { length awake.new ≡ length awake.old }
+    ensures kept { KeepsIn core.now queue sleepers.old.entries sleepers.new.entries (round_of waiters.old awake.old) (round_of waiters.new awake.new) }
+    ensures more { ListsMore sleepers.old.entries sleepers.new.entries }
+    ensures others { (i : ℕ) → (i ≡ place → ⊥) → StaysAt (round_of waiters.old awake.old) (round_of waiters.new awake.new) i }
+    ensures passed { bit_of awake.new place ≡ 0 }
+    ensures fewer { (i : ℕ) → bit_of awake.old i ≡ 0 → bit_of awake.new i ≡ 0 }
+    ensures same { picks waiters.new ≡ picks waiters.old }
+{
+    match found {
+        Found::Able => {}
+        Found::Unable => doze(core, queue, waiters, awake, sleepers, place),
+        Found::Over => awake.clear(place),
+    }
+}
+
+/// The place of the first of the waiters from this one on, up to that one, to whose consumer a delivery can be made from the queue
+/// at this place. Those that are looked at before it and may take nothing fall asleep.
+fn first_between(
+    core: &Core,
+    queue: usize,
+    waiters: &mut [Waiter],
+    awake: &mut PlaceMarks,
+    sleepers: &mut Sleepers,
+    from: usize,
+    to: usize,
+) -> Option<usize>
+    requires placed { queue < length (topology_kept core.now).queues }
+    requires ready { HasReady core.now.store queue }
+    requires noted { AllAreNoted (topology_kept core.now) (broker_of core.now) sleepers.old.entries }
+    requires within { to ≤ length waiters.old }
+    requires room { length waiters.old ≤ length awake.old * 64 }
+    ensures len { length awake.new ≡ length awake.old }
+    ensures kept { KeepsIn core.now queue sleepers.old.entries sleepers.new.entries (round_of waiters.old awake.old) (round_of waiters.new awake.new) }
+    ensures more { ListsMore sleepers.old.entries sleepers.new.entries }
+    ensures before { (i : ℕ) → i < from → StaysAt (round_of waiters.old awake.old) (round_of waiters.new awake.new) i }
+    ensures within { IfSome result (λ i. i < length waiters.new) }
+    ensures some { IfSome result (λ i. (d : InRound) → IsPickFrom core.now queue (slice_index_or waiters.new i d).pick) }
+    ensures none { result ≡ None → NoneAwake core.now queue (round_of waiters.old awake.old) from to }
+    ensures passed { IfSome result (λ i. NoneAwake core.now queue (round_of waiters.old awake.old) from i) }
+    ensures least { IfSome result (λ i. from ≤ i) }
+    ensures below { IfSome result (λ i. i < to) }
+    // Picks look at none of those that were passed.
+    ensures rested { result ≡ None → (i : ℕ) → from ≤ i → i < to → bit_of awake.new i ≡ 0 }
+    ensures fewer { (i : ℕ) → bit_of awake.old i ≡ 0 → bit_of awake.new i ≡ 0 }
+    ensures same { picks waiters.new ≡ picks waiters.old }
+{
+    let mut next = from;
+    'waiters: while let Some(place) = awake.next(next) {
+        if place >= to {
+            return None;
+        }
+        let found = find(core, queue, waiters[place]);
+        if is_able(found) {
+            return Some(place);
+        }
+        rest(core, queue, waiters, awake, sleepers, place, found);
+        next = place + 1;
+    }
+    None
+}
+
+/// The place of the first waiter to whose consumer a delivery can be made, from this one on and then from the front.
+fn first_from(
+    core: &Core,
+    queue: usize,
+    waiters: &mut [Waiter],
+    awake: &mut PlaceMarks,
+    sleepers: &mut Sleepers,
+    next: usize,
+) -> Option<usize>
+    requires placed { queue < length (topology_kept core.now).queues }
+    requires ready { HasReady core.now.store queue }
+    requires noted { AllAreNoted (topology_kept core.now) (broker_of core.now) sleepers.old.entries }
+    requires room { length waiters.old ≤ length awake.old * 64 }
+    ensures len { length awake.new ≡ length awake.old }
+    ensures kept { KeepsIn core.now queue sleepers.old.entries sleepers.new.entries (round_of waiters.old awake.old) (round_of waiters.new awake.new) }
+    ensures more { ListsMore sleepers.old.entries sleepers.new.entries }
+    ensures within { IfSome result (λ i. i < length waiters.new) }
+    ensures some { IfSome result (λ i. (d : InRound) → IsPickFrom core.now queue (slice_index_or waiters.new i d).pick) }
+    ensures none { result ≡ None → NoneAwake core.now queue (round_of waiters.old awake.old) 0 (length waiters.old) }
+    ensures passed { IfSome result (λ i. NoneAwakePassed core.now queue (round_of waiters.old awake.old) next i) }
+    ensures rested { result ≡ None → (i : ℕ) → i < length waiters.new → bit_of awake.new i ≡ 0 }
+    ensures same { picks waiters.new ≡ picks waiters.old }
+{
+    let turn = next.min(waiters.len());
+    match first_between(core, queue, waiters, awake, sleepers, turn, waiters.len()) {
+        Some(place) => Some(place),
+        None => first_between(core, queue, waiters, awake, sleepers, 0, turn),
+    }
+}
+
+/// The waiters of the consumers of one queue, in the order in which they were made; some may be of consumers that are gone.
+pub(crate) struct Round {
+    waiters: Vec<Waiter>,
+    /// A bit for each waiter, 1 where picks look at it: where it is awake, and after a sweep until one has looked.
+    awake: PlaceMarks,
+    /// The place behind the waiter that was picked last.
+    next: usize,
+}
+
+/// Written out, so that a drop is one call.
+impl Drop for Round {
+    fn drop(self) {
+        let Round {
+            waiters: _,
+            awake: _,
+            next: _,
+        } = self;
+    }
+}
+
+impl Model for Round {
+    ghost use Rattle.std.specs.Prelude.{◌≤◌, ◌*◌, length, vec_capacity};
+    ghost use Rattle.broker.specs.Lines.{AreDistinct};
+    ghost use Rattle.broker.specs.Rounds.{Waiters, picks};
+
+    ghost Value = { Waiters };
+
+    ghost view = { λ r. record { waiters = r.waiters.items; marks = r.awake; next = r.next; room = vec_capacity r.waiters } };
+
+    ghost invariant = { λ r. (length r.waiters.items ≤ length r.awake * 64) × AreDistinct (picks r.waiters.items) };
+}
+
+impl Round {
+    ghost use Rattle.std.specs.Prelude.{◌≡◌, ◌<◌, [], ℕ, true, false, None, IfSome, OnOk, length};
+    ghost use Rattle.marks.specs.Places.{bit_of};
+    ghost use Rattle.depot.specs.Store.{HasReady};
+    ghost use Rattle.commands.specs.State.{broker_of, topology_kept};
+    ghost use Rattle.commands.specs.declared.picks.Pick.{Pick as Consumer};
+    ghost use Rattle.commands.specs.Picked.{IsPickFrom};
+    ghost use Rattle.broker.specs.Rounds.{order, AllAreNoted, IsAwake, IsAsleep, KeepsIn, KeepsRound};
+    ghost use Rattle.broker.specs.Rounds.{NoneInRound, GoesLast, KeepsLine, LetsIn, IsBounded, ListsMore, Wakens};
+    ghost use Rattle.broker.specs.Moving.{AllRoused};
+
+    /// No waiter. It takes no memory.
+    pub fn new(alloc: Global) -> Round
+        ensures { result.waiters ≡ [] }
+    {
+        Round {
+            waiters: Vec::new(alloc),
+            awake: <Over<Flat>>::empty(alloc),
+            next: 0,
+        }
+    }
+
+    /// This consumer waits in the round from now on, and is awake. Where memory is wanting it may not; no waiter of a consumer that is
+    /// there is gone.
+    pub fn join(&mut self, core: &Core, queue: usize, consumer: Pick) -> Result<(), AllocError>
+        ensures joined { OnOk result (IsAwake self.new consumer) }
+        ensures kept { KeepsRound core.now queue self.old self.new }
+        ensures line { KeepsLine core.now queue self.old self.new }
+        ensures comes { OnOk result (LetsIn core.now queue consumer self.old self.new) }
+        ensures bounded { IsBounded core.now queue self.old self.new }
+    {
+        if wake_waiter(&mut self.waiters, &mut self.awake, consumer, 0) {
+            return Ok(());
+        }
+        add_waiter(
+            &mut self.waiters,
+            &mut self.awake,
+            &mut self.next,
+            core,
+            queue,
+            consumer,
+        )
+    }
+
+    /// This consumer's waiter is awake from now on, if it is there; it is looked for at this place first.
+    pub fn wake(&mut self, consumer: Pick, guess: usize)
+        ensures woken { IsAsleep self.old consumer → IsAwake self.new consumer }
+        ensures wakens { Wakens self.old self.new }
+    {
+        wake_waiter(&mut self.waiters, &mut self.awake, consumer, guess);
+    }
+
+    /// Each waiter is awake from now on. It takes no memory.
+    pub fn wake_all(&mut self)
+        ensures roused { AllRoused self.old self.new }
+        ensures same { order self.new ≡ order self.old }
+    {
+        rouse_each(&mut self.waiters);
+        mark_all(&mut self.awake, self.waiters.len());
+    }
+
+    /// Whether picks look at some waiter. If not, none is awake.
+    pub fn has_awake(&self) -> bool
+        ensures yes { result ≡ true → (i : ℕ) × (i < length self.now.waiters) × (bit_of self.now.marks i ≡ 1) }
+        ensures no { result ≡ false → (p : Consumer) → IsAwake self.now p → ⊥ }
+    {
+        any_marked(&self.awake, self.waiters.len())
+    }
+
+    /// The first consumer to which a delivery can be made from the queue at this place, which has something ready, from the waiter
+    /// behind that which was picked last, and then from the front. Those that are looked at and may take nothing fall asleep, and no memory is
+    /// taken.
+    pub fn pick(&mut self, core: &Core, sleepers: &mut Sleepers, queue: usize) -> Option<Pick>
+        requires placed { queue < length (topology_kept core.now).queues }
+        requires ready { HasReady core.now.store queue }
+        requires noted { AllAreNoted (topology_kept core.now) (broker_of core.now) sleepers.old.entries }
+        ensures kept { KeepsIn core.now queue sleepers.old.entries sleepers.new.entries self.old self.new }
+        ensures more { ListsMore sleepers.old.entries sleepers.new.entries }
+        ensures some { IfSome result (λ p. IsPickFrom core.now queue p) }
+        ensures none { result ≡ None → NoneInRound core.now sleepers.old.entries queue self.old }
+        ensures told { IfSome result (λ p. GoesLast core.now sleepers.old.entries queue self.old self.new p) }
+        ensures same { result ≡ None → order self.new ≡ order self.old }
+        // Where nobody is told, nobody is awake any more: who may take nothing sleeps.
+        ensures rested { result ≡ None → (p : Consumer) → IsAwake self.new p → ⊥ }
+    {
+        match first_from(
+            core,
+            queue,
+            &mut self.waiters,
+            &mut self.awake,
+            sleepers,
+            self.next,
+        ) {
+            Some(place) => {
+                self.next = place + 1;
+                Some(self.waiters[place].pick)
+            }
+            None => None,
+        }
+    }
+}

@@ -1,0 +1,72 @@
+//! Waiters are listed in the rounds of their queues, where these stand at other places.
+
+ghost use Rattle.std.specs.Prelude.{◌≡◌, map};
+ghost use Rattle.broker.specs.Moving.{listing_moved, listings_moved, channels_moved, all_moved};
+
+use crate::rounds::sleepers::{ChannelSleepers, ConnectionSleepers, Listed, Sleepers};
+
+impl Listed {
+    ghost use Rattle.std.specs.Prelude.{◌≡◌};
+    ghost use Rattle.broker.specs.Moving.{listing_moved};
+
+    /// Its queue stands at the place that the table has for it.
+    fn relocate(&mut self, places: &[usize])
+        ensures { self.new ≡ listing_moved places.now self.old }
+    {
+        if self.queue < places.len() {
+            self.queue = places[self.queue];
+        }
+    }
+}
+
+/// The queues of these stand at the places that the table has for them.
+fn move_listed(listed: &mut [Listed], places: &[usize])
+    ensures { listed.new ≡ map (listing_moved places.now) listed.old }
+{
+    for one in listed.iter_mut() {
+        one.relocate(places);
+    }
+}
+
+impl ChannelSleepers {
+    ghost use Rattle.std.specs.Prelude.{◌≡◌};
+    ghost use Rattle.broker.specs.Moving.{listings_moved};
+
+    /// The queues of these stand at the places that the table has for them.
+    fn relocate(&mut self, places: &[usize])
+        ensures { self.new ≡ listings_moved places.now self.old }
+    {
+        move_listed(&mut self.listed, places);
+    }
+}
+
+/// The queues of all waiters on these channels stand at the places that the table has for them.
+fn move_each(channels: &mut [ChannelSleepers], places: &[usize])
+    ensures { channels.new ≡ map (listings_moved places.now) channels.old }
+{
+    for channel in channels.iter_mut() {
+        channel.relocate(places);
+    }
+}
+
+impl ConnectionSleepers {
+    ghost use Rattle.std.specs.Prelude.{◌≡◌};
+    ghost use Rattle.broker.specs.Moving.{channels_moved};
+
+    /// The queues of all its waiters stand at the places that the table has for them.
+    fn relocate(&mut self, places: &[usize])
+        ensures { self.new ≡ channels_moved places.now self.old }
+    {
+        move_each(&mut self.channels, places);
+    }
+}
+
+/// The queues of all waiters stand at the places that the table has for them. It takes no memory.
+pub(crate) fn move_sleepers(sleepers: &mut Sleepers, places: &[usize])
+    ensures { sleepers.new.entries ≡ all_moved places.now sleepers.old.entries }
+{
+    sleepers.retain(|_, channels| {
+        channels.relocate(places);
+        true
+    });
+}

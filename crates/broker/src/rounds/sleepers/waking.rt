@@ -1,0 +1,134 @@
+//! Waiters that sleep are woken.
+
+ghost use Rattle.std.specs.Prelude.{◌≡◌, ◌≤◌, ◌*◌, ℕ, true, false, length};
+ghost use Rattle.broker.specs.Rounds.{is_on_channel, listings_on, Listing, IsAt, IsAsleepIn, IsListedOn, IsNotedOn, IsListed, IsWoken, WakesListed};
+ghost use Rattle.broker.specs.Rounds.{NotesStay, MakesNoList, AllWaken};
+
+use crate::rounds::queue_rounds::QueueRounds;
+use crate::rounds::sleepers::{ChannelSleepers, ConnectionSleepers, Listed, Sleepers};
+use crate::rounds::waiters::PlaceMarks;
+use marks::Places;
+
+impl Listed {
+    ghost use Rattle.std.specs.Prelude.{◌≡◌, length};
+    ghost use Rattle.broker.specs.Rounds.{IsWoken, AllWaken};
+
+    /// Its waiter is awake from now on.
+    fn wake(&self, rounds: &mut QueueRounds)
+        ensures woken { IsWoken rounds.old rounds.new self.now }
+        ensures wakens { AllWaken rounds.old rounds.new }
+        ensures len { length rounds.new ≡ length rounds.old }
+    {
+        rounds.wake(self.queue, self.consumer, self.place);
+    }
+}
+
+/// The waiters of these that sleep are awake from now on.
+fn wake_listed(listed: &[Listed], asleep: &mut PlaceMarks, rounds: &mut QueueRounds)
+    requires { length listed.now ≤ length asleep.old * 64 }
+    ensures size { length asleep.new ≡ length asleep.old }
+    ensures woken { WakesListed (record { all = listed.now; asleep = asleep.old }) rounds.old rounds.new }
+    ensures wakens { AllWaken rounds.old rounds.new }
+    ensures len { length rounds.new ≡ length rounds.old }
+{
+    let mut next = 0;
+    'marked: while let Some(at) = asleep.next(next) {
+        if at >= listed.len() {
+            return;
+        }
+        listed[at].wake(rounds);
+        asleep.clear(at);
+        next = at + 1;
+    }
+}
+
+impl ChannelSleepers {
+    ghost use Rattle.std.specs.Prelude.{◌≡◌, length};
+    ghost use Rattle.broker.specs.Rounds.{WakesListed, AllWaken};
+
+    /// None sleeps from now on.
+    fn wake(&mut self, rounds: &mut QueueRounds)
+        ensures same { self.new.all ≡ self.old.all }
+        ensures woken { WakesListed self.old rounds.old rounds.new }
+        ensures wakens { AllWaken rounds.old rounds.new }
+        ensures len { length rounds.new ≡ length rounds.old }
+    {
+        wake_listed(&self.listed, &mut self.asleep, rounds);
+    }
+}
+
+/// The waiters that sleep on the channel of this number are awake from now on.
+fn wake_one(channels: &mut [ChannelSleepers], rounds: &mut QueueRounds, channel: u16)
+    ensures others { (h : ℕ) → (h ≡ channel → ⊥) → listings_on channels.new h ≡ listings_on channels.old h }
+    ensures same { (h : ℕ) → (listings_on channels.new h).all ≡ (listings_on channels.old h).all }
+    ensures woken { WakesListed (listings_on channels.old channel) rounds.old rounds.new }
+    ensures wakens { AllWaken rounds.old rounds.new }
+    ensures len { length rounds.new ≡ length rounds.old }
+{
+    let at = channel as usize;
+    if at < channels.len() {
+        channels[at].wake(rounds);
+    }
+}
+
+/// The waiters that sleep on any channel are awake from now on.
+fn wake_each(channels: &mut [ChannelSleepers], rounds: &mut QueueRounds)
+    ensures same { (h : ℕ) → (listings_on channels.new h).all ≡ (listings_on channels.old h).all }
+    ensures woken { (h : ℕ) → WakesListed (listings_on channels.old h) rounds.old rounds.new }
+    ensures wakens { AllWaken rounds.old rounds.new }
+    ensures len { length rounds.new ≡ length rounds.old }
+{
+    for place in 0..channels.len() {
+        channels[place].wake(rounds);
+    }
+}
+
+/// The same of this channel, or of all where none is named.
+fn wake_on(channels: &mut [ChannelSleepers], rounds: &mut QueueRounds, channel: Option<u16>)
+    ensures others { (l : Listing) → is_on_channel channel l.consumer ≡ false → IsListedOn channels.old l → IsListedOn channels.new l }
+    ensures noted { (l : Listing) → IsNotedOn channels.old l → IsNotedOn channels.new l }
+    ensures woken { (l : Listing) → is_on_channel channel l.consumer ≡ true → IsListedOn channels.old l → IsWoken rounds.old rounds.new l }
+    ensures wakens { AllWaken rounds.old rounds.new }
+    ensures len { length rounds.new ≡ length rounds.old }
+{
+    match channel {
+        Some(number) => wake_one(channels, rounds, number),
+        None => wake_each(channels, rounds),
+    }
+}
+
+impl ConnectionSleepers {
+    ghost use Rattle.std.specs.Prelude.{◌≡◌, true, false, length};
+    ghost use Rattle.broker.specs.Rounds.{is_on_channel, Listing, IsListedOn, IsNotedOn, IsWoken, AllWaken};
+
+    /// Its waiters that sleep on this channel, or on any where none is named, are awake from now on.
+    fn wake(&mut self, rounds: &mut QueueRounds, channel: Option<u16>)
+        ensures others { (l : Listing) → is_on_channel channel l.consumer ≡ false → IsListedOn self.old l → IsListedOn self.new l }
+        ensures noted { (l : Listing) → IsNotedOn self.old l → IsNotedOn self.new l }
+        ensures woken { (l : Listing) → is_on_channel channel l.consumer ≡ true → IsListedOn self.old l → IsWoken rounds.old rounds.new l }
+        ensures wakens { AllWaken rounds.old rounds.new }
+        ensures len { length rounds.new ≡ length rounds.old }
+    {
+        wake_on(&mut self.channels, rounds, channel);
+    }
+}
+
+/// The waiters of this connection that sleep on this channel, or on any where none is named, are awake from now on. All others are
+/// listed as before. It takes no memory.
+pub(crate) fn wake_connection(
+    sleepers: &mut Sleepers,
+    rounds: &mut QueueRounds,
+    connection: u64,
+    channel: Option<u16>,
+)
+    ensures others { (l : Listing) → (IsAt connection channel l.consumer → ⊥) → IsListed sleepers.old.entries l → IsListed sleepers.new.entries l }
+    ensures noted { NotesStay sleepers.old.entries sleepers.new.entries }
+    ensures woken { (l : Listing) → IsAt connection channel l.consumer → IsListed sleepers.old.entries l → IsWoken rounds.old rounds.new l }
+    ensures none { MakesNoList sleepers.old.entries sleepers.new.entries }
+    ensures wakens { AllWaken rounds.old rounds.new }
+    ensures len { length rounds.new ≡ length rounds.old }
+{
+    if let Some(channels) = sleepers.get_mut(&connection) {
+        channels.wake(rounds, channel);
+    }
+}

@@ -1,0 +1,38 @@
+//! Waiters of consumers.
+
+ghost use Rattle.std.specs.Prelude.{◌≡◌, ◌<◌, ◌≤◌, ◌*◌, ℕ, length};
+ghost use Rattle.marks.specs.Places.{bit_of};
+ghost use Rattle.broker.specs.Rounds.{is_consumer};
+
+use commands::Pick;
+use marks::{Flat, Over, Places};
+
+/// A set of places, by a bit for each.
+pub(crate) type PlaceMarks = Over<Flat>;
+
+/// What stands for a consumer in the round of its queue.
+#[derive(Clone, Copy, PartialEq, Eq, Debug, Drop)]
+pub(crate) struct Waiter {
+    /// Whose it is.
+    pub pick: Pick,
+    /// Picks pass over it.
+    pub asleep: bool,
+}
+
+/// Two consumers are one.
+pub(crate) fn is_same(one: Pick, other: Pick) -> bool
+    ensures { result ≡ is_consumer one other }
+{
+    one.connection == other.connection && one.channel == other.channel && one.number == other.number
+}
+
+/// All places below this are in the set from now on.
+pub(crate) fn mark_all(marks: &mut PlaceMarks, count: usize)
+    requires { count ≤ length marks.old * 64 }
+    ensures len { length marks.new ≡ length marks.old }
+    ensures marked { (i : ℕ) → i < count → bit_of marks.new i ≡ 1 }
+{
+    for place in 0..count {
+        marks.set(place);
+    }
+}
