@@ -22,11 +22,11 @@ use Rattle.broker.specs.Turns.{WithTurn, topology_kept, broker_of}
 use Rattle.runs.specs.Opened.{Idles}
 use Rattle.engine.specs.Reading.{IsKeptEvent}
 use Rattle.outputs.specs.Waiting.{WaitingBytes}
-use Rattle.engine.specs.Pumping.{LinkPumped, OutputChanges, LinksPumped, LinksNotPumped, IsPump}
-use Rattle.engine.specs.World.{Parts, link_in, session_of, wire_in, wire_of, config_of, state_of, world_of, is_link_gone, AreRising, IsEngine}
-use Rattle.engine.specs.Engines.{Becomes, Changes, IsLinkPlace}
-use Rattle.engine.specs.declared.connected.Connected.{Connected}
-use Rattle.engine.proofs.Numbered.{link_in-place}
+use Rattle.engine.specs.Pumping.{ConnectionPumped, OutputChanges, ConnectionsPumped, ConnectionsNotPumped, IsPump}
+use Rattle.engine.specs.World.{Parts, connection_in, session_of, wire_in, wire_of, config_of, state_of, world_of, is_connection_gone, AreRising, IsEngine}
+use Rattle.engine.specs.Engines.{Becomes, Changes, IsConnectionPlace}
+use Rattle.engine.specs.declared.connection.Connection.{Connection}
+use Rattle.engine.proofs.Numbered.{connection_in-place}
 use Rattle.engine.proofs.Agreeing.{agreed, same_agrees, delivers_agrees}
 use Rattle.engine.proofs.Lifted.{Ended, ended, at_own, at_others, same_config, output_in, with_same}
 use Rattle.engine.proofs.Tooks.{Stays, becomes, sound, world_stays, engine_change}
@@ -44,7 +44,7 @@ running_open phase.Closing e = refl
 running_open phase.Over e = absurd (false≢true e)
 
 -- its connection runs
-runs : (p : Parts) (c : ℕ) → IsConsistent (world_of p) → CanDeliver (broker_of p.broker) c → is_running (session_of (link_in p.links c)).phase ≡ true
+runs : (p : Parts) (c : ℕ) → IsConsistent (world_of p) → CanDeliver (broker_of p.broker) c → is_running (session_of (connection_in p.connections c)).phase ≡ true
 runs p c k made = sym (k.running c) ∙ ap is_some made.taker.runs
 
 -- and its output is below the bound
@@ -53,68 +53,68 @@ below p c k made = sym (k.paused c made.taker.connection made.taker.runs) ∙ ma
 
 -- ---- the connection whose output changes
 
-found_there : (ls new_ls : List Connected) (c : ℕ) (f : OutputChanges c ls new_ls) → AreRising 0 ls → link_in ls f.old.number ≡ Some f.old
-found_there ls new_ls c f r = link_in-place 0 ls f.place f.old r f.within f.here
+found_there : (ls new_ls : List Connection) (c : ℕ) (f : OutputChanges c ls new_ls) → AreRising 0 ls → connection_in ls f.old.number ≡ Some f.old
+found_there ls new_ls c f r = connection_in-place 0 ls f.place f.old r f.within f.here
 
-open_still : (p : Parts) (c : ℕ) (new_ls : List Connected) (f : OutputChanges c p.links new_ls) → IsEngine p → CanDeliver (broker_of p.broker) c → is_ended f.old.session.phase ≡ false
+open_still : (p : Parts) (c : ℕ) (new_ls : List Connection) (f : OutputChanges c p.connections new_ls) → IsEngine p → CanDeliver (broker_of p.broker) c → is_ended f.old.session.phase ≡ false
 open_still p c new_ls f e made =
-    let found : link_in p.links c ≡ Some f.old = subst (λ (k : ℕ). link_in p.links k ≡ Some f.old) f.number (found_there p.links new_ls c f e.links.rising) in
-    running_open f.old.session.phase (sym (ap (λ (o : Option Connected). is_running (session_of o).phase) found) ∙ runs p c e.consistent made)
+    let found : connection_in p.connections c ≡ Some f.old = subst (λ (k : ℕ). connection_in p.connections k ≡ Some f.old) f.number (found_there p.connections new_ls c f e.connections.rising) in
+    running_open f.old.session.phase (sym (ap (λ (o : Option Connection). is_running (session_of o).phase) found) ∙ runs p c e.consistent made)
 
-output_changes : (ls new_ls : List Connected) (c : ℕ) (f : OutputChanges c ls new_ls) → is_ended f.old.session.phase ≡ false → Changes ls f.place f.old f.new new_ls
+output_changes : (ls new_ls : List Connection) (c : ℕ) (f : OutputChanges c ls new_ls) → is_ended f.old.session.phase ≡ false → Changes ls f.place f.old f.new new_ls
 output_changes ls new_ls c f awake =
-    let still : is_link_gone f.new ≡ false = ap is_link_gone f.rest ∙ ap (λ (v : Bool). v && not (nat_lt 0 (length f.new.output.bytes))) awake in
+    let still : is_connection_gone f.new ≡ false = ap is_connection_gone f.rest ∙ ap (λ (v : Bool). v && not (nat_lt 0 (length f.new.output.bytes))) awake in
     record {
       within = f.within;
       here = f.here;
-      number = ap (λ (z : Connected). z.number) f.rest;
-      kept = λ k. subst (λ (z : Connected). IsKeptEvent z.number z.kept z.stream.fault) (sym f.rest) k;
+      number = ap (λ (z : Connection). z.number) f.rest;
+      kept = λ k. subst (λ (z : Connection). IsKeptEvent z.number z.kept z.stream.fault) (sym f.rest) k;
       left = f.left ∙ sym (ap (λ (v : Bool). cond v (remove ls f.place) (set ls f.place f.new)) still);
       over = λ gone. absurd (false≢true (sym still ∙ gone));
     }
 
-abbrev pub output_change : (ls : List Connected) (c i : ℕ) (old new : Connected) → IsLinkPlace ls c (Some i) → get_or ls i old ≡ old → new ≡ record old { output = new.output } → OutputChanges c ls (set ls i new)
+abbrev pub output_change : (ls : List Connection) (c i : ℕ) (old new : Connection) → IsConnectionPlace ls c (Some i) → get_or ls i old ≡ old → new ≡ record old { output = new.output } → OutputChanges c ls (set ls i new)
 output_change ls c i old new at here only = record {
   place = i;
   within = at.0;
   old = old;
   here = here;
-  number = sym (ap (λ (z : Connected). z.number) here) ∙ at.1 old;
+  number = sym (ap (λ (z : Connection). z.number) here) ∙ at.1 old;
   new = new;
   rest = only;
   left = refl;
 }
 
-links_pumped : {V E : Type 0} (r : Result V E) (notes : V → List Note) (t : Topology) (b new_b : Broker) (c : ℕ) (ls new_ls : List Connected) (f : OutputChanges c ls new_ls)
-    → IfOk r (λ v. LinkPumped t b c f.old (notes v) new_b f.new) → IfOk r (λ v. LinksPumped t b c ls (notes v) new_b new_ls)
-links_pumped (Ok v) notes t b new_b c ls new_ls f pumped = record { change = f; pumped = pumped }
-links_pumped (Err x) notes t b new_b c ls new_ls f pumped = tt
+connections_pumped : {V E : Type 0} (r : Result V E) (notes : V → List Note) (t : Topology) (b new_b : Broker) (c : ℕ) (ls new_ls : List Connection) (f : OutputChanges c ls new_ls)
+    → IfOk r (λ v. ConnectionPumped t b c f.old (notes v) new_b f.new) → IfOk r (λ v. ConnectionsPumped t b c ls (notes v) new_b new_ls)
+connections_pumped (Ok v) notes t b new_b c ls new_ls f pumped = record { change = f; pumped = pumped }
+connections_pumped (Err x) notes t b new_b c ls new_ls f pumped = tt
 
-not_pumped_by : {T E : Type 0} (r : Result T E) (b new_b : Broker) (c : ℕ) (ls new_ls : List Connected) (f : OutputChanges c ls new_ls) → OnErr r (new_b ≡ b) → OnErr r (f.new.output.bytes ≡ f.old.output.bytes)
-    → OnErr r (LinksNotPumped b c ls new_b new_ls)
+not_pumped_by : {T E : Type 0} (r : Result T E) (b new_b : Broker) (c : ℕ) (ls new_ls : List Connection) (f : OutputChanges c ls new_ls) → OnErr r (new_b ≡ b) → OnErr r (f.new.output.bytes ≡ f.old.output.bytes)
+    → OnErr r (ConnectionsNotPumped b c ls new_b new_ls)
 not_pumped_by (Ok x) b new_b c ls new_ls f kept output = tt
 not_pumped_by (Err x) b new_b c ls new_ls f kept output = record { change = f; broker = kept; output = output }
 
 -- the wire is as before, but for its output
-output_alone : (b : Bool) (l : Connected) (o : WaitingBytes) → wire_in b (record l { output = o }) ≡ record (wire_in b l) { output = o.bytes }
+output_alone : (b : Bool) (l : Connection) (o : WaitingBytes) → wire_in b (record l { output = o }) ≡ record (wire_in b l) { output = o.bytes }
 output_alone true l o = refl
 output_alone false l o = refl
 
 -- ---- the delivery
 
-delivered : (old new : Parts) (l l' : Connected) (notes : List Note) → Becomes old l l' new → link_in old.links l.number ≡ Some l → IsConsistent (world_of old) → l' ≡ record l { output = l'.output }
-    → LinkPumped (topology_kept old.broker) (broker_of old.broker) l.number l notes (broker_of new.broker) l'
+delivered : (old new : Parts) (l l' : Connection) (notes : List Note) → Becomes old l l' new → connection_in old.connections l.number ≡ Some l → IsConsistent (world_of old) → l' ≡ record l { output = l'.output }
+    → ConnectionPumped (topology_kept old.broker) (broker_of old.broker) l.number l notes (broker_of new.broker) l'
     → (hs : List Happening) × (notes ≡ notes_of hs) × Delivers (world_of old) l.number hs (world_of new)
 delivered old new l l' notes b found k only p =
     let c = l.number in
-    let session_was : session_of (link_in old.links c) ≡ l.session = ap session_of found in
-    let sessions : (d : ℕ) → session_of (link_in new.links d) ≡ session_of (link_in old.links d) =
-    λ d. b.sessions d ∙ with_same (λ n. session_of (link_in old.links n)) c l'.session (ap (λ (z : Connected). z.session) only ∙ sym session_was) d in
-    let wire_was : wire_of (link_in old.links c) ≡ wire_of (Some l) = ap wire_of found in
-    let wire_is : wire_of (link_in new.links c) ≡ wire_of (Some l') = b.wires c ∙ at_own (λ d. wire_of (link_in old.links d)) c (wire_of (Some l')) in
-    let output_was : (wire_of (link_in old.links c)).output ≡ l.output.bytes = ap (λ (w : Wire). w.output) wire_was ∙ output_in (is_ended l.session.phase) l in
-    let output_is : (wire_of (link_in new.links c)).output ≡ l'.output.bytes = ap (λ (w : Wire). w.output) wire_is ∙ output_in (is_ended l'.session.phase) l' in
-    let mid : State = record { broker = p.mid; session = λ d. session_of (link_in old.links d) } in
+    let session_was : session_of (connection_in old.connections c) ≡ l.session = ap session_of found in
+    let sessions : (d : ℕ) → session_of (connection_in new.connections d) ≡ session_of (connection_in old.connections d) =
+    λ d. b.sessions d ∙ with_same (λ n. session_of (connection_in old.connections n)) c l'.session (ap (λ (z : Connection). z.session) only ∙ sym session_was) d in
+    let wire_was : wire_of (connection_in old.connections c) ≡ wire_of (Some l) = ap wire_of found in
+    let wire_is : wire_of (connection_in new.connections c) ≡ wire_of (Some l') = b.wires c ∙ at_own (λ d. wire_of (connection_in old.connections d)) c (wire_of (Some l')) in
+    let output_was : (wire_of (connection_in old.connections c)).output ≡ l.output.bytes = ap (λ (w : Wire). w.output) wire_was ∙ output_in (is_ended l.session.phase) l in
+    let output_is : (wire_of (connection_in new.connections c)).output ≡ l'.output.bytes = ap (λ (w : Wire). w.output) wire_is ∙ output_in (is_ended l'.session.phase) l' in
+    let mid : State = record { broker = p.mid; session = λ d. session_of (connection_in old.connections d) } in
     let h : Happening = record { config = config_of old; event = event.Deliver c; before = state_of old; sends = p.sends; notes = notes; frame_max = l.session.frame_max; after = mid } in
     let past_was : is_paused (world_of old) c ≡ false = below old c k p.acts.made in
     let past_is : is_paused (world_of new) c ≡ is_past_bound l'.output.bytes = ap is_past_bound output_is in
@@ -136,69 +136,69 @@ delivered old new l l' notes b found k only p =
           pauses = subst (λ (v : Bool). Pauses (config_of old) mid c v (is_paused (world_of new) c) rest.hs (state_of new)) (sym past_was)
               (subst (λ (v : Bool). Pauses (config_of old) mid c false v rest.hs (state_of new)) (sym past_is) rest.pauses);
           config = same_config old new l l' b;
-          others = λ d ne. b.wires d ∙ at_others (λ n. wire_of (link_in old.links n)) c d (wire_of (Some l')) ne;
+          others = λ d ne. b.wires d ∙ at_others (λ n. wire_of (connection_in old.connections n)) c d (wire_of (Some l')) ne;
           rests = λ d ne. sessions d;
         };
         given = b.given;
-        wire = wire_is ∙ ap (λ (z : Connected). wire_of (Some z)) only ∙ output_alone (is_ended l.session.phase) l l'.output
+        wire = wire_is ∙ ap (λ (z : Connection). wire_of (Some z)) only ∙ output_alone (is_ended l.session.phase) l l'.output
             ∙ ap (λ (w : Wire). record w { output = l'.output.bytes }) (sym wire_was)
-            ∙ ap (λ (z : List ℕ). record (wire_of (link_in old.links c)) { output = z }) (sym output_is);
+            ∙ ap (λ (z : List ℕ). record (wire_of (connection_in old.connections c)) { output = z }) (sym output_is);
       },
     )
 
-made_of : (old new : Parts) (c : ℕ) (notes : List Note) → LinksPumped (topology_kept old.broker) (broker_of old.broker) c old.links notes (broker_of new.broker) new.links → CanDeliver (broker_of old.broker) c
+made_of : (old new : Parts) (c : ℕ) (notes : List Note) → ConnectionsPumped (topology_kept old.broker) (broker_of old.broker) c old.connections notes (broker_of new.broker) new.connections → CanDeliver (broker_of old.broker) c
 made_of old new c notes p = p.pumped.acts.made
 
 pumps : (old new : Parts) (c : ℕ) (notes : List Note) → IsEngine old → Stays old new
-    → LinksPumped (topology_kept old.broker) (broker_of old.broker) c old.links notes (broker_of new.broker) new.links → IsPump (world_of old) c notes (world_of new)
+    → ConnectionsPumped (topology_kept old.broker) (broker_of old.broker) c old.connections notes (broker_of new.broker) new.connections → IsPump (world_of old) c notes (world_of new)
 pumps old new c notes e st p =
     let f = p.change in
-    let ch = output_changes old.links new.links c f (open_still old c new.links f e (made_of old new c notes p)) in
-    let b = becomes old new f.place f.old f.new st e.links.rising ch in
-    let did = delivered old new f.old f.new notes b (found_there old.links new.links c f e.links.rising) e.consistent f.rest
-    (subst (λ (n : ℕ). LinkPumped (topology_kept old.broker) (broker_of old.broker) n f.old notes (broker_of new.broker) f.new) (sym f.number) p.pumped) in
+    let ch = output_changes old.connections new.connections c f (open_still old c new.connections f e (made_of old new c notes p)) in
+    let b = becomes old new f.place f.old f.new st e.connections.rising ch in
+    let did = delivered old new f.old f.new notes b (found_there old.connections new.connections c f e.connections.rising) e.consistent f.rest
+    (subst (λ (n : ℕ). ConnectionPumped (topology_kept old.broker) (broker_of old.broker) n f.old notes (broker_of new.broker) f.new) (sym f.number) p.pumped) in
     subst (λ (n : ℕ). IsPump (world_of old) n notes (world_of new)) f.number
     (record { happenings = did.0; noted = did.1; delivers = did.2; promises = pump_keeps (world_of old) (world_of new) did.0 (sound old e) e.consistent (delivers did.2) })
 
 pumps_engine : (old new : Parts) (c : ℕ) (notes : List Note) → IsEngine old → Stays old new
-    → LinksPumped (topology_kept old.broker) (broker_of old.broker) c old.links notes (broker_of new.broker) new.links → IsEngine new
+    → ConnectionsPumped (topology_kept old.broker) (broker_of old.broker) c old.connections notes (broker_of new.broker) new.connections → IsEngine new
 pumps_engine old new c notes e st p =
     let f = p.change in
     let done = pumps old new c notes e st p in
-    engine_change old new f.place f.old f.new e st (output_changes old.links new.links c f (open_still old c new.links f e (made_of old new c notes p)))
+    engine_change old new f.place f.old f.new e st (output_changes old.connections new.connections c f (open_still old c new.connections f e (made_of old new c notes p)))
     (delivers_agrees (world_of old) (world_of new) c done.happenings (agreed old e) done.delivers)
 
 -- ---- memory was wanting
 
 not_pumped : (old new : Parts) (c : ℕ) → IsEngine old → Stays old new → CanDeliver (broker_of old.broker) c
-    → LinksNotPumped (broker_of old.broker) c old.links (broker_of new.broker) new.links → Same (world_of old) (world_of new)
+    → ConnectionsNotPumped (broker_of old.broker) c old.connections (broker_of new.broker) new.connections → Same (world_of old) (world_of new)
 not_pumped old new c e st made p =
     let f = p.change in
-    let found = found_there old.links new.links c f e.links.rising in
-    let b = becomes old new f.place f.old f.new st e.links.rising (output_changes old.links new.links c f (open_still old c new.links f e made)) in
-    let sessions : (d : ℕ) → session_of (link_in new.links d) ≡ session_of (link_in old.links d) =
-    λ d. b.sessions d ∙ with_same (λ n. session_of (link_in old.links n)) f.old.number f.new.session (ap (λ (z : Connected). z.session) f.rest ∙ sym (ap session_of found)) d in
-    let wire : wire_of (Some f.new) ≡ wire_of (link_in old.links f.old.number) =
-    ap (λ (z : Connected). wire_of (Some z)) f.rest ∙ output_alone (is_ended f.old.session.phase) f.old f.new.output
+    let found = found_there old.connections new.connections c f e.connections.rising in
+    let b = becomes old new f.place f.old f.new st e.connections.rising (output_changes old.connections new.connections c f (open_still old c new.connections f e made)) in
+    let sessions : (d : ℕ) → session_of (connection_in new.connections d) ≡ session_of (connection_in old.connections d) =
+    λ d. b.sessions d ∙ with_same (λ n. session_of (connection_in old.connections n)) f.old.number f.new.session (ap (λ (z : Connection). z.session) f.rest ∙ sym (ap session_of found)) d in
+    let wire : wire_of (Some f.new) ≡ wire_of (connection_in old.connections f.old.number) =
+    ap (λ (z : Connection). wire_of (Some z)) f.rest ∙ output_alone (is_ended f.old.session.phase) f.old f.new.output
     ∙ ap (λ (z : List ℕ). record (wire_of (Some f.old)) { output = z }) (p.output ∙ sym (output_in (is_ended f.old.session.phase) f.old)) ∙ sym (ap wire_of found) in
     record {
       config = same_config old new f.old f.new b;
       state = λ i. record { broker = p.broker i; session = λ d. sessions d i };
       given = b.given;
-      wires = λ d. b.wires d ∙ with_same (λ n. wire_of (link_in old.links n)) f.old.number (wire_of (Some f.new)) wire d;
+      wires = λ d. b.wires d ∙ with_same (λ n. wire_of (connection_in old.connections n)) f.old.number (wire_of (Some f.new)) wire d;
     }
 
 not_pumped_engine : (old new : Parts) (c : ℕ) → IsEngine old → Stays old new → CanDeliver (broker_of old.broker) c
-    → LinksNotPumped (broker_of old.broker) c old.links (broker_of new.broker) new.links → IsEngine new
+    → ConnectionsNotPumped (broker_of old.broker) c old.connections (broker_of new.broker) new.connections → IsEngine new
 not_pumped_engine old new c e st made p =
     let f = p.change in
-    engine_change old new f.place f.old f.new e st (output_changes old.links new.links c f (open_still old c new.links f e made))
+    engine_change old new f.place f.old f.new e st (output_changes old.connections new.connections c f (open_still old c new.connections f e made))
     (same_agrees (world_of old) (world_of new) (agreed old e) (not_pumped old new c e st made p))
 
 -- every engine stays one
 pumped_engine : {V E : Type 0} (r : Result V E) (notes : V → List Note) (old new : Parts) (c : ℕ) → IsEngine old → Stays old new → CanDeliver (broker_of old.broker) c
-    → IfOk r (λ v. LinksPumped (topology_kept old.broker) (broker_of old.broker) c old.links (notes v) (broker_of new.broker) new.links)
-    → OnErr r (LinksNotPumped (broker_of old.broker) c old.links (broker_of new.broker) new.links) → IsEngine new
+    → IfOk r (λ v. ConnectionsPumped (topology_kept old.broker) (broker_of old.broker) c old.connections (notes v) (broker_of new.broker) new.connections)
+    → OnErr r (ConnectionsNotPumped (broker_of old.broker) c old.connections (broker_of new.broker) new.connections) → IsEngine new
 pumped_engine (Ok v) notes old new c e st made ok err = pumps_engine old new c (notes v) e st ok
 pumped_engine (Err x) notes old new c e st made ok err = not_pumped_engine old new c e st made err
 
@@ -206,7 +206,7 @@ pumped_engine (Err x) notes old new c e st made ok err = not_pumped_engine old n
 
 -- whose turn it is matters to nothing that an engine keeps
 turned_engine : (old : Parts) (b : WithTurn) → IsEngine old → IsEngine (record old { broker = record b { kept = old.broker.kept } })
-turned_engine old b e = record { hold = e.hold; formed = e.formed; links = e.links; consistent = e.consistent; named = e.named }
+turned_engine old b e = record { hold = e.hold; formed = e.formed; connections = e.connections; consistent = e.consistent; named = e.named }
 
 -- the same with this kept, and the turns of b
 abbrev with_kept : Parts → WithTurn → Kept → Parts
@@ -216,7 +216,7 @@ pub picked_engine : (old : Parts) (b : WithTurn) → b.kept ≡ old.broker.kept 
 picked_engine old b same e = subst (λ (k : Kept). IsEngine (with_kept old b k)) (sym same) (turned_engine old b e)
 
 pub picked_pumps : (old new : Parts) (b : WithTurn) (c : ℕ) (notes : List Note) → IsEngine old → b.kept ≡ old.broker.kept → Stays (record old { broker = b }) new
-    → LinksPumped (topology_kept b) (broker_of b) c old.links notes (broker_of new.broker) new.links → IsPump (world_of old) c notes (world_of new)
+    → ConnectionsPumped (topology_kept b) (broker_of b) c old.connections notes (broker_of new.broker) new.connections → IsPump (world_of old) c notes (world_of new)
 picked_pumps old new b c notes e same st p =
     subst (λ (k : Kept). IsPump (world_of (with_kept old b k)) c notes (world_of new)) same (pumps (record old { broker = b }) new c notes (picked_engine old b same e) st p)
 
@@ -224,24 +224,24 @@ can_still : (old : Parts) (b : WithTurn) (c : ℕ) → b.kept ≡ old.broker.kep
 can_still old b c same made = subst (λ (k : Kept). CanDeliver (core.broker_of k) c) (sym same) made
 
 pub picked_not : (old new : Parts) (b : WithTurn) (c : ℕ) → IsEngine old → b.kept ≡ old.broker.kept → Stays (record old { broker = b }) new → CanDeliver (broker_of old.broker) c
-    → LinksNotPumped (broker_of b) c old.links (broker_of new.broker) new.links → Same (world_of old) (world_of new)
+    → ConnectionsNotPumped (broker_of b) c old.connections (broker_of new.broker) new.connections → Same (world_of old) (world_of new)
 picked_not old new b c e same st made p =
     subst (λ (k : Kept). Same (world_of (with_kept old b k)) (world_of new)) same
     (not_pumped (record old { broker = b }) new c (picked_engine old b same e) st (can_still old b c same made) p)
 
 picked_stays : {V E : Type 0} (r : Result V E) (notes : V → List Note) (old new : Parts) (b : WithTurn) (c : ℕ) → IsEngine old → b.kept ≡ old.broker.kept → Stays (record old { broker = b }) new → CanDeliver (broker_of old.broker) c
-    → IfOk r (λ v. LinksPumped (topology_kept b) (broker_of b) c old.links (notes v) (broker_of new.broker) new.links)
-    → OnErr r (LinksNotPumped (broker_of b) c old.links (broker_of new.broker) new.links) → IsEngine new
+    → IfOk r (λ v. ConnectionsPumped (topology_kept b) (broker_of b) c old.connections (notes v) (broker_of new.broker) new.connections)
+    → OnErr r (ConnectionsNotPumped (broker_of b) c old.connections (broker_of new.broker) new.connections) → IsEngine new
 picked_stays r notes old new b c e same st made ok err =
     pumped_engine r notes (record old { broker = b }) new c (picked_engine old b same e) st (can_still old b c same made) ok err
 
 -- the same by what became of its connection
-pub pumped_stays : {V E : Type 0} (r : Result V E) (notes : V → List Note) (old new : Parts) (b : WithTurn) (c : ℕ) (f : OutputChanges c old.links new.links) → IsEngine old → b.kept ≡ old.broker.kept
-    → Stays (record old { broker = b }) new → CanDeliver (broker_of old.broker) c → IfOk r (λ v. LinkPumped (topology_kept b) (broker_of b) c f.old (notes v) (broker_of new.broker) f.new)
+pub pumped_stays : {V E : Type 0} (r : Result V E) (notes : V → List Note) (old new : Parts) (b : WithTurn) (c : ℕ) (f : OutputChanges c old.connections new.connections) → IsEngine old → b.kept ≡ old.broker.kept
+    → Stays (record old { broker = b }) new → CanDeliver (broker_of old.broker) c → IfOk r (λ v. ConnectionPumped (topology_kept b) (broker_of b) c f.old (notes v) (broker_of new.broker) f.new)
     → OnErr r (new.broker ≡ b) → OnErr r (f.new.output.bytes ≡ f.old.output.bytes) → IsEngine new
 pumped_stays r notes old new b c f e same st made ok kept output =
-    picked_stays r notes old new b c e same st made (links_pumped r notes (topology_kept b) (broker_of b) (broker_of new.broker) c old.links new.links f ok)
-    (not_pumped_by r (broker_of b) (broker_of new.broker) c old.links new.links f (on_err_map r _ _ (λ is. ap broker_of is) kept) output)
+    picked_stays r notes old new b c e same st made (connections_pumped r notes (topology_kept b) (broker_of b) (broker_of new.broker) c old.connections new.connections f ok)
+    (not_pumped_by r (broker_of b) (broker_of new.broker) c old.connections new.connections f (on_err_map r _ _ (λ is. ap broker_of is) kept) output)
 
 -- nothing can be delivered, and the engine is as before
 pub picked_none : (old : Parts) (b : WithTurn) → b.kept ≡ old.broker.kept → NoneCanDeliver (world_of old) → Idles (world_of old) (world_of (record old { broker = b }))

@@ -6,17 +6,17 @@ use Rattle.std.specs.Ordering.{nat_cmp, ordering_index}
 use Rattle.std.proofs.lemmas.Cmp.{ranked}
 use Rattle.std.proofs.lemmas.Bool.Decides.{nat_tests}
 use Rattle.std.specs.declared.cmp.Ordering.TheVariants.{Less, Equal, Greater}
-use Rattle.engine.specs.World.{link_in, AreRising}
-use Rattle.engine.specs.Engines.{IsLinkPlace}
-use Rattle.engine.specs.declared.connected.Connected.{Connected}
+use Rattle.engine.specs.World.{connection_in, AreRising}
+use Rattle.engine.specs.Engines.{IsConnectionPlace}
+use Rattle.engine.specs.declared.connection.Connection.{Connection}
 use Rattle.engine.proofs.Numbered.{other_false}
 
-above_get : (low : ℕ) (ls : List Connected) (j : ℕ) (d : Connected) → AreRising low ls → j < length ls → low < (get_or ls j d).number
+above_get : (low : ℕ) (ls : List Connection) (j : ℕ) (d : Connection) → AreRising low ls → j < length ls → low < (get_or ls j d).number
 above_get low [] j d r lt = absurd (omega (arith, lt))
 above_get low (x ∷ xs) zero d r lt = r.0
 above_get low (x ∷ xs) (suc j) d r lt = let up = above_get x.number xs j d r.1 (omega (arith, lt)) in let first = r.0 in omega (arith, up, first)
 
-pairs_rise : (low : ℕ) (ls : List Connected) (i j : ℕ) (d : Connected) → AreRising low ls → i < j → j < length ls → (get_or ls i d).number < (get_or ls j d).number
+pairs_rise : (low : ℕ) (ls : List Connection) (i j : ℕ) (d : Connection) → AreRising low ls → i < j → j < length ls → (get_or ls i d).number < (get_or ls j d).number
 pairs_rise low [] i j d r lt within = absurd (omega (arith, within))
 pairs_rise low (x ∷ xs) zero zero d r lt within = absurd (omega (arith, lt))
 pairs_rise low (x ∷ xs) zero (suc j) d r lt within = above_get x.number xs j d r.1 (omega (arith, within))
@@ -26,36 +26,36 @@ pairs_rise low (x ∷ xs) (suc i) (suc j) d r lt within = pairs_rise x.number xs
 rank_rise : (a b c : ℕ) → a ≤ b → ordering_index (nat_cmp a c) ≤ ordering_index (nat_cmp b c)
 rank_rise a b c le = grind (arith, nat_tests)
 
-pairs_not_fall : (ls : List Connected) (i j : ℕ) (d : Connected) → AreRising 0 ls → i ≤ j → j < length ls → (get_or ls i d).number ≤ (get_or ls j d).number
+pairs_not_fall : (ls : List Connection) (i j : ℕ) (d : Connection) → AreRising 0 ls → i ≤ j → j < length ls → (get_or ls i d).number ≤ (get_or ls j d).number
 pairs_not_fall ls i j d r le within = grind (arith, λ (lt : i < j). pairs_rise 0 ls i j d r lt within, λ (same : i ≡ j). ap (λ (k : ℕ). (get_or ls k d).number) same)
 
-comparisons_rise : (ls : List Connected) (c : ℕ) → AreRising 0 ls → IsNonDecreasingBy (λ (l : Connected). ordering_index (nat_cmp l.number c)) ls
+comparisons_rise : (ls : List Connection) (c : ℕ) → AreRising 0 ls → IsNonDecreasingBy (λ (l : Connection). ordering_index (nat_cmp l.number c)) ls
 comparisons_rise ls c r i j d le within = rank_rise (get_or ls i d).number (get_or ls j d).number c (pairs_not_fall ls i j d r le within)
 
-absent : (ls : List Connected) (c : ℕ) → ((j : ℕ) (d : Connected) → j < length ls → (get_or ls j d).number ≢ c) → link_in ls c ≡ None
+absent : (ls : List Connection) (c : ℕ) → ((j : ℕ) (d : Connection) → j < length ls → (get_or ls j d).number ≢ c) → connection_in ls c ≡ None
 absent [] c f = refl
 absent (l ∷ ls) c f =
-    ap (λ (b : Bool). cond b (Some l) (link_in ls c)) (other_false l.number c (f 0 l (omega arith)))
+    ap (λ (b : Bool). cond b (Some l) (connection_in ls c)) (other_false l.number c (f 0 l (omega arith)))
     ∙ absent ls c (λ j d lt. f (suc j) d (omega (arith, lt)))
 
-pub found : (ls : List Connected) (c i : ℕ) → i < length ls → HoldsAt (λ (l : Connected). nat_cmp l.number c ≡ Equal) ls i → IsLinkPlace ls c (Some i)
+pub found : (ls : List Connection) (c i : ℕ) → i < length ls → HoldsAt (λ (l : Connection). nat_cmp l.number c ≡ Equal) ls i → IsConnectionPlace ls c (Some i)
 found ls c i lt at = (lt, λ l. ranked _ c _ (sym (at l)))
 
-pub not_found : (ls : List Connected) (c i : ℕ) → AreRising 0 ls
-    → (IsNonDecreasingBy (λ (l : Connected). ordering_index (nat_cmp l.number c)) ls → IsPartitionPoint (λ (l : Connected). nat_cmp l.number c ≡ Less) (λ (l : Connected). nat_cmp l.number c ≡ Greater) ls i)
-    → IsLinkPlace ls c None
+pub not_found : (ls : List Connection) (c i : ℕ) → AreRising 0 ls
+    → (IsNonDecreasingBy (λ (l : Connection). ordering_index (nat_cmp l.number c)) ls → IsPartitionPoint (λ (l : Connection). nat_cmp l.number c ≡ Less) (λ (l : Connection). nat_cmp l.number c ≡ Greater) ls i)
+    → IsConnectionPlace ls c None
 not_found ls c i r parted =
     let p = parted (comparisons_rise ls c r) in
     absent ls c (λ j d within same. parts j d within same p)
   where
-    parts : (j : ℕ) (d : Connected) → j < length ls → (get_or ls j d).number ≡ c → IsPartitionPoint (λ (l : Connected). nat_cmp l.number c ≡ Less) (λ (l : Connected). nat_cmp l.number c ≡ Greater) ls i → ⊥
+    parts : (j : ℕ) (d : Connection) → j < length ls → (get_or ls j d).number ≡ c → IsPartitionPoint (λ (l : Connection). nat_cmp l.number c ≡ Less) (λ (l : Connection). nat_cmp l.number c ≡ Greater) ls i → ⊥
     parts j d within same p =
         let smaller : j < i → (get_or ls j d).number < c = λ lt. ranked _ c _ (sym (p.0 j d (omega arith) lt)) in
         let greater : i ≤ j → c < (get_or ls j d).number = λ le. ranked _ c _ (sym (p.1 j d le within)) in
         grind (arith, smaller, greater, same)
 
 -- there is an element at each place
-pub element : (ls : List Connected) (i : ℕ) → i < length ls → (l : Connected) × (get_or ls i l ≡ l)
+pub element : (ls : List Connection) (i : ℕ) → i < length ls → (l : Connection) × (get_or ls i l ≡ l)
 element [] i lt = absurd (omega (arith, lt))
 element (x ∷ xs) zero lt = (x, refl)
 element (x ∷ xs) (suc i) lt = element xs i (omega (arith, lt))

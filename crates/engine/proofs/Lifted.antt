@@ -28,14 +28,14 @@ use Rattle.assembly.specs.Held.{stream_of}
 use Rattle.broker.specs.Turns.{topology_kept, broker_of}
 use Rattle.engine.specs.Performing.{rules_of, DecidesByPhase, ByBroker, ByPhase, session_after, PausesOr}
 use Rattle.engine.specs.Reading.{kept_of}
-use Rattle.engine.specs.Turning.{LinkDid, LinkWaits}
+use Rattle.engine.specs.Turning.{ConnectionDid, ConnectionWaits}
 use Rattle.outputs.specs.Waiting.{WaitingBytes}
-use Rattle.engine.specs.World.{Parts, link_in, session_of, wire_in, wire_of, config_of, state_of, world_of}
-use Rattle.engine.specs.Engines.{Becomes, LinkSent, LinkFed}
+use Rattle.engine.specs.World.{Parts, connection_in, session_of, wire_in, wire_of, config_of, state_of, world_of}
+use Rattle.engine.specs.Engines.{Becomes, ConnectionSent, ConnectionFed}
 use Rattle.engine.proofs.Changed.{either}
 use Rattle.runs.proofs.Worlds.{world_same}
 use Rattle.runs.specs.Opened.{Hears}
-use Rattle.engine.specs.declared.connected.Connected.{Connected}
+use Rattle.engine.specs.declared.connection.Connection.{Connection}
 
 -- ---- what one connection does is a step
 
@@ -138,39 +138,39 @@ at_own f n a = ap (λ (b : Bool). cond b a (f n)) (eq-eqb n n refl)
 pub at_others : {A : Type 0} (f : ℕ → A) (n d : ℕ) (a : A) → d ≢ n → with_one f n a d ≡ f d
 at_others f n d a ne = ap (λ (b : Bool). cond b a (f d)) (Rattle.engine.proofs.Numbered.other_false d n ne)
 
-pub same_config : (old new : Parts) (l l' : Connected) → Becomes old l l' new → config_of new ≡ config_of old
+pub same_config : (old new : Parts) (l l' : Connection) → Becomes old l l' new → config_of new ≡ config_of old
 same_config old new l l' b = λ i. record { topology = b.topology i; guarantees = b.guarantees i; users = b.users i }
 
 -- of one that is awake, the connection's own fields are what its world shows
-wire_open : (b : Bool) (l : Connected) → b ≡ false → wire_in b l ≡ record { kept = kept_of l.kept; stream = stream_of l.stream; output = l.output.bytes }
+wire_open : (b : Bool) (l : Connection) → b ≡ false → wire_in b l ≡ record { kept = kept_of l.kept; stream = stream_of l.stream; output = l.output.bytes }
 wire_open false l e = refl
 wire_open true l e = absurd (Rattle.std.proofs.lemmas.Bool.false≢true (sym e))
 
-pub output_in : (b : Bool) (l : Connected) → (wire_in b l).output ≡ l.output.bytes
+pub output_in : (b : Bool) (l : Connection) → (wire_in b l).output ≡ l.output.bytes
 output_in true l = refl
 output_in false l = refl
 
 -- after a turn nothing is kept, and the stream is what follows, unless the connection is over
-wire_left : (b : Bool) (l : Connected) (next : Stream) → l.kept ≡ None → (stream_of l.stream ≡ next) ⊎ (b ≡ true)
+wire_left : (b : Bool) (l : Connection) (next : Stream) → l.kept ≡ None → (stream_of l.stream ≡ next) ⊎ (b ≡ true)
     → wire_in b l ≡ (if b then record new_wire { output = l.output.bytes } else record { kept = None; stream = next; output = l.output.bytes })
 wire_left true l next k f = refl
 wire_left false l next k (inl f) = λ i. record { kept = kept_of (k i); stream = f i; output = l.output.bytes }
 wire_left false l next k (inr f) = absurd (Rattle.std.proofs.lemmas.Bool.false≢true f)
 
-pub turned : (old new : Parts) (l l' : Connected) (notes : List Note) → Becomes old l l' new → link_in old.links l.number ≡ Some l
+pub turned : (old new : Parts) (l l' : Connection) (notes : List Note) → Becomes old l l' new → connection_in old.connections l.number ≡ Some l
     → is_ended l.session.phase ≡ false → is_past_bound l.output.bytes ≡ false
-    → LinkDid (rules_of (topology_kept old.broker) old.users) (broker_of old.broker) l notes (broker_of new.broker) l'
+    → ConnectionDid (rules_of (topology_kept old.broker) old.users) (broker_of old.broker) l notes (broker_of new.broker) l'
     → (hs : List Happening) × (notes ≡ notes_of hs) × Turns (world_of old) l.number hs (world_of new)
 turned old new l l' notes b found open_still below did =
     let c = l.number in
     let p = did.performed in
-    let wire_was : wire_of (link_in old.links c) ≡ record { kept = kept_of l.kept; stream = stream_of l.stream; output = l.output.bytes } = ap wire_of found ∙ wire_open _ l open_still in
-    let session_was : session_of (link_in old.links c) ≡ l.session = ap session_of found in
-    let wire_is : wire_of (link_in new.links c) ≡ wire_of (Some l') = b.wires c ∙ at_own (λ d. wire_of (link_in old.links d)) c (wire_of (Some l')) in
-    let session_is : session_of (link_in new.links c) ≡ l'.session = b.sessions c ∙ at_own (λ d. session_of (link_in old.links d)) c l'.session in
-    let output_is : (wire_of (link_in new.links c)).output ≡ l'.output.bytes = ap (λ (w : Wire). w.output) wire_is ∙ output_in (is_ended l'.session.phase) l' in
-    let output_was : (wire_of (link_in old.links c)).output ≡ l.output.bytes = ap (λ (w : Wire). w.output) wire_was in
-    let mid : State = record { broker = p.mid; session = with_one (λ d. session_of (link_in old.links d)) c l'.session } in
+    let wire_was : wire_of (connection_in old.connections c) ≡ record { kept = kept_of l.kept; stream = stream_of l.stream; output = l.output.bytes } = ap wire_of found ∙ wire_open _ l open_still in
+    let session_was : session_of (connection_in old.connections c) ≡ l.session = ap session_of found in
+    let wire_is : wire_of (connection_in new.connections c) ≡ wire_of (Some l') = b.wires c ∙ at_own (λ d. wire_of (connection_in old.connections d)) c (wire_of (Some l')) in
+    let session_is : session_of (connection_in new.connections c) ≡ l'.session = b.sessions c ∙ at_own (λ d. session_of (connection_in old.connections d)) c l'.session in
+    let output_is : (wire_of (connection_in new.connections c)).output ≡ l'.output.bytes = ap (λ (w : Wire). w.output) wire_is ∙ output_in (is_ended l'.session.phase) l' in
+    let output_was : (wire_of (connection_in old.connections c)).output ≡ l.output.bytes = ap (λ (w : Wire). w.output) wire_was in
+    let mid : State = record { broker = p.mid; session = with_one (λ d. session_of (connection_in old.connections d)) c l'.session } in
     let h : Happening = record { config = config_of old; event = did.event; before = state_of old; sends = p.sends; notes = notes; frame_max = l.session.frame_max; after = mid } in
     let past_was : is_paused (world_of old) c ≡ false = ap is_past_bound output_was ∙ below in
     let past_is : is_paused (world_of new) c ≡ is_past_bound l'.output.bytes = ap is_past_bound output_is in
@@ -197,12 +197,12 @@ turned old new l l' notes b found open_still below did =
           pauses = subst (λ (v : Bool). Pauses (config_of old) mid c v (is_paused (world_of new) c) rest.hs (state_of new)) (sym past_was)
               (subst (λ (v : Bool). Pauses (config_of old) mid c false v rest.hs (state_of new)) (sym past_is) rest.pauses);
           config = same_config old new l l' b;
-          others = λ d ne. b.wires d ∙ at_others (λ k. wire_of (link_in old.links k)) c d (wire_of (Some l')) ne;
-          rests = λ d ne. b.sessions d ∙ at_others (λ k. session_of (link_in old.links k)) c d l'.session ne;
+          others = λ d ne. b.wires d ∙ at_others (λ k. wire_of (connection_in old.connections k)) c d (wire_of (Some l')) ne;
+          rests = λ d ne. b.sessions d ∙ at_others (λ k. session_of (connection_in old.connections k)) c d l'.session ne;
         };
         given = b.given;
         wire = wire_is ∙ wire_left (is_ended l'.session.phase) l' (under_session l'.session did.next) did.none_kept did.follows
-            ∙ ap (λ (s : Session). wire_after s did.next l'.output.bytes) (sym session_is) ∙ ap (λ (z : List ℕ). wire_after (session_of (link_in new.links c)) did.next z) (sym output_is);
+            ∙ ap (λ (s : Session). wire_after s did.next l'.output.bytes) (sym session_is) ∙ ap (λ (z : List ℕ). wire_after (session_of (connection_in new.connections c)) did.next z) (sym output_is);
       },
     )
 
@@ -220,32 +220,32 @@ same_to_come None s = waits stays
 same_to_come (Some m) s = still
 
 -- what a connection has still to say, in the world
-coming_in : (b : Bool) (l l' : Connected) → SameToCome (kept_of l.kept) (stream_of l.stream) (kept_of l'.kept) (stream_of l'.stream) → SameToCome (wire_in b l).kept (wire_in b l).stream (wire_in b l').kept (wire_in b l').stream
+coming_in : (b : Bool) (l l' : Connection) → SameToCome (kept_of l.kept) (stream_of l.stream) (kept_of l'.kept) (stream_of l'.stream) → SameToCome (wire_in b l).kept (wire_in b l).stream (wire_in b l').kept (wire_in b l').stream
 coming_in true l l' s = same_to_come None running_stream
 coming_in false l l' s = s
 
-pub waited : (old new : Parts) (l l' : Connected) → Becomes old l l' new → link_in old.links l.number ≡ Some l → LinkWaits (broker_of old.broker) l (broker_of new.broker) l' → Waits (world_of old) l.number (world_of new)
+pub waited : (old new : Parts) (l l' : Connection) → Becomes old l l' new → connection_in old.connections l.number ≡ Some l → ConnectionWaits (broker_of old.broker) l (broker_of new.broker) l' → Waits (world_of old) l.number (world_of new)
 waited old new l l' b found w =
     let c = l.number in
-    let sessions : (d : ℕ) → session_of (link_in new.links d) ≡ session_of (link_in old.links d) =
-    λ d. b.sessions d ∙ with_same (λ k. session_of (link_in old.links k)) c l'.session (w.session ∙ sym (ap session_of found)) d in
-    let wire_was : wire_of (link_in old.links c) ≡ wire_of (Some l) = ap wire_of found in
-    let wire_is : wire_of (link_in new.links c) ≡ wire_of (Some l') = b.wires c ∙ at_own (λ d. wire_of (link_in old.links d)) c (wire_of (Some l')) in
+    let sessions : (d : ℕ) → session_of (connection_in new.connections d) ≡ session_of (connection_in old.connections d) =
+    λ d. b.sessions d ∙ with_same (λ k. session_of (connection_in old.connections k)) c l'.session (w.session ∙ sym (ap session_of found)) d in
+    let wire_was : wire_of (connection_in old.connections c) ≡ wire_of (Some l) = ap wire_of found in
+    let wire_is : wire_of (connection_in new.connections c) ≡ wire_of (Some l') = b.wires c ∙ at_own (λ d. wire_of (connection_in old.connections d)) c (wire_of (Some l')) in
     let phase : is_ended l'.session.phase ≡ is_ended l.session.phase = ap (λ (s : Session). is_ended s.phase) w.session in
     record {
       config = same_config old new l l' b;
       state = λ i. record { broker = w.broker i; session = λ d. sessions d i };
       given = b.given;
-      others = λ d ne. b.wires d ∙ at_others (λ k. wire_of (link_in old.links k)) c d (wire_of (Some l')) ne;
+      others = λ d ne. b.wires d ∙ at_others (λ k. wire_of (connection_in old.connections k)) c d (wire_of (Some l')) ne;
       output = ap (λ (x : Wire). x.output) wire_is ∙ output_in (is_ended l'.session.phase) l' ∙ w.output ∙ sym (ap (λ (x : Wire). x.output) wire_was ∙ output_in (is_ended l.session.phase) l);
-      coming = subst (λ (x : Wire). SameToCome x.kept x.stream (wire_of (link_in new.links c)).kept (wire_of (link_in new.links c)).stream) (sym wire_was)
+      coming = subst (λ (x : Wire). SameToCome x.kept x.stream (wire_of (connection_in new.connections c)).kept (wire_of (connection_in new.connections c)).stream) (sym wire_was)
           (subst (λ (x : Wire). SameToCome (wire_of (Some l)).kept (wire_of (Some l)).stream x.kept x.stream) (sym (wire_is ∙ ap (λ (v : Bool). wire_in v l') phase))
           (coming_in (is_ended l.session.phase) l l' w.coming));
     }
 
-pub idle : (old : Parts) (l : Connected) → link_in old.links l.number ≡ Some l → l.kept ≡ None → Ends (stream_of l.stream) None → is_ended l.session.phase ≡ false → IsIdle (world_of old) l.number
+pub idle : (old : Parts) (l : Connection) → connection_in old.connections l.number ≡ Some l → l.kept ≡ None → Ends (stream_of l.stream) None → is_ended l.session.phase ≡ false → IsIdle (world_of old) l.number
 idle old l found none ends open_still =
-    let wire_was : wire_of (link_in old.links l.number) ≡ record { kept = kept_of l.kept; stream = stream_of l.stream; output = l.output.bytes } = ap wire_of found ∙ wire_open _ l open_still in
+    let wire_was : wire_of (connection_in old.connections l.number) ≡ record { kept = kept_of l.kept; stream = stream_of l.stream; output = l.output.bytes } = ap wire_of found ∙ wire_open _ l open_still in
     record {
       none_kept = ap (λ (x : Wire). x.kept) wire_was ∙ ap kept_of none;
       ends = subst (λ (x : Wire). Ends x.stream None) (sym wire_was) ends;
@@ -253,49 +253,49 @@ idle old l found none ends open_still =
 
 -- ---- output was taken
 
-pub taken : (old new : Parts) (l l' : Connected) (n : ℕ) → Becomes old l l' new → link_in old.links l.number ≡ Some l
-    → LinkSent (topology_kept old.broker) (broker_of old.broker) l n (broker_of new.broker) l'
+pub taken : (old new : Parts) (l l' : Connection) (n : ℕ) → Becomes old l l' new → connection_in old.connections l.number ≡ Some l
+    → ConnectionSent (topology_kept old.broker) (broker_of old.broker) l n (broker_of new.broker) l'
     → (hs : List Happening) × Takes_off (world_of old) l.number n hs (world_of new)
 taken old new l l' n b found s =
     let c = l.number in
-    let sessions : (d : ℕ) → session_of (link_in new.links d) ≡ session_of (link_in old.links d) =
-    λ d. b.sessions d ∙ with_same (λ k. session_of (link_in old.links k)) c l'.session (s.session ∙ sym (ap session_of found)) d in
-    let wire_was : wire_of (link_in old.links c) ≡ wire_of (Some l) = ap wire_of found in
-    let wire_is : wire_of (link_in new.links c) ≡ wire_of (Some l') = b.wires c ∙ at_own (λ d. wire_of (link_in old.links d)) c (wire_of (Some l')) in
-    let output_is : (wire_of (link_in new.links c)).output ≡ l'.output.bytes = ap (λ (x : Wire). x.output) wire_is ∙ output_in (is_ended l'.session.phase) l' in
-    let output_was : (wire_of (link_in old.links c)).output ≡ l.output.bytes = ap (λ (x : Wire). x.output) wire_was ∙ output_in (is_ended l.session.phase) l in
+    let sessions : (d : ℕ) → session_of (connection_in new.connections d) ≡ session_of (connection_in old.connections d) =
+    λ d. b.sessions d ∙ with_same (λ k. session_of (connection_in old.connections k)) c l'.session (s.session ∙ sym (ap session_of found)) d in
+    let wire_was : wire_of (connection_in old.connections c) ≡ wire_of (Some l) = ap wire_of found in
+    let wire_is : wire_of (connection_in new.connections c) ≡ wire_of (Some l') = b.wires c ∙ at_own (λ d. wire_of (connection_in old.connections d)) c (wire_of (Some l')) in
+    let output_is : (wire_of (connection_in new.connections c)).output ≡ l'.output.bytes = ap (λ (x : Wire). x.output) wire_is ∙ output_in (is_ended l'.session.phase) l' in
+    let output_was : (wire_of (connection_in old.connections c)).output ≡ l.output.bytes = ap (λ (x : Wire). x.output) wire_was ∙ output_in (is_ended l.session.phase) l in
     let phase : is_ended l'.session.phase ≡ is_ended l.session.phase = ap (λ (z : Session). is_ended z.phase) s.session in
-    let dropped : wire_of (Some l') ≡ record (wire_of (link_in old.links c)) { output = drop n (wire_of (link_in old.links c)).output } =
+    let dropped : wire_of (Some l') ≡ record (wire_of (connection_in old.connections c)) { output = drop n (wire_of (connection_in old.connections c)).output } =
     ap (λ (v : Bool). wire_in v l') phase ∙ drop_in (is_ended l.session.phase) l l' n s ∙ ap (λ (x : Wire). record x { output = drop n x.output }) (sym wire_was) in
     let rest : Ended (config_of old) (state_of old) c (is_past_bound l.output.bytes) (is_past_bound l'.output.bytes) (state_of new) = ended (config_of old) (state_of old) (state_of new) c (is_past_bound l.output.bytes) (is_past_bound l'.output.bytes) s.pauses sessions in (
       rest.hs,
       record {
         config = same_config old new l l' b;
         given = b.given;
-        wires = λ d. b.wires d ∙ ap (λ (x : Wire). with_one (λ k. wire_of (link_in old.links k)) c x d) dropped;
+        wires = λ d. b.wires d ∙ ap (λ (x : Wire). with_one (λ k. wire_of (connection_in old.connections k)) c x d) dropped;
         pauses = subst (λ (v : Bool). Pauses (config_of old) (state_of old) c v (is_paused (world_of new) c) rest.hs (state_of new)) (sym (ap is_past_bound output_was))
             (subst (λ (v : Bool). Pauses (config_of old) (state_of old) c (is_past_bound l.output.bytes) v rest.hs (state_of new)) (sym (ap is_past_bound output_is)) rest.pauses);
       },
     )
   where
-    drop_in : (b : Bool) (l l' : Connected) (n : ℕ) → LinkSent (topology_kept old.broker) (broker_of old.broker) l n (broker_of new.broker) l' → wire_in b l' ≡ record (wire_in b l) { output = drop n (wire_in b l).output }
+    drop_in : (b : Bool) (l l' : Connection) (n : ℕ) → ConnectionSent (topology_kept old.broker) (broker_of old.broker) l n (broker_of new.broker) l' → wire_in b l' ≡ record (wire_in b l) { output = drop n (wire_in b l).output }
     drop_in true l l' n s = λ i. record new_wire { output = s.output i }
     drop_in false l l' n s = λ i. record { kept = kept_of (s.kept i); stream = stream_of (s.stream i); output = s.output i }
 
 -- ---- bytes were heard
 
-pub hears : (old new : Parts) (l l' : Connected) (bytes : List ℕ) → Becomes old l l' new → link_in old.links l.number ≡ Some l → broker_of new.broker ≡ broker_of old.broker → LinkFed l bytes l'
+pub hears : (old new : Parts) (l l' : Connection) (bytes : List ℕ) → Becomes old l l' new → connection_in old.connections l.number ≡ Some l → broker_of new.broker ≡ broker_of old.broker → ConnectionFed l bytes l'
     → Hears (world_of old) l.number bytes (world_of new)
 hears old new l l' bytes b found same fed = go (is_ended l.session.phase) refl
   where
-    sessions : (d : ℕ) → session_of (link_in new.links d) ≡ session_of (link_in old.links d)
-    sessions d = b.sessions d ∙ with_same (λ k. session_of (link_in old.links k)) l.number l'.session (fed.session ∙ sym (ap session_of found)) d
+    sessions : (d : ℕ) → session_of (connection_in new.connections d) ≡ session_of (connection_in old.connections d)
+    sessions d = b.sessions d ∙ with_same (λ k. session_of (connection_in old.connections k)) l.number l'.session (fed.session ∙ sym (ap session_of found)) d
 
     phase : is_ended l'.session.phase ≡ is_ended l.session.phase
     phase = ap (λ (z : Session). is_ended z.phase) fed.session
 
     over_was : is_over (world_of old) l.number ≡ is_ended l.session.phase
-    over_was = ap (λ (o : Option Connected). is_ended (session_of o).phase) found
+    over_was = ap (λ (o : Option Connection). is_ended (session_of o).phase) found
 
     state_same : state_of new ≡ state_of old
     state_same = λ i. record { broker = same i; session = λ d. sessions d i }
@@ -306,7 +306,7 @@ hears old new l l' bytes b found same fed = go (is_ended l.session.phase) refl
           config = same_config old new l l' b;
           state = state_same;
           given = b.given;
-          wires = λ d. b.wires d ∙ with_same (λ k. wire_of (link_in old.links k)) l.number (wire_of (Some l'))
+          wires = λ d. b.wires d ∙ with_same (λ k. wire_of (connection_in old.connections k)) l.number (wire_of (Some l'))
               (ap (λ (v : Bool). wire_in v l') (phase ∙ e) ∙ ap (λ (z : List ℕ). record new_wire { output = z }) (ap (λ (o : WaitingBytes). o.bytes) fed.output) ∙ sym (ap wire_of found ∙ ap (λ (v : Bool). wire_in v l) e)) d;
         })
     go false e = subst (λ (v : Bool). MatchBool v (Same (world_of old) (world_of new)) (world_of new ≡ with_heard (world_of old) l.number bytes)) (sym (over_was ∙ e))
@@ -314,10 +314,10 @@ hears old new l l' bytes b found same fed = go (is_ended l.session.phase) refl
           config = same_config old new l l' b;
           state = state_same;
           given = b.given;
-          wires = λ d. b.wires d ∙ ap (λ (x : Wire). with_one (λ k. wire_of (link_in old.links k)) l.number x d) (heard_wire e);
+          wires = λ d. b.wires d ∙ ap (λ (x : Wire). with_one (λ k. wire_of (connection_in old.connections k)) l.number x d) (heard_wire e);
         }))
       where
-        heard_wire : is_ended l.session.phase ≡ false → wire_of (Some l') ≡ record (wire_of (link_in old.links l.number)) { stream = heard (wire_of (link_in old.links l.number)).stream bytes }
+        heard_wire : is_ended l.session.phase ≡ false → wire_of (Some l') ≡ record (wire_of (connection_in old.connections l.number)) { stream = heard (wire_of (connection_in old.connections l.number)).stream bytes }
         heard_wire e =
             wire_open _ l' (phase ∙ e)
             ∙ (λ i. record { kept = kept_of (fed.kept i); stream = fed.stream e i; output = (fed.output i).bytes })
@@ -327,21 +327,21 @@ hears old new l l' bytes b found same fed = go (is_ended l.session.phase) refl
 
 pub lost : (old new : Parts) (c : ℕ) → topology_kept new.broker ≡ topology_kept old.broker → new.guarantees ≡ old.guarantees → new.users ≡ old.users → new.given ≡ old.given
     → Acts (topology_kept old.broker) (broker_of old.broker) (event.Lose c) [] [] (broker_of new.broker)
-    → ((d : ℕ) → link_in new.links d ≡ (if c == d then None else link_in old.links d))
+    → ((d : ℕ) → connection_in new.connections d ≡ (if c == d then None else connection_in old.connections d))
     → (hs : List Happening) × Loses (world_of old) c hs (world_of new)
-lost old new c t g u n acts links =
+lost old new c t g u n acts connections =
     let h : Happening = record { config = config_of old; event = event.Lose c; before = state_of old; sends = []; notes = []; frame_max = 0; after = state_of new } in (
       h ∷ [],
       record {
         h = h;
         all = refl;
-        happens = record { under = refl; event = refl; before = refl; after = refl; stepped = record { acts = acts; session = λ d. at_or session_of d (links d) } };
+        happens = record { under = refl; event = refl; before = refl; after = refl; stepped = record { acts = acts; session = λ d. at_or session_of d (connections d) } };
         silent = refl;
         config = λ i. record { topology = t i; guarantees = g i; users = u i };
         given = n;
-        wires = λ d. at_or wire_of d (links d);
+        wires = λ d. at_or wire_of d (connections d);
       },
     )
   where
-    at_or : {A : Type 0} (F : Option Connected → A) (d : ℕ) → link_in new.links d ≡ cond (c == d) None (link_in old.links d) → F (link_in new.links d) ≡ with_one (λ k. F (link_in old.links k)) c (F None) d
-    at_or F d e = either F old.links new.links c d None e
+    at_or : {A : Type 0} (F : Option Connection → A) (d : ℕ) → connection_in new.connections d ≡ cond (c == d) None (connection_in old.connections d) → F (connection_in new.connections d) ≡ with_one (λ k. F (connection_in old.connections k)) c (F None) d
+    at_or F d e = either F old.connections new.connections c d None e

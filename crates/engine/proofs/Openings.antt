@@ -19,112 +19,112 @@ use Rattle.commands.specs.State.{nothing}
 use Rattle.broker.specs.Turns.{topology_kept, broker_of}
 use Rattle.runs.specs.Opened.{IsOpened}
 use Rattle.engine.specs.Reading.{IsKeptEvent, kept_of}
-use Rattle.engine.specs.World.{Parts, link_in, session_of, wire_in, wire_of, config_of, state_of, world_of, AreLinks, IsLink, IsNew, IsEngine}
+use Rattle.engine.specs.World.{Parts, connection_in, session_of, wire_in, wire_of, config_of, state_of, world_of, AreConnections, IsConnection, IsNew, IsEngine}
 use Rattle.engine.specs.Opening.{Numbers, OpenedBy}
 use Rattle.engine.specs.declared.engines.Refused.{Refused}
 use Rattle.engine.specs.declared.engines.Refused.TheVariants.{Full, Spent, Memory}
-use Rattle.engine.specs.declared.connected.Connected.{Connected}
-use Rattle.engine.proofs.Numbered.{link_in-push, rising-push, other_false}
+use Rattle.engine.specs.declared.connection.Connection.{Connection}
+use Rattle.engine.proofs.Numbered.{connection_in-push, rising-push, other_false}
 use Rattle.engine.proofs.Standing.{standing_is}
 use Rattle.engine.proofs.Agreeing.{Agrees}
 use Rattle.engine.proofs.Asked.{is_same}
 use Rattle.engine.proofs.Changed.{either}
 
-pub no_connection : (p : Parts) (f : Config) → topology_kept p.broker ≡ f.topology → p.guarantees ≡ f.guarantees → p.users ≡ f.users → p.given ≡ 0 → p.links ≡ [] → Is nothing (broker_of p.broker) → world_of p ≡ new_world f
+pub no_connection : (p : Parts) (f : Config) → topology_kept p.broker ≡ f.topology → p.guarantees ≡ f.guarantees → p.users ≡ f.users → p.given ≡ 0 → p.connections ≡ [] → Is nothing (broker_of p.broker) → world_of p ≡ new_world f
 no_connection p f t g u n ls is = λ i. record {
   config = record { topology = t i; guarantees = g i; users = u i };
   state = record {
     broker = record { published = is.counted i; queue = λ q. is.queues q i; connection = λ c. is.connections c i; channel = λ c h. is.channels c h i };
-    session = λ c. session_of (link_in (ls i) c);
+    session = λ c. session_of (connection_in (ls i) c);
   };
   given = n i;
-  wire = λ c. wire_of (link_in (ls i) c);
+  wire = λ c. wire_of (connection_in (ls i) c);
 }
 
 -- numbers are at most as many as were given
-below : (given n : ℕ) (ls : List Connected) → given < n → AllByRecursion (IsLink given) ls → AllByRecursion (λ (l : Connected). l.number < n) ls
+below : (given n : ℕ) (ls : List Connection) → given < n → AllByRecursion (IsConnection given) ls → AllByRecursion (λ (l : Connection). l.number < n) ls
 below given n [] lt a = tt
 below given n (l ∷ ls) lt a = (let w = a.0.within in omega (arith, lt, w), below given n ls lt a.1)
 
-wider : (given : ℕ) (ls : List Connected) → AllByRecursion (IsLink given) ls → AllByRecursion (IsLink (given + 1)) ls
+wider : (given : ℕ) (ls : List Connection) → AllByRecursion (IsConnection given) ls → AllByRecursion (IsConnection (given + 1)) ls
 wider given [] a = tt
 wider given (l ∷ ls) a = (record { within = (let w = a.0.within in omega (arith, w)); here = a.0.here; kept = a.0.kept }, wider given ls a.1)
 
-all-push : (P : Connected → Type 0) (ls : List Connected) (x : Connected) → AllByRecursion P ls → P x → AllByRecursion P (ls ++ x ∷ [])
+all-push : (P : Connection → Type 0) (ls : List Connection) (x : Connection) → AllByRecursion P ls → P x → AllByRecursion P (ls ++ x ∷ [])
 all-push P [] x a p = (p, tt)
 all-push P (y ∷ ys) x a p = (a.0, all-push P ys x a.1 p)
 
 -- no connection has a number that was not given
-none_above : (given : ℕ) (ls : List Connected) (c : ℕ) → AllByRecursion (IsLink given) ls → given < c → link_in ls c ≡ None
+none_above : (given : ℕ) (ls : List Connection) (c : ℕ) → AllByRecursion (IsConnection given) ls → given < c → connection_in ls c ≡ None
 none_above given [] c a lt = refl
 none_above given (l ∷ ls) c a lt =
-    ap (λ (b : Bool). cond b (Some l) (link_in ls c)) (other_false l.number c (λ k. let w = a.0.within in omega (arith, w, lt, k))) ∙ none_above given ls c a.1 lt
+    ap (λ (b : Bool). cond b (Some l) (connection_in ls c)) (other_false l.number c (λ k. let w = a.0.within in omega (arith, w, lt, k))) ∙ none_above given ls c a.1 lt
 
 -- One more connection stands, under the next number, in this session and with this stream: it is not over.
-pub record IsOneMore (old new : Parts) (l : Connected) (session : Session) (stream : Stream) : Type 0 where
+pub record IsOneMore (old new : Parts) (l : Connection) (session : Session) (stream : Stream) : Type 0 where
   pub topology : topology_kept new.broker ≡ topology_kept old.broker
   pub guarantees : new.guarantees ≡ old.guarantees
   pub users : new.users ≡ old.users
   pub given : new.given ≡ old.given + 1
-  pub links : new.links ≡ old.links ++ l ∷ []
+  pub connections : new.connections ≡ old.connections ++ l ∷ []
   pub is : IsNew l (old.given + 1) session stream
   pub awake : is_ended session.phase ≡ false
 
-links_opened : (given : ℕ) (ls : List Connected) (l : Connected) (sess : Session) (st : Stream) → AreLinks given ls → IsNew l (given + 1) sess st → is_ended sess.phase ≡ false → AreLinks (given + 1) (ls ++ l ∷ [])
-links_opened given ls l sess st a is awake = record {
+connections_opened : (given : ℕ) (ls : List Connection) (l : Connection) (sess : Session) (st : Stream) → AreConnections given ls → IsNew l (given + 1) sess st → is_ended sess.phase ≡ false → AreConnections (given + 1) (ls ++ l ∷ [])
+connections_opened given ls l sess st a is awake = record {
   rising = rising-push 0 ls l a.rising (let n = is.number_is in omega (arith, n)) (below given l.number ls (let n = is.number_is in omega (arith, n)) a.each);
-  each = all-push (IsLink (given + 1)) ls l (wider given ls a.each) (record {
+  each = all-push (IsConnection (given + 1)) ls l (wider given ls a.each) (record {
     within = (let n = is.number_is in omega (arith, n));
     here = ap (λ (s : Session). is_ended s.phase && not (nat_lt 0 (length l.output.bytes))) is.session_is ∙ ap (λ (b : Bool). b && not (nat_lt 0 (length l.output.bytes))) awake;
     kept = subst (λ (k : Option Event). IsKeptEvent l.number k l.stream.fault) (sym is.kept) tt;
   });
 }
 
-wire_new : (l : Connected) (n : ℕ) (sess : Session) (st : Stream) → IsNew l n sess st → is_ended sess.phase ≡ false → wire_of (Some l) ≡ record new_wire { stream = st }
+wire_new : (l : Connection) (n : ℕ) (sess : Session) (st : Stream) → IsNew l n sess st → is_ended sess.phase ≡ false → wire_of (Some l) ≡ record new_wire { stream = st }
 wire_new l n sess st is awake =
     ap (λ (s : Session). wire_in (is_ended s.phase) l) is.session_is
     ∙ ap (λ (b : Bool). wire_in b l) awake
     ∙ (λ i. record { kept = kept_of (is.kept i); stream = is.stream_is i; output = is.output i })
 
 -- it is found by its number, and the others stay
-found_new : (old new : Parts) (l : Connected) (sess : Session) (st : Stream) → AreLinks old.given old.links → IsOneMore old new l sess st → (d : ℕ) → link_in new.links d ≡ cond (l.number == d) (Some l) (link_in old.links d)
+found_new : (old new : Parts) (l : Connection) (sess : Session) (st : Stream) → AreConnections old.given old.connections → IsOneMore old new l sess st → (d : ℕ) → connection_in new.connections d ≡ cond (l.number == d) (Some l) (connection_in old.connections d)
 found_new old new l sess st a m d =
-    ap (λ (z : List Connected). link_in z d) m.links ∙ link_in-push old.links l d (below old.given l.number old.links (let e = m.is.number_is in omega (arith, e)) a.each)
+    ap (λ (z : List Connection). connection_in z d) m.connections ∙ connection_in-push old.connections l d (below old.given l.number old.connections (let e = m.is.number_is in omega (arith, e)) a.each)
 
-sessions_are : (old new : Parts) (l : Connected) (sess : Session) (st : Stream) → AreLinks old.given old.links → IsOneMore old new l sess st
-    → (d : ℕ) → session_of (link_in new.links d) ≡ with_one (λ c. session_of (link_in old.links c)) (old.given + 1) sess d
+sessions_are : (old new : Parts) (l : Connection) (sess : Session) (st : Stream) → AreConnections old.given old.connections → IsOneMore old new l sess st
+    → (d : ℕ) → session_of (connection_in new.connections d) ≡ with_one (λ c. session_of (connection_in old.connections c)) (old.given + 1) sess d
 sessions_are old new l sess st a m d =
-    either session_of old.links new.links l.number d (Some l) (found_new old new l sess st a m d)
-    ∙ ap (λ (s : Session). with_one (λ c. session_of (link_in old.links c)) l.number s d) m.is.session_is
-    ∙ ap (λ (c : ℕ). with_one (λ c. session_of (link_in old.links c)) c sess d) m.is.number_is
+    either session_of old.connections new.connections l.number d (Some l) (found_new old new l sess st a m d)
+    ∙ ap (λ (s : Session). with_one (λ c. session_of (connection_in old.connections c)) l.number s d) m.is.session_is
+    ∙ ap (λ (c : ℕ). with_one (λ c. session_of (connection_in old.connections c)) c sess d) m.is.number_is
 
-wires_are : (old new : Parts) (l : Connected) (sess : Session) (st : Stream) → AreLinks old.given old.links → IsOneMore old new l sess st
-    → (d : ℕ) → wire_of (link_in new.links d) ≡ with_one (λ c. wire_of (link_in old.links c)) (old.given + 1) (record new_wire { stream = st }) d
+wires_are : (old new : Parts) (l : Connection) (sess : Session) (st : Stream) → AreConnections old.given old.connections → IsOneMore old new l sess st
+    → (d : ℕ) → wire_of (connection_in new.connections d) ≡ with_one (λ c. wire_of (connection_in old.connections c)) (old.given + 1) (record new_wire { stream = st }) d
 wires_are old new l sess st a m d =
-    either wire_of old.links new.links l.number d (Some l) (found_new old new l sess st a m d)
-    ∙ ap (λ (w : Wire). with_one (λ c. wire_of (link_in old.links c)) l.number w d) (wire_new l (old.given + 1) sess st m.is m.awake)
-    ∙ ap (λ (c : ℕ). with_one (λ c. wire_of (link_in old.links c)) c (record new_wire { stream = st }) d) m.is.number_is
+    either wire_of old.connections new.connections l.number d (Some l) (found_new old new l sess st a m d)
+    ∙ ap (λ (w : Wire). with_one (λ c. wire_of (connection_in old.connections c)) l.number w d) (wire_new l (old.given + 1) sess st m.is m.awake)
+    ∙ ap (λ (c : ℕ). with_one (λ c. wire_of (connection_in old.connections c)) c (record new_wire { stream = st }) d) m.is.number_is
 
-pub can_open_is : (p : Parts) → AreLinks p.given p.links → length p.links < 1024 → p.given < 18446744073709551615 → can_open (world_of p) ≡ true
+pub can_open_is : (p : Parts) → AreConnections p.given p.connections → length p.connections < 1024 → p.given < 18446744073709551615 → can_open (world_of p) ≡ true
 can_open_is p a few left = let same = standing_is p a in grind (arith, nat_tests, same, few, left)
 
 -- ---- what happens then
 
 -- no byte of it has come, and the broker is as before
-pub steps_new : (old new : Parts) (l : Connected) → AreLinks old.given old.links → IsOneMore old new l new_session opened_stream → broker_of new.broker ≡ broker_of old.broker
+pub steps_new : (old new : Parts) (l : Connection) → AreConnections old.given old.connections → IsOneMore old new l new_session opened_stream → broker_of new.broker ≡ broker_of old.broker
     → Step (config_of old) (state_of old) (event.Open (old.given + 1)) [] [] (state_of new)
 steps_new old new l a m same = record {
-  free = ap (λ (o : Option Connected). (session_of o).phase) (none_above old.given old.links (old.given + 1) a.each (omega arith));
+  free = ap (λ (o : Option Connection). (session_of o).phase) (none_above old.given old.connections (old.given + 1) a.each (omega arith));
   steps = record { acts = record { sent = refl; noted = refl; left = subst (λ (b : Broker). Is (broker_of old.broker) b) (sym same) (is_same (broker_of old.broker)) }; session = sessions_are old new l new_session opened_stream a m };
 }
 
 -- it runs at once, and is one of the broker's
-pub steps_ready : (old new : Parts) (l : Connected) (k : ℕ) → AreLinks old.given old.links → IsOneMore old new l running_session running_stream
+pub steps_ready : (old new : Parts) (l : Connection) (k : ℕ) → AreConnections old.given old.connections → IsOneMore old new l running_session running_stream
     → Acts (topology_kept old.broker) (broker_of old.broker) (event.Running (old.given + 1) 255 k) [] [] (broker_of new.broker)
     → Step (config_of old) (state_of old) (event.Running (old.given + 1) 255 k) [] [] (state_of new)
 steps_ready old new l k a m acts = record { acts = acts; session = sessions_are old new l running_session running_stream a m }
 
-pub opened : (old new : Parts) (l : Connected) (e : Event) (sess : Session) (st : Stream) → AreLinks old.given old.links → length old.links < 1024 → old.given < 18446744073709551615 → IsOneMore old new l sess st
+pub opened : (old new : Parts) (l : Connection) (e : Event) (sess : Session) (st : Stream) → AreConnections old.given old.connections → length old.connections < 1024 → old.given < 18446744073709551615 → IsOneMore old new l sess st
     → Step (config_of old) (state_of old) e [] [] (state_of new) → IsOpened e st (world_of old) (Some (old.given + 1)) (world_of new)
 opened old new l e sess st a few left m stepped =
     let h : Happening = record { config = config_of old; event = e; before = state_of old; sends = []; notes = []; frame_max = 0; after = state_of new } in (
@@ -145,13 +145,13 @@ opened old new l e sess st a few left m stepped =
     )
 
 -- so it is under the number that was found
-pub opened_new : (old new : Parts) (l : Connected) (n : ℕ) → AreLinks old.given old.links → Numbers old.given old.links (Ok n) → IsOneMore old new l new_session opened_stream → broker_of new.broker ≡ broker_of old.broker
+pub opened_new : (old new : Parts) (l : Connection) (n : ℕ) → AreConnections old.given old.connections → Numbers old.given old.connections (Ok n) → IsOneMore old new l new_session opened_stream → broker_of new.broker ≡ broker_of old.broker
     → IsOpened (event.Open (old.given + 1)) opened_stream (world_of old) (Some n) (world_of new)
 opened_new old new l n a numbers m same =
     subst (λ (k : ℕ). IsOpened (event.Open (old.given + 1)) opened_stream (world_of old) (Some k) (world_of new)) (sym numbers.0)
     (opened old new l (event.Open (old.given + 1)) new_session opened_stream a numbers.1 numbers.2 m (steps_new old new l a m same))
 
-pub opened_ready : (old new : Parts) (l : Connected) (n k : ℕ) → AreLinks old.given old.links → Numbers old.given old.links (Ok n) → IsOneMore old new l running_session running_stream
+pub opened_ready : (old new : Parts) (l : Connection) (n k : ℕ) → AreConnections old.given old.connections → Numbers old.given old.connections (Ok n) → IsOneMore old new l running_session running_stream
     → Acts (topology_kept old.broker) (broker_of old.broker) (event.Running n 255 k) [] [] (broker_of new.broker)
     → IsOpened (event.Running (old.given + 1) 255 k) running_stream (world_of old) (Some n) (world_of new)
 opened_ready old new l n k a numbers m acts =
@@ -160,39 +160,39 @@ opened_ready old new l n k a numbers m acts =
     subst (λ (c : ℕ). IsOpened (event.Running (old.given + 1) 255 k) running_stream (world_of old) (Some c) (world_of new)) (sym numbers.0)
     (opened old new l (event.Running (old.given + 1) 255 k) running_session running_stream a numbers.1 numbers.2 m (steps_ready old new l k a m here))
 
-pub engine_opened : (old new : Parts) (l : Connected) (sess : Session) (st : Stream) → IsEngine old → IsOneMore old new l sess st → Agrees (world_of new) → IsEngine new
+pub engine_opened : (old new : Parts) (l : Connection) (sess : Session) (st : Stream) → IsEngine old → IsOneMore old new l sess st → Agrees (world_of new) → IsEngine new
 engine_opened old new l sess st e m k = record {
   hold = subst (λ (gs : List Guarantee). Rattle.model.specs.Guarantee.AllHold (topology_kept new.broker) gs) (sym m.guarantees)
       (subst (λ (x : Topology). Rattle.model.specs.Guarantee.AllHold x old.guarantees) (sym m.topology) e.hold);
   formed = subst (λ (x : Topology). Rattle.model.specs.Topology.IsWellFormed x) (sym m.topology) e.formed;
-  links = subst (λ (k : ℕ). AreLinks k new.links) (sym m.given) (subst (λ (z : List Connected). AreLinks (old.given + 1) z) (sym m.links) (links_opened old.given old.links l sess st e.links m.is m.awake));
+  connections = subst (λ (k : ℕ). AreConnections k new.connections) (sym m.given) (subst (λ (z : List Connection). AreConnections (old.given + 1) z) (sym m.connections) (connections_opened old.given old.connections l sess st e.connections m.is m.awake));
   consistent = k.consistent;
   named = k.named;
 }
 
 -- ---- refusals
 
-full_is : (p : Parts) → AreLinks p.given p.links → 1024 ≤ length p.links → nat_lt (standing (world_of p) p.given) 1024 ≡ false
+full_is : (p : Parts) → AreConnections p.given p.connections → 1024 ≤ length p.connections → nat_lt (standing (world_of p) p.given) 1024 ≡ false
 full_is p a many = let same = standing_is p a in grind (arith, nat_tests, same, many)
 
-room_is : (p : Parts) → AreLinks p.given p.links → length p.links < 1024 → nat_lt (standing (world_of p) p.given) 1024 ≡ true
+room_is : (p : Parts) → AreConnections p.given p.connections → length p.connections < 1024 → nat_lt (standing (world_of p) p.given) 1024 ≡ true
 room_is p a few = let same = standing_is p a in grind (arith, nat_tests, same, few)
 
 spent_is : (given : ℕ) → 18446744073709551615 ≤ given → nat_lt given 18446744073709551615 ≡ false
 spent_is given most = grind (arith, nat_tests, most)
 
 -- where there is no number nothing is opened
-refused : (old new : Parts) (e : Event) (s : Stream) (why : Refused) → AreLinks old.given old.links → Numbers old.given old.links (Err why) → Same (world_of old) (world_of new) → OpenedBy e s (world_of old) (Err why) (world_of new)
+refused : (old new : Parts) (e : Event) (s : Stream) (why : Refused) → AreConnections old.given old.connections → Numbers old.given old.connections (Err why) → Same (world_of old) (world_of new) → OpenedBy e s (world_of old) (Err why) (world_of new)
 refused old new e s Full a n same = (full_is old a n, same)
 refused old new e s Spent a n same = (room_is old a n.0, spent_is old.given n.1, same)
 refused old new e s Memory a n same = (can_open_is old a n.0 n.1, same)
 
-pub refused_so : (old new : Parts) (e : Event) (s : Stream) (r : Result ℕ Refused) (is why : Refused) → r ≡ Err is → is ≡ why → AreLinks old.given old.links → Numbers old.given old.links (Err why) → Same (world_of old) (world_of new)
+pub refused_so : (old new : Parts) (e : Event) (s : Stream) (r : Result ℕ Refused) (is why : Refused) → r ≡ Err is → is ≡ why → AreConnections old.given old.connections → Numbers old.given old.connections (Err why) → Same (world_of old) (world_of new)
     → OpenedBy e s (world_of old) r (world_of new)
 refused_so old new e s r is why at same a n w =
     subst (λ (x : Result ℕ Refused). OpenedBy e s (world_of old) x (world_of new)) (sym at) (subst (λ (x : Refused). OpenedBy e s (world_of old) (Err x) (world_of new)) (sym same) (refused old new e s why a n w))
 
 -- and where there is one, it is refused for memory alone
-pub refused_memory : (old new : Parts) (e : Event) (s : Stream) (r : Result ℕ Refused) (is : Refused) (n : ℕ) → r ≡ Err is → is ≡ Memory → AreLinks old.given old.links → Numbers old.given old.links (Ok n) → Same (world_of old) (world_of new)
+pub refused_memory : (old new : Parts) (e : Event) (s : Stream) (r : Result ℕ Refused) (is : Refused) (n : ℕ) → r ≡ Err is → is ≡ Memory → AreConnections old.given old.connections → Numbers old.given old.connections (Ok n) → Same (world_of old) (world_of new)
     → OpenedBy e s (world_of old) r (world_of new)
 refused_memory old new e s r is n at memory a numbers w = refused_so old new e s r is Memory at memory a (numbers.1, numbers.2) w

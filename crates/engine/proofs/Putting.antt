@@ -21,8 +21,8 @@ use Rattle.reloading.specs.Obstacles.{Judges}
 use Rattle.broker.specs.Turns.{WithTurn, topology_kept, broker_of}
 use Rattle.engine.specs.InForce.{in_force}
 use Rattle.engine.specs.Putting.{IsPut, TellsPut}
-use Rattle.engine.specs.World.{Parts, link_in, session_of, wire_of, config_of, world_of, AreLinks, IsEngine}
-use Rattle.engine.specs.declared.connected.Connected.{Connected}
+use Rattle.engine.specs.World.{Parts, connection_in, session_of, wire_of, config_of, world_of, AreConnections, IsEngine}
+use Rattle.engine.specs.declared.connection.Connection.{Connection}
 use Rattle.engine.proofs.Agreeing.{Agrees, agreed}
 
 -- ---- what a reload that was done leaves
@@ -56,16 +56,16 @@ pub record Takes (old : Parts) (offered : Config) (new : Parts) : Type 0 where
   pub guarantees : new.guarantees ≡ offered.guarantees
   pub users : new.users ≡ offered.users
   pub given : new.given ≡ old.given
-  pub links : new.links ≡ old.links
+  pub connections : new.connections ≡ old.connections
 
 pub put_world : (old new : Parts) (offered : Config) → Takes old offered new → IsPutInForce (world_of old) offered (world_of new)
 put_world old new offered t = record {
   nothing = t.put.nothing;
   config = λ i. record { topology = t.put.topology i; guarantees = t.guarantees i; users = t.users i };
   broker = t.put.broker;
-  session = λ c. ap (λ (ls : List Connected). session_of (link_in ls c)) t.links;
+  session = λ c. ap (λ (ls : List Connection). session_of (connection_in ls c)) t.connections;
   given = t.given;
-  wires = λ c. ap (λ (ls : List Connected). wire_of (link_in ls c)) t.links;
+  wires = λ c. ap (λ (ls : List Connection). wire_of (connection_in ls c)) t.connections;
 }
 
 pub put_engine : (old new : Parts) (offered : Config) → IsEngine old → IsSound offered → Takes old offered new → IsEngine new
@@ -76,7 +76,7 @@ put_engine old new offered e sound t =
     record {
       hold = is_sound.hold;
       formed = is_sound.wf;
-      links = subst (λ (ls : List Connected). AreLinks new.given ls) (sym t.links) (subst (λ (n : ℕ). AreLinks n old.links) (sym t.given) e.links);
+      connections = subst (λ (ls : List Connection). AreConnections new.given ls) (sym t.connections) (subst (λ (n : ℕ). AreConnections n old.connections) (sym t.given) e.connections);
       consistent = after.consistent;
       named = after.named;
     }
@@ -99,7 +99,7 @@ tells_offered old new checked users t lent gs r te le ge tells =
 
 pub takes : (old : Parts) (b : WithTurn) (checked : Admitted) (users : List User) (gs : List Guarantee) → gs ≡ checked.guarantees → IsPut old.broker (in_force checked users) b
     → Takes old (in_force checked users) (record old { broker = b; guarantees = gs; users = users })
-takes old b checked users gs ge put = record { put = put; guarantees = ge; users = refl; given = refl; links = refl }
+takes old b checked users gs ge put = record { put = put; guarantees = ge; users = refl; given = refl; connections = refl }
 
 -- ---- nothing is different where it was refused
 

@@ -10,24 +10,24 @@ use Rattle.model.specs.declared.events.Event.{Event}
 use Rattle.model.specs.Broker.{Broker}
 use Rattle.assembly.specs.Held.{Held, stream_of}
 use Rattle.engine.specs.Reading.{IsKeptEvent, HasMore, kept_of}
-use Rattle.engine.specs.Turning.{LinkTook, LinkWaits, MayTurn}
-use Rattle.engine.specs.World.{is_link_gone}
-use Rattle.engine.specs.Engines.{Changes, IsSwept, LinkTookOr, LinkSent, LinkFed, LinksTook, LinksSent, LinksFed}
-use Rattle.engine.specs.declared.connected.Connected.{Connected}
+use Rattle.engine.specs.Turning.{ConnectionTook, ConnectionWaits, MayTurn}
+use Rattle.engine.specs.World.{is_connection_gone}
+use Rattle.engine.specs.Engines.{Changes, IsSwept, ConnectionTookOr, ConnectionSent, ConnectionFed, ConnectionsTook, ConnectionsSent, ConnectionsFed}
+use Rattle.engine.specs.declared.connection.Connection.{Connection}
 use Rattle.engine.specs.declared.turning.Turn.{Turn}
 
-at_set : (ls : List Connected) (i : ℕ) (x d : Connected) → i < length ls → get_or (set ls i x) i d ≡ x
+at_set : (ls : List Connection) (i : ℕ) (x d : Connection) → i < length ls → get_or (set ls i x) i d ≡ x
 at_set [] i x d lt = absurd (omega (arith, lt))
 at_set (y ∷ ys) zero x d lt = refl
 at_set (y ∷ ys) (suc i) x d lt = at_set ys i x d (omega (arith, lt))
 
-remove_set : (ls : List Connected) (i : ℕ) (x : Connected) → i < length ls → remove (set ls i x) i ≡ remove ls i
+remove_set : (ls : List Connection) (i : ℕ) (x : Connection) → i < length ls → remove (set ls i x) i ≡ remove ls i
 remove_set [] i x lt = absurd (omega (arith, lt))
 remove_set (y ∷ ys) zero x lt = refl
-remove_set (y ∷ ys) (suc i) x lt = ap (λ (z : List Connected). y ∷ z) (remove_set ys i x (omega (arith, lt)))
+remove_set (y ∷ ys) (suc i) x lt = ap (λ (z : List Connection). y ∷ z) (remove_set ys i x (omega (arith, lt)))
 
-pub changes_swept : (ls : List Connected) (i : ℕ) (old new : Connected) (new_ls : List Connected) → i < length ls → get_or ls i old ≡ old → new.number ≡ old.number → (IsKeptEvent old.number old.kept old.stream.fault → IsKeptEvent new.number new.kept new.stream.fault)
-    → ((l : Connected) → get_or (set ls i new) i l ≡ l → IsSwept (set ls i new) i l new_ls) → Changes ls i old new new_ls
+pub changes_swept : (ls : List Connection) (i : ℕ) (old new : Connection) (new_ls : List Connection) → i < length ls → get_or ls i old ≡ old → new.number ≡ old.number → (IsKeptEvent old.number old.kept old.stream.fault → IsKeptEvent new.number new.kept new.stream.fault)
+    → ((l : Connection) → get_or (set ls i new) i l ≡ l → IsSwept (set ls i new) i l new_ls) → Changes ls i old new new_ls
 changes_swept ls i old new new_ls lt here number kept swept =
     let s = swept new (at_set ls i new new lt) in
     record {
@@ -35,23 +35,23 @@ changes_swept ls i old new new_ls lt here number kept swept =
       here = here;
       number = number;
       kept = kept;
-      left = s.left ∙ ap (λ (z : List Connected). cond (is_link_gone new) z (set ls i new)) (remove_set ls i new lt);
+      left = s.left ∙ ap (λ (z : List Connection). cond (is_connection_gone new) z (set ls i new)) (remove_set ls i new lt);
       over = s.over;
     }
 
-pub took_or : {E : Type 0} (r : Result Turn E) (t : Rules) (b : Broker) (old : Connected) (new_b : Broker) (new : Connected) → IfOk r (λ x. LinkTook t b old x new_b new) → OnErr r (LinkWaits b old new_b new) → OnErr r (MayTurn old)
-    → OnErr r (HasMore (kept_of old.kept) (stream_of old.stream)) → LinkTookOr t b old r new_b new
+pub took_or : {E : Type 0} (r : Result Turn E) (t : Rules) (b : Broker) (old : Connection) (new_b : Broker) (new : Connection) → IfOk r (λ x. ConnectionTook t b old x new_b new) → OnErr r (ConnectionWaits b old new_b new) → OnErr r (MayTurn old)
+    → OnErr r (HasMore (kept_of old.kept) (stream_of old.stream)) → ConnectionTookOr t b old r new_b new
 took_or (Ok x) t b old new_b new ok err awake more = ok
 took_or (Err e) t b old new_b new ok err awake more = record { awake = awake; more = more; waits = err }
 
 -- one turn of the connection at this place, which was taken out where it was gone by then
-pub links_took : {E : Type 0} (what : Result Turn E) (t : Topology) (given users : List User) (b : Broker) (ls : List Connected) (i : ℕ) (old new : Connected) (new_b : Broker) (new_ls : List Connected)
+pub connections_took : {E : Type 0} (what : Result Turn E) (t : Topology) (given users : List User) (b : Broker) (ls : List Connection) (i : ℕ) (old new : Connection) (new_b : Broker) (new_ls : List Connection)
     → given ≡ users → i < length ls → get_or ls i old ≡ old → new.number ≡ old.number → IsKeptEvent new.number new.kept new.stream.fault
-    → ((l : Connected) → get_or (set ls i new) i l ≡ l → IsSwept (set ls i new) i l new_ls)
-    → IfOk what (λ x. LinkTook (rules_of t given) b old x new_b new) → OnErr what (LinkWaits b old new_b new) → OnErr what (MayTurn old) → OnErr what (HasMore (kept_of old.kept) (stream_of old.stream))
-    → LinksTook (rules_of t users) b ls i what new_b new_ls
-links_took what t given users b ls i old new new_b new_ls is within here number kept swept ok err awake more =
-    subst (λ (us : List User). LinksTook (rules_of t us) b ls i what new_b new_ls) is (record {
+    → ((l : Connection) → get_or (set ls i new) i l ≡ l → IsSwept (set ls i new) i l new_ls)
+    → IfOk what (λ x. ConnectionTook (rules_of t given) b old x new_b new) → OnErr what (ConnectionWaits b old new_b new) → OnErr what (MayTurn old) → OnErr what (HasMore (kept_of old.kept) (stream_of old.stream))
+    → ConnectionsTook (rules_of t users) b ls i what new_b new_ls
+connections_took what t given users b ls i old new new_b new_ls is within here number kept swept ok err awake more =
+    subst (λ (us : List User). ConnectionsTook (rules_of t us) b ls i what new_b new_ls) is (record {
       old = old;
       new = new;
       changes = changes_swept ls i old new new_ls within here number (λ k. kept) swept;
@@ -59,9 +59,9 @@ links_took what t given users b ls i old new new_b new_ls is within here number 
     })
 
 -- output of it was taken
-pub links_sent : (t : Topology) (b : Broker) (ls : List Connected) (i n : ℕ) (old new : Connected) (new_b : Broker) (new_ls : List Connected) → i < length ls → get_or ls i old ≡ old
-    → ((l : Connected) → get_or (set ls i new) i l ≡ l → IsSwept (set ls i new) i l new_ls) → LinkSent t b old n new_b new → LinksSent t b ls i n new_b new_ls
-links_sent t b ls i n old new new_b new_ls within here swept sent = record {
+pub connections_sent : (t : Topology) (b : Broker) (ls : List Connection) (i n : ℕ) (old new : Connection) (new_b : Broker) (new_ls : List Connection) → i < length ls → get_or ls i old ≡ old
+    → ((l : Connection) → get_or (set ls i new) i l ≡ l → IsSwept (set ls i new) i l new_ls) → ConnectionSent t b old n new_b new → ConnectionsSent t b ls i n new_b new_ls
+connections_sent t b ls i n old new new_b new_ls within here swept sent = record {
   old = old;
   new = new;
   changes = changes_swept ls i old new new_ls within here sent.number
@@ -71,31 +71,31 @@ links_sent t b ls i n old new new_b new_ls within here swept sent = record {
 }
 
 -- it heard bytes
-pub links_fed : {T E : Type 0} (r : Result T E) (ls : List Connected) (i : ℕ) (bytes : List ℕ) (old new : Connected) → i < length ls → get_or ls i old ≡ old → OnOk r (LinkFed old bytes new) → OnOk r (LinksFed ls i bytes (set ls i new))
-links_fed (Ok x) ls i bytes old new within here fed = record { within = within; old = old; here = here; new = new; fed = fed; left = refl }
-links_fed (Err x) ls i bytes old new within here fed = tt
+pub connections_fed : {T E : Type 0} (r : Result T E) (ls : List Connection) (i : ℕ) (bytes : List ℕ) (old new : Connection) → i < length ls → get_or ls i old ≡ old → OnOk r (ConnectionFed old bytes new) → OnOk r (ConnectionsFed ls i bytes (set ls i new))
+connections_fed (Ok x) ls i bytes old new within here fed = record { within = within; old = old; here = here; new = new; fed = fed; left = refl }
+connections_fed (Err x) ls i bytes old new within here fed = tt
 
 -- ---- what stands at a place
 
-pub same_at : (ls : List Connected) (i : ℕ) (l m : Connected) → i < length ls → get_or ls i l ≡ l → get_or ls i m ≡ m → l ≡ m
+pub same_at : (ls : List Connection) (i : ℕ) (l m : Connection) → i < length ls → get_or ls i l ≡ l → get_or ls i m ≡ m → l ≡ m
 same_at ls i l m lt here there = sym here ∙ get_or_default ls i l m lt ∙ there
 
-set_same : (ls : List Connected) (i : ℕ) (old new : Connected) → get_or ls i old ≡ old → new ≡ old → set ls i new ≡ ls
-set_same ls i old new here same = ap (λ (z : Connected). set ls i z) (same ∙ sym here) ∙ set-get_or ls i old
+set_same : (ls : List Connection) (i : ℕ) (old new : Connection) → get_or ls i old ≡ old → new ≡ old → set ls i new ≡ ls
+set_same ls i old new here same = ap (λ (z : Connection). set ls i z) (same ∙ sym here) ∙ set-get_or ls i old
 
 -- of one that is over nothing was heard, and it is as it was
-pub links_over : {T E : Type 0} (r : Result T E) (ls : List Connected) (i : ℕ) (l new : Connected) → i < length ls → get_or ls i l ≡ l → (is_ended l.session.phase ≡ true → IsOk r × (new ≡ l))
-    → (m : Connected) → get_or ls i m ≡ m → is_ended m.session.phase ≡ true → IsOk r × (set ls i new ≡ ls)
-links_over r ls i l new lt here over m there is =
-    let both = over (subst (λ (k : Connected). is_ended k.session.phase ≡ true) (same_at ls i m l lt there here) is) in
+pub connections_over : {T E : Type 0} (r : Result T E) (ls : List Connection) (i : ℕ) (l new : Connection) → i < length ls → get_or ls i l ≡ l → (is_ended l.session.phase ≡ true → IsOk r × (new ≡ l))
+    → (m : Connection) → get_or ls i m ≡ m → is_ended m.session.phase ≡ true → IsOk r × (set ls i new ≡ ls)
+connections_over r ls i l new lt here over m there is =
+    let both = over (subst (λ (k : Connection). is_ended k.session.phase ≡ true) (same_at ls i m l lt there here) is) in
     (both.0, set_same ls i l new here both.1)
 
 -- memory was wanting, and it is as it was
-pub links_err : {T E : Type 0} (r : Result T E) (ls : List Connected) (i : ℕ) (l new : Connected) → get_or ls i l ≡ l → OnErr r (new ≡ l) → OnErr r (set ls i new ≡ ls)
-links_err (Ok x) ls i l new here same = tt
-links_err (Err x) ls i l new here same = set_same ls i l new here same
+pub connections_err : {T E : Type 0} (r : Result T E) (ls : List Connection) (i : ℕ) (l new : Connection) → get_or ls i l ≡ l → OnErr r (new ≡ l) → OnErr r (set ls i new ≡ ls)
+connections_err (Ok x) ls i l new here same = tt
+connections_err (Err x) ls i l new here same = set_same ls i l new here same
 
 -- memory was wanting for more bytes than it had room for
-pub links_full : {T E : Type 0} (r : Result T E) (ls : List Connected) (i n : ℕ) (l : Connected) → i < length ls → get_or ls i l ≡ l → OnErr r (l.stream.room < n)
-    → (m : Connected) → get_or ls i m ≡ m → OnErr r (m.stream.room < n)
-links_full r ls i n l lt here full m there = subst (λ (k : Connected). OnErr r (k.stream.room < n)) (same_at ls i l m lt here there) full
+pub connections_full : {T E : Type 0} (r : Result T E) (ls : List Connection) (i n : ℕ) (l : Connection) → i < length ls → get_or ls i l ≡ l → OnErr r (l.stream.room < n)
+    → (m : Connection) → get_or ls i m ≡ m → OnErr r (m.stream.room < n)
+connections_full r ls i n l lt here full m there = subst (λ (k : Connection). OnErr r (k.stream.room < n)) (same_at ls i l m lt here there) full

@@ -22,11 +22,11 @@ use Rattle.assembly.specs.Front.{HasFront}
 use Rattle.assembly.proofs.Fronts.{ends_front, yields_front}
 use Rattle.engine.specs.Reading.{kept_of, IsEventMade, IsKeptEvent, HasMore, HasEvent, ComesNext, to_read}
 use Rattle.engine.specs.Performing.{Rules, DecidesByPhase, PausesOr}
-use Rattle.engine.specs.Turning.{Performed, LinkPerformed, DidEvent, LinkStays, LinkTook, LinkWaits, OnIdle}
+use Rattle.engine.specs.Turning.{Performed, ConnectionPerformed, DidEvent, ConnectionStays, ConnectionTook, ConnectionWaits, OnIdle}
 use Rattle.outputs.specs.Waiting.{HoldsNone}
 use Rattle.engine.specs.declared.reading.Next.{Next}
 use Rattle.engine.specs.declared.reading.Next.TheVariants as next
-use Rattle.engine.specs.declared.connected.Connected.{Connected}
+use Rattle.engine.specs.declared.connection.Connection.{Connection}
 use Rattle.engine.specs.declared.turning.Turn.{Turn}
 use Rattle.engine.specs.declared.turning.Turn.TheVariants as turn
 
@@ -103,12 +103,12 @@ over_after phase.Over r b s c code sends notes new_b new_s at by = ap (λ (z : M
 -- ---- the turns
 
 -- the connection that was read from: it says and keeps something else, and all else is as before
-pub record IsRead (old mid : Connected) : Type 0 where
+pub record IsRead (old mid : Connection) : Type 0 where
   pub number : mid.number ≡ old.number
   pub session : mid.session ≡ old.session
   pub output : mid.output.bytes ≡ old.output.bytes
 
-performed_of : (t : Rules) (b new_b : Broker) (old mid new : Connected) (e : Event) (notes : List Note) → IsRead old mid
+performed_of : (t : Rules) (b new_b : Broker) (old mid new : Connection) (e : Event) (notes : List Note) → IsRead old mid
     → Performed t b mid.number mid.session mid.output.bytes e notes new_b new.session new.output.bytes
     → Performed t b old.number old.session old.output.bytes e notes new_b new.session new.output.bytes
 performed_of t b new_b old mid new e notes read p =
@@ -132,8 +132,8 @@ performed_put r b mid new_b c s new_s output new_output e notes given sends max 
   pauses = subst (λ (z : Topology). PausesOr z c false (is_past_bound new_output) mid new_b) topology pauses;
 }
 
-pub did_kept : (t : Rules) (b new_b : Broker) (old mid new : Connected) (what : Turn) → is_ended old.session.phase ≡ false → is_past_bound old.output.bytes ≡ false → IsRead old mid
-    → (h : HasEvent old.number old.kept (stream_of old.stream) mid.kept (stream_of mid.stream)) → mid.stream.fault ≡ None → DidEvent t b mid h.event what new_b new → LinkTook t b old what new_b new
+pub did_kept : (t : Rules) (b new_b : Broker) (old mid new : Connection) (what : Turn) → is_ended old.session.phase ≡ false → is_past_bound old.output.bytes ≡ false → IsRead old mid
+    → (h : HasEvent old.number old.kept (stream_of old.stream) mid.kept (stream_of mid.stream)) → mid.stream.fault ≡ None → DidEvent t b mid h.event what new_b new → ConnectionTook t b old what new_b new
 did_kept t b new_b old mid new (turn.Did notes) open_still below read h whole did = (
   open_still,
   below,
@@ -153,8 +153,8 @@ did_kept t b new_b old mid new turn.Idle open_still below read h whole did = abs
 did_kept t b new_b old mid new turn.Paused open_still below read h whole did = absurd did
 did_kept t b new_b old mid new turn.Over open_still below read h whole did = absurd did
 
-pub did_fault : (t : Rules) (b new_b : Broker) (old mid new : Connected) (code : ℕ) (what : Turn) → is_ended old.session.phase ≡ false → is_past_bound old.output.bytes ≡ false → IsRead old mid
-    → old.kept ≡ None → Ends (stream_of old.stream) (Some code) → DidEvent t b mid (event.Fault mid.number code) what new_b new → LinkTook t b old what new_b new
+pub did_fault : (t : Rules) (b new_b : Broker) (old mid new : Connection) (code : ℕ) (what : Turn) → is_ended old.session.phase ≡ false → is_past_bound old.output.bytes ≡ false → IsRead old mid
+    → old.kept ≡ None → Ends (stream_of old.stream) (Some code) → DidEvent t b mid (event.Fault mid.number code) what new_b new → ConnectionTook t b old what new_b new
 did_fault t b new_b old mid new code (turn.Did notes) open_still below read none ends did =
     let over = over_after mid.session.phase t b mid.session mid.number code did.performed.sends notes.items did.performed.mid new.session refl did.performed.decides in (
       open_still,
@@ -176,17 +176,17 @@ did_fault t b new_b old mid new code turn.Idle open_still below read none ends d
 did_fault t b new_b old mid new code turn.Paused open_still below read none ends did = absurd did
 did_fault t b new_b old mid new code turn.Over open_still below read none ends did = absurd did
 
-pub waits_kept : (b new_b : Broker) (old mid new : Connected) → IsRead old mid → SameToCome (kept_of old.kept) (stream_of old.stream) (kept_of mid.kept) (stream_of mid.stream) → new_b ≡ b → LinkStays mid new → LinkWaits b old new_b new
+pub waits_kept : (b new_b : Broker) (old mid new : Connection) → IsRead old mid → SameToCome (kept_of old.kept) (stream_of old.stream) (kept_of mid.kept) (stream_of mid.stream) → new_b ≡ b → ConnectionStays mid new → ConnectionWaits b old new_b new
 waits_kept b new_b old mid new read same broker was = record {
   broker = broker;
-  number = ap (λ (z : Connected). z.number) was.rest ∙ read.number;
-  session = ap (λ (z : Connected). z.session) was.rest ∙ read.session;
+  number = ap (λ (z : Connection). z.number) was.rest ∙ read.number;
+  session = ap (λ (z : Connection). z.session) was.rest ∙ read.session;
   output = was.bytes ∙ read.output;
-  coming = subst (λ (z : Connected). SameToCome (kept_of old.kept) (stream_of old.stream) (kept_of z.kept) (stream_of z.stream)) (sym was.rest) same;
+  coming = subst (λ (z : Connection). SameToCome (kept_of old.kept) (stream_of old.stream) (kept_of z.kept) (stream_of z.stream)) (sym was.rest) same;
 }
 
 -- so where nothing more was done to it
-pub waits_read : (b : Broker) (old new : Connected) → IsRead old new → SameToCome (kept_of old.kept) (stream_of old.stream) (kept_of new.kept) (stream_of new.stream) → LinkWaits b old b new
+pub waits_read : (b : Broker) (old new : Connection) → IsRead old new → SameToCome (kept_of old.kept) (stream_of old.stream) (kept_of new.kept) (stream_of new.stream) → ConnectionWaits b old b new
 waits_read b old new read same = record { broker = refl; number = read.number; session = read.session; output = read.output; coming = same }
 
 pub coming_on : (k left : Option Event) (s new : Stream) → k ≡ None → left ≡ None → GoesOn s new → SameToCome (kept_of k) s (kept_of left) new
@@ -214,61 +214,61 @@ pub comes_nothing : (c : ℕ) (k left : Option Event) (s new : Stream) (n : Next
 comes_nothing c k left s new n e h = subst (λ (x : Next). ComesNext c k s x left new) e h
 
 -- one turn, whatever it answered
-pub record Whole {E : Type 0} (t : Rules) (b : Broker) (old : Connected) (what : Result Turn E) (new_b : Broker) (new : Connected) : Type 0 where
-  pub ok : IfOk what (λ x. LinkTook t b old x new_b new)
-  pub err : OnErr what (LinkWaits b old new_b new)
+pub record Whole {E : Type 0} (t : Rules) (b : Broker) (old : Connection) (what : Result Turn E) (new_b : Broker) (new : Connection) : Type 0 where
+  pub ok : IfOk what (λ x. ConnectionTook t b old x new_b new)
+  pub err : OnErr what (ConnectionWaits b old new_b new)
   pub idle : IfOk what (λ x. OnIdle x (HoldsNone new.output))
   pub refused : OnErr what (HoldsNone new.output)
   pub kept : IsKeptEvent new.number new.kept new.stream.fault
   pub number : new.number ≡ old.number
 
 -- nothing is kept after what was performed
-did_keeps : (t : Rules) (b new_b : Broker) (mid new : Connected) (e : Event) (what : Turn) → DidEvent t b mid e what new_b new → IsKeptEvent new.number new.kept new.stream.fault × (new.number ≡ mid.number)
+did_keeps : (t : Rules) (b new_b : Broker) (mid new : Connection) (e : Event) (what : Turn) → DidEvent t b mid e what new_b new → IsKeptEvent new.number new.kept new.stream.fault × (new.number ≡ mid.number)
 did_keeps t b new_b mid new e (turn.Did notes) did = (subst (λ (k : Option Event). IsKeptEvent new.number k new.stream.fault) (sym did.none_kept) tt, did.number)
 did_keeps t b new_b mid new e turn.Idle did = absurd did
 did_keeps t b new_b mid new e turn.Paused did = absurd did
 did_keeps t b new_b mid new e turn.Over did = absurd did
 
-did_something : (t : Rules) (b new_b : Broker) (mid new : Connected) (e : Event) (what : Turn) → DidEvent t b mid e what new_b new → OnIdle what (HoldsNone new.output)
+did_something : (t : Rules) (b new_b : Broker) (mid new : Connection) (e : Event) (what : Turn) → DidEvent t b mid e what new_b new → OnIdle what (HoldsNone new.output)
 did_something t b new_b mid new e (turn.Did notes) did = tt
 did_something t b new_b mid new e turn.Idle did = absurd did
 did_something t b new_b mid new e turn.Paused did = absurd did
 did_something t b new_b mid new e turn.Over did = absurd did
 
-pub after_kept : {E : Type 0} (r : Result Turn E) (t : Rules) (b new_b : Broker) (old mid new : Connected) → is_ended old.session.phase ≡ false → is_past_bound old.output.bytes ≡ false → IsRead old mid
+pub after_kept : {E : Type 0} (r : Result Turn E) (t : Rules) (b new_b : Broker) (old mid new : Connection) → is_ended old.session.phase ≡ false → is_past_bound old.output.bytes ≡ false → IsRead old mid
     → HasEvent old.number old.kept (stream_of old.stream) mid.kept (stream_of mid.stream) → IsKeptEvent old.number mid.kept mid.stream.fault
-    → IfOk r (λ x. (e : Event) → mid.kept ≡ Some e → DidEvent t b mid e x new_b new) → OnErr r (new_b ≡ b) → OnErr r (LinkStays mid new) → Whole t b old r new_b new
-after_kept (Ok x) t b new_b old mid new open_still below read h own did broker link =
+    → IfOk r (λ x. (e : Event) → mid.kept ≡ Some e → DidEvent t b mid e x new_b new) → OnErr r (new_b ≡ b) → OnErr r (ConnectionStays mid new) → Whole t b old r new_b new
+after_kept (Ok x) t b new_b old mid new open_still below read h own did broker connection =
     let d = did h.event h.is in
     let k = did_keeps t b new_b mid new h.event x d in
     record { ok = did_kept t b new_b old mid new x open_still below read h (kept_whole old.number mid.kept h.event mid.stream.fault h.is own) d; err = tt; idle = did_something t b new_b mid new h.event x d; refused = tt; kept = k.0; number = k.1 ∙ read.number }
-after_kept (Err x) t b new_b old mid new open_still below read h own did broker link = record {
+after_kept (Err x) t b new_b old mid new open_still below read h own did broker connection = record {
   ok = tt;
-  err = waits_kept b new_b old mid new read h.same broker link;
+  err = waits_kept b new_b old mid new read h.same broker connection;
   idle = tt;
-  refused = link.none;
-  kept = subst (λ (z : Connected). IsKeptEvent z.number z.kept z.stream.fault) (sym link.rest) (subst (λ (c : ℕ). IsKeptEvent c mid.kept mid.stream.fault) (sym read.number) own);
-  number = ap (λ (z : Connected). z.number) link.rest ∙ read.number;
+  refused = connection.none;
+  kept = subst (λ (z : Connection). IsKeptEvent z.number z.kept z.stream.fault) (sym connection.rest) (subst (λ (c : ℕ). IsKeptEvent c mid.kept mid.stream.fault) (sym read.number) own);
+  number = ap (λ (z : Connection). z.number) connection.rest ∙ read.number;
 }
 
-pub after_fault : {E : Type 0} (r : Result Turn E) (t : Rules) (b new_b : Broker) (old mid new : Connected) (code : ℕ) → is_ended old.session.phase ≡ false → is_past_bound old.output.bytes ≡ false → IsRead old mid
+pub after_fault : {E : Type 0} (r : Result Turn E) (t : Rules) (b new_b : Broker) (old mid new : Connection) (code : ℕ) → is_ended old.session.phase ≡ false → is_past_bound old.output.bytes ≡ false → IsRead old mid
     → (mid.kept ≡ None) × (old.kept ≡ None) × Ends (stream_of old.stream) (Some code) × GoesOn (stream_of old.stream) (stream_of mid.stream)
-    → IfOk r (λ x. DidEvent t b mid (event.Fault mid.number code) x new_b new) → OnErr r (new_b ≡ b) → OnErr r (LinkStays mid new) → Whole t b old r new_b new
-after_fault (Ok x) t b new_b old mid new code open_still below read h did broker link =
+    → IfOk r (λ x. DidEvent t b mid (event.Fault mid.number code) x new_b new) → OnErr r (new_b ≡ b) → OnErr r (ConnectionStays mid new) → Whole t b old r new_b new
+after_fault (Ok x) t b new_b old mid new code open_still below read h did broker connection =
     let k = did_keeps t b new_b mid new (event.Fault mid.number code) x did in
     record { ok = did_fault t b new_b old mid new code x open_still below read h.1 h.2 did; err = tt; idle = did_something t b new_b mid new (event.Fault mid.number code) x did; refused = tt; kept = k.0; number = k.1 ∙ read.number }
-after_fault (Err x) t b new_b old mid new code open_still below read h did broker link = record {
+after_fault (Err x) t b new_b old mid new code open_still below read h did broker connection = record {
   ok = tt;
-  err = waits_kept b new_b old mid new read (coming_on old.kept mid.kept (stream_of old.stream) (stream_of mid.stream) h.1 h.0 h.3) broker link;
+  err = waits_kept b new_b old mid new read (coming_on old.kept mid.kept (stream_of old.stream) (stream_of mid.stream) h.1 h.0 h.3) broker connection;
   idle = tt;
-  refused = link.none;
-  kept = subst (λ (z : Connected). IsKeptEvent z.number z.kept z.stream.fault) (sym link.rest) (subst (λ (k : Option Event). IsKeptEvent mid.number k mid.stream.fault) (sym h.0) tt);
-  number = ap (λ (z : Connected). z.number) link.rest ∙ read.number;
+  refused = connection.none;
+  kept = subst (λ (z : Connection). IsKeptEvent z.number z.kept z.stream.fault) (sym connection.rest) (subst (λ (k : Option Event). IsKeptEvent mid.number k mid.stream.fault) (sym h.0) tt);
+  number = ap (λ (z : Connection). z.number) connection.rest ∙ read.number;
 }
 
-pub after_nothing : (t : Rules) (b : Broker) (old mid : Connected) → is_ended old.session.phase ≡ false → IsRead old mid
+pub after_nothing : (t : Rules) (b : Broker) (old mid : Connection) → is_ended old.session.phase ≡ false → IsRead old mid
     → (mid.kept ≡ None) × (old.kept ≡ None) × Ends (stream_of old.stream) None × GoesOn (stream_of old.stream) (stream_of mid.stream)
-    → LinkTook t b old turn.Idle b mid
+    → ConnectionTook t b old turn.Idle b mid
 after_nothing t b old mid open_still read h = (
   open_still,
   record {
@@ -279,8 +279,8 @@ after_nothing t b old mid open_still read h = (
 )
 
 -- the event is the one that is kept
-pub performed_is : (t : Rules) (b new_b : Broker) (old new : Connected) (x e : Event) (notes : List Note) (k : Option Event) → k ≡ Some x → k ≡ Some e → LinkPerformed t b old x notes new_b new → LinkPerformed t b old e notes new_b new
-performed_is t b new_b old new x e notes k is other p = subst (λ (z : Event). LinkPerformed t b old z notes new_b new) (some_same x e (sym is ∙ other)) p
+pub performed_is : (t : Rules) (b new_b : Broker) (old new : Connection) (x e : Event) (notes : List Note) (k : Option Event) → k ≡ Some x → k ≡ Some e → ConnectionPerformed t b old x notes new_b new → ConnectionPerformed t b old e notes new_b new
+performed_is t b new_b old new x e notes k is other p = subst (λ (z : Event). ConnectionPerformed t b old z notes new_b new) (some_same x e (sym is ∙ other)) p
   where
     some_same : (x y : Event) → Some x ≡ Some y → x ≡ y
     some_same x y f = cc

@@ -15,10 +15,10 @@ use Rattle.broker.specs.Waiting.Waits.{passed, other}
 use Rattle.engine.specs.Performing.{Rules, rules_of}
 use Rattle.engine.specs.Reading.{kept_of}
 use Rattle.engine.specs.Turning.{DidEvent}
-use Rattle.engine.specs.World.{Parts, link_in, wire_in, wire_of, world_of, IsEngine}
-use Rattle.engine.specs.Engines.{IsLinkPlace, LinksTook}
+use Rattle.engine.specs.World.{Parts, connection_in, wire_in, wire_of, world_of, IsEngine}
+use Rattle.engine.specs.Engines.{IsConnectionPlace, ConnectionsTook}
 use Rattle.engine.specs.Waiting.{KeepsTurns, PerformsNext, TurnLeaves, KeepsTold, ServesOne}
-use Rattle.engine.specs.declared.connected.Connected.{Connected}
+use Rattle.engine.specs.declared.connection.Connection.{Connection}
 use Rattle.engine.specs.declared.turning.Turn.{Turn}
 use Rattle.engine.specs.declared.turning.Turn.TheVariants as turn
 use Rattle.engine.proofs.Swept.{same_at}
@@ -68,7 +68,7 @@ one_then e old mid new first last = record {
 -- ---- a turn
 
 -- what is performed is what the connection says next
-did_next : (c : ℕ) (w : Wire) (next : Stream) (e : Event) (r : Rules) (l l' : Connected) (what : Turn) (old new : WithTurn) → Reads c w.kept w.stream e next
+did_next : (c : ℕ) (w : Wire) (next : Stream) (e : Event) (r : Rules) (l l' : Connection) (what : Turn) (old new : WithTurn) → Reads c w.kept w.stream e next
     → DidEvent r (broker_of old) l e what (broker_of new) l' → new.turn ≡ old.turn → topology_kept new ≡ topology_kept old → OneComesIn e old new → TurnLeaves c w old what new
 did_next c w next e r l l' (turn.Did notes) old new read did same topology later =
     record { event = e; next = next; read = read; turn = same; topology = topology; later = later }
@@ -76,14 +76,14 @@ did_next c w next e r l l' turn.Idle old new read did same topology later = absu
 did_next c w next e r l l' turn.Paused old new read did same topology later = absurd did
 did_next c w next e r l l' turn.Over old new read did same topology later = absurd did
 
-pub leaves_next : {E : Type 0} (result : Result Turn E) (c : ℕ) (w : Wire) (next : Stream) (e : Event) (r : Rules) (l l' : Connected) (old new : WithTurn) → Reads c w.kept w.stream e next
+pub leaves_next : {E : Type 0} (result : Result Turn E) (c : ℕ) (w : Wire) (next : Stream) (e : Event) (r : Rules) (l l' : Connection) (old new : WithTurn) → Reads c w.kept w.stream e next
     → IfOk result (λ t. DidEvent r (broker_of old) l e t (broker_of new) l') → new.turn ≡ old.turn → topology_kept new ≡ topology_kept old → OnOk result (OneComesIn e old new)
     → IfOk result (λ t. TurnLeaves c w old t new)
 leaves_next (Ok t) c w next e r l l' old new read did same topology later = did_next c w next e r l l' t old new read did same topology later
 leaves_next (Err x) c w next e r l l' old new read did same topology later = tt
 
 -- so where the event is the one that is kept
-pub leaves_kept : {E : Type 0} (result : Result Turn E) (c : ℕ) (w : Wire) (next : Stream) (k : Option Event) (e : Event) (r : Rules) (l l' : Connected) (old new : WithTurn) → Reads c w.kept w.stream e next → k ≡ Some e
+pub leaves_kept : {E : Type 0} (result : Result Turn E) (c : ℕ) (w : Wire) (next : Stream) (k : Option Event) (e : Event) (r : Rules) (l l' : Connection) (old new : WithTurn) → Reads c w.kept w.stream e next → k ≡ Some e
     → IfOk result (λ t. (x : Event) → k ≡ Some x → DidEvent r (broker_of old) l x t (broker_of new) l') → new.turn ≡ old.turn → topology_kept new ≡ topology_kept old
     → OnOk result ((x : Event) → k ≡ Some x → OneComesIn x old new) → IfOk result (λ t. TurnLeaves c w old t new)
 leaves_kept (Ok t) c w next k e r l l' old new read is did same topology later = did_next c w next e r l l' t old new read (did e is) same topology (later e is)
@@ -93,24 +93,24 @@ pub fault_read : (c code : ℕ) (k : Option Event) (s : Stream) → k ≡ None �
 fault_read c code k s none ends = subst (λ (o : Option Event). Reads c (kept_of o) s (event.Fault c code) s) (sym none) (fault ends)
 
 -- what one that is not over has to say is what its wire has
-wire_found : (p : Parts) (c : ℕ) (l : Connected) → link_in p.links c ≡ Some l → is_ended l.session.phase ≡ false → wire_in false l ≡ (world_of p).wire c
+wire_found : (p : Parts) (c : ℕ) (l : Connection) → connection_in p.connections c ≡ Some l → is_ended l.session.phase ≡ false → wire_in false l ≡ (world_of p).wire c
 wire_found p c l found going = sym (ap wire_of found ∙ ap (λ (v : Bool). wire_in v l) going)
 
 -- what is said of the connection at a place is said of each that is there
-pub leaves_here : {E : Type 0} (result : Result Turn E) (ls : List Connected) (i : ℕ) (l : Connected) (old new : WithTurn) → i < length ls → get_or ls i l ≡ l
-    → IfOk result (λ t. TurnLeaves l.number (wire_in false l) old t new) → (m : Connected) → get_or ls i m ≡ m → IfOk result (λ t. TurnLeaves m.number (wire_in false m) old t new)
-leaves_here result ls i l old new lt here leaves m there = subst (λ (k : Connected). IfOk result (λ t. TurnLeaves k.number (wire_in false k) old t new)) (same_at ls i l m lt here there) leaves
+pub leaves_here : {E : Type 0} (result : Result Turn E) (ls : List Connection) (i : ℕ) (l : Connection) (old new : WithTurn) → i < length ls → get_or ls i l ≡ l
+    → IfOk result (λ t. TurnLeaves l.number (wire_in false l) old t new) → (m : Connection) → get_or ls i m ≡ m → IfOk result (λ t. TurnLeaves m.number (wire_in false m) old t new)
+leaves_here result ls i l old new lt here leaves m there = subst (λ (k : Connection). IfOk result (λ t. TurnLeaves k.number (wire_in false k) old t new)) (same_at ls i l m lt here there) leaves
 
 -- from the connection at a place to the world
-pub leaves_at : {E : Type 0} (result : Result Turn E) (p : Parts) (c i : ℕ) (b : Broker) (ls : List Connected) (new : WithTurn) → IsEngine p → IsLinkPlace p.links c (Some i)
-    → LinksTook (rules_of (topology_kept p.broker) p.users) (broker_of p.broker) p.links i result b ls
-    → ((l : Connected) → get_or p.links i l ≡ l → IfOk result (λ t. TurnLeaves l.number (wire_in false l) p.broker t new)) → IfOk result (λ t. TurnLeaves c ((world_of p).wire c) p.broker t new)
+pub leaves_at : {E : Type 0} (result : Result Turn E) (p : Parts) (c i : ℕ) (b : Broker) (ls : List Connection) (new : WithTurn) → IsEngine p → IsConnectionPlace p.connections c (Some i)
+    → ConnectionsTook (rules_of (topology_kept p.broker) p.users) (broker_of p.broker) p.connections i result b ls
+    → ((l : Connection) → get_or p.connections i l ≡ l → IfOk result (λ t. TurnLeaves l.number (wire_in false l) p.broker t new)) → IfOk result (λ t. TurnLeaves c ((world_of p).wire c) p.broker t new)
 leaves_at (Ok (turn.Did notes)) p c i b ls new e place t leaves =
     let l = t.old in
     let here = t.changes.here in
-    let found = found_at p.links c i l e.links.rising place here in
+    let found = found_at p.connections c i l e.connections.rising place here in
     subst (λ (w : Wire). PerformsNext c w p.broker new) (wire_found p c l found t.took.0)
-    (subst (λ (n : ℕ). PerformsNext n (wire_in false l) p.broker new) (number_is p.links c i l place here) (leaves l here))
+    (subst (λ (n : ℕ). PerformsNext n (wire_in false l) p.broker new) (number_is p.connections c i l place here) (leaves l here))
 leaves_at (Ok turn.Idle) p c i b ls new e place t leaves = leaves t.old t.changes.here
 leaves_at (Ok turn.Paused) p c i b ls new e place t leaves = leaves t.old t.changes.here
 leaves_at (Ok turn.Over) p c i b ls new e place t leaves = leaves t.old t.changes.here

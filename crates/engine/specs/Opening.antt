@@ -7,10 +7,10 @@ use Rattle.model.specs.declared.events.Event.TheVariants as event
 use Rattle.runs.specs.Opened.{IsOpened}
 use Rattle.engine.specs.declared.engines.Refused.{Refused}
 use Rattle.engine.specs.declared.engines.Refused.TheVariants.{Full, Spent, Memory}
-use Rattle.engine.specs.declared.connected.Connected.{Connected}
+use Rattle.engine.specs.declared.connection.Connection.{Connection}
 
 -- the number of one more connection, where so many were given and these stand; or why there is none
-abbrev pub Numbers : ℕ → List Connected → Result ℕ Refused → Type 0
+abbrev pub Numbers : ℕ → List Connection → Result ℕ Refused → Type 0
 Numbers given ls (Ok n) = (n ≡ given + 1) × (length ls < 1024) × (given < 18446744073709551615)
 Numbers given ls (Err Full) = 1024 ≤ length ls
 Numbers given ls (Err Spent) = (length ls < 1024) × (18446744073709551615 ≤ given)

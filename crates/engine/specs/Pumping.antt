@@ -12,12 +12,12 @@ use Rattle.model.specs.declared.events.Send.{Send}
 use Rattle.model.specs.declared.events.Event.TheVariants.{Deliver}
 use Rattle.model.specs.declared.notes.Note.{Note}
 use Rattle.engine.specs.Performing.{PausesOr}
-use Rattle.engine.specs.declared.connected.Connected.{Connected}
+use Rattle.engine.specs.declared.connection.Connection.{Connection}
 
 -- ---- one connection
 
 -- A message was delivered to a consumer of connection c, what this sent is put out, and the pause that it brings is known.
-pub record LinkPumped (t : Topology) (b : Broker) (c : ℕ) (old : Connected) (notes : List Note) (new_b : Broker) (new : Connected) : Type 0 where
+pub record ConnectionPumped (t : Topology) (b : Broker) (c : ℕ) (old : Connection) (notes : List Note) (new_b : Broker) (new : Connection) : Type 0 where
   pub sends : List Send
   pub mid : Broker
   pub acts : Acts t b (Deliver c) sends notes mid
@@ -30,23 +30,24 @@ pub record LinkPumped (t : Topology) (b : Broker) (c : ℕ) (old : Connected) (n
 -- ---- the connections
 
 -- Of the connection of this number the output became another, and all else of it is as before.
-pub record OutputChanges (c : ℕ) (ls new_ls : List Connected) : Type 0 where
+pub record OutputChanges (c : ℕ) (ls new_ls : List Connection) : Type 0 where
   pub place : ℕ
   pub within : place < length ls
-  pub old : Connected
+  pub old : Connection
   pub here : get_or ls place old ≡ old
   pub number : old.number ≡ c
-  pub new : Connected
+  pub new : Connection
   pub rest : new ≡ record old { output = new.output }
   pub left : new_ls ≡ set ls place new
 
 -- A delivery to the connection of this number.
-pub record LinksPumped (t : Topology) (b : Broker) (c : ℕ) (ls : List Connected) (notes : List Note) (new_b : Broker) (new_ls : List Connected) : Type 0 where
+pub record ConnectionsPumped (t : Topology) (b : Broker) (c : ℕ) (ls : List Connection) (notes : List Note)
+    (new_b : Broker) (new_ls : List Connection) : Type 0 where
   pub change : OutputChanges c ls new_ls
-  pub pumped : LinkPumped t b c change.old notes new_b change.new
+  pub pumped : ConnectionPumped t b c change.old notes new_b change.new
 
 -- Memory was wanting: nothing was delivered to it, and what waits is as before.
-pub record LinksNotPumped (b : Broker) (c : ℕ) (ls : List Connected) (new_b : Broker) (new_ls : List Connected) : Type 0 where
+pub record ConnectionsNotPumped (b : Broker) (c : ℕ) (ls : List Connection) (new_b : Broker) (new_ls : List Connection) : Type 0 where
   pub change : OutputChanges c ls new_ls
   pub broker : new_b ≡ b
   pub output : change.new.output.bytes ≡ change.old.output.bytes

@@ -13,7 +13,7 @@ use Rattle.assembly.specs.Held.{stream_of}
 use Rattle.outputs.specs.Waiting.{HoldsNone}
 use Rattle.engine.specs.Performing.{Rules, DecidesByPhase, PausesOr}
 use Rattle.engine.specs.Reading.{kept_of, to_read}
-use Rattle.engine.specs.declared.connected.Connected.{Connected}
+use Rattle.engine.specs.declared.connection.Connection.{Connection}
 use Rattle.engine.specs.declared.turning.Turn.{Turn}
 use Rattle.engine.specs.declared.turning.Turn.TheVariants as turn
 
@@ -30,25 +30,26 @@ pub record Performed (r : Rules) (b : Broker) (c : ℕ) (s : Session) (output : 
   pub pauses : PausesOr r.topology c false (is_past_bound new_output) mid new_b
 
 -- The event was performed, nothing is kept, nothing more is read, and the stream goes by the session, unless it broke.
-pub record LinkPerformed (r : Rules) (b : Broker) (old : Connected) (event : Event) (notes : List Note) (new_b : Broker) (new : Connected) : Type 0 where
+pub record ConnectionPerformed (r : Rules) (b : Broker) (old : Connection) (event : Event) (notes : List Note)
+    (new_b : Broker) (new : Connection) : Type 0 where
   pub performed : Performed r b old.number old.session old.output.bytes event notes new_b new.session new.output.bytes
   pub number : new.number ≡ old.number
   pub none_kept : new.kept ≡ None
   pub stream : old.stream.fault ≡ None → stream_of new.stream ≡ under_session new.session (stream_of old.stream)
 
 -- the turn performed this event
-abbrev pub DidEvent : Rules → Broker → Connected → Event → Turn → Broker → Connected → Type 0
-DidEvent r b old event (turn.Did notes) new_b new = LinkPerformed r b old event notes.items new_b new
+abbrev pub DidEvent : Rules → Broker → Connection → Event → Turn → Broker → Connection → Type 0
+DidEvent r b old event (turn.Did notes) new_b new = ConnectionPerformed r b old event notes.items new_b new
 DidEvent r b old event turn.Idle new_b new = ⊥
 DidEvent r b old event turn.Paused new_b new = ⊥
 DidEvent r b old event turn.Over new_b new = ⊥
 
 -- the connection is neither over nor paused
-abbrev pub MayTurn : Connected → Type 0
+abbrev pub MayTurn : Connection → Type 0
 MayTurn l = (is_ended l.session.phase ≡ false) × (is_past_bound l.output.bytes ≡ false)
 
 -- Nothing was performed, and the same is still to come.
-pub record LinkWaits (b : Broker) (old : Connected) (new_b : Broker) (new : Connected) : Type 0 where
+pub record ConnectionWaits (b : Broker) (old : Connection) (new_b : Broker) (new : Connection) : Type 0 where
   pub broker : new_b ≡ b
   pub number : new.number ≡ old.number
   pub session : new.session ≡ old.session
@@ -56,13 +57,13 @@ pub record LinkWaits (b : Broker) (old : Connected) (new_b : Broker) (new : Conn
   pub coming : SameToCome (kept_of old.kept) (stream_of old.stream) (kept_of new.kept) (stream_of new.stream)
 
 -- The connection is as before, but that its output holds no storage where nothing waits in it.
-pub record LinkStays (old new : Connected) : Type 0 where
+pub record ConnectionStays (old new : Connection) : Type 0 where
   pub rest : new ≡ record old { output = new.output }
   pub bytes : new.output.bytes ≡ old.output.bytes
   pub none : HoldsNone new.output
 
 -- What was read was performed; nothing is kept, and what follows is what the stream says next, in frames as large as the session allows.
-pub record LinkDid (r : Rules) (b : Broker) (old : Connected) (notes : List Note) (new_b : Broker) (new : Connected) : Type 0 where
+pub record ConnectionDid (r : Rules) (b : Broker) (old : Connection) (notes : List Note) (new_b : Broker) (new : Connection) : Type 0 where
   pub event : Event
   pub next : Stream
   pub read : Reads old.number (kept_of old.kept) (stream_of old.stream) event next
@@ -75,23 +76,23 @@ pub record LinkDid (r : Rules) (b : Broker) (old : Connected) (notes : List Note
   pub fewer : (to_read None (stream_of new.stream) < to_read (kept_of old.kept) (stream_of old.stream)) ⊎ (is_ended new.session.phase ≡ true)
 
 -- Nothing was performed, for no whole command and no fault is left to read.
-pub record LinkIdle (b : Broker) (old : Connected) (new_b : Broker) (new : Connected) : Type 0 where
-  pub waits : LinkWaits b old new_b new
+pub record ConnectionIdle (b : Broker) (old : Connection) (new_b : Broker) (new : Connection) : Type 0 where
+  pub waits : ConnectionWaits b old new_b new
   pub none_kept : old.kept ≡ None
   pub ends : Ends (stream_of old.stream) None
 
 -- all is as before
-pub record LinkSame (b : Broker) (old : Connected) (new_b : Broker) (new : Connected) : Type 0 where
+pub record ConnectionSame (b : Broker) (old : Connection) (new_b : Broker) (new : Connection) : Type 0 where
   pub broker : new_b ≡ b
-  pub link : new ≡ old
+  pub connection : new ≡ old
 
 -- The turn of one connection is right: what was performed, or why nothing was.
-abbrev pub LinkTook : Rules → Broker → Connected → Turn → Broker → Connected → Type 0
-LinkTook r b old (turn.Did notes) new_b new = (is_ended old.session.phase ≡ false)
-    × (is_past_bound old.output.bytes ≡ false) × LinkDid r b old notes.items new_b new
-LinkTook r b old turn.Idle new_b new = (is_ended old.session.phase ≡ false) × LinkIdle b old new_b new
-LinkTook r b old turn.Paused new_b new = (is_ended old.session.phase ≡ false) × (is_past_bound old.output.bytes ≡ true) × LinkSame b old new_b new
-LinkTook r b old turn.Over new_b new = (is_ended old.session.phase ≡ true) × LinkSame b old new_b new
+abbrev pub ConnectionTook : Rules → Broker → Connection → Turn → Broker → Connection → Type 0
+ConnectionTook r b old (turn.Did notes) new_b new = (is_ended old.session.phase ≡ false)
+    × (is_past_bound old.output.bytes ≡ false) × ConnectionDid r b old notes.items new_b new
+ConnectionTook r b old turn.Idle new_b new = (is_ended old.session.phase ≡ false) × ConnectionIdle b old new_b new
+ConnectionTook r b old turn.Paused new_b new = (is_ended old.session.phase ≡ false) × (is_past_bound old.output.bytes ≡ true) × ConnectionSame b old new_b new
+ConnectionTook r b old turn.Over new_b new = (is_ended old.session.phase ≡ true) × ConnectionSame b old new_b new
 
 -- this holds where nothing was left to perform
 abbrev pub OnIdle : Turn → Type 0 → Type 0

@@ -14,7 +14,7 @@ use Rattle.assembly.specs.Held.{stream_of}
 use Rattle.broker.specs.Turns as broker
 use Rattle.broker.specs.Turns.{topology_kept, broker_of}
 use Rattle.engine.specs.Reading.{IsKeptEvent, kept_of}
-use Rattle.engine.specs.declared.connected.Connected.{Connected}
+use Rattle.engine.specs.declared.connection.Connection.{Connection}
 
 -- the broker, what is in force, how many numbers were given, and the connections that are not gone
 pub record Parts : Type 0 where
@@ -23,25 +23,25 @@ pub record Parts : Type 0 where
   pub users : List User
   pub given : ℕ
   -- numbers rise
-  pub links : List Connected
+  pub connections : List Connection
 
 -- the connection of this number
-abbrev pub link_in : List Connected → ℕ → Option Connected
-link_in [] c = None
-link_in (l ∷ ls) c = if l.number == c then Some l else link_in ls c
+abbrev pub connection_in : List Connection → ℕ → Option Connection
+connection_in [] c = None
+connection_in (l ∷ ls) c = if l.number == c then Some l else connection_in ls c
 
 -- the session of a connection; of one that was never opened, or is gone, that of one that is over
-abbrev pub session_of : Option Connected → Session
+abbrev pub session_of : Option Connection → Session
 session_of None = no_session
 session_of (Some l) = l.session
 
 -- of one that is over nothing more is read
-abbrev pub wire_in : Bool → Connected → Wire
+abbrev pub wire_in : Bool → Connection → Wire
 wire_in true l = record new_wire { output = l.output.bytes }
 wire_in false l = record { kept = kept_of l.kept; stream = stream_of l.stream; output = l.output.bytes }
 
 -- a connection's bytes, in and out; of one that was never opened, or is gone, there are none
-abbrev pub wire_of : Option Connected → Wire
+abbrev pub wire_of : Option Connection → Wire
 wire_of None = new_wire
 wire_of (Some l) = wire_in (is_ended l.session.phase) l
 
@@ -51,31 +51,31 @@ config_of p = record { topology = topology_kept p.broker; guarantees = p.guarant
 
 -- the broker's state, and the session of each number
 abbrev pub state_of : Parts → State
-state_of p = record { broker = broker_of p.broker; session = λ c. session_of (link_in p.links c) }
+state_of p = record { broker = broker_of p.broker; session = λ c. session_of (connection_in p.connections c) }
 
 -- the world that these parts stand for, in which arrivals come
 abbrev pub world_of : Parts → World
-world_of p = record { config = config_of p; state = state_of p; given = p.given; wire = λ c. wire_of (link_in p.links c) }
+world_of p = record { config = config_of p; state = state_of p; given = p.given; wire = λ c. wire_of (connection_in p.connections c) }
 
 -- ---- what every engine keeps
 
 -- numbers rise from past this one
-abbrev pub AreRising : ℕ → List Connected → Type 0
+abbrev pub AreRising : ℕ → List Connection → Type 0
 AreRising low [] = Unit {0}
 AreRising low (l ∷ ls) = (low < l.number) × AreRising l.number ls
 
 -- over, with no output left
-abbrev pub is_link_gone : Connected → Bool
-is_link_gone l = is_ended l.session.phase && not (nat_lt 0 (length l.output.bytes))
+abbrev pub is_connection_gone : Connection → Bool
+is_connection_gone l = is_ended l.session.phase && not (nat_lt 0 (length l.output.bytes))
 
 -- a connection that was given its number, and is not gone
-pub record IsLink (given : ℕ) (l : Connected) : Type 0 where
+pub record IsConnection (given : ℕ) (l : Connection) : Type 0 where
   pub within : l.number ≤ given
-  pub here : is_link_gone l ≡ false
+  pub here : is_connection_gone l ≡ false
   pub kept : IsKeptEvent l.number l.kept l.stream.fault
 
 -- a connection as it is opened, in this session and with this stream
-pub record IsNew (l : Connected) (number : ℕ) (session : Session) (stream : Stream) : Type 0 where
+pub record IsNew (l : Connection) (number : ℕ) (session : Session) (stream : Stream) : Type 0 where
   pub number_is : l.number ≡ number
   pub session_is : l.session ≡ session
   pub kept : l.kept ≡ None
@@ -83,15 +83,15 @@ pub record IsNew (l : Connected) (number : ℕ) (session : Session) (stream : St
   pub output : l.output.bytes ≡ []
 
 -- the connections that are not gone, where so many numbers were given
-pub record AreLinks (given : ℕ) (ls : List Connected) : Type 0 where
+pub record AreConnections (given : ℕ) (ls : List Connection) : Type 0 where
   pub rising : AreRising 0 ls
-  pub each : AllByRecursion (IsLink given) ls
+  pub each : AllByRecursion (IsConnection given) ls
 
 -- The guarantees hold of the topology, the connections stand in the order of their numbers, and the broker agrees with them.
 pub record IsEngine (p : Parts) : Type 0 where
   pub hold : AllHold (topology_kept p.broker) p.guarantees
   pub formed : IsWellFormed (topology_kept p.broker)
-  pub links : AreLinks p.given p.links
+  pub connections : AreConnections p.given p.connections
   pub consistent : IsConsistent (world_of p)
   -- consumers are named as they should be
   pub named : AreNamed (topology_kept p.broker) (broker_of p.broker)

@@ -16,11 +16,11 @@ ghost use Rattle.engine.specs.Waiting.{KeepsTurns, TurnLeaves, ServesOne, TellsO
 ghost use Rattle.engine.specs.Opening.{Numbers, OpenedNew, OpenedReady};
 ghost use Rattle.engine.specs.InForce.{in_force};
 
-use crate::connected::Connected;
-use crate::connections::{feed_link, place_of, sweep, take_from};
+use crate::connection::Connection;
+use crate::connections::{connection_place, feed_connection, sweep, take_from};
 use crate::places::Places;
-use crate::pumping::pump_link;
-use crate::turning::{Turn, turn_link};
+use crate::pumping::pump_connection;
+use crate::turning::{Turn, turn_connection};
 use broker::Broker;
 use certificate::Checked;
 use guarantees::Guarantee;
@@ -68,7 +68,7 @@ pub struct Engine {
     users: Vec<User>,
     given: u64,
     /// Those that are not gone, in the order of their numbers.
-    links: Vec<Connected>,
+    connections: Vec<Connection>,
     places: Places,
     scratch: Scratch,
     spares: Spares,
@@ -82,7 +82,7 @@ impl Drop for Engine {
             guarantees: _,
             users: _,
             given: _,
-            links: _,
+            connections: _,
             places: _,
             scratch: _,
             spares: _,
@@ -95,14 +95,20 @@ impl Model for Engine {
 
     ghost Value = { Parts };
 
-    ghost view = { λ e. record { broker = e.broker; guarantees = e.guarantees.items; users = e.users.items; given = e.given; links = e.links.items } };
+    ghost view = { λ e. record {
+      broker = e.broker;
+      guarantees = e.guarantees.items;
+      users = e.users.items;
+      given = e.given;
+      connections = e.connections.items;
+    } };
 
     ghost invariant = { λ e. IsEngine (record {
       broker = e.broker;
       guarantees = e.guarantees.items;
       users = e.users.items;
       given = e.given;
-      links = e.links.items;
+      connections = e.connections.items;
     }) };
 }
 
@@ -117,7 +123,7 @@ impl Engine {
             guarantees,
             users,
             given: 0,
-            links: Vec::new(alloc),
+            connections: Vec::new(alloc),
             scratch: Scratch::new(alloc)?,
             spares: Spares::new(alloc)?,
             places: Places::new(alloc)?,
@@ -132,9 +138,10 @@ impl Engine {
         ensures opened { OpenedNew (world_of self.old) result (world_of self.new) }
         ensures broker { self.new.broker ≡ self.old.broker }
     {
-        let number = next_number(&mut self.links, self.given)?;
-        self.places.learn(number, self.links.len());
-        self.links.push_reserved(Connected::new(alloc, number));
+        let number = next_number(&mut self.connections, self.given)?;
+        self.places.learn(number, self.connections.len());
+        self.connections
+            .push_reserved(Connection::new(alloc, number));
         self.given = number;
         Ok(number)
     }
@@ -146,11 +153,12 @@ impl Engine {
         ensures opened { OpenedReady (world_of self.old) channels result (world_of self.new) }
         ensures turns { KeepsTurns self.old.broker self.new.broker }
     {
-        let number = next_number(&mut self.links, self.given)?;
+        let number = next_number(&mut self.connections, self.given)?;
         self.broker
             .open(alloc, number, limits::CHANNEL_MAX, u16::from(channels))?;
-        self.places.learn(number, self.links.len());
-        self.links.push_reserved(Connected::running(alloc, number));
+        self.places.learn(number, self.connections.len());
+        self.connections
+            .push_reserved(Connection::running(alloc, number));
         self.given = number;
         Ok(number)
     }
@@ -164,8 +172,8 @@ impl Engine {
         ensures full { OnErr result (room_for self.old c < length bytes.now) }
         ensures broker { self.new.broker ≡ self.old.broker }
     {
-        match place_of(&self.links, &self.places, c) {
-            Some(place) => feed_link(&mut self.links[place], bytes),
+        match connection_place(&self.connections, &self.places, c) {
+            Some(place) => feed_connection(&mut self.connections[place], bytes),
             None => Ok(()),
         }
     }
@@ -178,25 +186,25 @@ impl Engine {
     /// something to read: the first eight bytes, a whole frame or a broken one.
     pub fn turn(&mut self, alloc: Global, c: ConnId) -> Result<Turn, AllocError>
         ensures ok { IfOk result (λ t. Turned (world_of self.old) c t (world_of self.new)) }
-        ensures fewer { IfOk result (λ t. OnDid t (left_in self.new.links < left_in self.old.links)) }
+        ensures fewer { IfOk result (λ t. OnDid t (left_in self.new.connections < left_in self.old.connections)) }
         ensures err { OnErr result (Waits (world_of self.old) c (world_of self.new)) }
         ensures awake { OnErr result (is_awake (world_of self.old) c ≡ true) }
         ensures more { OnErr result (HasMore ((world_of self.old).wire c).kept ((world_of self.old).wire c).stream) }
         ensures turns { IfOk result (λ t. TurnLeaves c ((world_of self.old).wire c) self.old.broker t self.new.broker) }
         ensures broker { OnErr result (self.new.broker ≡ self.old.broker) }
     {
-        let Some(place) = place_of(&self.links, &self.places, c) else {
+        let Some(place) = connection_place(&self.connections, &self.places, c) else {
             return Ok(Turn::Over);
         };
-        let turn = turn_link(
+        let turn = turn_connection(
             alloc,
             self.users.as_slice(),
             &mut self.broker,
             &mut self.scratch,
             &mut self.spares,
-            &mut self.links[place],
+            &mut self.connections[place],
         );
-        sweep(&mut self.places, &mut self.links, place);
+        sweep(&mut self.places, &mut self.connections, place);
         turn
     }
 
@@ -217,15 +225,15 @@ impl Engine {
             return Ok(None);
         };
         let connection = pick.connection;
-        let Some(place) = place_of(&self.links, &self.places, connection) else {
+        let Some(place) = connection_place(&self.connections, &self.places, connection) else {
             unreachable!();
         };
-        let notes = pump_link(
+        let notes = pump_connection(
             alloc,
             &mut self.broker,
             &mut self.scratch,
             &mut self.spares,
-            &mut self.links[place],
+            &mut self.connections[place],
             pick,
         )?;
         Ok(Some(Delivered { connection, notes }))
@@ -236,16 +244,16 @@ impl Engine {
         ensures taken { TakesAway (world_of self.old) c n (world_of self.new) }
         ensures turns { KeepsTurns self.old.broker self.new.broker }
     {
-        let Some(place) = place_of(&self.links, &self.places, c) else {
+        let Some(place) = connection_place(&self.connections, &self.places, c) else {
             return;
         };
         take_from(
             &mut self.broker,
             &mut self.spares,
-            &mut self.links[place],
+            &mut self.connections[place],
             n,
         );
-        sweep(&mut self.places, &mut self.links, place);
+        sweep(&mut self.places, &mut self.connections, place);
     }
 
     /// Loses the connection `c`: its output is never taken, and what it held is ready again.
@@ -253,10 +261,10 @@ impl Engine {
         ensures lost { IsLost (world_of self.old) c (world_of self.new) }
         ensures turns { KeepsTurns self.old.broker self.new.broker }
     {
-        if let Some(place) = place_of(&self.links, &self.places, c) {
+        if let Some(place) = connection_place(&self.connections, &self.places, c) {
             self.broker.lose(c);
-            self.links.remove(place);
-            self.places.learn_from(&self.links, place);
+            self.connections.remove(place);
+            self.places.learn_from(&self.connections, place);
         }
     }
 
@@ -264,8 +272,8 @@ impl Engine {
     pub fn output(&self, c: ConnId) -> &[u8]
         ensures { result.now ≡ ((world_of self.now).wire c).output }
     {
-        match place_of(&self.links, &self.places, c) {
-            Some(place) => self.links[place].output.bytes(),
+        match connection_place(&self.connections, &self.places, c) {
+            Some(place) => self.connections[place].output.bytes(),
             None => &[],
         }
     }
@@ -274,8 +282,8 @@ impl Engine {
     pub fn is_over(&self, c: ConnId) -> bool
         ensures { result ≡ is_over (world_of self.now) c }
     {
-        match place_of(&self.links, &self.places, c) {
-            Some(place) => self.links[place].session.is_over(),
+        match connection_place(&self.connections, &self.places, c) {
+            Some(place) => self.connections[place].session.is_over(),
             None => true,
         }
     }
@@ -284,8 +292,8 @@ impl Engine {
     pub fn runs(&self, c: u64) -> bool
         ensures { result ≡ runs (world_of self.now) c }
     {
-        match place_of(&self.links, &self.places, c) {
-            Some(place) => self.links[place].runs(),
+        match connection_place(&self.connections, &self.places, c) {
+            Some(place) => self.connections[place].runs(),
             None => false,
         }
     }
@@ -300,7 +308,7 @@ impl Engine {
         ensures { IsSound (world_of self.now).config }
     {
         // A look at a field, by which what every engine keeps is known.
-        let _links = &self.links;
+        let _connections = &self.connections;
     }
 
     /// Each message stands in a queue of the topology, and no guarantee forbids it one to which it may still come from there by
@@ -311,22 +319,22 @@ impl Engine {
             → AreSafe (world_of self.now).config.topology (world_of self.now).config.guarantees (world_of self.now).state.broker }
     {
         // A look at a field, as above.
-        let _links = &self.links;
+        let _connections = &self.connections;
     }
 }
 
 /// The number of one more connection, where `given` were given, with room for it from now on.
-fn next_number(links: &mut Vec<Connected>, given: u64) -> Result<u64, Refused>
-    ensures numbers { Numbers given links.old.items result }
-    ensures room { OnOk result (vec_len links.new < vec_capacity links.new) }
-    ensures same { links.new.items ≡ links.old.items }
+fn next_number(connections: &mut Vec<Connection>, given: u64) -> Result<u64, Refused>
+    ensures numbers { Numbers given connections.old.items result }
+    ensures room { OnOk result (vec_len connections.new < vec_capacity connections.new) }
+    ensures same { connections.new.items ≡ connections.old.items }
 {
-    if links.len() >= MOST_CONNECTIONS {
+    if connections.len() >= MOST_CONNECTIONS {
         return Err(Refused::Full);
     }
     match given.checked_add(1) {
         Some(number) => {
-            links.reserve(1)?;
+            connections.reserve(1)?;
             Ok(number)
         }
         None => Err(Refused::Spent),

@@ -5,7 +5,7 @@
 //! turns. [`run`] does all that arrives.
 #![tactic(auto)]
 
-mod connected;
+mod connection;
 mod connections;
 mod engines;
 mod machines;

@@ -1,6 +1,6 @@
 //! Where connections are likely to stand.
 
-use crate::connected::Connected;
+use crate::connection::Connection;
 use std::alloc::{AllocError, Global};
 
 /// So many places are remembered, each for the numbers of connections that leave the same when divided by this.
@@ -30,9 +30,9 @@ impl Places {
     }
 
     /// Those behind this place moved: each stands where it does now.
-    pub(crate) fn learn_from(&mut self, links: &[Connected], place: usize) {
-        for at in place..links.len() {
-            self.learn(links[at].number, at);
+    pub(crate) fn learn_from(&mut self, connections: &[Connection], place: usize) {
+        for at in place..connections.len() {
+            self.learn(connections[at].number, at);
         }
     }
 

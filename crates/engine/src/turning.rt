@@ -13,12 +13,12 @@ ghost use Rattle.broker.specs.Waiting.{NoneIsLater, OneComesIn};
 ghost use Rattle.assembly.specs.Held.{stream_of};
 ghost use Rattle.engine.specs.Reading.{IsKeptEvent, IsEventMade, HasMore, kept_of};
 ghost use Rattle.engine.specs.Performing.{IsAskedBy, PausesOr, rules_of};
-ghost use Rattle.engine.specs.Turning.{DidEvent, LinkStays, LinkTook, LinkWaits, MayTurn, OnIdle};
+ghost use Rattle.engine.specs.Turning.{DidEvent, ConnectionStays, ConnectionTook, ConnectionWaits, MayTurn, OnIdle};
 ghost use Rattle.engine.specs.World.{wire_in};
 ghost use Rattle.engine.specs.Waiting.{TurnLeaves};
 ghost use Rattle.outputs.specs.Waiting.{HoldsNone};
 
-use crate::connected::{BOUND, Connected};
+use crate::connection::{BOUND, Connection};
 use crate::performing::{pause_if, perform};
 use crate::reading::{Next, forget, read_next};
 use assembly::Stream;
@@ -74,40 +74,47 @@ fn do_kept(
     broker: &mut Broker,
     scratch: &mut Scratch,
     spares: &mut Spares,
-    link: &mut Connected,
+    connection: &mut Connection,
 ) -> Result<Turn, AllocError>
-    requires kept { (e : event.Event) × (link.old.kept ≡ Some e) × IsAskedBy link.old.number e × IsSaid e }
+    requires kept { (e : event.Event) × (connection.old.kept ≡ Some e) × IsAskedBy connection.old.number e × IsSaid e }
     requires carried { AreCarried (broker_of broker.old) }
-    requires room { most_sent ≤ link.old.output.room }
-    ensures ok { IfOk result (λ t. (e : event.Event) → link.old.kept ≡ Some e
-        → DidEvent (rules_of (topology_kept broker.old) users.now) (broker_of broker.old) link.old e t
-        (broker_of broker.new) link.new) }
+    requires room { most_sent ≤ connection.old.output.room }
+    ensures ok { IfOk result (λ t. (e : event.Event) → connection.old.kept ≡ Some e
+        → DidEvent (rules_of (topology_kept broker.old) users.now) (broker_of broker.old) connection.old e t
+        (broker_of broker.new) connection.new) }
     ensures broker_kept { OnErr result (broker.new ≡ broker.old) }
-    ensures link_kept { OnErr result (LinkStays link.old link.new) }
+    ensures connection_kept { OnErr result (ConnectionStays connection.old connection.new) }
     ensures topology { topology_kept broker.new ≡ topology_kept broker.old }
     ensures turn { broker.new.turn ≡ broker.old.turn }
-    ensures later { OnOk result ((e : event.Event) → link.old.kept ≡ Some e → OneComesIn e broker.old broker.new) }
+    ensures later { OnOk result ((e : event.Event) → connection.old.kept ≡ Some e → OneComesIn e broker.old broker.new) }
 {
-    let Some(event) = &link.kept else {
+    let Some(event) = &connection.kept else {
         unreachable!();
     };
-    let max = link.session.frame_max();
-    match perform(link.number, alloc, users, broker, &mut link.session, event) {
+    let max = connection.session.frame_max();
+    match perform(
+        connection.number,
+        alloc,
+        users,
+        broker,
+        &mut connection.session,
+        event,
+    ) {
         Ok(step) => {
             put_out(
-                link.number,
+                connection.number,
                 broker,
                 scratch,
-                &mut link.output,
+                &mut connection.output,
                 max,
                 &step.sends,
             );
-            forget(&mut link.kept);
-            follow(&mut link.stream, &link.session);
+            forget(&mut connection.kept);
+            follow(&mut connection.stream, &connection.session);
             Ok(Turn::Did(step.notes))
         }
         Err(error) => {
-            spares.take_back(&mut link.output);
+            spares.take_back(&mut connection.output);
             Err(error)
         }
     }
@@ -120,40 +127,50 @@ fn do_fault(
     broker: &mut Broker,
     scratch: &mut Scratch,
     spares: &mut Spares,
-    link: &mut Connected,
+    connection: &mut Connection,
     code: u16,
 ) -> Result<Turn, AllocError>
-    requires kept { link.old.kept ≡ None }
+    requires kept { connection.old.kept ≡ None }
     requires carried { AreCarried (broker_of broker.old) }
-    requires room { most_sent ≤ link.old.output.room }
+    requires room { most_sent ≤ connection.old.output.room }
     ensures ok { IfOk result (λ t. DidEvent (rules_of (topology_kept broker.old) users.now) (broker_of broker.old)
-        link.old (happens.Fault link.old.number code) t (broker_of broker.new) link.new) }
+        connection.old (happens.Fault connection.old.number code) t (broker_of broker.new) connection.new) }
     ensures broker_kept { OnErr result (broker.new ≡ broker.old) }
-    ensures link_kept { OnErr result (LinkStays link.old link.new) }
+    ensures connection_kept { OnErr result (ConnectionStays connection.old connection.new) }
     ensures topology { topology_kept broker.new ≡ topology_kept broker.old }
     ensures turn { broker.new.turn ≡ broker.old.turn }
-    ensures later { OnOk result (OneComesIn (happens.Fault link.old.number code) broker.old broker.new) }
+    ensures later { OnOk result (OneComesIn (happens.Fault connection.old.number code) broker.old broker.new) }
 {
-    let connection = link.number;
-    let event = Event::Fault { connection, code };
-    let max = link.session.frame_max();
-    let done = perform(connection, alloc, users, broker, &mut link.session, &event);
+    let number = connection.number;
+    let event = Event::Fault {
+        connection: number,
+        code,
+    };
+    let max = connection.session.frame_max();
+    let done = perform(
+        number,
+        alloc,
+        users,
+        broker,
+        &mut connection.session,
+        &event,
+    );
     drop(event);
     match done {
         Ok(step) => {
             put_out(
-                connection,
+                number,
                 broker,
                 scratch,
-                &mut link.output,
+                &mut connection.output,
                 max,
                 &step.sends,
             );
-            follow(&mut link.stream, &link.session);
+            follow(&mut connection.stream, &connection.session);
             Ok(Turn::Did(step.notes))
         }
         Err(error) => {
-            spares.take_back(&mut link.output);
+            spares.take_back(&mut connection.output);
             Err(error)
         }
     }
@@ -192,49 +209,54 @@ pub(crate) fn make_room(spares: &mut Spares, output: &mut Output) -> Result<(), 
 
 /// One turn of one connection. Room is made once there is something to perform. Where memory is refused an output in which nothing
 /// waits holds no storage.
-pub(crate) fn turn_link(
+pub(crate) fn turn_connection(
     alloc: Global,
     users: &[User],
     broker: &mut Broker,
     scratch: &mut Scratch,
     spares: &mut Spares,
-    link: &mut Connected,
+    connection: &mut Connection,
 ) -> Result<Turn, AllocError>
-    requires kept { IsKeptEvent link.old.number link.old.kept link.old.stream.fault }
+    requires kept { IsKeptEvent connection.old.number connection.old.kept connection.old.stream.fault }
     requires carried { AreCarried (broker_of broker.old) }
-    ensures ok { IfOk result (λ t. LinkTook (rules_of (topology_kept broker.old) users.now) (broker_of broker.old) link.old t (broker_of broker.new) link.new) }
-    ensures err { OnErr result (LinkWaits (broker_of broker.old) link.old (broker_of broker.new) link.new) }
-    ensures awake { OnErr result (MayTurn link.old) }
-    ensures more { OnErr result (HasMore (kept_of link.old.kept) (stream_of link.old.stream)) }
-    ensures idle { IfOk result (λ t. OnIdle t (HoldsNone link.new.output)) }
-    ensures refused { OnErr result (HoldsNone link.new.output) }
-    ensures kept { IsKeptEvent link.new.number link.new.kept link.new.stream.fault }
-    ensures number { link.new.number ≡ link.old.number }
+    ensures ok { IfOk result (λ t. ConnectionTook (rules_of (topology_kept broker.old) users.now) (broker_of broker.old)
+        connection.old t (broker_of broker.new) connection.new) }
+    ensures err { OnErr result (ConnectionWaits (broker_of broker.old) connection.old (broker_of broker.new) connection.new) }
+    ensures awake { OnErr result (MayTurn connection.old) }
+    ensures more { OnErr result (HasMore (kept_of connection.old.kept) (stream_of connection.old.stream)) }
+    ensures idle { IfOk result (λ t. OnIdle t (HoldsNone connection.new.output)) }
+    ensures refused { OnErr result (HoldsNone connection.new.output) }
+    ensures kept { IsKeptEvent connection.new.number connection.new.kept connection.new.stream.fault }
+    ensures number { connection.new.number ≡ connection.old.number }
     ensures topology { topology_kept broker.new ≡ topology_kept broker.old }
-    ensures turns { IfOk result (λ t. TurnLeaves link.old.number (wire_in false link.old) broker.old t broker.new) }
+    ensures turns { IfOk result (λ t. TurnLeaves connection.old.number (wire_in false connection.old) broker.old t broker.new) }
     ensures broker_kept { OnErr result (broker.new ≡ broker.old) }
 {
-    if link.session.is_over() {
+    if connection.session.is_over() {
         return Ok(Turn::Over);
     }
-    if link.output.bytes().len() >= BOUND {
+    if connection.output.bytes().len() >= BOUND {
         return Ok(Turn::Paused);
     }
-    match read_next(link.number, &mut link.stream, &mut link.kept) {
+    match read_next(
+        connection.number,
+        &mut connection.stream,
+        &mut connection.kept,
+    ) {
         Ok(Next::Command) => {
-            make_room(spares, &mut link.output)?;
-            do_kept(alloc, users, broker, scratch, spares, link)
+            make_room(spares, &mut connection.output)?;
+            do_kept(alloc, users, broker, scratch, spares, connection)
         }
         Ok(Next::Fault(code)) => {
-            make_room(spares, &mut link.output)?;
-            do_fault(alloc, users, broker, scratch, spares, link, code)
+            make_room(spares, &mut connection.output)?;
+            do_fault(alloc, users, broker, scratch, spares, connection, code)
         }
         Ok(Next::Nothing) => {
-            spares.take_back(&mut link.output);
+            spares.take_back(&mut connection.output);
             Ok(Turn::Idle)
         }
         Err(error) => {
-            spares.take_back(&mut link.output);
+            spares.take_back(&mut connection.output);
             Err(error)
         }
     }

@@ -11,7 +11,7 @@ pub returns-in-Ok : goal.returns-in-Ok
 returns-in-Ok c =
     let b = c.args.broker.now in
     let mid = c.perform-done.new.broker in
-    let l = c.args.link.now in
+    let l = c.args.connection.now in
     let step = c.in-Ok.step in
     let max = c.frame_max-max.ensures in
     let put = c.put_out.ensures in
@@ -22,7 +22,7 @@ returns-in-Ok c =
     record {
       ok = record { performed = performed; number = refl; none_kept = c.requires.kept; stream = c.follow.ensures };
       broker_kept = tt;
-      link_kept = tt;
+      connection_kept = tt;
       topology = put.topology ∙ c.perform-done.ensures.topology;
       turn = put.turn ∙ c.perform-done.ensures.turn;
       later = one_then broken b mid c.put_out.new.broker c.in-Ok.ensures.later put.later;
@@ -30,12 +30,12 @@ returns-in-Ok c =
 
 pub returns-in-Err : goal.returns-in-Err
 returns-in-Err c =
-    let l = c.args.link.now in
+    let l = c.args.connection.now in
     let kept = c.in-Err.ensures in
     record {
       ok = tt;
       broker_kept = kept.broker_kept;
-      link_kept = record {
+      connection_kept = record {
         rest = λ i. record { number = l.number; session = kept.session_kept i; stream = l.stream; kept = l.kept; output = c.take_back.new.output };
         bytes = c.take_back.ensures.bytes;
         none = c.take_back.ensures.none;

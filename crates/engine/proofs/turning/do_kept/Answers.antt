@@ -13,7 +13,7 @@ pub returns-in-Ok : goal.returns-in-Ok
 returns-in-Ok c =
     let b = c.args.broker.now in
     let mid = c.perform.new.broker in
-    let l = c.args.link.now in
+    let l = c.args.connection.now in
     let event = c.in-Some.event in
     let step = c.in-Ok.step in
     let max = c.frame_max-max.ensures in
@@ -24,7 +24,7 @@ returns-in-Ok c =
     record {
       ok = λ e h. performed_is _ _ _ l _ event e step.notes.items l.kept c.in-Some.is h (record { performed = performed; number = refl; none_kept = c.forget.ensures; stream = c.follow.ensures });
       broker_kept = tt;
-      link_kept = tt;
+      connection_kept = tt;
       topology = put.topology ∙ c.perform.ensures.topology;
       turn = put.turn ∙ c.perform.ensures.turn;
       later = λ e h. subst (λ (x : Event). OneComesIn x b c.put_out.new.broker) (same_Some event e (sym c.in-Some.is ∙ h)) (one_then event b mid c.put_out.new.broker c.in-Ok.ensures.later put.later);
@@ -32,12 +32,12 @@ returns-in-Ok c =
 
 pub returns-in-Err : goal.returns-in-Err
 returns-in-Err c =
-    let l = c.args.link.now in
+    let l = c.args.connection.now in
     let kept = c.in-Err.ensures in
     record {
       ok = tt;
       broker_kept = kept.broker_kept;
-      link_kept = record {
+      connection_kept = record {
         rest = λ i. record { number = l.number; session = kept.session_kept i; stream = l.stream; kept = l.kept; output = c.take_back.new.output };
         bytes = c.take_back.ensures.bytes;
         none = c.take_back.ensures.none;

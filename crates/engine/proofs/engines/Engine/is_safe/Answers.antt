@@ -10,6 +10,6 @@ returns-clause-kept c = subst (λ (p : Parts). AreKept (world_of p).config (worl
 pub returns-clause-safe : goal.returns-clause-safe
 returns-clause-safe c =
     let i = c.self.inside in
-    let all : Parts = record { broker = i.broker; guarantees = i.guarantees.items; users = i.users.items; given = i.given; links = i.links.items } in
+    let all : Parts = record { broker = i.broker; guarantees = i.guarantees.items; users = i.users.items; given = i.given; connections = i.connections.items } in
     subst (λ (p : Parts). NoneStood (world_of p).state.broker → AreSafe (world_of p).config.topology (world_of p).config.guarantees (world_of p).state.broker) c.self.view_is
     (kept_are_safe (world_of all).config (world_of all).state.broker c.self.invariant.consistent.kept)

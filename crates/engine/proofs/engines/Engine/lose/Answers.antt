@@ -1,6 +1,6 @@
 use Rattle.std.proofs.Common.{refl, subst, Some}
 use Rattle.engine.specs.World.{Parts}
-use Rattle.engine.specs.Engines.{IsLinkPlace}
+use Rattle.engine.specs.Engines.{IsConnectionPlace}
 use Rattle.engine.proofs.Tooks.{loses, loses_engine}
 use Rattle.engine.specs.Waiting.{KeepsTurns}
 use Rattle.engine.proofs.Waiting.{turns_same}
@@ -9,16 +9,16 @@ use Rattle.engine.proofs.engines.Engine.lose.Goals as goal
 pub invariant_of-self : goal.invariant_of-self
 invariant_of-self c =
     let i = c.self.inside in
-    let place : IsLinkPlace i.links.items c.args.c (Some c.in-Some.place) = rw (← c.deref.ensures.value) c.in-Some.ensures.place in
-    loses_engine (record { broker = i.broker; guarantees = i.guarantees.items; users = i.users.items; given = i.given; links = i.links.items }) _ c.args.c c.in-Some.place c.self.invariant
+    let place : IsConnectionPlace i.connections.items c.args.c (Some c.in-Some.place) = rw (← c.deref.ensures.value) c.in-Some.ensures.place in
+    loses_engine (record { broker = i.broker; guarantees = i.guarantees.items; users = i.users.items; given = i.given; connections = i.connections.items }) _ c.args.c c.in-Some.place c.self.invariant
     (record { topology = c.lose.ensures.topology; guarantees = refl; users = refl; given = refl }) place c.remove.ensures.items c.lose.ensures.acts
 
 pub returns-in-Some-clause-lost : goal.returns-in-Some-clause-lost
 returns-in-Some-clause-lost c =
     let i = c.self.inside in
-    let old : Parts = record { broker = i.broker; guarantees = i.guarantees.items; users = i.users.items; given = i.given; links = i.links.items } in
-    let place : IsLinkPlace i.links.items c.args.c (Some c.in-Some.place) = rw (← c.deref.ensures.value) c.in-Some.ensures.place in
-    let new : Parts = record { broker = c.lose.new.self; guarantees = i.guarantees.items; users = i.users.items; given = i.given; links = c.remove.new.self.items } in
+    let old : Parts = record { broker = i.broker; guarantees = i.guarantees.items; users = i.users.items; given = i.given; connections = i.connections.items } in
+    let place : IsConnectionPlace i.connections.items c.args.c (Some c.in-Some.place) = rw (← c.deref.ensures.value) c.in-Some.ensures.place in
+    let new : Parts = record { broker = c.lose.new.self; guarantees = i.guarantees.items; users = i.users.items; given = i.given; connections = c.remove.new.self.items } in
     rw (← c.self.view_is) (loses old new c.args.c c.in-Some.place c.self.invariant (record { topology = c.lose.ensures.topology; guarantees = refl; users = refl; given = refl }) place c.remove.ensures.items c.lose.ensures.acts)
 
 pub returns-in-Some-clause-turns : goal.returns-in-Some-clause-turns

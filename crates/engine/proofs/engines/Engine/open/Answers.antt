@@ -4,7 +4,7 @@ use Rattle.model.specs.Commands.{opened_stream}
 use Rattle.model.specs.Opening.{new_session}
 use Rattle.model.specs.declared.events.Event.TheVariants as event
 use Rattle.runs.specs.Opened.{IsOpened}
-use Rattle.engine.specs.declared.connected.Connected.{Connected}
+use Rattle.engine.specs.declared.connection.Connection.{Connection}
 use Rattle.engine.specs.World.{Parts, world_of, IsNew}
 use Rattle.engine.specs.Opening.{OpenedNew}
 use Rattle.engine.proofs.Openings.{IsOneMore, refused_so, engine_opened, opened_new}
@@ -15,48 +15,48 @@ use Rattle.engine.proofs.engines.Engine.open.Goals as goal
 pub returns-in_err-number-clause-opened : goal.returns-in_err-number-clause-opened
 returns-in_err-number-clause-opened c =
     let i = c.self.inside in
-    let old : Parts = record { broker = i.broker; guarantees = i.guarantees.items; users = i.users.items; given = i.given; links = i.links.items } in
-    let new : Parts = record old { links = c.next_number.new.links.items } in
+    let old : Parts = record { broker = i.broker; guarantees = i.guarantees.items; users = i.users.items; given = i.given; connections = i.connections.items } in
+    let new : Parts = record old { connections = c.next_number.new.connections.items } in
     let p = err_from_is_err_and c.from_residual.result c.from_residual.ensures.1 in
     subst (λ (z : Parts). OpenedNew (world_of z) c.from_residual.result (world_of new)) c.self.view_is
-    (refused_so old new (event.Open (i.given + 1)) opened_stream c.from_residual.result p.0 c.in_err-number.field-0.0 p.1 p.2 c.self.invariant.links c.in_err-number.ensures.numbers
+    (refused_so old new (event.Open (i.given + 1)) opened_stream c.from_residual.result p.0 c.in_err-number.field-0.0 p.1 p.2 c.self.invariant.connections c.in_err-number.ensures.numbers
     (world_stays old new (record { topology = refl; guarantees = refl; users = refl; given = refl }) refl c.in_err-number.ensures.same))
 
 pub invariant_of-self-2 : goal.invariant_of-self-2
 invariant_of-self-2 c =
     let i = c.self.inside in
-    let old : Parts = record { broker = i.broker; guarantees = i.guarantees.items; users = i.users.items; given = i.given; links = i.links.items } in
-    let new : Parts = record old { given = c.in_ok-number.number; links = c.push_reserved.new.self.items } in
+    let old : Parts = record { broker = i.broker; guarantees = i.guarantees.items; users = i.users.items; given = i.given; connections = i.connections.items } in
+    let new : Parts = record old { given = c.in_ok-number.number; connections = c.push_reserved.new.self.items } in
     let numbers = c.in_ok-number.ensures.numbers in
     let more : IsOneMore old new c.new.result new_session opened_stream = record {
       topology = refl;
       guarantees = refl;
       users = refl;
       given = numbers.0;
-      links = c.push_reserved.ensures.items ∙ ap (λ (z : List Connected). z ++ c.new.result ∷ []) c.in_ok-number.ensures.same;
+      connections = c.push_reserved.ensures.items ∙ ap (λ (z : List Connection). z ++ c.new.result ∷ []) c.in_ok-number.ensures.same;
       is = subst (λ (n : ℕ). IsNew c.new.result n new_session opened_stream) numbers.0 c.new.ensures;
       awake = refl;
     } in
     engine_opened old new c.new.result new_session opened_stream c.self.invariant more
-    (opens_new_agrees (world_of old) (world_of new) c.in_ok-number.number (agreed old c.self.invariant) (opened_new old new c.new.result c.in_ok-number.number c.self.invariant.links numbers more refl))
+    (opens_new_agrees (world_of old) (world_of new) c.in_ok-number.number (agreed old c.self.invariant) (opened_new old new c.new.result c.in_ok-number.number c.self.invariant.connections numbers more refl))
 
 pub returns-clause-opened : goal.returns-clause-opened
 returns-clause-opened c =
     let i = c.self.inside in
-    let old : Parts = record { broker = i.broker; guarantees = i.guarantees.items; users = i.users.items; given = i.given; links = i.links.items } in
-    let new : Parts = record old { given = c.in_ok-number.number; links = c.push_reserved.new.self.items } in
+    let old : Parts = record { broker = i.broker; guarantees = i.guarantees.items; users = i.users.items; given = i.given; connections = i.connections.items } in
+    let new : Parts = record old { given = c.in_ok-number.number; connections = c.push_reserved.new.self.items } in
     let numbers = c.in_ok-number.ensures.numbers in
     let more : IsOneMore old new c.new.result new_session opened_stream = record {
       topology = refl;
       guarantees = refl;
       users = refl;
       given = numbers.0;
-      links = c.push_reserved.ensures.items ∙ ap (λ (z : List Connected). z ++ c.new.result ∷ []) c.in_ok-number.ensures.same;
+      connections = c.push_reserved.ensures.items ∙ ap (λ (z : List Connection). z ++ c.new.result ∷ []) c.in_ok-number.ensures.same;
       is = subst (λ (n : ℕ). IsNew c.new.result n new_session opened_stream) numbers.0 c.new.ensures;
       awake = refl;
     } in
     subst (λ (p : Parts). IsOpened (event.Open (p.given + 1)) opened_stream (world_of p) (Some c.in_ok-number.number) (world_of new)) c.self.view_is
-    (opened_new old new c.new.result c.in_ok-number.number c.self.invariant.links numbers more refl)
+    (opened_new old new c.new.result c.in_ok-number.number c.self.invariant.connections numbers more refl)
 
 pub returns-in_err-number-clause-broker : goal.returns-in_err-number-clause-broker
 returns-in_err-number-clause-broker c = rw (← c.self.view_is) refl

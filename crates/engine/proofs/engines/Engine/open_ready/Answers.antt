@@ -6,7 +6,7 @@ use Rattle.model.specs.Step.{Acts}
 use Rattle.model.specs.declared.events.Event.TheVariants as event
 use Rattle.broker.specs.Turns.{topology_kept, broker_of}
 use Rattle.runs.specs.Opened.{IsOpened}
-use Rattle.engine.specs.declared.connected.Connected.{Connected}
+use Rattle.engine.specs.declared.connection.Connection.{Connection}
 use Rattle.engine.specs.World.{Parts, world_of, IsNew}
 use Rattle.engine.specs.Opening.{OpenedReady}
 use Rattle.engine.proofs.Openings.{IsOneMore, refused_so, refused_memory, engine_opened, opened_ready}
@@ -19,62 +19,62 @@ use Rattle.engine.proofs.engines.Engine.open_ready.Goals as goal
 pub returns-in_err-number-clause-opened : goal.returns-in_err-number-clause-opened
 returns-in_err-number-clause-opened c =
     let i = c.self.inside in
-    let old : Parts = record { broker = i.broker; guarantees = i.guarantees.items; users = i.users.items; given = i.given; links = i.links.items } in
-    let new : Parts = record old { links = c.next_number.new.links.items } in
+    let old : Parts = record { broker = i.broker; guarantees = i.guarantees.items; users = i.users.items; given = i.given; connections = i.connections.items } in
+    let new : Parts = record old { connections = c.next_number.new.connections.items } in
     let p = err_from_is_err_and c.from_residual.result c.from_residual.ensures.1 in
     subst (λ (z : Parts). OpenedReady (world_of z) c.args.channels c.from_residual.result (world_of new)) c.self.view_is
-    (refused_so old new (event.Running (i.given + 1) 255 c.args.channels) running_stream c.from_residual.result p.0 c.in_err-number.field-0.0 p.1 p.2 c.self.invariant.links c.in_err-number.ensures.numbers
+    (refused_so old new (event.Running (i.given + 1) 255 c.args.channels) running_stream c.from_residual.result p.0 c.in_err-number.field-0.0 p.1 p.2 c.self.invariant.connections c.in_err-number.ensures.numbers
     (world_stays old new (record { topology = refl; guarantees = refl; users = refl; given = refl }) refl c.in_err-number.ensures.same))
 
 pub returns-in_err-open-clause-opened : goal.returns-in_err-open-clause-opened
 returns-in_err-open-clause-opened c =
     let i = c.self.inside in
-    let old : Parts = record { broker = i.broker; guarantees = i.guarantees.items; users = i.users.items; given = i.given; links = i.links.items } in
-    let new : Parts = record old { broker = c.open.new.self; links = c.next_number.new.links.items } in
+    let old : Parts = record { broker = i.broker; guarantees = i.guarantees.items; users = i.users.items; given = i.given; connections = i.connections.items } in
+    let new : Parts = record old { broker = c.open.new.self; connections = c.next_number.new.connections.items } in
     let p = err_from_is_err_and c.from_residual-in_err-open.result c.from_residual-in_err-open.ensures.1 in
     subst (λ (z : Parts). OpenedReady (world_of z) c.args.channels c.from_residual-in_err-open.result (world_of new)) c.self.view_is
-    (refused_memory old new (event.Running (i.given + 1) 255 c.args.channels) running_stream c.from_residual-in_err-open.result p.0 c.in_ok-number.number p.1 p.2 c.self.invariant.links c.in_ok-number.ensures.numbers
+    (refused_memory old new (event.Running (i.given + 1) 255 c.args.channels) running_stream c.from_residual-in_err-open.result p.0 c.in_ok-number.number p.1 p.2 c.self.invariant.connections c.in_ok-number.ensures.numbers
     (world_stays old new (record { topology = c.in_err-open.ensures.topology; guarantees = refl; users = refl; given = refl }) (ap broker_of c.in_err-open.ensures.err) c.in_ok-number.ensures.same))
 
 pub invariant_of-self-2 : goal.invariant_of-self-2
 invariant_of-self-2 c =
     let i = c.self.inside in
-    let old : Parts = record { broker = i.broker; guarantees = i.guarantees.items; users = i.users.items; given = i.given; links = i.links.items } in
-    let new : Parts = record old { broker = c.open.new.self; given = c.in_ok-number.number; links = c.push_reserved.new.self.items } in
+    let old : Parts = record { broker = i.broker; guarantees = i.guarantees.items; users = i.users.items; given = i.given; connections = i.connections.items } in
+    let new : Parts = record old { broker = c.open.new.self; given = c.in_ok-number.number; connections = c.push_reserved.new.self.items } in
     let numbers = c.in_ok-number.ensures.numbers in
     let more : IsOneMore old new c.running.result running_session running_stream = record {
       topology = c.open.ensures.topology;
       guarantees = refl;
       users = refl;
       given = numbers.0;
-      links = c.push_reserved.ensures.items ∙ ap (λ (z : List Connected). z ++ c.running.result ∷ []) c.in_ok-number.ensures.same;
+      connections = c.push_reserved.ensures.items ∙ ap (λ (z : List Connection). z ++ c.running.result ∷ []) c.in_ok-number.ensures.same;
       is = subst (λ (n : ℕ). IsNew c.running.result n running_session running_stream) numbers.0 c.running.ensures;
       awake = refl;
     } in
     let acts : Acts (topology_kept i.broker) (broker_of i.broker) (event.Running c.in_ok-number.number 255 c.args.channels) [] [] (broker_of c.open.new.self) =
     subst (λ (k : ℕ). Acts (topology_kept i.broker) (broker_of i.broker) (event.Running c.in_ok-number.number 255 k) [] [] (broker_of c.open.new.self)) c.from.ensures c.in_ok-open.ensures.ok in
     engine_opened old new c.running.result running_session running_stream c.self.invariant more
-    (opens_ready_agrees (world_of old) (world_of new) c.args.channels c.in_ok-number.number (agreed old c.self.invariant) (opened_ready old new c.running.result c.in_ok-number.number c.args.channels c.self.invariant.links numbers more acts))
+    (opens_ready_agrees (world_of old) (world_of new) c.args.channels c.in_ok-number.number (agreed old c.self.invariant) (opened_ready old new c.running.result c.in_ok-number.number c.args.channels c.self.invariant.connections numbers more acts))
 
 pub returns-clause-opened : goal.returns-clause-opened
 returns-clause-opened c =
     let i = c.self.inside in
-    let old : Parts = record { broker = i.broker; guarantees = i.guarantees.items; users = i.users.items; given = i.given; links = i.links.items } in
-    let new : Parts = record old { broker = c.open.new.self; given = c.in_ok-number.number; links = c.push_reserved.new.self.items } in
+    let old : Parts = record { broker = i.broker; guarantees = i.guarantees.items; users = i.users.items; given = i.given; connections = i.connections.items } in
+    let new : Parts = record old { broker = c.open.new.self; given = c.in_ok-number.number; connections = c.push_reserved.new.self.items } in
     let numbers = c.in_ok-number.ensures.numbers in
     let more : IsOneMore old new c.running.result running_session running_stream = record {
       topology = c.open.ensures.topology;
       guarantees = refl;
       users = refl;
       given = numbers.0;
-      links = c.push_reserved.ensures.items ∙ ap (λ (z : List Connected). z ++ c.running.result ∷ []) c.in_ok-number.ensures.same;
+      connections = c.push_reserved.ensures.items ∙ ap (λ (z : List Connection). z ++ c.running.result ∷ []) c.in_ok-number.ensures.same;
       is = subst (λ (n : ℕ). IsNew c.running.result n running_session running_stream) numbers.0 c.running.ensures;
       awake = refl;
     } in
     let acts : Acts (topology_kept i.broker) (broker_of i.broker) (event.Running c.in_ok-number.number 255 c.args.channels) [] [] (broker_of c.open.new.self) =
     subst (λ (k : ℕ). Acts (topology_kept i.broker) (broker_of i.broker) (event.Running c.in_ok-number.number 255 k) [] [] (broker_of c.open.new.self)) c.from.ensures c.in_ok-open.ensures.ok in
     subst (λ (p : Parts). IsOpened (event.Running (p.given + 1) 255 c.args.channels) running_stream (world_of p) (Some c.in_ok-number.number) (world_of new)) c.self.view_is
-    (opened_ready old new c.running.result c.in_ok-number.number c.args.channels c.self.invariant.links numbers more acts)
+    (opened_ready old new c.running.result c.in_ok-number.number c.args.channels c.self.invariant.connections numbers more acts)
 
 pub returns-in_err-number-clause-turns : goal.returns-in_err-number-clause-turns
 returns-in_err-number-clause-turns c = rw (← c.self.view_is) (turns_same c.self.inside.broker)

@@ -8,7 +8,7 @@ use Rattle.broker.specs.Turns as broker
 use Rattle.broker.specs.Turns.{WithTurn}
 use Rattle.runs.specs.Opened.{Idles}
 use Rattle.engine.specs.World.{Parts, world_of}
-use Rattle.engine.specs.Engines.{IsLinkPlace}
+use Rattle.engine.specs.Engines.{IsConnectionPlace}
 use Rattle.engine.specs.Pumping.{IsPump, OutputChanges}
 use Rattle.engine.specs.Waiting.{ServesOne, TellsOne}
 use Rattle.engine.proofs.Asked.{on_err}
@@ -16,48 +16,48 @@ use Rattle.engine.proofs.Delivered.{output_change, pumped_stays, picked_engine, 
 use Rattle.engine.proofs.Waiting.{serves_one, told_again}
 use Rattle.engine.proofs.engines.Engine.pump.Goals as goal
 
-pub pump_link-requires-clause-picked : goal.pump_link-requires-clause-picked
-pump_link-requires-clause-picked c = subst (λ (b : Kept). IsPick (broker_of b) c.in-Some.pick) (sym c.in-Some.ensures.kept) c.in-Some.ensures.some
+pub pump_connection-requires-clause-picked : goal.pump_connection-requires-clause-picked
+pump_connection-requires-clause-picked c = subst (λ (b : Kept). IsPick (broker_of b) c.in-Some.pick) (sym c.in-Some.ensures.kept) c.in-Some.ensures.some
 
-pub pump_link-requires-clause-named : goal.pump_link-requires-clause-named
-pump_link-requires-clause-named c = subst (λ (b : Kept). AreNamed (topology_kept b) (broker_of b)) (sym c.in-Some.ensures.kept) c.self.invariant.named
+pub pump_connection-requires-clause-named : goal.pump_connection-requires-clause-named
+pump_connection-requires-clause-named c = subst (λ (b : Kept). AreNamed (topology_kept b) (broker_of b)) (sym c.in-Some.ensures.kept) c.self.invariant.named
 
 pub invariant_of-self-in_err-notes : goal.invariant_of-self-in_err-notes
 invariant_of-self-in_err-notes c =
     let i = c.self.inside in
-    let old : Parts = record { broker = i.broker; guarantees = i.guarantees.items; users = i.users.items; given = i.given; links = i.links.items } in
+    let old : Parts = record { broker = i.broker; guarantees = i.guarantees.items; users = i.users.items; given = i.given; connections = i.connections.items } in
     let pick = c.in-Some.pick in
-    let place = c.in-Some-place_of.place in
-    let at : IsLinkPlace i.links.items pick.connection (Some place) = rw (← c.deref.ensures.value) c.in-Some-place_of.ensures.place in
-    let change : OutputChanges pick.connection i.links.items (set i.links.items place c.pump_link.new.link) =
-    output_change i.links.items pick.connection place c.index_mut.result.now c.pump_link.new.link at (sym c.index_mut.ensures.value) c.pump_link.ensures.rest in
-    pumped_stays c.pump_link.result (λ v. v.items) old _ c.pick.new.self pick.connection change c.self.invariant c.in-Some.ensures.kept (record { topology = c.pump_link.ensures.topology; guarantees = refl; users = refl; given = refl }) c.in-Some.ensures.some.0
-    c.pump_link.ensures.ok c.pump_link.ensures.broker_kept c.pump_link.ensures.output_kept
+    let place = c.in-Some-connection_place.place in
+    let at : IsConnectionPlace i.connections.items pick.connection (Some place) = rw (← c.deref.ensures.value) c.in-Some-connection_place.ensures.place in
+    let change : OutputChanges pick.connection i.connections.items (set i.connections.items place c.pump_connection.new.connection) =
+    output_change i.connections.items pick.connection place c.index_mut.result.now c.pump_connection.new.connection at (sym c.index_mut.ensures.value) c.pump_connection.ensures.rest in
+    pumped_stays c.pump_connection.result (λ v. v.items) old _ c.pick.new.self pick.connection change c.self.invariant c.in-Some.ensures.kept (record { topology = c.pump_connection.ensures.topology; guarantees = refl; users = refl; given = refl }) c.in-Some.ensures.some.0
+    c.pump_connection.ensures.ok c.pump_connection.ensures.broker_kept c.pump_connection.ensures.output_kept
 
 pub invariant_of-self-2 : goal.invariant_of-self-2
 invariant_of-self-2 c =
     let i = c.self.inside in
-    let old : Parts = record { broker = i.broker; guarantees = i.guarantees.items; users = i.users.items; given = i.given; links = i.links.items } in
+    let old : Parts = record { broker = i.broker; guarantees = i.guarantees.items; users = i.users.items; given = i.given; connections = i.connections.items } in
     let pick = c.in-Some.pick in
-    let place = c.in-Some-place_of.place in
-    let at : IsLinkPlace i.links.items pick.connection (Some place) = rw (← c.deref.ensures.value) c.in-Some-place_of.ensures.place in
-    let change : OutputChanges pick.connection i.links.items (set i.links.items place c.pump_link.new.link) =
-    output_change i.links.items pick.connection place c.index_mut.result.now c.pump_link.new.link at (sym c.index_mut.ensures.value) c.pump_link.ensures.rest in
-    pumped_stays c.pump_link.result (λ v. v.items) old _ c.pick.new.self pick.connection change c.self.invariant c.in-Some.ensures.kept (record { topology = c.pump_link.ensures.topology; guarantees = refl; users = refl; given = refl }) c.in-Some.ensures.some.0
-    c.pump_link.ensures.ok c.pump_link.ensures.broker_kept c.pump_link.ensures.output_kept
+    let place = c.in-Some-connection_place.place in
+    let at : IsConnectionPlace i.connections.items pick.connection (Some place) = rw (← c.deref.ensures.value) c.in-Some-connection_place.ensures.place in
+    let change : OutputChanges pick.connection i.connections.items (set i.connections.items place c.pump_connection.new.connection) =
+    output_change i.connections.items pick.connection place c.index_mut.result.now c.pump_connection.new.connection at (sym c.index_mut.ensures.value) c.pump_connection.ensures.rest in
+    pumped_stays c.pump_connection.result (λ v. v.items) old _ c.pick.new.self pick.connection change c.self.invariant c.in-Some.ensures.kept (record { topology = c.pump_connection.ensures.topology; guarantees = refl; users = refl; given = refl }) c.in-Some.ensures.some.0
+    c.pump_connection.ensures.ok c.pump_connection.ensures.broker_kept c.pump_connection.ensures.output_kept
 
 pub returns-in_err-notes-clause-err : goal.returns-in_err-notes-clause-err
 returns-in_err-notes-clause-err c =
     let i = c.self.inside in
-    let old : Parts = record { broker = i.broker; guarantees = i.guarantees.items; users = i.users.items; given = i.given; links = i.links.items } in
+    let old : Parts = record { broker = i.broker; guarantees = i.guarantees.items; users = i.users.items; given = i.given; connections = i.connections.items } in
     let pick = c.in-Some.pick in
-    let place = c.in-Some-place_of.place in
-    let at : IsLinkPlace i.links.items pick.connection (Some place) = rw (← c.deref.ensures.value) c.in-Some-place_of.ensures.place in
-    let change : OutputChanges pick.connection i.links.items (set i.links.items place c.pump_link.new.link) =
-    output_change i.links.items pick.connection place c.index_mut.result.now c.pump_link.new.link at (sym c.index_mut.ensures.value) c.pump_link.ensures.rest in
-    let new : Parts = record old { broker = c.pump_link.new.broker; links = set i.links.items place c.pump_link.new.link } in
+    let place = c.in-Some-connection_place.place in
+    let at : IsConnectionPlace i.connections.items pick.connection (Some place) = rw (← c.deref.ensures.value) c.in-Some-connection_place.ensures.place in
+    let change : OutputChanges pick.connection i.connections.items (set i.connections.items place c.pump_connection.new.connection) =
+    output_change i.connections.items pick.connection place c.index_mut.result.now c.pump_connection.new.connection at (sym c.index_mut.ensures.value) c.pump_connection.ensures.rest in
+    let new : Parts = record old { broker = c.pump_connection.new.broker; connections = set i.connections.items place c.pump_connection.new.connection } in
     on_err c.from_residual.result _ (subst (λ (p : Parts). Same (world_of p) (world_of new)) c.self.view_is
-    (picked_not old new c.pick.new.self pick.connection c.self.invariant c.in-Some.ensures.kept (record { topology = c.pump_link.ensures.topology; guarantees = refl; users = refl; given = refl }) c.in-Some.ensures.some.0
+    (picked_not old new c.pick.new.self pick.connection c.self.invariant c.in-Some.ensures.kept (record { topology = c.pump_connection.ensures.topology; guarantees = refl; users = refl; given = refl }) c.in-Some.ensures.some.0
     (record { change = change; broker = ap broker.broker_of c.in_err-notes.ensures.broker_kept; output = c.in_err-notes.ensures.output_kept })))
 
 pub returns-in_err-notes-clause-wanted : goal.returns-in_err-notes-clause-wanted
@@ -67,7 +67,7 @@ returns-in_err-notes-clause-wanted c =
 
 pub returns-in_err-notes-clause-told : goal.returns-in_err-notes-clause-told
 returns-in_err-notes-clause-told c =
-    on_err c.from_residual.result _ (subst (λ (p : Parts). TellsOne p.broker c.pump_link.new.broker) c.self.view_is
+    on_err c.from_residual.result _ (subst (λ (p : Parts). TellsOne p.broker c.pump_connection.new.broker) c.self.view_is
     (subst (λ (b : WithTurn). TellsOne c.self.inside.broker b) (sym c.in_err-notes.ensures.broker_kept)
     (record {
       told = c.in-Some.pick;
@@ -80,32 +80,32 @@ returns-in_err-notes-clause-told c =
 pub returns-clause-ok : goal.returns-clause-ok
 returns-clause-ok c =
     let i = c.self.inside in
-    let old : Parts = record { broker = i.broker; guarantees = i.guarantees.items; users = i.users.items; given = i.given; links = i.links.items } in
+    let old : Parts = record { broker = i.broker; guarantees = i.guarantees.items; users = i.users.items; given = i.given; connections = i.connections.items } in
     let pick = c.in-Some.pick in
-    let place = c.in-Some-place_of.place in
-    let at : IsLinkPlace i.links.items pick.connection (Some place) = rw (← c.deref.ensures.value) c.in-Some-place_of.ensures.place in
-    let change : OutputChanges pick.connection i.links.items (set i.links.items place c.pump_link.new.link) =
-    output_change i.links.items pick.connection place c.index_mut.result.now c.pump_link.new.link at (sym c.index_mut.ensures.value) c.pump_link.ensures.rest in
-    let new : Parts = record old { broker = c.pump_link.new.broker; links = set i.links.items place c.pump_link.new.link } in
+    let place = c.in-Some-connection_place.place in
+    let at : IsConnectionPlace i.connections.items pick.connection (Some place) = rw (← c.deref.ensures.value) c.in-Some-connection_place.ensures.place in
+    let change : OutputChanges pick.connection i.connections.items (set i.connections.items place c.pump_connection.new.connection) =
+    output_change i.connections.items pick.connection place c.index_mut.result.now c.pump_connection.new.connection at (sym c.index_mut.ensures.value) c.pump_connection.ensures.rest in
+    let new : Parts = record old { broker = c.pump_connection.new.broker; connections = set i.connections.items place c.pump_connection.new.connection } in
     let notes = c.in_ok-notes.notes.items in
     subst (λ (p : Parts). IsPump (world_of p) pick.connection notes (world_of new)) c.self.view_is
-    (picked_pumps old new c.pick.new.self pick.connection notes c.self.invariant c.in-Some.ensures.kept (record { topology = c.pump_link.ensures.topology; guarantees = refl; users = refl; given = refl }) (record { change = change; pumped = c.in_ok-notes.ensures.ok }))
+    (picked_pumps old new c.pick.new.self pick.connection notes c.self.invariant c.in-Some.ensures.kept (record { topology = c.pump_connection.ensures.topology; guarantees = refl; users = refl; given = refl }) (record { change = change; pumped = c.in_ok-notes.ensures.ok }))
 
 pub returns-clause-in_turn : goal.returns-clause-in_turn
 returns-clause-in_turn c =
-    let now : WithTurn = c.pump_link.new.broker in
+    let now : WithTurn = c.pump_connection.new.broker in
     subst (λ (p : Parts). ServesOne p.broker c.in-Some.pick.connection now) c.self.view_is
     (serves_one c.self.inside.broker c.pick.new.self now c.in-Some.pick c.in-Some.ensures.kept c.in-Some.ensures.in_turn c.in-Some.ensures.turn c.in-Some.ensures.again
-    c.in_ok-notes.ensures.later c.pump_link.ensures.topology c.in_ok-notes.ensures.over c.in_ok-notes.ensures.soon)
+    c.in_ok-notes.ensures.later c.pump_connection.ensures.topology c.in_ok-notes.ensures.over c.in_ok-notes.ensures.soon)
 
 pub invariant_of-self : goal.invariant_of-self
 invariant_of-self c =
     let i = c.self.inside in
-    let old : Parts = record { broker = i.broker; guarantees = i.guarantees.items; users = i.users.items; given = i.given; links = i.links.items } in
+    let old : Parts = record { broker = i.broker; guarantees = i.guarantees.items; users = i.users.items; given = i.given; connections = i.connections.items } in
     picked_engine old c.pick.new.self c.in_default.ensures.kept c.self.invariant
 
 pub returns-in_default-clause-ok : goal.returns-in_default-clause-ok
 returns-in_default-clause-ok c =
     let i = c.self.inside in
-    let old : Parts = record { broker = i.broker; guarantees = i.guarantees.items; users = i.users.items; given = i.given; links = i.links.items } in
+    let old : Parts = record { broker = i.broker; guarantees = i.guarantees.items; users = i.users.items; given = i.given; connections = i.connections.items } in
     subst (λ (p : Parts). Idles (world_of p) (world_of (record old { broker = c.pick.new.self }))) c.self.view_is (picked_none old c.pick.new.self c.in_default.ensures.kept (c.in_default.ensures.none refl))

@@ -14,13 +14,13 @@ use Rattle.engine.proofs.engines.Engine.reload.Goals as goal
 pub invariant_of-self : goal.invariant_of-self
 invariant_of-self c =
     let i = c.self.inside in
-    let old : Parts = record { broker = i.broker; guarantees = i.guarantees.items; users = i.users.items; given = i.given; links = i.links.items } in
+    let old : Parts = record { broker = i.broker; guarantees = i.guarantees.items; users = i.users.items; given = i.given; connections = i.connections.items } in
     refused_engine old c.put.new.broker _ c.in_err-put.field-0.0 c.self.invariant (c.in_err-put.ensures.put c.args.users.items)
 
 pub returns-in_err-put-clause-told : goal.returns-in_err-put-clause-told
 returns-in_err-put-clause-told c =
     let i = c.self.inside in
-    let old : Parts = record { broker = i.broker; guarantees = i.guarantees.items; users = i.users.items; given = i.given; links = i.links.items } in
+    let old : Parts = record { broker = i.broker; guarantees = i.guarantees.items; users = i.users.items; given = i.given; connections = i.connections.items } in
     let parts = c.into_parts-topology in
     let p = err_from_is_err_and c.from_residual.result c.from_residual.ensures.1 in
     subst (λ (z : Parts). TellsReload (world_of z) (in_force c.args.checked c.args.users.items) c.from_residual.result (world_of (record old { broker = c.put.new.broker }))) c.self.view_is
@@ -31,7 +31,7 @@ returns-in_err-put-clause-told c =
 pub returns-in_err-put-clause-kept : goal.returns-in_err-put-clause-kept
 returns-in_err-put-clause-kept c =
     let i = c.self.inside in
-    let old : Parts = record { broker = i.broker; guarantees = i.guarantees.items; users = i.users.items; given = i.given; links = i.links.items } in
+    let old : Parts = record { broker = i.broker; guarantees = i.guarantees.items; users = i.users.items; given = i.given; connections = i.connections.items } in
     let p = err_from_is_err_and c.from_residual.result c.from_residual.ensures.1 in
     rw (p.1) (rw (← c.self.view_is) (refused_is old c.put.new.broker _ c.in_err-put.field-0.0 (c.in_err-put.ensures.put c.args.users.items)))
 
@@ -48,7 +48,7 @@ returns-clause-wants c = λ memory. elim memory [ ]
 pub invariant_of-self-2 : goal.invariant_of-self-2
 invariant_of-self-2 c =
     let i = c.self.inside in
-    let old : Parts = record { broker = i.broker; guarantees = i.guarantees.items; users = i.users.items; given = i.given; links = i.links.items } in
+    let old : Parts = record { broker = i.broker; guarantees = i.guarantees.items; users = i.users.items; given = i.given; connections = i.connections.items } in
     let parts = c.into_parts-topology in
     let tells = tells_offered i.broker c.put.new.broker c.args.checked c.args.users.items parts.result.0 c.as_slice.result.now parts.result.1.items (Ok tt) parts.ensures.topology c.as_slice.ensures.value parts.ensures.guarantees (c.in_ok-put.ensures.put c.args.users.items) in
     put_engine old _ _ c.self.invariant (offered_sound c.args.checked c.args.users.items parts.result.0 parts.result.1.items parts.ensures.topology parts.ensures.guarantees parts.ensures.hold parts.ensures.well_formed)
@@ -57,7 +57,7 @@ invariant_of-self-2 c =
 pub returns-clause-told : goal.returns-clause-told
 returns-clause-told c =
     let i = c.self.inside in
-    let old : Parts = record { broker = i.broker; guarantees = i.guarantees.items; users = i.users.items; given = i.given; links = i.links.items } in
+    let old : Parts = record { broker = i.broker; guarantees = i.guarantees.items; users = i.users.items; given = i.given; connections = i.connections.items } in
     let parts = c.into_parts-topology in
     let tells = tells_offered i.broker c.put.new.broker c.args.checked c.args.users.items parts.result.0 c.as_slice.result.now parts.result.1.items (Ok tt) parts.ensures.topology c.as_slice.ensures.value parts.ensures.guarantees (c.in_ok-put.ensures.put c.args.users.items) in
     subst (λ (z : Parts). IsPutInForce (world_of z) (in_force c.args.checked c.args.users.items) (world_of (record old { broker = c.put.new.broker; guarantees = parts.result.1.items; users = c.args.users.items }))) c.self.view_is

@@ -2,9 +2,9 @@ use Rattle.std.proofs.Common.{◌≡◌, get_or, refl, sym, subst, Some}
 use Rattle.std.specs.Prelude.{IfOk, OnErr}
 use Rattle.broker.specs.Turns.{topology_kept, broker_of}
 use Rattle.engine.specs.World.{Parts, world_of}
-use Rattle.engine.specs.Engines.{IsLinkPlace}
+use Rattle.engine.specs.Engines.{IsConnectionPlace}
 use Rattle.engine.specs.Waiting.{TurnLeaves}
-use Rattle.engine.proofs.Swept.{links_took}
+use Rattle.engine.proofs.Swept.{connections_took}
 use Rattle.engine.proofs.Tooks.{took, took_engine, not_there}
 use Rattle.engine.proofs.Waiting.{leaves_at, leaves_here}
 use Rattle.engine.proofs.engines.Engine.turn.Goals as goal
@@ -13,40 +13,40 @@ pub invariant_of-self : goal.invariant_of-self
 invariant_of-self c =
     let i = c.self.inside in
     let l = c.index_mut.result.now in
-    let did = c.turn_link-turn.ensures in
-    let place : IsLinkPlace i.links.items c.args.c (Some c.in-Some.place) = rw (← c.deref.ensures.value) c.in-Some.ensures.place in
-    let here : get_or i.links.items c.in-Some.place l ≡ l = sym c.index_mut.ensures.value in
-    took_engine (record { broker = i.broker; guarantees = i.guarantees.items; users = i.users.items; given = i.given; links = i.links.items }) _ c.in-Some.place c.turn_link-turn.result c.self.invariant
+    let did = c.turn_connection-turn.ensures in
+    let place : IsConnectionPlace i.connections.items c.args.c (Some c.in-Some.place) = rw (← c.deref.ensures.value) c.in-Some.ensures.place in
+    let here : get_or i.connections.items c.in-Some.place l ≡ l = sym c.index_mut.ensures.value in
+    took_engine (record { broker = i.broker; guarantees = i.guarantees.items; users = i.users.items; given = i.given; connections = i.connections.items }) _ c.in-Some.place c.turn_connection-turn.result c.self.invariant
     (record { topology = did.topology; guarantees = refl; users = refl; given = refl })
-    (links_took c.turn_link-turn.result (topology_kept i.broker) c.as_slice.result.now i.users.items (broker_of i.broker) i.links.items c.in-Some.place l c.turn_link-turn.new.link (broker_of c.turn_link-turn.new.broker) c.sweep.new.links.items
+    (connections_took c.turn_connection-turn.result (topology_kept i.broker) c.as_slice.result.now i.users.items (broker_of i.broker) i.connections.items c.in-Some.place l c.turn_connection-turn.new.connection (broker_of c.turn_connection-turn.new.broker) c.sweep.new.connections.items
     c.as_slice.ensures.value place.0 here did.number did.kept c.sweep.ensures did.ok did.err did.awake did.more)
 
 pub returns : goal.returns
 returns c =
     let i = c.self.inside in
     let l = c.index_mut.result.now in
-    let did = c.turn_link-turn.ensures in
-    let old : Parts = record { broker = i.broker; guarantees = i.guarantees.items; users = i.users.items; given = i.given; links = i.links.items } in
-    let new : Parts = record { broker = c.turn_link-turn.new.broker; guarantees = i.guarantees.items; users = i.users.items; given = i.given; links = c.sweep.new.links.items } in
-    let place : IsLinkPlace i.links.items c.args.c (Some c.in-Some.place) = rw (← c.deref.ensures.value) c.in-Some.ensures.place in
-    let here : get_or i.links.items c.in-Some.place l ≡ l = sym c.index_mut.ensures.value in
-    let links = links_took c.turn_link-turn.result (topology_kept i.broker) c.as_slice.result.now i.users.items (broker_of i.broker) i.links.items c.in-Some.place l c.turn_link-turn.new.link (broker_of c.turn_link-turn.new.broker) c.sweep.new.links.items
+    let did = c.turn_connection-turn.ensures in
+    let old : Parts = record { broker = i.broker; guarantees = i.guarantees.items; users = i.users.items; given = i.given; connections = i.connections.items } in
+    let new : Parts = record { broker = c.turn_connection-turn.new.broker; guarantees = i.guarantees.items; users = i.users.items; given = i.given; connections = c.sweep.new.connections.items } in
+    let place : IsConnectionPlace i.connections.items c.args.c (Some c.in-Some.place) = rw (← c.deref.ensures.value) c.in-Some.ensures.place in
+    let here : get_or i.connections.items c.in-Some.place l ≡ l = sym c.index_mut.ensures.value in
+    let connections = connections_took c.turn_connection-turn.result (topology_kept i.broker) c.as_slice.result.now i.users.items (broker_of i.broker) i.connections.items c.in-Some.place l c.turn_connection-turn.new.connection (broker_of c.turn_connection-turn.new.broker) c.sweep.new.connections.items
     c.as_slice.ensures.value place.0 here did.number did.kept c.sweep.ensures did.ok did.err did.awake did.more in
-    let out = took old new c.args.c c.in-Some.place c.turn_link-turn.result c.self.invariant (record { topology = did.topology; guarantees = refl; users = refl; given = refl }) place links in
+    let out = took old new c.args.c c.in-Some.place c.turn_connection-turn.result c.self.invariant (record { topology = did.topology; guarantees = refl; users = refl; given = refl }) place connections in
     record {
       ok = rw (← c.self.view_is) out.ok;
       fewer = rw (← c.self.view_is) out.fewer;
       err = rw (← c.self.view_is) out.err;
       awake = rw (← c.self.view_is) out.awake;
       more = rw (← c.self.view_is) out.more;
-      turns = subst (λ (p : Parts). IfOk c.turn_link-turn.result (λ t. TurnLeaves c.args.c ((world_of p).wire c.args.c) p.broker t c.turn_link-turn.new.broker)) c.self.view_is
-          (leaves_at c.turn_link-turn.result old c.args.c c.in-Some.place (broker_of c.turn_link-turn.new.broker) c.sweep.new.links.items c.turn_link-turn.new.broker c.self.invariant place links
-          (leaves_here c.turn_link-turn.result i.links.items c.in-Some.place l i.broker c.turn_link-turn.new.broker place.0 here did.turns));
-      broker = subst (λ (p : Parts). OnErr c.turn_link-turn.result (c.turn_link-turn.new.broker ≡ p.broker)) c.self.view_is did.broker_kept;
+      turns = subst (λ (p : Parts). IfOk c.turn_connection-turn.result (λ t. TurnLeaves c.args.c ((world_of p).wire c.args.c) p.broker t c.turn_connection-turn.new.broker)) c.self.view_is
+          (leaves_at c.turn_connection-turn.result old c.args.c c.in-Some.place (broker_of c.turn_connection-turn.new.broker) c.sweep.new.connections.items c.turn_connection-turn.new.broker c.self.invariant place connections
+          (leaves_here c.turn_connection-turn.result i.connections.items c.in-Some.place l i.broker c.turn_connection-turn.new.broker place.0 here did.turns));
+      broker = subst (λ (p : Parts). OnErr c.turn_connection-turn.result (c.turn_connection-turn.new.broker ≡ p.broker)) c.self.view_is did.broker_kept;
     }
 
 pub returns-in_default : goal.returns-in_default
 returns-in_default c =
     let i = c.self.inside in
-    let old : Parts = record { broker = i.broker; guarantees = i.guarantees.items; users = i.users.items; given = i.given; links = i.links.items } in
+    let old : Parts = record { broker = i.broker; guarantees = i.guarantees.items; users = i.users.items; given = i.given; connections = i.connections.items } in
     record { ok = rw (← c.self.view_is) (not_there old c.args.c (rw (← c.deref.ensures.value) c.in_default.ensures.place)); fewer = tt; err = tt; awake = tt; more = tt; turns = rw (← c.self.view_is) refl; broker = tt }

@@ -1,7 +1,7 @@
 use Rattle.broker.specs.Turns.{topology_kept, broker_of}
 use Rattle.engine.proofs.Waiting.{later_then}
 use Rattle.engine.proofs.Replies.{delivery_sends}
-use Rattle.engine.proofs.pumping.pump_link.Goals as goal
+use Rattle.engine.proofs.pumping.pump_connection.Goals as goal
 
 pub put_out-requires-clause-own : goal.put_out-requires-clause-own
 put_out-requires-clause-own c =

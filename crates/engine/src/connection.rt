@@ -4,7 +4,7 @@ ghost use Rattle.std.specs.Prelude.{◌≡◌, IsTrue};
 ghost use Rattle.model.specs.Phases.{is_running, no_session, running_session};
 ghost use Rattle.model.specs.Opening.{new_session};
 ghost use Rattle.model.specs.Commands.{opened_stream, running_stream};
-ghost use Rattle.engine.specs.World.{is_link_gone, IsNew};
+ghost use Rattle.engine.specs.World.{is_connection_gone, IsNew};
 
 use assembly::Stream;
 use model::{Event, Phase};
@@ -16,7 +16,7 @@ use std::alloc::Global;
 pub(crate) const BOUND: usize = 1_048_576;
 
 /// A connection that is not gone.
-pub(crate) struct Connected {
+pub(crate) struct Connection {
     /// Connections count from 1 in the order of their openings.
     pub(crate) number: u64,
     pub(crate) session: Session,
@@ -27,9 +27,9 @@ pub(crate) struct Connected {
 }
 
 /// Written out, so that a drop is one call.
-impl Drop for Connected {
+impl Drop for Connection {
     fn drop(self) {
-        let Connected {
+        let Connection {
             number: _,
             session: _,
             stream: _,
@@ -40,14 +40,14 @@ impl Drop for Connected {
     }
 }
 
-impl Connected {
+impl Connection {
     /// A connection of which no byte has come.
-    pub(crate) fn new(alloc: Global, number: u64) -> Connected
+    pub(crate) fn new(alloc: Global, number: u64) -> Connection
         ensures { IsNew result number new_session opened_stream }
     {
         let mut stream = Stream::new(alloc);
         stream.set_running(false);
-        Connected {
+        Connection {
             number,
             session: Session::new(),
             stream,
@@ -57,10 +57,10 @@ impl Connected {
     }
 
     /// A connection that runs at once.
-    pub(crate) fn running(alloc: Global, number: u64) -> Connected
+    pub(crate) fn running(alloc: Global, number: u64) -> Connection
         ensures { IsNew result number running_session running_stream }
     {
-        Connected {
+        Connection {
             number,
             session: Session::running(),
             stream: Stream::running(alloc),
@@ -78,7 +78,7 @@ impl Connected {
 
     /// It is over, with no output left. Of one that is over no limits are kept.
     pub(crate) fn is_gone(&self) -> bool
-        ensures value { result ≡ is_link_gone self.now }
+        ensures value { result ≡ is_connection_gone self.now }
         ensures over { IsTrue result → self.now.session ≡ no_session }
     {
         self.session.is_over() && self.output.bytes().is_empty()
