@@ -16,7 +16,7 @@ mod Settling
 mod Lending
 mod Answering
 mod Commanding
-mod Standing
+mod LiveQueues
 pub mod Stepping
 mod Turning
 mod Exchanges

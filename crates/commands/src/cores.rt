@@ -3,11 +3,11 @@
 mod closing;
 mod declaring;
 mod delivering;
+mod obstacles;
 mod opening;
 mod reloads;
 mod running;
 mod seating;
-mod standing;
 
 use crate::acted::Acted;
 use crate::commands::{Done, Left, on_channel, on_none};

@@ -12,7 +12,7 @@ use Rattle.model.specs.declared.obstacles.Obstacle.{Obstacle}
 use Rattle.laws.proofs.Counts.{in_from_contains}
 use Rattle.laws.proofs.Returned.{place_of}
 use Rattle.reloading.specs.First.{IsToldFirst, TellsFirst}
-use Rattle.reloading.specs.Standing.{IsStanding}
+use Rattle.reloading.specs.LiveQueues.{ShowsQueues}
 use Rattle.reloading.specs.Obstacles.{IsUsed, TellsUse, TellsQueue, TellsEntry, TellsEntries, TellsQueues, Judges}
 
 in_at : {A : Type 0} (xs : List A) (i : ℕ) (x : A) → slice_get xs i ≡ Some x → IsIn x xs
@@ -20,7 +20,7 @@ in_at [] i x e = absurd (cc)
 in_at (y ∷ ys) zero x e = inl (let h : Some y ≡ Some x = e in cc)
 in_at (y ∷ ys) (suc i) x e = inr (in_at ys i x e)
 
-module _ (old : Topology) (g : Config) (entries : ℕ → List Entry) (consumed : ℕ → Bool) (b : Broker) (s : IsStanding old entries consumed b) where
+module _ (old : Topology) (g : Config) (entries : ℕ → List Entry) (consumed : ℕ → Bool) (b : Broker) (s : ShowsQueues old entries consumed b) where
   abbrev pub names : List Text
   names = queue_names old.queues
 

@@ -1,5 +1,5 @@
 pub mod First
-pub mod Standing
+pub mod LiveQueues
 pub mod Obstacles
 pub mod Passed
 pub mod Wanting

@@ -14,7 +14,7 @@ use Rattle.model.specs.declared.obstacles.Obstacle.{Obstacle}
 use Rattle.model.specs.declared.obstacles.Obstacle.TheVariants.{InUse, Breaks}
 use Rattle.model.specs.declared.messages.User.{User}
 use Rattle.reloading.specs.First.{TellsFirst}
-use Rattle.reloading.specs.Standing.{IsStanding}
+use Rattle.reloading.specs.LiveQueues.{ShowsQueues}
 
 -- a queue with these entries is in use
 abbrev pub IsUsed : List Entry → Bool → Type 0
@@ -69,4 +69,4 @@ Judges old new b None = NothingStands old new b
 -- So it is of each broker of which this is what stands, whoever may log in from then on.
 abbrev pub JudgesReload : Topology → (ℕ → List Entry) → (ℕ → Bool) → Topology → List Guarantee → Option Obstacle → Type 0
 JudgesReload old entries consumed new gs told =
-    (b : Broker) (users : List User) → IsStanding old entries consumed b → Judges old (record { topology = new; guarantees = gs; users = users }) b told
+    (b : Broker) (users : List User) → ShowsQueues old entries consumed b → Judges old (record { topology = new; guarantees = gs; users = users }) b told

@@ -8,8 +8,8 @@ ghost use Rattle.reloading.specs.First.{TellsFirst};
 ghost use Rattle.reloading.specs.Obstacles.{TellsEntries, TellsQueues};
 
 use crate::dangers::{endangers_next, may_endanger};
+use crate::live_queues::LiveQueues;
 use crate::passed::{keep, like_at, none_passed, slot_of};
-use crate::standing::Standing;
 use exchange_graph::Topology;
 use guarantees::Guarantee;
 use model::{Message, Mode, Obstacle, Text};
@@ -28,9 +28,9 @@ fn breaks(queue: &Text, message: &Message, guarantee: usize) -> Result<Obstacle,
 }
 
 /// The first message of the queue at this place that the guarantee of this number endangers.
-fn first_of_queue<S: Standing>(
+fn first_of_queue<S: LiveQueues>(
     alloc: Global,
-    standing: &S,
+    live: &S,
     topology: &Topology,
     guarantee: &Guarantee,
     leading: &Leading,
@@ -39,7 +39,7 @@ fn first_of_queue<S: Standing>(
     queue: &Text,
 ) -> Result<Option<Obstacle>, AllocError>
     requires { AreLeading topology.now guarantee.now.queue leading.now }
-    ensures { IfOk result (λ o. TellsEntries topology.now guarantee.now number (S.entries standing.now) place queue.now o) }
+    ensures { IfOk result (λ o. TellsEntries topology.now guarantee.now number (S.entries live.now) place queue.now o) }
 {
     let name = queue.as_bytes();
     if !may_endanger(alloc, topology, guarantee, leading, name)? {
@@ -47,7 +47,7 @@ fn first_of_queue<S: Standing>(
     }
     let mut passed = none_passed();
     let mut slot = 0;
-    'entries: for entry in standing.walk(place) {
+    'entries: for entry in live.walk(place) {
         let message = &entry.message;
         slot = slot_of(&passed, slot, message);
         let like = like_at(&passed, slot, message);
@@ -72,23 +72,23 @@ fn leading_to(
 
 /// The first message of all queues that the guarantee at this place, which forbids, endangers. What leads to its queue is looked
 /// up once.
-fn first_of_never<S: Standing>(
+fn first_of_never<S: LiveQueues>(
     alloc: Global,
-    standing: &S,
+    live: &S,
     old: &Topology,
     topology: &Topology,
     guarantee: &Guarantee,
     at: usize,
 ) -> Result<Option<Obstacle>, AllocError>
     requires { at < 2 ^ 64 - 1 }
-    ensures { IfOk result (λ o. TellsQueues topology.now (queue_names old.now.queues) (S.entries standing.now) at guarantee.now o) }
+    ensures { IfOk result (λ o. TellsQueues topology.now (queue_names old.now.queues) (S.entries live.now) at guarantee.now o) }
 {
     let leading = leading_to(alloc, topology, guarantee)?;
     for place in 0..old.queues().len() {
         let queue = &old.queue(place).name;
         let first = first_of_queue(
             alloc,
-            standing,
+            live,
             topology,
             guarantee,
             &leading,
@@ -105,35 +105,35 @@ fn first_of_never<S: Standing>(
 }
 
 /// The first message of all queues that the guarantee at this place endangers.
-fn first_of_guarantee<S: Standing>(
+fn first_of_guarantee<S: LiveQueues>(
     alloc: Global,
-    standing: &S,
+    live: &S,
     old: &Topology,
     topology: &Topology,
     guarantee: &Guarantee,
     at: usize,
 ) -> Result<Option<Obstacle>, AllocError>
     requires { at < 2 ^ 64 - 1 }
-    ensures { IfOk result (λ o. TellsQueues topology.now (queue_names old.now.queues) (S.entries standing.now) at guarantee.now o) }
+    ensures { IfOk result (λ o. TellsQueues topology.now (queue_names old.now.queues) (S.entries live.now) at guarantee.now o) }
 {
     match guarantee.mode() {
         Mode::Reaches => Ok(None),
-        Mode::Never => first_of_never(alloc, standing, old, topology, guarantee, at),
+        Mode::Never => first_of_never(alloc, live, old, topology, guarantee, at),
     }
 }
 
 /// The first message that one of the guarantees endangers, guarantee by guarantee.
-pub fn first_breach<S: Standing>(
+pub fn first_breach<S: LiveQueues>(
     alloc: Global,
-    standing: &S,
+    live: &S,
     old: &Topology,
     topology: &Topology,
     guarantees: &[Guarantee],
 ) -> Result<Option<Obstacle>, AllocError>
-    ensures { IfOk result (λ o. TellsFirst (TellsQueues topology.now (queue_names old.now.queues) (S.entries standing.now)) guarantees.now o) }
+    ensures { IfOk result (λ o. TellsFirst (TellsQueues topology.now (queue_names old.now.queues) (S.entries live.now)) guarantees.now o) }
 {
     for at in 0..guarantees.len() {
-        let first = first_of_guarantee(alloc, standing, old, topology, &guarantees[at], at)?;
+        let first = first_of_guarantee(alloc, live, old, topology, &guarantees[at], at)?;
         match first {
             Some(first) => return Ok(Some(first)),
             None => {}

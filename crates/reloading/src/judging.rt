@@ -3,11 +3,11 @@
 ghost use Rattle.std.specs.Prelude.{IfOk, OnErr};
 ghost use Rattle.model.specs.Broker.{Broker};
 ghost use Rattle.reloading.specs.Obstacles.{JudgesReload};
-ghost use Rattle.reloading.specs.Standing.{IsStanding};
+ghost use Rattle.reloading.specs.LiveQueues.{ShowsQueues};
 ghost use Rattle.reloading.specs.Wanting.{MayWant};
 
 use crate::breaches::first_breach;
-use crate::standing::Standing;
+use crate::live_queues::LiveQueues;
 use crate::stranded::first_stranded;
 use exchange_graph::Topology;
 use guarantees::Guarantee;
@@ -20,18 +20,18 @@ use std::alloc::{AllocError, Global};
 ///
 /// Queues in use that are gone are looked at first, in the order of the old file; then, guarantee by guarantee, queue by queue
 /// of the old file and entry by entry, messages that could come by deaths where they are forbidden.
-pub fn obstacle<S: Standing>(
+pub fn obstacle<S: LiveQueues>(
     alloc: Global,
-    standing: &S,
+    live: &S,
     old: &Topology,
     topology: &Topology,
     guarantees: &[Guarantee],
 ) -> Result<Option<Obstacle>, AllocError>
-    ensures told { IfOk result (JudgesReload old.now (S.entries standing.now) (S.consumed standing.now) topology.now guarantees.now) }
-    ensures wants { OnErr result ((b : Broker) → IsStanding old.now (S.entries standing.now) (S.consumed standing.now) b → MayWant old.now topology.now b) }
+    ensures told { IfOk result (JudgesReload old.now (S.entries live.now) (S.consumed live.now) topology.now guarantees.now) }
+    ensures wants { OnErr result ((b : Broker) → ShowsQueues old.now (S.entries live.now) (S.consumed live.now) b → MayWant old.now topology.now b) }
 {
-    match first_stranded(standing, old, topology)? {
+    match first_stranded(live, old, topology)? {
         Some(stranded) => Ok(Some(stranded)),
-        None => first_breach(alloc, standing, old, topology, guarantees),
+        None => first_breach(alloc, live, old, topology, guarantees),
     }
 }

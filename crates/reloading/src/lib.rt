@@ -4,9 +4,9 @@
 mod breaches;
 mod dangers;
 mod judging;
+mod live_queues;
 mod passed;
-mod standing;
 mod stranded;
 
 pub use judging::obstacle;
-pub use standing::Standing;
+pub use live_queues::LiveQueues;

@@ -7,7 +7,7 @@ ghost use Rattle.reloading.specs.First.{TellsFirst};
 ghost use Rattle.reloading.specs.Obstacles.{IsUsed, TellsQueue, TellsUse};
 ghost use Rattle.reloading.specs.Wanting.{FirstIsLong, IsLong};
 
-use crate::standing::Standing;
+use crate::live_queues::LiveQueues;
 use exchange_graph::Topology;
 use model::{Obstacle, Text};
 use std::alloc::AllocError;
@@ -16,10 +16,10 @@ use std::alloc::AllocError;
 const MOST_SHORT: usize = 22;
 
 /// Whether a message stands in the queue at this place, ready or held, or a consumer takes from it.
-fn is_used<S: Standing>(standing: &S, place: usize) -> bool
-    ensures { Decides result (IsUsed (S.entries standing.now place) (S.consumed standing.now place)) }
+fn is_used<S: LiveQueues>(live: &S, place: usize) -> bool
+    ensures { Decides result (IsUsed (S.entries live.now place) (S.consumed live.now place)) }
 {
-    standing.walk(place).next().is_some() || standing.is_consumed(place)
+    live.walk(place).next().is_some() || live.is_consumed(place)
 }
 
 /// A name once more, to be told: memory is wanting only for a long one.
@@ -34,50 +34,50 @@ fn told_name(name: &Text) -> Result<Text, AllocError>
 }
 
 /// The queue at this place, which the new topology lacks, if it is in use.
-fn gone_at<S: Standing>(
-    standing: &S,
+fn gone_at<S: LiveQueues>(
+    live: &S,
     place: usize,
     queue: &Text,
 ) -> Result<Option<Obstacle>, AllocError>
-    ensures told { IfOk result (λ o. TellsUse (S.entries standing.now place) (S.consumed standing.now place) queue.now o) }
-    ensures used { OnErr result (TellsUse (S.entries standing.now place) (S.consumed standing.now place) queue.now (Some (InUse queue.now))) }
+    ensures told { IfOk result (λ o. TellsUse (S.entries live.now place) (S.consumed live.now place) queue.now o) }
+    ensures used { OnErr result (TellsUse (S.entries live.now place) (S.consumed live.now place) queue.now (Some (InUse queue.now))) }
     ensures wants { OnErr result (IsLong queue.now) }
 {
-    if is_used(standing, place) {
+    if is_used(live, place) {
         return Ok(Some(Obstacle::InUse(told_name(queue)?)));
     }
     Ok(None)
 }
 
 /// The queue at this place, if it is in use and the new topology lacks it.
-fn stranded_at<S: Standing>(
-    standing: &S,
+fn stranded_at<S: LiveQueues>(
+    live: &S,
     topology: &Topology,
     place: usize,
     queue: &Text,
 ) -> Result<Option<Obstacle>, AllocError>
-    ensures told { IfOk result (λ o. TellsQueue topology.now (S.entries standing.now) (S.consumed standing.now) place queue.now o) }
-    ensures stranded { OnErr result (TellsQueue topology.now (S.entries standing.now) (S.consumed standing.now) place queue.now (Some (InUse queue.now))) }
+    ensures told { IfOk result (λ o. TellsQueue topology.now (S.entries live.now) (S.consumed live.now) place queue.now o) }
+    ensures stranded { OnErr result (TellsQueue topology.now (S.entries live.now) (S.consumed live.now) place queue.now (Some (InUse queue.now))) }
     ensures wants { OnErr result (IsLong queue.now) }
 {
     match topology.queue_at(queue.as_bytes()) {
         Some(_) => Ok(None),
-        None => gone_at(standing, place, queue),
+        None => gone_at(live, place, queue),
     }
 }
 
 /// The first queue in use that the new topology lacks. Memory is wanting only to tell a long name.
-pub fn first_stranded<S: Standing>(
-    standing: &S,
+pub fn first_stranded<S: LiveQueues>(
+    live: &S,
     old: &Topology,
     topology: &Topology,
 ) -> Result<Option<Obstacle>, AllocError>
-    ensures told { IfOk result (λ o. TellsFirst (TellsQueue topology.now (S.entries standing.now) (S.consumed standing.now)) (queue_names old.now.queues) o) }
-    ensures wants { OnErr result (FirstIsLong topology.now (queue_names old.now.queues) (S.entries standing.now) (S.consumed standing.now)) }
+    ensures told { IfOk result (λ o. TellsFirst (TellsQueue topology.now (S.entries live.now) (S.consumed live.now)) (queue_names old.now.queues) o) }
+    ensures wants { OnErr result (FirstIsLong topology.now (queue_names old.now.queues) (S.entries live.now) (S.consumed live.now)) }
 {
     for place in 0..old.queues().len() {
         let queue = &old.queue(place).name;
-        match stranded_at(standing, topology, place, queue)? {
+        match stranded_at(live, topology, place, queue)? {
             Some(first) => return Ok(Some(first)),
             None => {}
         }

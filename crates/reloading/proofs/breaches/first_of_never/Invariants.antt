@@ -5,4 +5,4 @@ use Rattle.reloading.specs.Obstacles.{TellsEntries}
 use Rattle.reloading.proofs.breaches.first_of_never.Given as goal
 
 abbrev pub invariant-loop-place : goal.invariant-loop-place
-invariant-loop-place g l = TellsNoneBelow (TellsEntries l.topology l.guarantee (l.at + 1) (g.S.Standing.entries l.standing)) (queue_names l.old.queues) l.place
+invariant-loop-place g l = TellsNoneBelow (TellsEntries l.topology l.guarantee (l.at + 1) (g.S.LiveQueues.entries l.live)) (queue_names l.old.queues) l.place

@@ -9,7 +9,7 @@ use Rattle.reloading.proofs.breaches.first_of_queue.Given as goal
 
 abbrev pub invariant-entries : goal.invariant-entries
 invariant-entries g l =
-    Passed (IsEndangered l.topology l.guarantee l.queue) (g.S.Standing.entries l.standing l.place) l.entry-iterator
+    Passed (IsEndangered l.topology l.guarantee l.queue) (g.S.LiveQueues.entries l.live l.place) l.entry-iterator
     × ((m : Message) → IsIn m (kept l.passed) → Endangers l.topology l.guarantee l.queue m → ⊥)
     × (l.slot < 2048)
 

@@ -13,7 +13,7 @@ returns-in-Some-clause-told g c gone used = stranded_not c.args.topology.now c.i
 pub returns-in-None-clause-told : goal.returns-in-None-clause-told
 returns-in-None-clause-told g c =
     let gone = subst (λ (z : Text). IsIn z (queue_names c.args.topology.now.queues) → ⊥) c.as_bytes.ensures c.in-None.ensures.absent in
-    IfOk-weaker c.gone_at.result _ _ (λ o told. gone_tells c.args.topology.now (g.S.Standing.entries c.args.standing.now) (g.S.Standing.consumed c.args.standing.now) c.args.place c.args.queue.now o gone told) c.gone_at.ensures.told
+    IfOk-weaker c.gone_at.result _ _ (λ o told. gone_tells c.args.topology.now (g.S.LiveQueues.entries c.args.live.now) (g.S.LiveQueues.consumed c.args.live.now) c.args.place c.args.queue.now o gone told) c.gone_at.ensures.told
 
 pub returns-in-None-clause-stranded : goal.returns-in-None-clause-stranded
 returns-in-None-clause-stranded g c =

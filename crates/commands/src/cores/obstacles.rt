@@ -6,10 +6,10 @@ use exchange_graph::Topology;
 use guarantees::Guarantee;
 use model::Obstacle;
 use queue::Walk;
-use reloading::{Standing, obstacle};
+use reloading::{LiveQueues, obstacle};
 use std::alloc::{AllocError, Global};
 
-impl Standing for Core {
+impl LiveQueues for Core {
     ghost use Rattle.channels.specs.Counting.{is_consumed};
     ghost use Rattle.depot.specs.Store.{queue_at};
 

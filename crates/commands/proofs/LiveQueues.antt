@@ -15,7 +15,7 @@ use Rattle.depot.proofs.Naming.{names-length}
 use Rattle.channels.specs.RunningConnections.{channel_of}
 use Rattle.channels.specs.Counting.{is_consumed, HasTaker}
 use Rattle.reloading.specs.Obstacles.{JudgesReload}
-use Rattle.reloading.specs.Standing.{IsConsumed, IsStanding}
+use Rattle.reloading.specs.LiveQueues.{IsConsumed, ShowsQueues}
 use Rattle.reloading.specs.Wanting.{MayWant}
 use Rattle.reloading.proofs.Wanting.{on_err_too}
 use Rattle.commands.specs.Obstacles.{TellsObstacle}
@@ -65,7 +65,7 @@ abbrev pub AreNamed : Type 0
 AreNamed = (s : Store) (place : ℕ) → IsStoreWhole s → place < length s.topology.queues → IsQueueNamed s place
 
 pub standing : AreNamed → (kept : Kept) → IsStoreWhole kept.store → ArePlaced kept → ((place : ℕ) → Decides (is_consumed kept.connections place) (HasTaker kept.connections place))
-    → IsStanding (topology_kept kept) (λ place. queue_at kept.store place) (λ place. is_consumed kept.connections place) (broker_of kept)
+    → ShowsQueues (topology_kept kept) (λ place. queue_at kept.store place) (λ place. is_consumed kept.connections place) (broker_of kept)
 standing are kept whole placed found = record {
   queue = λ place q at.
       let long = names-length (topology_kept kept).queues in
@@ -76,7 +76,7 @@ standing are kept whole placed found = record {
 
 -- what is told of it is told of the broker
 pub judged : {E : Type 0} (r : Result (Option Obstacle) E) (kept : Kept) (t new : Topology) (gs : List Guarantee) → t ≡ topology_kept kept
-    → IsStanding (topology_kept kept) (λ place. queue_at kept.store place) (λ place. is_consumed kept.connections place) (broker_of kept)
+    → ShowsQueues (topology_kept kept) (λ place. queue_at kept.store place) (λ place. is_consumed kept.connections place) (broker_of kept)
     → IfOk r (JudgesReload t (λ place. queue_at kept.store place) (λ place. is_consumed kept.connections place) new gs)
     → IfOk r (TellsObstacle (topology_kept kept) (broker_of kept) new gs)
 judged r kept t new gs e stands told =
@@ -86,10 +86,10 @@ judged r kept t new gs e stands told =
 
 -- what memory may be wanting for, in whatever broker it is so, may be wanting for of the broker
 pub wanted : {E : Type 0} (r : Result (Option Obstacle) E) (kept : Kept) (t new : Topology) → t ≡ topology_kept kept
-    → IsStanding (topology_kept kept) (λ place. queue_at kept.store place) (λ place. is_consumed kept.connections place) (broker_of kept)
-    → OnErr r ((b : Broker) → IsStanding t (λ place. queue_at kept.store place) (λ place. is_consumed kept.connections place) b → MayWant t new b)
+    → ShowsQueues (topology_kept kept) (λ place. queue_at kept.store place) (λ place. is_consumed kept.connections place) (broker_of kept)
+    → OnErr r ((b : Broker) → ShowsQueues t (λ place. queue_at kept.store place) (λ place. is_consumed kept.connections place) b → MayWant t new b)
     → OnErr r (MayWant (topology_kept kept) new (broker_of kept))
 wanted r kept t new e stands wants =
-    on_err_too r ((b : Broker) → IsStanding (topology_kept kept) (λ place. queue_at kept.store place) (λ place. is_consumed kept.connections place) b → MayWant (topology_kept kept) new b) (MayWant (topology_kept kept) new (broker_of kept))
+    on_err_too r ((b : Broker) → ShowsQueues (topology_kept kept) (λ place. queue_at kept.store place) (λ place. is_consumed kept.connections place) b → MayWant (topology_kept kept) new b) (MayWant (topology_kept kept) new (broker_of kept))
     (λ may. may (broker_of kept) stands)
-    (subst (λ (x : Topology). OnErr r ((b : Broker) → IsStanding x (λ place. queue_at kept.store place) (λ place. is_consumed kept.connections place) b → MayWant x new b)) e wants)
+    (subst (λ (x : Topology). OnErr r ((b : Broker) → ShowsQueues x (λ place. queue_at kept.store place) (λ place. is_consumed kept.connections place) b → MayWant x new b)) e wants)

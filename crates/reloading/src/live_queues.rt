@@ -5,7 +5,7 @@ ghost use Rattle.std.specs.Prelude.{◌≡◌, ℕ, List, Bool};
 use queue::Walk;
 
 /// What stands in queues and whether consumers take from them, by the places of the queues in the file.
-pub trait Standing {
+pub trait LiveQueues {
     ghost use Rattle.model.specs.declared.messages.Entry.{Entry as Waiting};
 
     // what stands in the queue at this place
