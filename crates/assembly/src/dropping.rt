@@ -2,10 +2,10 @@
 
 ghost use Rattle.std.specs.Prelude.{◌≡◌, Bool};
 ghost use Rattle.model.specs.Commands as said;
-ghost use Rattle.model.specs.Commands.{TakesPayload, taken_dropped};
+ghost use Rattle.model.specs.Commands.{taken_dropped};
 ghost use Rattle.frame.specs.Reading.{seen};
 ghost use Rattle.assembly.specs.Pending.{pending_of, IsSpelledSoFar, IsDropped};
-ghost use Rattle.assembly.specs.Taking.{TakesEffect};
+ghost use Rattle.assembly.specs.Taking.{TakesEffect, TakesFrame};
 
 use crate::contents::{Awaited, Dropping};
 use crate::faults::Fault;
@@ -50,8 +50,7 @@ pub(crate) fn drop_piece(pending: &mut Awaited, frame: &Frame<'_>) -> Result<Opt
     requires dropped { IsDropped pending.old }
     requires spelled { IsSpelledSoFar pending.old }
     ensures spelled { IsSpelledSoFar pending.new }
-    ensures does { (keeps : Bool) → TakesEffect (TakesPayload keeps (pending_of pending.old) (seen frame.now))
-        (pending_of pending.old) result (pending_of pending.new) }
+    ensures does { (keeps : Bool) → TakesFrame keeps (seen frame.now) pending.old result pending.new }
 {
     match pending {
         Awaited::Drops(dropping) => {

@@ -78,16 +78,7 @@ impl Stream {
         ensures stream { stream_of result ≡ new_stream }
         ensures fault { result.fault ≡ None }
     {
-        Stream {
-            alloc,
-            is_new: true,
-            max: 4096,
-            keeps: true,
-            contents: Vec::new(alloc),
-            unread: Unread::new(alloc),
-            names: LastNames::new(alloc),
-            fault: None,
-        }
+        Stream::empty(alloc, true, 4096)
     }
 
     /// The stream of a connection that runs from the start: no content is begun, a frame has at most 131,072 bytes, and
@@ -96,10 +87,19 @@ impl Stream {
         ensures stream { stream_of result ≡ running_stream }
         ensures fault { result.fault ≡ None }
     {
+        Stream::empty(alloc, false, 131_072)
+    }
+
+    /// A stream of which no byte has come, whose frames have at most `max` bytes. Contents are kept.
+    fn empty(alloc: Global, is_new: bool, max: u32) -> Stream
+        requires { 4096 ≤ max }
+        ensures stream { stream_of result ≡ record new_stream { is_new = is_new; max = max } }
+        ensures fault { result.fault ≡ None }
+    {
         Stream {
             alloc,
-            is_new: false,
-            max: 131_072,
+            is_new,
+            max,
             keeps: true,
             contents: Vec::new(alloc),
             unread: Unread::new(alloc),

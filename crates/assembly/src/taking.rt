@@ -1,18 +1,17 @@
 //! What one frame does to the channel that awaits it.
 
-ghost use Rattle.std.specs.Prelude.{◌≡◌, ◌==◌, ℕ, true, false, MatchBool, MatchResult, Result, Ok, Err};
+ghost use Rattle.std.specs.Prelude.{◌≡◌, ◌==◌, true, false, MatchBool, MatchResult, Ok, Err};
 ghost use Rattle.assembly.specs.Faults.{IsFault};
 ghost use Rattle.model.specs.Commands;
-ghost use Rattle.model.specs.Commands.{Breaks, TakesPayload, awaited, is_too_large as exceeds, kept_publish as kept, taken_header, taken_method};
+ghost use Rattle.model.specs.Commands.{Breaks, TakesPayload, awaited, is_too_large as exceeds, kept_publish as kept, taken_method};
 ghost use Rattle.model.specs.Headers.{Header, SaysHeader, size_at};
 ghost use Rattle.model.specs.Grammar.{SaysMethod};
 ghost use Rattle.model.specs.declared.events.Command.TheVariants as command;
-ghost use Rattle.model.specs.declared.methods.Publish.{Publish as Seen};
 ghost use Rattle.frame.specs.Reading.{seen};
 ghost use Rattle.assembly.specs.Pending.{pending_of, IsSpelledSoFar, HasPublish, IsGathered};
 ghost use Rattle.assembly.specs.declared.contents.Gathering.{Gathering as Begun};
 ghost use Rattle.assembly.specs.declared.contents.Awaited.TheVariants.{Nothing, WantsHeader, WantsBody};
-ghost use Rattle.assembly.specs.Taking.{TakesEffect};
+ghost use Rattle.assembly.specs.Taking.{TakesEffect, TakesFrame, TakesHeader};
 ghost use Rattle.assembly.specs.Names.{SpellsPublish};
 
 use crate::bodies::Pieces;
@@ -75,7 +74,7 @@ fn take_method(
 ) -> Result<Option<Command>, Fault>
     requires { pending.old ≡ Nothing }
     ensures spelled { IsSpelledSoFar pending.new }
-    ensures does { TakesEffect (TakesPayload keeps (pending_of pending.old) (seen frame.now)) (pending_of pending.old) result (pending_of pending.new) }
+    ensures does { TakesFrame keeps (seen frame.now) pending.old result pending.new }
 {
     if let Some(publish) = names.publish_of(frame.payload) {
         *pending = Awaited::WantsHeader(kept_publish(keeps, publish));
@@ -156,7 +155,7 @@ fn take_header(
     requires begun { HasPublish pending.old }
     requires spelled { IsSpelledSoFar pending.old }
     ensures spelled { IsSpelledSoFar pending.new }
-    ensures does { TakesEffect (TakesPayload keeps (pending_of pending.old) (seen frame.now)) (pending_of pending.old) result (pending_of pending.new) }
+    ensures does { TakesFrame keeps (seen frame.now) pending.old result pending.new }
 {
     match read_size(frame.payload) {
         Ok(size) => {
@@ -180,9 +179,7 @@ fn begin_content(
     requires spelled { IsSpelledSoFar pending.old }
     requires small { exceeds frame.now.payload.now (size_at frame.now.payload.now) ≡ false }
     ensures spelled { IsSpelledSoFar pending.new }
-    ensures does { (p : Seen) → pending.old ≡ WantsHeader p
-        → TakesEffect (λ t. (r : Result Header ℕ) × SaysHeader frame.now.payload.now r
-        × (t ≡ taken_header keeps frame.now.channel p r)) (Commands.Wants_header p) result (pending_of pending.new) }
+    ensures does { TakesHeader keeps (seen frame.now) pending.old result pending.new }
 {
     if keeps {
         gather_content(alloc, pending, frame)
@@ -201,9 +198,7 @@ fn gather_content(
     requires spelled { IsSpelledSoFar pending.old }
     requires small { exceeds frame.now.payload.now (size_at frame.now.payload.now) ≡ false }
     ensures spelled { IsSpelledSoFar pending.new }
-    ensures does { (p : Seen) → pending.old ≡ WantsHeader p
-        → TakesEffect (λ t. (r : Result Header ℕ) × SaysHeader frame.now.payload.now r
-        × (t ≡ taken_header true frame.now.channel p r)) (Commands.Wants_header p) result (pending_of pending.new) }
+    ensures does { TakesHeader true (seen frame.now) pending.old result pending.new }
 {
     match read_header(alloc, frame.payload) {
         Ok(header) => {
@@ -232,9 +227,7 @@ fn count_content(
 ) -> Result<Option<Command>, Fault>
     requires { IsSpelledSoFar pending.old }
     ensures spelled { IsSpelledSoFar pending.new }
-    ensures does { (p : Seen) → pending.old ≡ WantsHeader p
-        → TakesEffect (λ t. (r : Result Header ℕ) × SaysHeader frame.now.payload.now r
-        × (t ≡ taken_header false frame.now.channel p r)) (Commands.Wants_header p) result (pending_of pending.new) }
+    ensures does { TakesHeader false (seen frame.now) pending.old result pending.new }
 {
     match size_of_header(alloc, frame.payload) {
         Ok(size) => drop_begun(pending, frame.channel, size, 0),
@@ -285,7 +278,7 @@ fn take_piece(
     requires gathered { IsGathered pending.old }
     requires spelled { IsSpelledSoFar pending.old }
     ensures spelled { IsSpelledSoFar pending.new }
-    ensures does { TakesEffect (TakesPayload keeps (pending_of pending.old) (seen frame.now)) (pending_of pending.old) result (pending_of pending.new) }
+    ensures does { TakesFrame keeps (seen frame.now) pending.old result pending.new }
 {
     if keeps {
         return take_body(pending, frame);
@@ -305,7 +298,7 @@ fn take_body(pending: &mut Awaited, frame: &Frame<'_>) -> Result<Option<Command>
     requires gathered { IsGathered pending.old }
     requires spelled { IsSpelledSoFar pending.old }
     ensures spelled { IsSpelledSoFar pending.new }
-    ensures does { TakesEffect (TakesPayload true (pending_of pending.old) (seen frame.now)) (pending_of pending.old) result (pending_of pending.new) }
+    ensures does { TakesFrame true (seen frame.now) pending.old result pending.new }
 {
     match pending {
         Awaited::WantsBody(gathering) => {

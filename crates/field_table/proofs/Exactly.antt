@@ -50,33 +50,15 @@ pub record Takes (k : Kind) (bytes : List ℕ) (x : Argument × List ℕ) : Type
 -- an argument whose tables are tables
 pub whole : (a : Argument) → IsSized a → IsArgumentWhole a → IsArgument a
 whole (Field_table pairs) sized table = table
-whole (Octet n) sized table = sized
-whole (Short n) sized table = sized
-whole (Long n) sized table = sized
-whole (Long_long n) sized table = sized
-whole (Short_text t) sized table = sized
-whole (Long_text t) sized table = sized
-whole (Bits bs) sized table = sized
+whole _ sized table = sized
 
 pub sized_of : (a : Argument) → IsArgument a → IsSized a
 sized_of (Field_table pairs) fits = subst (λ (z : List ℕ). length z < 2 ^ 32) (sym fits.spelled) fits.fits.size
-sized_of (Octet n) fits = fits
-sized_of (Short n) fits = fits
-sized_of (Long n) fits = fits
-sized_of (Long_long n) fits = fits
-sized_of (Short_text t) fits = fits
-sized_of (Long_text t) fits = fits
-sized_of (Bits bs) fits = fits
+sized_of _ fits = fits
 
 pub whole_of : (a : Argument) → IsArgument a → IsArgumentWhole a
 whole_of (Field_table pairs) fits = fits
-whole_of (Octet n) fits = tt
-whole_of (Short n) fits = tt
-whole_of (Long n) fits = tt
-whole_of (Long_long n) fits = tt
-whole_of (Short_text t) fits = tt
-whole_of (Long_text t) fits = tt
-whole_of (Bits bs) fits = tt
+whole_of _ fits = tt
 
 -- the same of several arguments
 pub all_fit : (given : List Argument) → AllByRecursion IsSized given → AllByRecursion IsArgumentWhole given → AllByRecursion IsArgument given

@@ -3,8 +3,7 @@ use Rattle.std.proofs.Common.{◌≡◌, ℕ, Bool, true, false, cond, ltb, eqb,
 use Rattle.std.specs.List.{AllByRecursion, flat_map}
 use Rattle.std.proofs.lemmas.Bool.{ltb-false}
 use Rattle.model.specs.Grammar.{Argument, Long_text, argument}
-use Rattle.model.specs.Tables.{Value, Truth, Byte, Decimal, Long_string, Field_array, Timestamp, Inner_table, Byte_array, Void, letter, content, values_bytes, pairs_bytes, IsValue}
-use Rattle.model.specs.Tables as tables
+use Rattle.model.specs.Tables.{Value, Truth, Decimal, Long_string, Field_array, Inner_table, Byte_array, Void, letter, content, values_bytes, pairs_bytes, IsValue}
 use Rattle.field_table.specs.Arguments.{IsSized, Kind, kind_of, argument_at}
 use Rattle.model.specs.Options.{◌>>=◌}
 use Rattle.field_table.specs.Leaves.{Unread, unread, kinds_behind, front_at, behind, read_leaf}
@@ -112,51 +111,23 @@ leaf_takes bytes y are e =
 pub value_spelled : (v : Value) → letter v ∷ content v ≡ letter v ∷ flat_map argument (contents_of v)
 value_spelled (Truth true) = refl
 value_spelled (Truth false) = refl
-value_spelled (Byte n) = refl
-value_spelled (tables.Short n) = refl
-value_spelled (tables.Long n) = refl
-value_spelled (tables.Long_long n) = refl
-value_spelled (tables.Float n) = refl
-value_spelled (tables.Double n) = refl
-value_spelled (Decimal scale digits) = refl
 value_spelled (Long_string t) = ap (λ (z : List ℕ). 83 ∷ z) (sym (append-nil (argument (Long_text t))))
 value_spelled (Field_array vs) = ap (λ (z : List ℕ). 65 ∷ z) (sym (append-nil (argument (Long_text (values_bytes vs)))))
-value_spelled (Timestamp n) = refl
 value_spelled (Inner_table ps) = ap (λ (z : List ℕ). 70 ∷ z) (sym (append-nil (argument (Long_text (pairs_bytes ps)))))
 value_spelled (Byte_array t) = ap (λ (z : List ℕ). 120 ∷ z) (sym (append-nil (argument (Long_text t))))
-value_spelled Void = refl
+value_spelled _ = refl
 
 pub value_kinds : (v : Value) → kinds_behind (letter v) ≡ Some (map kind_of (contents_of v))
-value_kinds (Truth b) = refl
-value_kinds (Byte n) = refl
-value_kinds (tables.Short n) = refl
-value_kinds (tables.Long n) = refl
-value_kinds (tables.Long_long n) = refl
-value_kinds (tables.Float n) = refl
-value_kinds (tables.Double n) = refl
-value_kinds (Decimal scale digits) = refl
-value_kinds (Long_string t) = refl
-value_kinds (Field_array vs) = refl
-value_kinds (Timestamp n) = refl
-value_kinds (Inner_table ps) = refl
-value_kinds (Byte_array t) = refl
 value_kinds Void = refl
+value_kinds _ = refl
 
 pub value_sized : (depth : ℕ) (v : Value) → IsValue depth v → AllByRecursion IsSized (contents_of v)
 value_sized depth (Truth b) fits = (omega arith, tt)
-value_sized depth (Byte n) fits = (fits, tt)
-value_sized depth (tables.Short n) fits = (fits, tt)
-value_sized depth (tables.Long n) fits = (fits, tt)
-value_sized depth (tables.Long_long n) fits = (fits, tt)
-value_sized depth (tables.Float n) fits = (fits, tt)
-value_sized depth (tables.Double n) fits = (fits, tt)
 value_sized depth (Decimal scale digits) fits = (fits.0, (fits.1, tt))
-value_sized depth (Long_string t) fits = (fits, tt)
 value_sized depth (Field_array vs) fits = (fits.1, tt)
-value_sized depth (Timestamp n) fits = (fits, tt)
 value_sized depth (Inner_table ps) fits = (fits.1, tt)
-value_sized depth (Byte_array t) fits = (fits, tt)
 value_sized depth Void fits = tt
+value_sized depth _ fits = (fits, tt)
 
 -- a value that is spelled is read, and the bytes after it are left
 pub value_again : (depth : ℕ) (v : Value) (rest : List ℕ) → IsValue depth v → read_leaf (letter v ∷ content v ++ rest) ≡ Some (unread_of v, rest)

@@ -29,9 +29,7 @@ pub enum Leaf<'a> {
 pub fn leaf_at(bytes: &[u8]) -> Option<(Leaf<'_>, &[u8])>
     ensures { option_map (λ x. (leaf_seen x.0, x.1.now)) result ≡ read_leaf bytes.now }
 {
-    let Some((letter, rest)) = octet_at(bytes) else {
-        return None;
-    };
+    let (letter, rest) = octet_at(bytes)?;
     leaf_behind(letter, rest)
 }
 
@@ -57,27 +55,21 @@ fn leaf_behind(letter: u8, bytes: &[u8]) -> Option<(Leaf<'_>, &[u8])>
 fn truth_behind(bytes: &[u8]) -> Option<(Leaf<'_>, &[u8])>
     ensures { option_map (λ x. (leaf_seen x.0, x.1.now)) result ≡ behind 116 bytes.now }
 {
-    let Some((truth, rest)) = one_bit_at(bytes) else {
-        return None;
-    };
+    let (truth, rest) = one_bit_at(bytes)?;
     Some((Leaf::Truth(truth), rest))
 }
 
 fn byte_behind(bytes: &[u8]) -> Option<(Leaf<'_>, &[u8])>
     ensures { option_map (λ x. (leaf_seen x.0, x.1.now)) result ≡ behind 98 bytes.now }
 {
-    let Some((number, rest)) = octet_at(bytes) else {
-        return None;
-    };
+    let (number, rest) = octet_at(bytes)?;
     Some((Leaf::Byte(number), rest))
 }
 
 fn short_behind(bytes: &[u8]) -> Option<(Leaf<'_>, &[u8])>
     ensures { option_map (λ x. (leaf_seen x.0, x.1.now)) result ≡ behind 115 bytes.now }
 {
-    let Some((number, rest)) = short_at(bytes) else {
-        return None;
-    };
+    let (number, rest) = short_at(bytes)?;
     Some((Leaf::Short(number), rest))
 }
 
@@ -86,9 +78,7 @@ fn long_behind(letter: u8, bytes: &[u8]) -> Option<(Leaf<'_>, &[u8])>
     requires { kinds_behind letter ≡ Some (a_long ∷ []) }
     ensures { option_map (λ x. (leaf_seen x.0, x.1.now)) result ≡ behind letter bytes.now }
 {
-    let Some((number, rest)) = long_at(bytes) else {
-        return None;
-    };
+    let (number, rest) = long_at(bytes)?;
     let leaf = match letter {
         b'I' => Leaf::Long(number),
         _ => Leaf::Float(number),
@@ -101,9 +91,7 @@ fn long_long_behind(letter: u8, bytes: &[u8]) -> Option<(Leaf<'_>, &[u8])>
     requires { kinds_behind letter ≡ Some (a_long_long ∷ []) }
     ensures { option_map (λ x. (leaf_seen x.0, x.1.now)) result ≡ behind letter bytes.now }
 {
-    let Some((number, rest)) = long_long_at(bytes) else {
-        return None;
-    };
+    let (number, rest) = long_long_at(bytes)?;
     let leaf = match letter {
         b'l' => Leaf::LongLong(number),
         b'd' => Leaf::Double(number),
@@ -115,12 +103,8 @@ fn long_long_behind(letter: u8, bytes: &[u8]) -> Option<(Leaf<'_>, &[u8])>
 fn decimal_behind(bytes: &[u8]) -> Option<(Leaf<'_>, &[u8])>
     ensures { option_map (λ x. (leaf_seen x.0, x.1.now)) result ≡ behind 68 bytes.now }
 {
-    let Some((scale, rest)) = octet_at(bytes) else {
-        return None;
-    };
-    let Some((digits, rest)) = long_at(rest) else {
-        return None;
-    };
+    let (scale, rest) = octet_at(bytes)?;
+    let (digits, rest) = long_at(rest)?;
     Some((Leaf::Decimal(scale, digits), rest))
 }
 
@@ -129,9 +113,7 @@ fn text_behind(letter: u8, bytes: &[u8]) -> Option<(Leaf<'_>, &[u8])>
     requires { kinds_behind letter ≡ Some (a_long_text ∷ []) }
     ensures { option_map (λ x. (leaf_seen x.0, x.1.now)) result ≡ behind letter bytes.now }
 {
-    let Some((body, rest)) = long_text_at(bytes) else {
-        return None;
-    };
+    let (body, rest) = long_text_at(bytes)?;
     let leaf = match letter {
         b'S' => Leaf::Text(body),
         b'A' => Leaf::Array(body),

@@ -1,6 +1,6 @@
 //! Bytes that are put in at the back and taken from the front.
 
-ghost use Rattle.std.specs.Prelude.{◌≡◌, ◌≢◌, ◌≤◌, ◌+◌, ◌^◌, ◌<◌, [], ◌++◌, length, take, drop, true, OnOk, OnErr, Decides, vec_len, vec_capacity};
+ghost use Rattle.std.specs.Prelude.{◌≡◌, ◌≤◌, ◌+◌, ◌^◌, ◌<◌, [], ◌++◌, length, take, drop, true, OnOk, OnErr, Decides, vec_len, vec_capacity};
 ghost use Rattle.model.specs.Frames.{frame_bytes};
 ghost use Rattle.frame.specs.Reading.{seen};
 
@@ -12,9 +12,6 @@ use std::mem;
 
 /// From so many taken bytes on, what is left moves to the front.
 const MOVED_FROM: usize = 16_384;
-
-/// A storage of so many bytes is kept also where nothing waits, so that small pieces want no memory each time.
-const KEPT: usize = 4096;
 
 /// Bytes that wait to be taken. What was taken lies in front of `start` for a while.
 #[derive(Drop)]
@@ -74,20 +71,6 @@ impl Buffer {
         storage.clear();
         self.start = 0;
         mem::replace(&mut self.bytes, storage)
-    }
-
-    /// Gives a storage of more than 4,096 bytes back, where nothing waits in it.
-    pub fn give_back(&mut self, alloc: Global)
-        ensures bytes { self.new.bytes ≡ self.old.bytes }
-        ensures freed { self.old.bytes ≡ [] → self.new.storage ≤ 4096 }
-        ensures room { self.old.bytes ≡ [] → self.new.room ≤ 4096 }
-        ensures kept { self.old.storage ≤ 4096 → self.new ≡ self.old }
-        // one in which something waits stays as it is
-        ensures waits { self.old.bytes ≢ [] → self.new ≡ self.old }
-    {
-        if self.bytes.capacity() > KEPT && self.bytes().is_empty() {
-            drop(self.move_into(Vec::new(alloc)));
-        }
     }
 
     /// Makes room for `n` more bytes. Where memory is refused, which was wanted then, all stays as it was.

@@ -82,7 +82,7 @@ number_of false (suc zero) lt e = absurd (cc)
 number_of false (suc (suc n)) lt e = absurd (omega arith)
 
 -- one bit more
-pub split_flags : (f n : ℕ) → f % 2 ^ (n + 3) ≡ (f / 2 ^ (n + 2) % 2) * 2 ^ (n + 2) + f % 2 ^ (n + 2)
+split_flags : (f n : ℕ) → f % 2 ^ (n + 3) ≡ (f / 2 ^ (n + 2) % 2) * 2 ^ (n + 2) + f % 2 ^ (n + 2)
 split_flags f n =
     let e : 1 + (n + 2) ≡ n + 3 = omega arith in
     subst (λ (i : ℕ). f % 2 ^ i ≡ (f / 2 ^ (n + 2) % 2) * 2 ^ (n + 2) + f % 2 ^ (n + 2)) e (mod-pow-add f 1 (n + 2))
@@ -166,11 +166,21 @@ pub record Digits (f w c low : ℕ) : Type 0 where
   pub high : f / w % 2 ≡ c
   pub rest : f % w ≡ low
 
-pub digits : (f w c low : ℕ) → low < w → f % w < w → (f / w % 2) * w + f % w ≡ c * w + low → Digits f w c low
+digits : (f w c low : ℕ) → low < w → f % w < w → (f / w % 2) * w + f % w ≡ c * w + low → Digits f w c low
 digits f w c low lt under e = record {
   high = sym (div-mul-add (f / w % 2) w (f % w) under) ∙ ap (λ (i : ℕ). i / w) e ∙ div-mul-add c w low lt;
   rest = sym (mod-mul-add (f / w % 2) w (f % w) under) ∙ ap (λ (i : ℕ). i % w) e ∙ mod-mul-add c w low lt;
 }
+
+-- the flag of the first property, and those of the others
+pub first_flag : (f n : ℕ) (o : Option Argument) (os : List (Option Argument)) → length os ≡ n → f % 2 ^ (suc n + 2) ≡ flags (o ∷ os) → Digits f (2 ^ (n + 2)) (cond (is_some o) 1 0) (flags os)
+first_flag f n o os len e =
+    let w : ℕ = 2 ^ (n + 2) in
+    let below : flags os + 4 ≤ w = subst (λ (i : ℕ). flags os + 4 ≤ 2 ^ (i + 2)) len (flags-below os) in
+    let width : suc n + 2 ≡ n + 3 = omega arith in
+    let sum : (f / w % 2) * w + f % w ≡ cond (is_some o) 1 0 * w + flags os =
+    sym (split_flags f n) ∙ ap (λ (i : ℕ). f % 2 ^ i) (sym width) ∙ e ∙ ap (λ (i : ℕ). cond (is_some o) 1 0 * 2 ^ (i + 2) + flags os) len in
+    digits f w (cond (is_some o) 1 0) (flags os) (omega (arith, below)) (mod-lt f (omega (arith, below))) sum
 
 pub options_again : (f : ℕ) (rs : List Row) (os : List (Option Argument)) (rest : List ℕ) → Descend rs → HaveKinds rs os → AllByRecursion IsSizedOption os → f % 2 ^ (length rs + 2) ≡ flags os
     → options_at f rs (flat_map value_of os ++ rest) ≡ Some (os, rest)
@@ -178,14 +188,7 @@ options_again f [] [] rest down kinds fits e = refl
 options_again f [] (o ∷ os) rest down kinds fits e = absurd kinds
 options_again f (r ∷ rs) [] rest down kinds fits e = absurd kinds
 options_again f (r ∷ rs) (o ∷ os) rest down kinds fits e =
-    let n : ℕ = length rs in
-    let w : ℕ = 2 ^ (n + 2) in
-    let len : length os ≡ n = same_len rs os kinds.1 in
-    let below : flags os + 4 ≤ w = subst (λ (i : ℕ). flags os + 4 ≤ 2 ^ (i + 2)) len (flags-below os) in
-    let width : suc n + 2 ≡ n + 3 = omega arith in
-    let sum : (f / w % 2) * w + f % w ≡ cond (is_some o) 1 0 * w + flags os =
-    sym (split_flags f n) ∙ ap (λ (i : ℕ). f % 2 ^ i) (sym width) ∙ e ∙ ap (λ (i : ℕ). cond (is_some o) 1 0 * 2 ^ (i + 2) + flags os) len in
-    let d : Digits f w (cond (is_some o) 1 0) (flags os) = digits f w (cond (is_some o) 1 0) (flags os) (omega (arith, below)) (mod-lt f (omega (arith, below))) sum in
+    let d = first_flag f (length rs) o os (same_len rs os kinds.1) e in
     let flagged : has_flag f r.bit ≡ is_some o = ap (λ (i : ℕ). has_flag f i) down.0 ∙ ap (λ (i : ℕ). eqb i 1) d.high ∙ bit_is (is_some o) in
     let one : option_at (has_flag f r.bit) r.kind (value_of o ++ (flat_map value_of os ++ rest)) ≡ Some (o, flat_map value_of os ++ rest) =
     ap (λ (b : Bool). option_at b r.kind (value_of o ++ (flat_map value_of os ++ rest))) flagged ∙ option_again o r.kind (flat_map value_of os ++ rest) kinds.0 fits.0 in

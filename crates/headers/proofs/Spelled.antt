@@ -1,16 +1,16 @@
 -- The bytes that spell properties tell them.
-use Rattle.std.proofs.Common.{◌≡◌, ℕ, suc, ◌+◌, ◌*◌, ◌/◌, ◌%◌, ◌^◌, ◌<◌, ◌≤◌, Bool, cond, eqb, List, [], ◌∷◌, ◌++◌, length, take, drop, Option, Some, None, refl, sym, ap, subst, ◌∙◌, arith}
+use Rattle.std.proofs.Common.{◌≡◌, ℕ, suc, ◌+◌, ◌%◌, ◌^◌, ◌<◌, Bool, eqb, List, [], ◌∷◌, ◌++◌, length, take, drop, Option, Some, None, refl, sym, ap, subst, ◌∙◌, arith}
 use Rattle.std.specs.Prelude.{if◌then◌else◌, is_some}
 use Rattle.std.specs.List.{flat_map}
 use Rattle.std.proofs.lemmas.List.{take_at, drop_at}
 use Rattle.std.proofs.lemmas.Nat.{from_be_bytes-to_be_bytes_2, from_be_bytes-to_be_bytes_4, from_be_bytes-to_be_bytes_8}
-use Rattle.std.proofs.Math.Nat.{mod-eq_of_lt, mod-lt}
+use Rattle.std.proofs.Math.Nat.{mod-eq_of_lt}
 use Rattle.model.specs.Words.{Text}
 use Rattle.model.specs.Grammar.{Argument, Long_long, Short_text, Field_table, argument}
 use Rattle.model.specs.Headers.{text_of, octet_of, time_of, table_of, properties_of, flags, value_of, IsValue, AreProperties}
 use Rattle.model.specs.Properties.{properties_bytes, First, first_text, first_octet, first_time, first_table, sorts, is_flagged, values_told, properties_told, spelled_by, IsSpelling}
 use Rattle.model.specs.declared.contents.Fields.{Fields as Properties}
-use Rattle.headers.proofs.Flags.{flags-below, split_flags, bit_is, Digits, digits}
+use Rattle.headers.proofs.Flags.{flags-below, bit_is, first_flag}
 use Rattle.headers.proofs.Kept.{told_same}
 
 -- ---- one value
@@ -69,15 +69,8 @@ values_again f [] [] tell e = refl
 values_again f [] (o ∷ os) tell e = absurd tell
 values_again f (first ∷ others) [] tell e = absurd tell
 values_again f (first ∷ others) (o ∷ os) tell e =
-    let n : ℕ = length others in
-    let w : ℕ = 2 ^ (n + 2) in
-    let len : length os ≡ n = same_len others os tell.1 in
-    let below : flags os + 4 ≤ w = subst (λ (i : ℕ). flags os + 4 ≤ 2 ^ (i + 2)) len (flags-below os) in
-    let width : suc n + 2 ≡ n + 3 = omega arith in
-    let sum : (f / w % 2) * w + f % w ≡ cond (is_some o) 1 0 * w + flags os =
-    sym (split_flags f n) ∙ ap (λ (i : ℕ). f % 2 ^ i) (sym width) ∙ e ∙ ap (λ (i : ℕ). cond (is_some o) 1 0 * 2 ^ (i + 2) + flags os) len in
-    let d : Digits f w (cond (is_some o) 1 0) (flags os) = digits f w (cond (is_some o) 1 0) (flags os) (omega (arith, below)) (mod-lt f (omega (arith, below))) sum in
-    let flagged : is_flagged f (n + 2) ≡ is_some o = ap (λ (i : ℕ). eqb i 1) d.high ∙ bit_is (is_some o) in
+    let d = first_flag f (length others) o os (same_len others os tell.1) e in
+    let flagged : is_flagged f (length others + 2) ≡ is_some o = ap (λ (i : ℕ). eqb i 1) d.high ∙ bit_is (is_some o) in
     ap (λ (b : Bool). one b f first others (value_of o ++ flat_map value_of os)) flagged
     ∙ one_told o f first others (flat_map value_of os) tell.0
     ∙ ap (λ (z : List (Option Argument)). o ∷ z) (values_again f others os tell.1 d.rest)

@@ -13,22 +13,12 @@ pub(crate) fn front_len(p: &Fields) -> Option<usize>
     ensures cases { MatchOption result (AreValues (front_of p.now) → ⊥) (λ n. AreValues (front_of p.now) × (n ≡ length (values (front_of p.now)))) }
     ensures bound { IfSome result (λ n. n < 2 ^ 34) }
 {
-    let Some(content_type) = text_len(&p.content_type) else {
-        return None;
-    };
-    let Some(content_encoding) = text_len(&p.content_encoding) else {
-        return None;
-    };
-    let Some(headers) = table_len(&p.headers) else {
-        return None;
-    };
+    let content_type = text_len(&p.content_type)?;
+    let content_encoding = text_len(&p.content_encoding)?;
+    let headers = table_len(&p.headers)?;
     let numbers = octet_len(&p.delivery_mode) + octet_len(&p.priority);
-    let Some(correlation_id) = text_len(&p.correlation_id) else {
-        return None;
-    };
-    let Some(reply_to) = text_len(&p.reply_to) else {
-        return None;
-    };
+    let correlation_id = text_len(&p.correlation_id)?;
+    let reply_to = text_len(&p.reply_to)?;
     Some(content_type + content_encoding + headers + numbers + correlation_id + reply_to)
 }
 
@@ -37,25 +27,13 @@ pub(crate) fn back_len(p: &Fields) -> Option<usize>
     ensures cases { MatchOption result (AreValues (back_of p.now) → ⊥) (λ n. AreValues (back_of p.now) × (n ≡ length (values (back_of p.now)))) }
     ensures bound { IfSome result (λ n. n < 2 ^ 12) }
 {
-    let Some(expiration) = text_len(&p.expiration) else {
-        return None;
-    };
-    let Some(message_id) = text_len(&p.message_id) else {
-        return None;
-    };
+    let expiration = text_len(&p.expiration)?;
+    let message_id = text_len(&p.message_id)?;
     let timestamp = time_len(&p.timestamp);
-    let Some(kind) = text_len(&p.kind) else {
-        return None;
-    };
-    let Some(user_id) = text_len(&p.user_id) else {
-        return None;
-    };
-    let Some(app_id) = text_len(&p.app_id) else {
-        return None;
-    };
-    let Some(reserved) = text_len(&p.reserved) else {
-        return None;
-    };
+    let kind = text_len(&p.kind)?;
+    let user_id = text_len(&p.user_id)?;
+    let app_id = text_len(&p.app_id)?;
+    let reserved = text_len(&p.reserved)?;
     Some(expiration + message_id + timestamp + kind + user_id + app_id + reserved)
 }
 

@@ -47,12 +47,8 @@ pub(crate) fn parts_at(flags: u16, bytes: &[u8]) -> Option<Parts<'_>>
     if flags % 4 != 0 {
         return None;
     }
-    let Some((front, rest)) = front_at(flags, bytes) else {
-        return None;
-    };
-    let Some((back, rest)) = back_at(flags, rest) else {
-        return None;
-    };
+    let (front, rest) = front_at(flags, bytes)?;
+    let (back, rest) = back_at(flags, rest)?;
     if !rest.is_empty() {
         return None;
     }
@@ -63,27 +59,13 @@ pub(crate) fn parts_at(flags: u16, bytes: &[u8]) -> Option<Parts<'_>>
 fn front_at(flags: u16, bytes: &[u8]) -> Option<(Front<'_>, &[u8])>
     ensures { option_map (λ x. (front_in x.0, x.1.now)) result ≡ options_at flags front_rows bytes.now }
 {
-    let Some((content_type, rest)) = text_at(has(flags, 15), bytes) else {
-        return None;
-    };
-    let Some((content_encoding, rest)) = text_at(has(flags, 14), rest) else {
-        return None;
-    };
-    let Some((headers, rest)) = table_at(has(flags, 13), rest) else {
-        return None;
-    };
-    let Some((delivery_mode, rest)) = number_at(has(flags, 12), rest) else {
-        return None;
-    };
-    let Some((priority, rest)) = number_at(has(flags, 11), rest) else {
-        return None;
-    };
-    let Some((correlation_id, rest)) = text_at(has(flags, 10), rest) else {
-        return None;
-    };
-    let Some((reply_to, rest)) = text_at(has(flags, 9), rest) else {
-        return None;
-    };
+    let (content_type, rest) = text_at(has(flags, 15), bytes)?;
+    let (content_encoding, rest) = text_at(has(flags, 14), rest)?;
+    let (headers, rest) = table_at(has(flags, 13), rest)?;
+    let (delivery_mode, rest) = number_at(has(flags, 12), rest)?;
+    let (priority, rest) = number_at(has(flags, 11), rest)?;
+    let (correlation_id, rest) = text_at(has(flags, 10), rest)?;
+    let (reply_to, rest) = text_at(has(flags, 9), rest)?;
     let front = Front {
         content_type,
         content_encoding,
@@ -100,27 +82,13 @@ fn front_at(flags: u16, bytes: &[u8]) -> Option<(Front<'_>, &[u8])>
 fn back_at(flags: u16, bytes: &[u8]) -> Option<(Back<'_>, &[u8])>
     ensures { option_map (λ x. (back_in x.0, x.1.now)) result ≡ options_at flags back_rows bytes.now }
 {
-    let Some((expiration, rest)) = text_at(has(flags, 8), bytes) else {
-        return None;
-    };
-    let Some((message_id, rest)) = text_at(has(flags, 7), rest) else {
-        return None;
-    };
-    let Some((timestamp, rest)) = time_at(has(flags, 6), rest) else {
-        return None;
-    };
-    let Some((kind, rest)) = text_at(has(flags, 5), rest) else {
-        return None;
-    };
-    let Some((user_id, rest)) = text_at(has(flags, 4), rest) else {
-        return None;
-    };
-    let Some((app_id, rest)) = text_at(has(flags, 3), rest) else {
-        return None;
-    };
-    let Some((reserved, rest)) = text_at(has(flags, 2), rest) else {
-        return None;
-    };
+    let (expiration, rest) = text_at(has(flags, 8), bytes)?;
+    let (message_id, rest) = text_at(has(flags, 7), rest)?;
+    let (timestamp, rest) = time_at(has(flags, 6), rest)?;
+    let (kind, rest) = text_at(has(flags, 5), rest)?;
+    let (user_id, rest) = text_at(has(flags, 4), rest)?;
+    let (app_id, rest) = text_at(has(flags, 3), rest)?;
+    let (reserved, rest) = text_at(has(flags, 2), rest)?;
     let back = Back {
         expiration,
         message_id,
@@ -147,9 +115,7 @@ fn text_at(is: bool, bytes: &[u8]) -> Option<(Option<&[u8]>, &[u8])>
     if !is {
         return Some((None, bytes));
     }
-    let Some((text, rest)) = short_text_at(bytes) else {
-        return None;
-    };
+    let (text, rest) = short_text_at(bytes)?;
     Some((Some(text), rest))
 }
 
@@ -159,9 +125,7 @@ fn table_at(is: bool, bytes: &[u8]) -> Option<(Option<&[u8]>, &[u8])>
     if !is {
         return Some((None, bytes));
     }
-    let Some((pairs, rest)) = pairs_at(bytes) else {
-        return None;
-    };
+    let (pairs, rest) = pairs_at(bytes)?;
     Some((Some(pairs), rest))
 }
 
@@ -171,9 +135,7 @@ fn number_at(is: bool, bytes: &[u8]) -> Option<(Option<u8>, &[u8])>
     if !is {
         return Some((None, bytes));
     }
-    let Some((number, rest)) = octet_at(bytes) else {
-        return None;
-    };
+    let (number, rest) = octet_at(bytes)?;
     Some((Some(number), rest))
 }
 
@@ -183,8 +145,6 @@ fn time_at(is: bool, bytes: &[u8]) -> Option<(Option<u64>, &[u8])>
     if !is {
         return Some((None, bytes));
     }
-    let Some((time, rest)) = long_long_at(bytes) else {
-        return None;
-    };
+    let (time, rest) = long_long_at(bytes)?;
     Some((Some(time), rest))
 }

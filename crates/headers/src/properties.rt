@@ -104,10 +104,7 @@ fn text(alloc: Global, bytes: Option<&[u8]>) -> Result<Option<Text>, AllocError>
 {
     match bytes {
         None => Ok(None),
-        Some(bytes) => match Text::from_slice(alloc, bytes) {
-            Ok(text) => Ok(Some(text)),
-            Err(error) => Err(error),
-        },
+        Some(bytes) => Ok(Some(Text::from_slice(alloc, bytes)?)),
     }
 }
 
@@ -117,9 +114,6 @@ fn table(alloc: Global, pairs: Option<&[u8]>) -> Result<Option<Table>, AllocErro
 {
     match pairs {
         None => Ok(None),
-        Some(pairs) => match Text::from_slice(alloc, pairs) {
-            Ok(pairs) => Ok(Some(Table::from_pairs(pairs))),
-            Err(error) => Err(error),
-        },
+        Some(pairs) => Ok(Some(Table::from_pairs(Text::from_slice(alloc, pairs)?))),
     }
 }

@@ -2,28 +2,7 @@
 
 ghost use Rattle.std.specs.Prelude.{◌≡◌, [], ◌∷◌};
 ghost use Rattle.model.specs.Grammar.{arguments, Long, Short_text, Long_text, Bits};
-ghost use Rattle.model.specs.declared.methods.Method.TheVariants.{
-  ConnectionStart,
-  ConnectionStartOk,
-  ConnectionTune,
-  ConnectionOpen,
-  ConnectionClose,
-  ExchangeDeclare,
-  QueueDeclare,
-  QueueDeclareOk,
-  QueuePurge,
-  BasicQos,
-  BasicConsume,
-  BasicCancel,
-  BasicPublish,
-  BasicReturn,
-  BasicDeliver,
-  BasicGet,
-  BasicGetOk,
-  BasicAck,
-  BasicReject,
-  BasicNack,
-};
+ghost use Rattle.model.specs.declared.methods.Method.TheVariants as method;
 ghost use Rattle.field_table.specs.Arguments.{arguments_at, a_long, a_short_text, a_long_text, some_bits};
 ghost use Rattle.methods.specs.Kinds.{
   start_kinds,
@@ -137,61 +116,41 @@ const TAG_AND_TWO_BITS: [Kind; 2] = [Kind::LongLong, Kind::TwoBits];
 // ---- methods with several arguments
 
 pub(crate) fn start_in(alloc: Global, bytes: &[u8]) -> Result<Start, BadMethod>
-    ensures { GivesArguments (λ x. arguments (ConnectionStart x)) result (arguments_at start_kinds bytes.now) }
+    ensures { GivesArguments (λ x. arguments (method.ConnectionStart x)) result (arguments_at start_kinds bytes.now) }
 {
-    let Some(pieces) = pieces_at(&START, bytes) else {
-        return Err(BadMethod::SyntaxError);
-    };
-    let Ok(mechanisms) = pieces.fourth.long_text(alloc) else {
-        return Err(BadMethod::Memory);
-    };
-    let Ok(locales) = pieces.fifth.long_text(alloc) else {
-        return Err(BadMethod::Memory);
-    };
-    match table_in(alloc, &pieces.third) {
-        Ok(server_properties) => Ok(Start {
-            version_major: pieces.first.octet(),
-            version_minor: pieces.second.octet(),
-            server_properties,
-            mechanisms,
-            locales,
-        }),
-        Err(why) => Err(why),
-    }
+    let pieces = pieces_at(&START, bytes).ok_or(BadMethod::SyntaxError)?;
+    let mechanisms = pieces.fourth.long_text(alloc)?;
+    let locales = pieces.fifth.long_text(alloc)?;
+    let server_properties = table_in(alloc, &pieces.third)?;
+    Ok(Start {
+        version_major: pieces.first.octet(),
+        version_minor: pieces.second.octet(),
+        server_properties,
+        mechanisms,
+        locales,
+    })
 }
 
 pub(crate) fn start_ok_in(alloc: Global, bytes: &[u8]) -> Result<StartOk, BadMethod>
-    ensures { GivesArguments (λ x. arguments (ConnectionStartOk x)) result (arguments_at start_ok_kinds bytes.now) }
+    ensures { GivesArguments (λ x. arguments (method.ConnectionStartOk x)) result (arguments_at start_ok_kinds bytes.now) }
 {
-    let Some(pieces) = pieces_at(&START_OK, bytes) else {
-        return Err(BadMethod::SyntaxError);
-    };
-    let Ok(mechanism) = pieces.second.short_text(alloc) else {
-        return Err(BadMethod::Memory);
-    };
-    let Ok(response) = pieces.third.long_text(alloc) else {
-        return Err(BadMethod::Memory);
-    };
-    let Ok(locale) = pieces.fourth.short_text(alloc) else {
-        return Err(BadMethod::Memory);
-    };
-    match table_in(alloc, &pieces.first) {
-        Ok(client_properties) => Ok(StartOk {
-            client_properties,
-            mechanism,
-            response,
-            locale,
-        }),
-        Err(why) => Err(why),
-    }
+    let pieces = pieces_at(&START_OK, bytes).ok_or(BadMethod::SyntaxError)?;
+    let mechanism = pieces.second.short_text(alloc)?;
+    let response = pieces.third.long_text(alloc)?;
+    let locale = pieces.fourth.short_text(alloc)?;
+    let client_properties = table_in(alloc, &pieces.first)?;
+    Ok(StartOk {
+        client_properties,
+        mechanism,
+        response,
+        locale,
+    })
 }
 
 pub(crate) fn tuning_in(bytes: &[u8]) -> Result<Tuning, BadMethod>
-    ensures { GivesArguments (λ x. arguments (ConnectionTune x)) result (arguments_at tuning_kinds bytes.now) }
+    ensures { GivesArguments (λ x. arguments (method.ConnectionTune x)) result (arguments_at tuning_kinds bytes.now) }
 {
-    let Some(pieces) = pieces_at(&TUNING, bytes) else {
-        return Err(BadMethod::SyntaxError);
-    };
+    let pieces = pieces_at(&TUNING, bytes).ok_or(BadMethod::SyntaxError)?;
     Ok(Tuning {
         channel_max: pieces.first.short(),
         frame_max: pieces.second.long(),
@@ -200,17 +159,11 @@ pub(crate) fn tuning_in(bytes: &[u8]) -> Result<Tuning, BadMethod>
 }
 
 pub(crate) fn open_in(alloc: Global, bytes: &[u8]) -> Result<Open, BadMethod>
-    ensures { GivesArguments (λ x. arguments (ConnectionOpen x)) result (arguments_at open_kinds bytes.now) }
+    ensures { GivesArguments (λ x. arguments (method.ConnectionOpen x)) result (arguments_at open_kinds bytes.now) }
 {
-    let Some(pieces) = pieces_at(&OPEN, bytes) else {
-        return Err(BadMethod::SyntaxError);
-    };
-    let Ok(virtual_host) = pieces.first.short_text(alloc) else {
-        return Err(BadMethod::Memory);
-    };
-    let Ok(reserved_text) = pieces.second.short_text(alloc) else {
-        return Err(BadMethod::Memory);
-    };
+    let pieces = pieces_at(&OPEN, bytes).ok_or(BadMethod::SyntaxError)?;
+    let virtual_host = pieces.first.short_text(alloc)?;
+    let reserved_text = pieces.second.short_text(alloc)?;
     Ok(Open {
         virtual_host,
         reserved_text,
@@ -219,14 +172,10 @@ pub(crate) fn open_in(alloc: Global, bytes: &[u8]) -> Result<Open, BadMethod>
 }
 
 pub(crate) fn close_in(alloc: Global, bytes: &[u8]) -> Result<Close, BadMethod>
-    ensures { GivesArguments (λ x. arguments (ConnectionClose x)) result (arguments_at close_kinds bytes.now) }
+    ensures { GivesArguments (λ x. arguments (method.ConnectionClose x)) result (arguments_at close_kinds bytes.now) }
 {
-    let Some(pieces) = pieces_at(&CLOSE, bytes) else {
-        return Err(BadMethod::SyntaxError);
-    };
-    let Ok(reply_text) = pieces.second.short_text(alloc) else {
-        return Err(BadMethod::Memory);
-    };
+    let pieces = pieces_at(&CLOSE, bytes).ok_or(BadMethod::SyntaxError)?;
+    let reply_text = pieces.second.short_text(alloc)?;
     Ok(Close {
         reply_code: pieces.first.short(),
         reply_text,
@@ -239,71 +188,53 @@ pub(crate) fn exchange_declare_in(
     alloc: Global,
     bytes: &[u8],
 ) -> Result<model::ExchangeDeclare, BadMethod>
-    ensures { GivesArguments (λ x. arguments (ExchangeDeclare x)) result (arguments_at declare_exchange_kinds bytes.now) }
+    ensures { GivesArguments (λ x. arguments (method.ExchangeDeclare x)) result (arguments_at declare_exchange_kinds bytes.now) }
 {
-    let Some(pieces) = pieces_at(&DECLARE_EXCHANGE, bytes) else {
-        return Err(BadMethod::SyntaxError);
-    };
-    let Ok(exchange) = pieces.second.short_text(alloc) else {
-        return Err(BadMethod::Memory);
-    };
-    let Ok(kind) = pieces.third.short_text(alloc) else {
-        return Err(BadMethod::Memory);
-    };
+    let pieces = pieces_at(&DECLARE_EXCHANGE, bytes).ok_or(BadMethod::SyntaxError)?;
+    let exchange = pieces.second.short_text(alloc)?;
+    let kind = pieces.third.short_text(alloc)?;
     let (passive, durable, auto_delete, internal, no_wait) = pieces.fourth.five_bits();
-    match table_in(alloc, &pieces.fifth) {
-        Ok(arguments) => Ok(model::ExchangeDeclare {
-            reserved: pieces.first.short(),
-            exchange,
-            kind,
-            passive,
-            durable,
-            auto_delete,
-            internal,
-            no_wait,
-            arguments,
-        }),
-        Err(why) => Err(why),
-    }
+    let arguments = table_in(alloc, &pieces.fifth)?;
+    Ok(model::ExchangeDeclare {
+        reserved: pieces.first.short(),
+        exchange,
+        kind,
+        passive,
+        durable,
+        auto_delete,
+        internal,
+        no_wait,
+        arguments,
+    })
 }
 
 pub(crate) fn queue_declare_in(
     alloc: Global,
     bytes: &[u8],
 ) -> Result<model::QueueDeclare, BadMethod>
-    ensures { GivesArguments (λ x. arguments (QueueDeclare x)) result (arguments_at declare_queue_kinds bytes.now) }
+    ensures { GivesArguments (λ x. arguments (method.QueueDeclare x)) result (arguments_at declare_queue_kinds bytes.now) }
 {
-    let Some(pieces) = pieces_at(&DECLARE_QUEUE, bytes) else {
-        return Err(BadMethod::SyntaxError);
-    };
+    let pieces = pieces_at(&DECLARE_QUEUE, bytes).ok_or(BadMethod::SyntaxError)?;
     let (passive, durable, exclusive, auto_delete, no_wait) = pieces.third.five_bits();
-    let Ok(queue) = pieces.second.short_text(alloc) else {
-        return Err(BadMethod::Memory);
-    };
-    match table_in(alloc, &pieces.fourth) {
-        Ok(arguments) => Ok(model::QueueDeclare {
-            reserved: pieces.first.short(),
-            queue,
-            passive,
-            durable,
-            exclusive,
-            auto_delete,
-            no_wait,
-            arguments,
-        }),
-        Err(why) => Err(why),
-    }
+    let queue = pieces.second.short_text(alloc)?;
+    let arguments = table_in(alloc, &pieces.fourth)?;
+    Ok(model::QueueDeclare {
+        reserved: pieces.first.short(),
+        queue,
+        passive,
+        durable,
+        exclusive,
+        auto_delete,
+        no_wait,
+        arguments,
+    })
 }
 
 pub(crate) fn queue_declared_in(alloc: Global, bytes: &[u8]) -> Result<QueueDeclared, BadMethod>
-    ensures { GivesArguments (λ x. arguments (QueueDeclareOk x)) result (arguments_at declared_kinds bytes.now) }
+    ensures { GivesArguments (λ x. arguments (method.QueueDeclareOk x)) result (arguments_at declared_kinds bytes.now) }
 {
-    let Some(pieces) = pieces_at(&DECLARED, bytes) else {
-        return Err(BadMethod::SyntaxError);
-    };
-    let Ok(queue) = pieces.first.short_text(alloc) else {
-        return Err(BadMethod::Memory);
-    };
+    let pieces = pieces_at(&DECLARED, bytes).ok_or(BadMethod::SyntaxError)?;
+    let queue = pieces.first.short_text(alloc)?;
     Ok(QueueDeclared {
         queue,
         message_count: pieces.second.long(),
@@ -312,14 +243,10 @@ pub(crate) fn queue_declared_in(alloc: Global, bytes: &[u8]) -> Result<QueueDecl
 }
 
 pub(crate) fn purge_in(alloc: Global, bytes: &[u8]) -> Result<Purge, BadMethod>
-    ensures { GivesArguments (λ x. arguments (QueuePurge x)) result (arguments_at queue_kinds bytes.now) }
+    ensures { GivesArguments (λ x. arguments (method.QueuePurge x)) result (arguments_at queue_kinds bytes.now) }
 {
-    let Some(pieces) = pieces_at(&QUEUE, bytes) else {
-        return Err(BadMethod::SyntaxError);
-    };
-    let Ok(queue) = pieces.second.short_text(alloc) else {
-        return Err(BadMethod::Memory);
-    };
+    let pieces = pieces_at(&QUEUE, bytes).ok_or(BadMethod::SyntaxError)?;
+    let queue = pieces.second.short_text(alloc)?;
     Ok(Purge {
         reserved: pieces.first.short(),
         queue,
@@ -328,11 +255,9 @@ pub(crate) fn purge_in(alloc: Global, bytes: &[u8]) -> Result<Purge, BadMethod>
 }
 
 pub(crate) fn qos_in(bytes: &[u8]) -> Result<Qos, BadMethod>
-    ensures { GivesArguments (λ x. arguments (BasicQos x)) result (arguments_at qos_kinds bytes.now) }
+    ensures { GivesArguments (λ x. arguments (method.BasicQos x)) result (arguments_at qos_kinds bytes.now) }
 {
-    let Some(pieces) = pieces_at(&QOS, bytes) else {
-        return Err(BadMethod::SyntaxError);
-    };
+    let pieces = pieces_at(&QOS, bytes).ok_or(BadMethod::SyntaxError)?;
     Ok(Qos {
         prefetch_size: pieces.first.long(),
         prefetch_count: pieces.second.short(),
@@ -341,42 +266,30 @@ pub(crate) fn qos_in(bytes: &[u8]) -> Result<Qos, BadMethod>
 }
 
 pub(crate) fn consume_in(alloc: Global, bytes: &[u8]) -> Result<Consume, BadMethod>
-    ensures { GivesArguments (λ x. arguments (BasicConsume x)) result (arguments_at consume_kinds bytes.now) }
+    ensures { GivesArguments (λ x. arguments (method.BasicConsume x)) result (arguments_at consume_kinds bytes.now) }
 {
-    let Some(pieces) = pieces_at(&CONSUME, bytes) else {
-        return Err(BadMethod::SyntaxError);
-    };
+    let pieces = pieces_at(&CONSUME, bytes).ok_or(BadMethod::SyntaxError)?;
     let (no_local, no_ack, exclusive, no_wait) = pieces.fourth.four_bits();
-    let Ok(queue) = pieces.second.short_text(alloc) else {
-        return Err(BadMethod::Memory);
-    };
-    let Ok(consumer_tag) = pieces.third.short_text(alloc) else {
-        return Err(BadMethod::Memory);
-    };
-    match table_in(alloc, &pieces.fifth) {
-        Ok(arguments) => Ok(Consume {
-            reserved: pieces.first.short(),
-            queue,
-            consumer_tag,
-            no_local,
-            no_ack,
-            exclusive,
-            no_wait,
-            arguments,
-        }),
-        Err(why) => Err(why),
-    }
+    let queue = pieces.second.short_text(alloc)?;
+    let consumer_tag = pieces.third.short_text(alloc)?;
+    let arguments = table_in(alloc, &pieces.fifth)?;
+    Ok(Consume {
+        reserved: pieces.first.short(),
+        queue,
+        consumer_tag,
+        no_local,
+        no_ack,
+        exclusive,
+        no_wait,
+        arguments,
+    })
 }
 
 pub(crate) fn cancel_in(alloc: Global, bytes: &[u8]) -> Result<Cancel, BadMethod>
-    ensures { GivesArguments (λ x. arguments (BasicCancel x)) result (arguments_at cancel_kinds bytes.now) }
+    ensures { GivesArguments (λ x. arguments (method.BasicCancel x)) result (arguments_at cancel_kinds bytes.now) }
 {
-    let Some(pieces) = pieces_at(&CANCEL, bytes) else {
-        return Err(BadMethod::SyntaxError);
-    };
-    let Ok(consumer_tag) = pieces.first.short_text(alloc) else {
-        return Err(BadMethod::Memory);
-    };
+    let pieces = pieces_at(&CANCEL, bytes).ok_or(BadMethod::SyntaxError)?;
+    let consumer_tag = pieces.first.short_text(alloc)?;
     Ok(Cancel {
         consumer_tag,
         no_wait: pieces.second.bit(),
@@ -384,18 +297,12 @@ pub(crate) fn cancel_in(alloc: Global, bytes: &[u8]) -> Result<Cancel, BadMethod
 }
 
 pub(crate) fn publish_in(alloc: Global, bytes: &[u8]) -> Result<Publish, BadMethod>
-    ensures { GivesArguments (λ x. arguments (BasicPublish x)) result (arguments_at publish_kinds bytes.now) }
+    ensures { GivesArguments (λ x. arguments (method.BasicPublish x)) result (arguments_at publish_kinds bytes.now) }
 {
-    let Some(pieces) = pieces_at(&PUBLISH, bytes) else {
-        return Err(BadMethod::SyntaxError);
-    };
+    let pieces = pieces_at(&PUBLISH, bytes).ok_or(BadMethod::SyntaxError)?;
     let (mandatory, immediate) = pieces.fourth.two_bits();
-    let Ok(exchange) = pieces.second.short_text(alloc) else {
-        return Err(BadMethod::Memory);
-    };
-    let Ok(routing_key) = pieces.third.short_text(alloc) else {
-        return Err(BadMethod::Memory);
-    };
+    let exchange = pieces.second.short_text(alloc)?;
+    let routing_key = pieces.third.short_text(alloc)?;
     Ok(Publish {
         reserved: pieces.first.short(),
         exchange,
@@ -406,20 +313,12 @@ pub(crate) fn publish_in(alloc: Global, bytes: &[u8]) -> Result<Publish, BadMeth
 }
 
 pub(crate) fn return_in(alloc: Global, bytes: &[u8]) -> Result<Return, BadMethod>
-    ensures { GivesArguments (λ x. arguments (BasicReturn x)) result (arguments_at return_kinds bytes.now) }
+    ensures { GivesArguments (λ x. arguments (method.BasicReturn x)) result (arguments_at return_kinds bytes.now) }
 {
-    let Some(pieces) = pieces_at(&RETURN, bytes) else {
-        return Err(BadMethod::SyntaxError);
-    };
-    let Ok(reply_text) = pieces.second.short_text(alloc) else {
-        return Err(BadMethod::Memory);
-    };
-    let Ok(exchange) = pieces.third.short_text(alloc) else {
-        return Err(BadMethod::Memory);
-    };
-    let Ok(routing_key) = pieces.fourth.short_text(alloc) else {
-        return Err(BadMethod::Memory);
-    };
+    let pieces = pieces_at(&RETURN, bytes).ok_or(BadMethod::SyntaxError)?;
+    let reply_text = pieces.second.short_text(alloc)?;
+    let exchange = pieces.third.short_text(alloc)?;
+    let routing_key = pieces.fourth.short_text(alloc)?;
     Ok(Return {
         reply_code: pieces.first.short(),
         reply_text,
@@ -429,20 +328,12 @@ pub(crate) fn return_in(alloc: Global, bytes: &[u8]) -> Result<Return, BadMethod
 }
 
 pub(crate) fn deliver_in(alloc: Global, bytes: &[u8]) -> Result<Deliver, BadMethod>
-    ensures { GivesArguments (λ x. arguments (BasicDeliver x)) result (arguments_at deliver_kinds bytes.now) }
+    ensures { GivesArguments (λ x. arguments (method.BasicDeliver x)) result (arguments_at deliver_kinds bytes.now) }
 {
-    let Some(pieces) = pieces_at(&DELIVER, bytes) else {
-        return Err(BadMethod::SyntaxError);
-    };
-    let Ok(consumer_tag) = pieces.first.short_text(alloc) else {
-        return Err(BadMethod::Memory);
-    };
-    let Ok(exchange) = pieces.fourth.short_text(alloc) else {
-        return Err(BadMethod::Memory);
-    };
-    let Ok(routing_key) = pieces.fifth.short_text(alloc) else {
-        return Err(BadMethod::Memory);
-    };
+    let pieces = pieces_at(&DELIVER, bytes).ok_or(BadMethod::SyntaxError)?;
+    let consumer_tag = pieces.first.short_text(alloc)?;
+    let exchange = pieces.fourth.short_text(alloc)?;
+    let routing_key = pieces.fifth.short_text(alloc)?;
     Ok(Deliver {
         consumer_tag,
         delivery_tag: pieces.second.long_long(),
@@ -453,14 +344,10 @@ pub(crate) fn deliver_in(alloc: Global, bytes: &[u8]) -> Result<Deliver, BadMeth
 }
 
 pub(crate) fn get_in(alloc: Global, bytes: &[u8]) -> Result<Get, BadMethod>
-    ensures { GivesArguments (λ x. arguments (BasicGet x)) result (arguments_at queue_kinds bytes.now) }
+    ensures { GivesArguments (λ x. arguments (method.BasicGet x)) result (arguments_at queue_kinds bytes.now) }
 {
-    let Some(pieces) = pieces_at(&QUEUE, bytes) else {
-        return Err(BadMethod::SyntaxError);
-    };
-    let Ok(queue) = pieces.second.short_text(alloc) else {
-        return Err(BadMethod::Memory);
-    };
+    let pieces = pieces_at(&QUEUE, bytes).ok_or(BadMethod::SyntaxError)?;
+    let queue = pieces.second.short_text(alloc)?;
     Ok(Get {
         reserved: pieces.first.short(),
         queue,
@@ -469,17 +356,11 @@ pub(crate) fn get_in(alloc: Global, bytes: &[u8]) -> Result<Get, BadMethod>
 }
 
 pub(crate) fn get_ok_in(alloc: Global, bytes: &[u8]) -> Result<GetOk, BadMethod>
-    ensures { GivesArguments (λ x. arguments (BasicGetOk x)) result (arguments_at get_ok_kinds bytes.now) }
+    ensures { GivesArguments (λ x. arguments (method.BasicGetOk x)) result (arguments_at get_ok_kinds bytes.now) }
 {
-    let Some(pieces) = pieces_at(&GET_OK, bytes) else {
-        return Err(BadMethod::SyntaxError);
-    };
-    let Ok(exchange) = pieces.third.short_text(alloc) else {
-        return Err(BadMethod::Memory);
-    };
-    let Ok(routing_key) = pieces.fourth.short_text(alloc) else {
-        return Err(BadMethod::Memory);
-    };
+    let pieces = pieces_at(&GET_OK, bytes).ok_or(BadMethod::SyntaxError)?;
+    let exchange = pieces.third.short_text(alloc)?;
+    let routing_key = pieces.fourth.short_text(alloc)?;
     Ok(GetOk {
         delivery_tag: pieces.first.long_long(),
         redelivered: pieces.second.bit(),
@@ -490,11 +371,9 @@ pub(crate) fn get_ok_in(alloc: Global, bytes: &[u8]) -> Result<GetOk, BadMethod>
 }
 
 pub(crate) fn ack_in(bytes: &[u8]) -> Result<Ack, BadMethod>
-    ensures { GivesArguments (λ x. arguments (BasicAck x)) result (arguments_at (tag_kinds 1) bytes.now) }
+    ensures { GivesArguments (λ x. arguments (method.BasicAck x)) result (arguments_at (tag_kinds 1) bytes.now) }
 {
-    let Some(pieces) = pieces_at(&TAG_AND_BIT, bytes) else {
-        return Err(BadMethod::SyntaxError);
-    };
+    let pieces = pieces_at(&TAG_AND_BIT, bytes).ok_or(BadMethod::SyntaxError)?;
     Ok(Ack {
         delivery_tag: pieces.first.long_long(),
         multiple: pieces.second.bit(),
@@ -502,11 +381,9 @@ pub(crate) fn ack_in(bytes: &[u8]) -> Result<Ack, BadMethod>
 }
 
 pub(crate) fn reject_in(bytes: &[u8]) -> Result<Reject, BadMethod>
-    ensures { GivesArguments (λ x. arguments (BasicReject x)) result (arguments_at (tag_kinds 1) bytes.now) }
+    ensures { GivesArguments (λ x. arguments (method.BasicReject x)) result (arguments_at (tag_kinds 1) bytes.now) }
 {
-    let Some(pieces) = pieces_at(&TAG_AND_BIT, bytes) else {
-        return Err(BadMethod::SyntaxError);
-    };
+    let pieces = pieces_at(&TAG_AND_BIT, bytes).ok_or(BadMethod::SyntaxError)?;
     Ok(Reject {
         delivery_tag: pieces.first.long_long(),
         requeue: pieces.second.bit(),
@@ -514,11 +391,9 @@ pub(crate) fn reject_in(bytes: &[u8]) -> Result<Reject, BadMethod>
 }
 
 pub(crate) fn nack_in(bytes: &[u8]) -> Result<Nack, BadMethod>
-    ensures { GivesArguments (λ x. arguments (BasicNack x)) result (arguments_at (tag_kinds 2) bytes.now) }
+    ensures { GivesArguments (λ x. arguments (method.BasicNack x)) result (arguments_at (tag_kinds 2) bytes.now) }
 {
-    let Some(pieces) = pieces_at(&TAG_AND_TWO_BITS, bytes) else {
-        return Err(BadMethod::SyntaxError);
-    };
+    let pieces = pieces_at(&TAG_AND_TWO_BITS, bytes).ok_or(BadMethod::SyntaxError)?;
     let (multiple, requeue) = pieces.second.two_bits();
     Ok(Nack {
         delivery_tag: pieces.first.long_long(),
@@ -532,42 +407,28 @@ pub(crate) fn nack_in(bytes: &[u8]) -> Result<Nack, BadMethod>
 pub(crate) fn short_text_in(alloc: Global, bytes: &[u8]) -> Result<Text, BadMethod>
     ensures { GivesArguments (λ t. Short_text t ∷ []) result (arguments_at (a_short_text ∷ []) bytes.now) }
 {
-    let Some(pieces) = pieces_at(&[Kind::ShortText], bytes) else {
-        return Err(BadMethod::SyntaxError);
-    };
-    let Ok(text) = pieces.first.short_text(alloc) else {
-        return Err(BadMethod::Memory);
-    };
-    Ok(text)
+    let pieces = pieces_at(&[Kind::ShortText], bytes).ok_or(BadMethod::SyntaxError)?;
+    Ok(pieces.first.short_text(alloc)?)
 }
 
 pub(crate) fn long_text_in(alloc: Global, bytes: &[u8]) -> Result<Text, BadMethod>
     ensures { GivesArguments (λ t. Long_text t ∷ []) result (arguments_at (a_long_text ∷ []) bytes.now) }
 {
-    let Some(pieces) = pieces_at(&[Kind::LongText], bytes) else {
-        return Err(BadMethod::SyntaxError);
-    };
-    let Ok(text) = pieces.first.long_text(alloc) else {
-        return Err(BadMethod::Memory);
-    };
-    Ok(text)
+    let pieces = pieces_at(&[Kind::LongText], bytes).ok_or(BadMethod::SyntaxError)?;
+    Ok(pieces.first.long_text(alloc)?)
 }
 
 pub(crate) fn long_in(bytes: &[u8]) -> Result<u32, BadMethod>
     ensures { GivesArguments (λ n. Long n ∷ []) result (arguments_at (a_long ∷ []) bytes.now) }
 {
-    let Some(pieces) = pieces_at(&[Kind::Long], bytes) else {
-        return Err(BadMethod::SyntaxError);
-    };
+    let pieces = pieces_at(&[Kind::Long], bytes).ok_or(BadMethod::SyntaxError)?;
     Ok(pieces.first.long())
 }
 
 pub(crate) fn bit_in(bytes: &[u8]) -> Result<bool, BadMethod>
     ensures { GivesArguments (λ b. Bits (b ∷ []) ∷ []) result (arguments_at (some_bits 1 ∷ []) bytes.now) }
 {
-    let Some(pieces) = pieces_at(&[Kind::Bit], bytes) else {
-        return Err(BadMethod::SyntaxError);
-    };
+    let pieces = pieces_at(&[Kind::Bit], bytes).ok_or(BadMethod::SyntaxError)?;
     Ok(pieces.first.bit())
 }
 

@@ -2,28 +2,7 @@
 
 ghost use Rattle.std.specs.Prelude.{◌≡◌};
 ghost use Rattle.model.specs.Grammar.{arguments};
-ghost use Rattle.model.specs.declared.methods.Method.TheVariants.{
-  ConnectionStart,
-  ConnectionStartOk,
-  ConnectionTune,
-  ConnectionOpen,
-  ConnectionClose,
-  ExchangeDeclare,
-  QueueDeclare,
-  QueueDeclareOk,
-  QueuePurge,
-  BasicQos,
-  BasicConsume,
-  BasicCancel,
-  BasicPublish,
-  BasicReturn,
-  BasicDeliver,
-  BasicGet,
-  BasicGetOk,
-  BasicAck,
-  BasicReject,
-  BasicNack,
-};
+ghost use Rattle.model.specs.declared.methods.Method.TheVariants as method;
 ghost use Rattle.methods.specs.declared.pieces.Piece.TheVariants.{Nothing};
 ghost use Rattle.methods.specs.Pieces.{given};
 
@@ -83,7 +62,7 @@ fn one(first: Piece<'_>) -> Pieces<'_>
 }
 
 fn of_start(s: &Start) -> Pieces<'_>
-    ensures { given result ≡ arguments (ConnectionStart s.now) }
+    ensures { given result ≡ arguments (method.ConnectionStart s.now) }
 {
     Pieces {
         first: Piece::Octet(s.version_major),
@@ -95,7 +74,7 @@ fn of_start(s: &Start) -> Pieces<'_>
 }
 
 fn of_start_ok(s: &StartOk) -> Pieces<'_>
-    ensures { given result ≡ arguments (ConnectionStartOk s.now) }
+    ensures { given result ≡ arguments (method.ConnectionStartOk s.now) }
 {
     Pieces {
         first: Piece::Table(s.client_properties.as_bytes()),
@@ -107,7 +86,7 @@ fn of_start_ok(s: &StartOk) -> Pieces<'_>
 }
 
 fn of_tuning(t: &Tuning) -> Pieces<'_>
-    ensures { given result ≡ arguments (ConnectionTune t.now) }
+    ensures { given result ≡ arguments (method.ConnectionTune t.now) }
 {
     Pieces {
         first: Piece::Short(t.channel_max),
@@ -118,7 +97,7 @@ fn of_tuning(t: &Tuning) -> Pieces<'_>
 }
 
 fn of_open(o: &Open) -> Pieces<'_>
-    ensures { given result ≡ arguments (ConnectionOpen o.now) }
+    ensures { given result ≡ arguments (method.ConnectionOpen o.now) }
 {
     Pieces {
         first: Piece::ShortText(o.virtual_host.as_bytes()),
@@ -129,7 +108,7 @@ fn of_open(o: &Open) -> Pieces<'_>
 }
 
 fn of_close(c: &Close) -> Pieces<'_>
-    ensures { given result ≡ arguments (ConnectionClose c.now) }
+    ensures { given result ≡ arguments (method.ConnectionClose c.now) }
 {
     Pieces {
         first: Piece::Short(c.reply_code),
@@ -141,7 +120,7 @@ fn of_close(c: &Close) -> Pieces<'_>
 }
 
 fn of_exchange_declare(e: &model::ExchangeDeclare) -> Pieces<'_>
-    ensures { given result ≡ arguments (ExchangeDeclare e.now) }
+    ensures { given result ≡ arguments (method.ExchangeDeclare e.now) }
 {
     Pieces {
         first: Piece::Short(e.reserved),
@@ -153,7 +132,7 @@ fn of_exchange_declare(e: &model::ExchangeDeclare) -> Pieces<'_>
 }
 
 fn of_queue_declare(q: &model::QueueDeclare) -> Pieces<'_>
-    ensures { given result ≡ arguments (QueueDeclare q.now) }
+    ensures { given result ≡ arguments (method.QueueDeclare q.now) }
 {
     Pieces {
         first: Piece::Short(q.reserved),
@@ -165,7 +144,7 @@ fn of_queue_declare(q: &model::QueueDeclare) -> Pieces<'_>
 }
 
 fn of_queue_declared(q: &QueueDeclared) -> Pieces<'_>
-    ensures { given result ≡ arguments (QueueDeclareOk q.now) }
+    ensures { given result ≡ arguments (method.QueueDeclareOk q.now) }
 {
     Pieces {
         first: Piece::ShortText(q.queue.as_bytes()),
@@ -176,7 +155,7 @@ fn of_queue_declared(q: &QueueDeclared) -> Pieces<'_>
 }
 
 fn of_purge(p: &Purge) -> Pieces<'_>
-    ensures { given result ≡ arguments (QueuePurge p.now) }
+    ensures { given result ≡ arguments (method.QueuePurge p.now) }
 {
     Pieces {
         first: Piece::Short(p.reserved),
@@ -187,7 +166,7 @@ fn of_purge(p: &Purge) -> Pieces<'_>
 }
 
 fn of_qos(q: &Qos) -> Pieces<'_>
-    ensures { given result ≡ arguments (BasicQos q.now) }
+    ensures { given result ≡ arguments (method.BasicQos q.now) }
 {
     Pieces {
         first: Piece::Long(q.prefetch_size),
@@ -198,7 +177,7 @@ fn of_qos(q: &Qos) -> Pieces<'_>
 }
 
 fn of_consume(c: &Consume) -> Pieces<'_>
-    ensures { given result ≡ arguments (BasicConsume c.now) }
+    ensures { given result ≡ arguments (method.BasicConsume c.now) }
 {
     Pieces {
         first: Piece::Short(c.reserved),
@@ -210,7 +189,7 @@ fn of_consume(c: &Consume) -> Pieces<'_>
 }
 
 fn of_cancel(c: &Cancel) -> Pieces<'_>
-    ensures { given result ≡ arguments (BasicCancel c.now) }
+    ensures { given result ≡ arguments (method.BasicCancel c.now) }
 {
     Pieces {
         first: Piece::ShortText(c.consumer_tag.as_bytes()),
@@ -220,7 +199,7 @@ fn of_cancel(c: &Cancel) -> Pieces<'_>
 }
 
 fn of_publish(p: &Publish) -> Pieces<'_>
-    ensures { given result ≡ arguments (BasicPublish p.now) }
+    ensures { given result ≡ arguments (method.BasicPublish p.now) }
 {
     Pieces {
         first: Piece::Short(p.reserved),
@@ -232,7 +211,7 @@ fn of_publish(p: &Publish) -> Pieces<'_>
 }
 
 fn of_return(r: &Return) -> Pieces<'_>
-    ensures { given result ≡ arguments (BasicReturn r.now) }
+    ensures { given result ≡ arguments (method.BasicReturn r.now) }
 {
     Pieces {
         first: Piece::Short(r.reply_code),
@@ -244,7 +223,7 @@ fn of_return(r: &Return) -> Pieces<'_>
 }
 
 fn of_deliver(d: &Deliver) -> Pieces<'_>
-    ensures { given result ≡ arguments (BasicDeliver d.now) }
+    ensures { given result ≡ arguments (method.BasicDeliver d.now) }
 {
     Pieces {
         first: Piece::ShortText(d.consumer_tag.as_bytes()),
@@ -256,7 +235,7 @@ fn of_deliver(d: &Deliver) -> Pieces<'_>
 }
 
 fn of_get(g: &Get) -> Pieces<'_>
-    ensures { given result ≡ arguments (BasicGet g.now) }
+    ensures { given result ≡ arguments (method.BasicGet g.now) }
 {
     Pieces {
         first: Piece::Short(g.reserved),
@@ -267,7 +246,7 @@ fn of_get(g: &Get) -> Pieces<'_>
 }
 
 fn of_get_ok(g: &GetOk) -> Pieces<'_>
-    ensures { given result ≡ arguments (BasicGetOk g.now) }
+    ensures { given result ≡ arguments (method.BasicGetOk g.now) }
 {
     Pieces {
         first: Piece::LongLong(g.delivery_tag),
@@ -279,7 +258,7 @@ fn of_get_ok(g: &GetOk) -> Pieces<'_>
 }
 
 fn of_ack(a: &Ack) -> Pieces<'_>
-    ensures { given result ≡ arguments (BasicAck a.now) }
+    ensures { given result ≡ arguments (method.BasicAck a.now) }
 {
     Pieces {
         first: Piece::LongLong(a.delivery_tag),
@@ -289,7 +268,7 @@ fn of_ack(a: &Ack) -> Pieces<'_>
 }
 
 fn of_reject(r: &Reject) -> Pieces<'_>
-    ensures { given result ≡ arguments (BasicReject r.now) }
+    ensures { given result ≡ arguments (method.BasicReject r.now) }
 {
     Pieces {
         first: Piece::LongLong(r.delivery_tag),
@@ -299,7 +278,7 @@ fn of_reject(r: &Reject) -> Pieces<'_>
 }
 
 fn of_nack(n: &Nack) -> Pieces<'_>
-    ensures { given result ≡ arguments (BasicNack n.now) }
+    ensures { given result ≡ arguments (method.BasicNack n.now) }
 {
     Pieces {
         first: Piece::LongLong(n.delivery_tag),

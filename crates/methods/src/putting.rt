@@ -15,21 +15,11 @@ pub fn pieces_len(pieces: &Pieces<'_>) -> Option<usize>
     ensures cases { MatchOption result (AreSpelled pieces.now → ⊥) (λ n. AreSpelled pieces.now × (n ≡ length (pieces_bytes pieces.now))) }
     ensures bound { IfSome result (λ n. n < 2 ^ 36) }
 {
-    let Some(first) = piece_len(&pieces.first) else {
-        return None;
-    };
-    let Some(second) = piece_len(&pieces.second) else {
-        return None;
-    };
-    let Some(third) = piece_len(&pieces.third) else {
-        return None;
-    };
-    let Some(fourth) = piece_len(&pieces.fourth) else {
-        return None;
-    };
-    let Some(fifth) = piece_len(&pieces.fifth) else {
-        return None;
-    };
+    let first = piece_len(&pieces.first)?;
+    let second = piece_len(&pieces.second)?;
+    let third = piece_len(&pieces.third)?;
+    let fourth = piece_len(&pieces.fourth)?;
+    let fifth = piece_len(&pieces.fifth)?;
     Some(first + second + third + fourth + fifth)
 }
 
