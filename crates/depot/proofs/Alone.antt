@@ -1,5 +1,5 @@
 -- The turn of a publish that is routed to one queue.
-use Rattle.std.proofs.Common.{◌≡◌, ℕ, List, [], ◌∷◌, ◌++◌, Bool, true, false, refl, ap, ◌∙◌, append_assoc}
+use Rattle.std.proofs.Common.{◌≡◌, ℕ, List, [], ◌∷◌, ◌++◌, Bool, true, false, refl, ap, ◌∙◌, append_assoc, length, get_or, arith}
 use Rattle.std.specs.Prelude.{◌||◌}
 use Rattle.model.specs.Topology.{Topology}
 use Rattle.model.specs.Message.{Message}
@@ -15,6 +15,12 @@ use Rattle.depot.specs.Turns.{TurnOutcome, turn_at, outcome, is_refusal, entered
 or_none : (b : Bool) → b ≡ (b || false)
 or_none true = refl
 or_none false = refl
+
+-- a list of one place
+pub one_target : (places : List ℕ) → length places ≡ 1 → places ≡ get_or places 0 0 ∷ []
+one_target [] one = absurd (omega (arith, one))
+one_target (place ∷ []) one = refl
+one_target (place ∷ other ∷ more) one = absurd (omega (arith, one))
 
 -- the one turn of a publish is taken
 pub one_enters : (t : Topology) (p : Publish) (m : Message) (place : ℕ) (first : Note) (before pushed after : List Note) (declared : List DeclaredQueue) (old mid new : List (List Entry)) (turn : PlannedTurn) (full : Bool)

@@ -1,5 +1,5 @@
 -- What is done by the places of queues settles deliveries in the queues of their names.
-use Rattle.std.proofs.Common.{◌≡◌, ℕ, zero, suc, ◌+◌, ◌<◌, List, [], ◌∷◌, ◌++◌, Bool, true, false, cond, refl, sym, ap, subst, ◌∙◌, map, filter, length, get_or, not, drop, arith, append_assoc, Result, Ok, Err, OnOk}
+use Rattle.std.proofs.Common.{◌≡◌, ℕ, zero, suc, ◌+◌, ◌<◌, List, [], ◌∷◌, ◌++◌, Bool, true, false, cond, refl, sym, ap, subst, ◌∙◌, map, filter, length, get_or, not, drop, arith, append_assoc}
 use Rattle.std.specs.Prelude.{find, if◌then◌else◌}
 use Rattle.std.specs.Str.{bytes_eq}
 use Rattle.std.proofs.lemmas.List.{append-nil, length-set}
@@ -166,28 +166,24 @@ leaving_next t c h old now new gone rest later d before noted more formed leavin
               all n after last (leaves_first Acked (store_of t now n) c h x xs new noted more after last (record { formed = formed; len = leaving.len }) leaving.apart lt lists notes settled);
         }
 
--- where there is one, it leaves if it waits
-pub one_left : (t : Topology) (c h n : ℕ) (gone : List Delivery) (d : Delivery) (old new : List (List Entry)) (before after : List Note) → IsWellFormed t → length old ≡ length t.queues → AreApartBy old → AreWithin t (waiting gone)
-    → length gone ≡ 1 → d ≡ get_or gone 0 nothing
-    → (is_waiting d ≡ true → (new ≡ left_at c h old d) × (after ≡ before ++ left_note Acked (queue_name t d.queue) (given_at c h old d))) → (is_waiting d ≡ false → (new ≡ old) × (after ≡ before))
+-- where there is one, and it waits, it leaves
+pub one_left : (t : Topology) (c h n : ℕ) (gone : List Delivery) (old new : List (List Entry)) (before after : List Note) → IsWellFormed t → length old ≡ length t.queues → AreApartBy old → AreWithin t (waiting gone)
+    → length gone ≡ 1 → is_waiting (get_or gone 0 nothing) ≡ true → new ≡ left_at c h old (get_or gone 0 nothing)
+    → after ≡ before ++ left_note Acked (queue_name t (get_or gone 0 nothing).queue) (given_at c h old (get_or gone 0 nothing))
     → AreSettledBy (Leaves Acked) (store_of t old n) c h (waiting gone) before after (store_of t new n)
-one_left t c h n [] d old new before after formed len apart within one is waits waits_not = absurd (omega (arith, one))
-one_left t c h n (x ∷ y ∷ zs) d old new before after formed len apart within one is waits waits_not = absurd (omega (arith, one))
-one_left t c h n (x ∷ []) d old new before after formed len apart within one is waits waits_not = go (is_waiting x) refl within
-  where
-    s : Store
-    s = store_of t old n
+one_left t c h n [] old new before after formed len apart within one w moved noted = absurd (omega (arith, one))
+one_left t c h n (x ∷ y ∷ zs) old new before after formed len apart within one w moved noted = absurd (omega (arith, one))
+one_left t c h n (x ∷ []) old new before after formed len apart within one w moved noted =
+    let alone : waiting (x ∷ []) ≡ x ∷ [] = ap (λ (b : Bool). cond b (x ∷ []) []) w in
+    subst (λ (ds : List Delivery). AreSettledBy (Leaves Acked) (store_of t old n) c h ds before after (store_of t new n)) (sym alone)
+    (leaves_first Acked (store_of t old n) c h x [] new before after after (store_of t new n) (record { formed = formed; len = len }) apart (subst (AreWithin t) alone within 0 x (omega arith)) moved noted
+    (none_leaves Acked (store_of t new n) c h after))
 
-    go : (b : Bool) → is_waiting x ≡ b → AreWithin t (cond b (x ∷ []) []) → AreSettledBy (Leaves Acked) s c h (cond b (x ∷ []) []) before after (store_of t new n)
-    go true w all =
-        let made = waits (ap is_waiting is ∙ w) in
-        leaves_first Acked s c h x [] new before after after (store_of t new n) (record { formed = formed; len = len }) apart (all 0 x (omega arith))
-        (made.0 ∙ ap (left_at c h old) is) (made.1 ∙ ap (λ (y : Delivery). before ++ left_note Acked (queue_name t y.queue) (given_at c h old y)) is)
-        (none_leaves Acked (store_of t new n) c h after)
-    go false w all =
-        let made = waits_not (ap is_waiting is ∙ w) in
-        subst (λ (ls : List (List Entry)). AreSettledBy (Leaves Acked) s c h [] before after (store_of t ls n)) (sym made.0)
-        (subst (λ (ns : List Note). AreSettledBy (Leaves Acked) s c h [] before ns s) (sym made.1) (none_leaves Acked s c h before))
+-- and where it doesn't, none leaves
+pub none_left : (s : Store) (c h : ℕ) (gone : List Delivery) (notes : List Note) → length gone ≡ 1 → is_waiting (get_or gone 0 nothing) ≡ false → AreSettledBy (Leaves Acked) s c h (waiting gone) notes notes s
+none_left s c h [] notes one w = absurd (omega (arith, one))
+none_left s c h (x ∷ y ∷ zs) notes one w = absurd (omega (arith, one))
+none_left s c h (x ∷ []) notes one w = subst (λ (ds : List Delivery). AreSettledBy (Leaves Acked) s c h ds notes notes s) (sym (ap (λ (b : Bool). cond b (x ∷ []) []) w)) (none_leaves Acked s c h notes)
 
 -- those that wait from this place on are ready again
 pub returned_next : (t : Topology) (n c h : ℕ) (gone : List Delivery) (i : ℕ) (d : Delivery) (old new : List (List Entry)) (last : Store) → IsWellFormed t → length old ≡ length t.queues → i < length gone
@@ -202,11 +198,6 @@ returned_next t n c h gone i d old new last formed len lt within changes stays r
     go false w =
         subst (λ (ds : List Delivery). AreSettledBy Returns (store_of t old n) c h ds [] [] last) (sym (next_waiting gone i d false lt w))
         (subst (λ (ls : List (List Entry)). AreSettledBy Returns (store_of t ls n) c h (waiting (drop (i + 1) gone)) [] [] last) (stays w) rest)
-
--- what was so, where it was done, gives this
-pub on_both : {X E : Type 0} (r : Result X E) (A B C : Type 0) → (A → B → C) → OnOk r A → OnOk r B → OnOk r C
-on_both (Ok x) A B C f a b = f a b
-on_both (Err e) A B C f a b = a
 
 -- one that waits was given out from one of so many queues, if all that wait were
 pub of_next : (first count : ℕ) (gone : List Delivery) (i : ℕ) (d : Delivery) → AreOf first (waiting gone) → count ≡ first → i < length gone → is_waiting (get_or gone i d) ≡ true → (get_or gone i d).queue < count

@@ -1,6 +1,6 @@
 //! A publish: planned with all its growths, and then done, which cannot fail.
 
-ghost use Rattle.std.specs.Prelude.{◌≡◌, ◌+◌, ◌<◌, ◌≤◌, ◌∷◌, [], length, IfOk, IfSome, OnOk, OnErr, vec_len, vec_capacity};
+ghost use Rattle.std.specs.Prelude.{◌≡◌, ◌+◌, ◌<◌, ◌≤◌, length, All, AllPairs, IfOk, IfSome, OnOk, OnErr, vec_len, vec_capacity};
 ghost use Rattle.std.specs.Arc.{arc_value};
 ghost use Rattle.model.specs.Step.{message};
 ghost use Rattle.model.specs.declared.methods.Publish.{Publish as Seen};
@@ -57,7 +57,7 @@ pub(crate) fn note_of(
 }
 
 /// Publishes to the queues of this topology at these places, to which it is routed, under this publish number. The first
-/// note tells of the publish itself.
+/// note tells of the publish itself. One queue alone takes no list of turns.
 pub(crate) fn publish_in(
     alloc: Global,
     topology: &Topology,
@@ -80,40 +80,10 @@ pub(crate) fn publish_in(
     ensures notes { OnErr result (notes.new.items ≡ notes.old.items) }
 {
     let message = Message::of_publish(alloc, number, publish, content)?;
-    if targets.len() == 1 {
-        return publish_to_one(topology, queues, targets[0], message, first, notes);
+    if targets.len() != 1 {
+        return publish_to_many(alloc, topology, queues, targets, message, first, notes);
     }
-    let turns = turns(alloc, topology.queues(), targets, &message)?;
-    make_room(queues, &turns, 1)?;
-    notes.reserve_exact(turns.len() + 3)?;
-    notes.push_reserved(first);
-    let is_none = turns.is_empty();
-    let is_some_full = enter_all(topology.queues(), queues, turns, Way::Publish, notes);
-    Ok(Routed {
-        is_none,
-        is_some_full,
-    })
-}
-
-/// The message comes to the one queue that it is routed to, at this place, or is refused there. So it takes no list of turns.
-fn publish_to_one(
-    topology: &Topology,
-    queues: &mut Queues,
-    place: usize,
-    message: Message,
-    first: Note,
-    notes: &mut Vec<Note>,
-) -> Result<Routed, AllocError>
-    requires len { length queues.old ≡ length topology.now.queues }
-    requires within { place < length topology.now.queues }
-    ensures ok { IfOk result (λ routed. (p : Seen)
-        → AreTargets topology.now p.exchange p.routing_key (place ∷ [])
-        → Enters topology.now (entries_of queues.old) (entries_of queues.new) p message first notes.old.items notes.new.items routed) }
-    ensures len { length queues.new ≡ length queues.old }
-    ensures room { OnOk result (vec_len notes.new + 2 ≤ vec_capacity notes.new) }
-    ensures queues { OnErr result (entries_of queues.new ≡ entries_of queues.old) }
-    ensures notes { OnErr result (notes.new.items ≡ notes.old.items) }
-{
+    let place = targets[0];
     let declared = topology.queue(place);
     let turn = PlannedTurn {
         place,
@@ -128,6 +98,39 @@ fn publish_to_one(
     queues.count_coming(place, is_some_full);
     Ok(Routed {
         is_none: false,
+        is_some_full,
+    })
+}
+
+/// The message comes to each queue that it is routed to, at these places, or is refused there.
+fn publish_to_many(
+    alloc: Global,
+    topology: &Topology,
+    queues: &mut Queues,
+    targets: &[usize],
+    message: Message,
+    first: Note,
+    notes: &mut Vec<Note>,
+) -> Result<Routed, AllocError>
+    requires len { length queues.old ≡ length topology.now.queues }
+    requires within { All (λ i. i < length topology.now.queues) targets.now }
+    requires rising { AllPairs (λ i j. i < j) targets.now }
+    ensures ok { IfOk result (λ routed. (p : Seen)
+        → AreTargets topology.now p.exchange p.routing_key targets.now
+        → Enters topology.now (entries_of queues.old) (entries_of queues.new) p message first notes.old.items notes.new.items routed) }
+    ensures len { length queues.new ≡ length queues.old }
+    ensures room { OnOk result (vec_len notes.new + 2 ≤ vec_capacity notes.new) }
+    ensures queues { OnErr result (entries_of queues.new ≡ entries_of queues.old) }
+    ensures notes { OnErr result (notes.new.items ≡ notes.old.items) }
+{
+    let turns = turns(alloc, topology.queues(), targets, &message)?;
+    make_room(queues, &turns, 1)?;
+    notes.reserve_exact(turns.len() + 3)?;
+    notes.push_reserved(first);
+    let is_none = turns.is_empty();
+    let is_some_full = enter_all(topology.queues(), queues, turns, Way::Publish, notes);
+    Ok(Routed {
+        is_none,
         is_some_full,
     })
 }

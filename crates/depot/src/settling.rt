@@ -12,7 +12,7 @@ ghost use Rattle.depot.specs.Settled.{AreSettledBy, AreOf, IsApart, departure_in
 use crate::departures::Departure;
 use crate::queues::Queues;
 use exchange_graph::Topology;
-use model::{Cause, ChannelId, Delivery, Entry, Note, Text};
+use model::{Cause, ChannelId, Delivery, Note, Text};
 use queue::Store;
 use std::alloc::{AllocError, Global};
 
@@ -66,17 +66,6 @@ fn departures_of(
     Ok(departures)
 }
 
-/// Takes this message out of its queue, if it is there.
-fn take_out(queues: &mut Queues, id: ChannelId, given: &Delivery) -> Option<Entry>
-    requires { given.now.queue < length queues.old }
-    ensures taken { result ≡ given_at id.connection id.number (entries_of queues.old) given.now }
-    ensures entries { entries_of queues.new ≡ left_at id.connection id.number (entries_of queues.old) given.now }
-    ensures len { length queues.new ≡ length queues.old }
-{
-    let holder = given.holder(id);
-    queues.queue_mut(given.queue).remove(&holder, given.arrival)
-}
-
 /// This message leaves its queue, which has this name, and that is noted, if it is there. There is room for the note.
 fn leave(queues: &mut Queues, id: ChannelId, given: &Delivery, queue: Text, notes: &mut Vec<Note>)
     requires within { given.now.queue < length queues.old }
@@ -88,42 +77,15 @@ fn leave(queues: &mut Queues, id: ChannelId, given: &Delivery, queue: Text, note
     ensures notes_len { vec_len notes.new ≤ vec_len notes.old + 1 }
     ensures capacity { vec_capacity notes.new ≡ vec_capacity notes.old }
 {
-    if let Some(entry) = take_out(queues, id, given) {
+    let holder = given.holder(id);
+    let removed = queues.queue_mut(given.queue).remove(&holder, given.arrival);
+    if let Some(entry) = removed {
         notes.push_reserved(Note::Left {
             number: entry.message.number(),
             queue,
             cause: Cause::Acked,
         });
     }
-}
-
-/// This message leaves its queue, if it waits.
-fn ack_one(
-    topology: &Topology,
-    queues: &mut Queues,
-    id: ChannelId,
-    given: &Delivery,
-    notes: &mut Vec<Note>,
-) -> Result<(), AllocError>
-    requires len { length queues.old ≡ length topology.now.queues }
-    requires within { is_waiting given.now ≡ true → given.now.queue < length topology.now.queues }
-    ensures yes { OnOk result (is_waiting given.now ≡ true
-        → (entries_of queues.new ≡ left_at id.connection id.number (entries_of queues.old) given.now)
-        × (notes.new.items ≡ notes.old.items
-        ++ left_note Acked (departure_in topology.now given.now).queue (given_at id.connection id.number (entries_of queues.old) given.now))) }
-    ensures no { OnOk result (is_waiting given.now ≡ false
-        → (entries_of queues.new ≡ entries_of queues.old) × (notes.new.items ≡ notes.old.items)) }
-    ensures len { length queues.new ≡ length queues.old }
-    ensures queues { OnErr result (entries_of queues.new ≡ entries_of queues.old) }
-    ensures notes { OnErr result (notes.new.items ≡ notes.old.items) }
-{
-    if !given.is_waiting() {
-        return Ok(());
-    }
-    let queue = name_of(topology, given)?;
-    notes.reserve_exact(1)?;
-    leave(queues, id, given, queue, notes);
-    Ok(())
 }
 
 /// Those of these messages that wait leave their queues, one after another. All that takes memory is made before the first leaves.
@@ -173,25 +135,20 @@ pub(crate) fn ack_in(
     ensures queues { OnErr result (entries_of queues.new ≡ entries_of queues.old) }
     ensures notes { OnErr result (notes.new.items ≡ notes.old.items) }
 {
-    if gone.len() == 1 {
-        return ack_one(topology, queues, id, &gone[0], notes);
+    if gone.len() != 1 {
+        return ack_all(alloc, topology, queues, id, gone, notes);
     }
-    ack_all(alloc, topology, queues, id, gone, notes)
+    let given = &gone[0];
+    if !given.is_waiting() {
+        return Ok(());
+    }
+    let queue = name_of(topology, given)?;
+    notes.reserve_exact(1)?;
+    leave(queues, id, given, queue, notes);
+    Ok(())
 }
 
-/// This message is ready again, in its place and marked redelivered.
-fn release(queues: &mut Queues, id: ChannelId, given: &Delivery)
-    requires { given.now.queue < length queues.old }
-    ensures entries { entries_of queues.new ≡ returned_at id.connection id.number (entries_of queues.old) given.now }
-    ensures len { length queues.new ≡ length queues.old }
-{
-    let holder = given.holder(id);
-    queues
-        .queue_mut(given.queue)
-        .release(&holder, given.arrival);
-}
-
-/// The same, if it waits.
+/// This message is ready again, in its place and marked redelivered, if it waits.
 fn put_back(queues: &mut Queues, id: ChannelId, given: &Delivery)
     requires { is_waiting given.now ≡ true → given.now.queue < length queues.old }
     ensures yes { is_waiting given.now ≡ true
@@ -200,7 +157,10 @@ fn put_back(queues: &mut Queues, id: ChannelId, given: &Delivery)
     ensures len { length queues.new ≡ length queues.old }
 {
     if given.is_waiting() {
-        release(queues, id, given);
+        let holder = given.holder(id);
+        queues
+            .queue_mut(given.queue)
+            .release(&holder, given.arrival);
     }
 }
 

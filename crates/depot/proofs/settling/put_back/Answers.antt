@@ -6,12 +6,12 @@ use Rattle.model.specs.declared.messages.Holder.{Holder}
 use Rattle.queue.specs.Line.{Line, requeued}
 use Rattle.depot.specs.Turns.{no_line}
 use Rattle.depot.proofs.Changes.{changed_write}
-use Rattle.depot.proofs.settling.release.Goals as goal
+use Rattle.depot.proofs.settling.put_back.Goals as goal
 
-pub returns-clause-entries : goal.returns-clause-entries
-returns-clause-entries c =
+pub returns-then-is_waiting-clause-yes : goal.returns-then-is_waiting-clause-yes
+returns-then-is_waiting-clause-yes c = λ waits.
     let holder = holder_of_delivery c.args.id.connection c.args.id.number c.args.given.now in
     let frees = λ (a : Holder) (es : List Entry). requeued (is_under a) es in
     let line : Line = c.queue_mut.result.now in
-    changed_write (frees holder) c.args.queues.now c.args.given.now.queue c.release.new.self no_line c.requires
+    changed_write (frees holder) c.args.queues.now c.args.given.now.queue c.release.new.self no_line (c.requires waits)
     (c.release.ensures.entries ∙ ap (λ (a : Holder). frees a line.entries) c.holder-holder.ensures ∙ ap (λ (l : Line). frees holder l.entries) c.queue_mut.ensures.value)
