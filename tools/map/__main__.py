@@ -1,6 +1,6 @@
 #!/usr/bin/env python3
 """Checks docs/inside/ARCHITECTURE.md: each call in its paths is where the list says, and the call before it makes it; and its tables have the crates
-of crates.txt, group by group, in the order of that file. Proves nothing.
+of crates.txt, group by group, in the order of that file. Each function in the table "## Where a rule is" is there too. Proves nothing.
 
 A path is a part "## The path of .." with a numbered list. An item begins with its call, `crate::module::Type::function`, as many of modules and
 types as tell it apart; what is said of it follows a colon, and may name further calls. A list has at most 16 items below its first.
@@ -111,6 +111,21 @@ def wrong_groups(listed, page):
             yield f"{name}: {CRATES} has {', '.join(groups[name])}, and the page {', '.join(tables[name])}"
 
 
+def wrong_rules(root, page):
+    """What the table of rules names that is not there, or names nothing."""
+    table = page.partition("## Where a rule is\n")[2].partition("\n## ")[0]
+    for line in table.splitlines():
+        if not line.startswith("| ") or line.startswith("| rule |"):
+            continue
+        rule, _, place = line.strip("| ").partition(" | ")
+        calls = CALL.findall(place)
+        if not calls:
+            yield f"{rule}: the table names no function"
+        for call in calls:
+            if not bodies(root, call):
+                yield f"{rule}: `{call}` is not there"
+
+
 def text_of(root, name):
     with open(os.path.join(root, name), encoding="utf-8") as file:
         return file.read()
@@ -122,6 +137,7 @@ def main(words):
     paths = paths_of(page)
     wrong = [it for name, items in paths.items() for it in wrong_in(root, name, items)]
     wrong += wrong_groups(text_of(root, CRATES), page)
+    wrong += wrong_rules(root, page)
     if not paths:
         wrong.append(f"{PAGE} has no path")
     print("\n".join(wrong), end="\n" if wrong else "")

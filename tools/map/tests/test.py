@@ -12,6 +12,7 @@ from trees import TreeTest
 TABLES = "## Crates\n\n### Letters\n\nIn words.\n\n| crate | does |\n|---|---|\n| bag | holds |\n| post | sorts |\n\n"
 LISTED = "# Letters\nbag:\npost: bag\n"
 PAGE = "# A map\n\n" + TABLES + "## The path of a letter\n\nIn words.\n\n1. `post::Office::take`: **the box**\n2. `post::sorting::sort`:\n   by its street\n3. `bag::put`\n\nBehind.\n"
+RULES = "\n## Where a rule is\n\nIn words.\n\n| rule | decided by |\n|---|---|\n| which street a letter is of | `post::sorting::sort` |\n"
 OFFICE = "impl Office {\n    pub fn take(&self) {\n        sort(self);\n    }\n}\n\nimpl Other {\n    fn take(&self) {}\n}\n"
 SORTING = "pub(crate) fn sort(office: &Office) {\n    let bag = Bag::new();\n    bag.put(1);\n}\n"
 BAG = "impl Bag {\n    pub fn put(&mut self, one: u64) {}\n}\n"
@@ -67,6 +68,18 @@ class Map(TreeTest):
     def test_another_group(self):
         self.write("crates.txt", LISTED.replace("bag:", "bag:\n# Offices"))
         self.assertIn("crates.txt has the groups Letters, Offices, and the page Letters\n", self.told())
+
+    def test_rules_that_are_there(self):
+        self.write("docs/inside/ARCHITECTURE.md", PAGE + RULES)
+        self.assertEqual(self.told(), "")
+
+    def test_a_rule_that_is_elsewhere(self):
+        self.write("docs/inside/ARCHITECTURE.md", PAGE + RULES.replace("sort`", "weigh`"))
+        self.assertEqual(self.told(), "which street a letter is of: `post::sorting::weigh` is not there\n")
+
+    def test_a_rule_without_a_function(self):
+        self.write("docs/inside/ARCHITECTURE.md", PAGE + RULES.replace("`post::sorting::sort`", "the office"))
+        self.assertEqual(self.told(), "which street a letter is of: the table names no function\n")
 
     def test_a_page_without_paths(self):
         self.write("docs/inside/ARCHITECTURE.md", "# A map\n")
