@@ -1,24 +1,30 @@
 -- What becomes of a command: it is performed on its channel alone, or left to be done.
 use Rattle.std.specs.Prelude.{IfOk}
-use Rattle.std.proofs.Common.{◌≡◌, ℕ, Option, Some, Result, Ok, Err, refl, sym, subst}
+use Rattle.std.proofs.Common.{◌≡◌, ◌≢◌, ℕ, Option, Some, None, false, Result, Ok, Err, refl, sym, subst}
 use Rattle.model.specs.Topology.{Topology}
 use Rattle.model.specs.Broker.{Broker, Channel}
 use Rattle.model.specs.Step as step
 use Rattle.model.specs.Step.{Performs, refusal_of}
 use Rattle.model.specs.declared.contents.Content.{Content}
 use Rattle.model.specs.declared.methods.Method.{Method}
-use Rattle.commands.specs.Judged.{HasChannel}
+use Rattle.commands.specs.Judged.{HasChannel, refusal_of_number}
 use Rattle.commands.specs.declared.refusals.Refusal.{Refusal}
 use Rattle.commands.specs.declared.refusals.Refusal.TheVariants as refusal_is
 use Rattle.commands.specs.declared.refusals.Stop.{Stop}
 use Rattle.commands.specs.declared.refusals.Stop.TheVariants.{Refused, Memory}
 use Rattle.replies.specs.Sent.{AreAddressed}
 use Rattle.replies.specs.declared.steps.Step.{Step}
-use Rattle.commands.specs.Commands.{Commands, ComesTo, Answers, AnswersOpen, Asks, UnlessPerformed, IsAddressedBy, WantsNone, done_of, left_of, seen, state_of}
+use Rattle.commands.specs.Commands.{Side, Commands, ComesTo, Answers, Turns, AnswersHere, Asks, UnlessPerformed, IsAddressedBy, WantsNone, done_of, left_of, seen, state_of}
 use Rattle.channels.specs.Open.{Open}
 use Rattle.depot.specs.Store.{Store}
 use Rattle.commands.specs.declared.commands.asking.Left as asked
 use Rattle.commands.specs.declared.commands.Done.{Done}
+use Rattle.commands.proofs.Judging.{number_passed}
+
+-- what a command comes to on an open channel, by what stands against it on the channel
+abbrev pub AnswersOpen : ℕ → ℕ → Store → Open → Method → Option Content → Result Done Stop → Store → Open → Type 0
+AnswersOpen c h s ch m content result s' ch' = (old new : Side) → Turns c h (seen s ch) (seen s' ch') old new
+    → Answers (refusal_of s.topology (state_of s old) (seen s ch) m) s.topology (state_of s old) c h (Some (seen s ch)) m content result (state_of s' new)
 
 -- any refusal can be made on an open channel
 pub has_open : (r : Refusal) (ch : Channel) → HasChannel r (Some ch)
@@ -40,6 +46,13 @@ pub done_open : (c h : ℕ) (s s' : Store) (ch ch' : Open) (m : Method) (content
     → Commands c h s ch m content r s' ch' → AnswersOpen c h s ch m content d s' ch'
 done_open c h s s' ch ch' m content r d e comes old new turns =
     performed_answers (refusal_of s.topology (state_of s old) (seen s ch) m) s.topology (state_of s old) c h (seen s ch) m content (state_of s' new) r d e (comes old new turns)
+
+-- and so it did by all that may stand against it there
+pub open_here : (max c h : ℕ) (s s' : Store) (ch ch' : Open) (m : Method) (content : Option Content) (d : Result Done Stop) → ch.is_closing ≡ false → h ≢ 0 → refusal_of_number max h m ≡ None
+    → AnswersOpen c h s ch m content d s' ch' → AnswersHere max c h s ch m content d s' ch'
+open_here max c h s s' ch ch' m content d runs apart passed answers old new conn same turns =
+    subst (λ (r : Option step.Refusal). Answers r s.topology (state_of s old) c h (Some (seen s ch)) m content d (state_of s' new))
+    (sym (number_passed s.topology (state_of s old) conn max h m (Some (seen s ch)) runs apart same passed)) (answers old new turns)
 
 pub performed_addressed : (c : ℕ) (X : Type 0) (r : Result Step Stop) (d : Result Done Stop) → d ≡ done_of r → X → IfOk r (λ s. X → AreAddressed c s.sends.items) → IsAddressedBy c d
 performed_addressed c X r d e x own = subst (IsAddressedBy c) (sym e) (go r own)

@@ -1,10 +1,10 @@
 -- What a publish leaves of its channel and of the queues.
-use Rattle.std.proofs.Common.{◌≡◌, ◌+◌, ◌++◌, ◌∷◌, [], ◌∙◌, ℕ, List, length, Bool, true, false, ◌&&◌, Option, Some, None, refl, ap, if◌then◌else◌}
-use Rattle.std.specs.Prelude.{is_some, IfSome}
+use Rattle.std.proofs.Common.{Bor, ◌≡◌, ◌+◌, ◌++◌, ◌∷◌, [], ◌∙◌, ℕ, List, length, Bool, true, false, ◌&&◌, Option, Some, None, refl, ap, if◌then◌else◌}
+use Rattle.std.specs.Prelude.{is_some, IfSome, option_copied, unwrap_or}
 use Rattle.model.specs.Topology.{Topology, queue_names}
 use Rattle.model.specs.Broker.{Channel, with_pair}
 use Rattle.model.specs.Sending.{IsAddressed}
-use Rattle.model.specs.Step.{IsPublish, next_of, confirm_sends, confirm_notes, answer_of, return_of, returned_notes, entry_notes, is_none, is_some_full}
+use Rattle.model.specs.Step.{IsPublish, content_or_none, next_of, confirm_sends, confirm_notes, answer_of, return_of, returned_notes, entry_notes, is_none, is_some_full}
 use Rattle.model.specs.declared.contents.Content.{Content}
 use Rattle.model.specs.declared.methods.Publish.{Publish}
 use Rattle.model.specs.declared.events.Send.{Send}
@@ -17,6 +17,11 @@ use Rattle.depot.specs.Publishing.{Publishes}
 use Rattle.depot.specs.declared.depots.Routed.{Routed}
 use Rattle.replies.specs.Sent.{AreAddressed, return_if, sent_back}
 use Rattle.commands.specs.Commands.{Side, Turns, seen, state_of}
+
+-- the content that a publish uses: its own, or the empty one
+pub content_used : (own : Option (Bor Content)) (empty used : Bor Content) (content : Option Content) → used ≡ unwrap_or own empty → option_copied own ≡ content → empty.now ≡ content_or_none None → used.now ≡ content_or_none content
+content_used None empty used content is own none = ap (λ (x : Bor Content). x.now) is ∙ none ∙ ap content_or_none own
+content_used (Some x) empty used content is own none = ap (λ (y : Bor Content). y.now) is ∙ ap content_or_none own
 
 -- what goes back of a publish goes back where it is mandatory and routed nowhere
 back_sent : (man none : Bool) (s : Send) → sent_back none (if man then Some s else None) ≡ (if man && none then s ∷ [] else [])

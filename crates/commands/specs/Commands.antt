@@ -147,12 +147,7 @@ abbrev pub left_of : Result asked.Left Refusal → Result Done Stop
 left_of (Ok l) = Ok (Left l)
 left_of (Err r) = Err (Refused r)
 
--- the same of an open channel, by what stands against the command on it
-abbrev pub AnswersOpen : ℕ → ℕ → Store → Open → Method → Option Content → Result Done Stop → Store → Open → Type 0
-AnswersOpen c h s ch m content result s' ch' = (old new : Side) → Turns c h (seen s ch) (seen s' ch') old new
-    → Answers (refusal_of s.topology (state_of s old) (seen s ch) m) s.topology (state_of s old) c h (Some (seen s ch)) m content result (state_of s' new)
-
--- and by all that stands against it, where this is the greatest channel number of the connection
+-- the same of an open channel, where this is the greatest channel number of the connection
 abbrev pub AnswersHere : ℕ → ℕ → ℕ → Store → Open → Method → Option Content → Result Done Stop → Store → Open → Type 0
 AnswersHere max c h s ch m content result s' ch' = (old new : Side) (conn : Connection) → conn.channel_max ≡ max → Turns c h (seen s ch) (seen s' ch') old new
     → Answers (refusal s.topology (state_of s old) conn h m (Some (seen s ch))) s.topology (state_of s old) c h (Some (seen s ch)) m content

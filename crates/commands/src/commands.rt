@@ -1,13 +1,13 @@
 //! What a command does on a channel that is open. Its connection and its channel were found before.
 
-ghost use Rattle.std.specs.Prelude.{◌≡◌, ℕ, Option, None, false, true};
+ghost use Rattle.std.specs.Prelude.{◌≡◌, ℕ, Option, None, true};
 ghost use Rattle.model.specs.Broker.{Broker, Connection};
 ghost use Rattle.model.specs.Step.{refusal};
 ghost use Rattle.model.specs.Topology.{Topology as Handed};
 ghost use Rattle.model.specs.declared.contents.Content.{Content as Whole};
 ghost use Rattle.channels.specs.Placed.{IsPlaced};
 ghost use Rattle.commands.specs.Judged.{is_requeueing};
-ghost use Rattle.commands.specs.Commands.{CanCommand, Answers, AnswersOpen, AnswersHere, UnlessPerformed, IsAddressedBy, WantsNone, HasSpelling};
+ghost use Rattle.commands.specs.Commands.{CanCommand, Answers, AnswersHere, UnlessPerformed, IsAddressedBy, WantsNone, HasSpelling};
 ghost use Rattle.commands.specs.Commands.{done_of, left_of};
 
 mod asking;
@@ -66,48 +66,6 @@ fn left<'a>(asked: Result<Left<'a>, Refusal>) -> Result<Done<'a>, Stop>
     }
 }
 
-/// A command on a channel that is open and awaits nothing.
-fn on_open<'a>(
-    alloc: Global,
-    id: ChannelId,
-    channel: &mut Channel,
-    depot: &mut Depot,
-    method: &'a Method,
-    content: &Option<Content>,
-) -> Result<Done<'a>, Stop>
-    requires closing { channel.old.is_closing ≡ false }
-    requires can { CanCommand id.connection id.number depot.old channel.old }
-    ensures answers { AnswersOpen id.connection id.number depot.old channel.old method.now content.now result depot.new channel.new }
-    ensures addressed { HasSpelling depot.old method.now → IsAddressedBy id.connection result }
-    ensures topology { depot.new.topology ≡ depot.old.topology }
-    ensures placed { IsPlaced depot.old.topology channel.new }
-    ensures kept { UnlessPerformed result ((depot.new ≡ depot.old) × (channel.new ≡ channel.old)) }
-    ensures quiet { is_requeueing method.now ≡ true → WantsNone result }
-{
-    match method {
-        Method::ChannelFlow { active } => performed(flow(alloc, id, *active)),
-        Method::ChannelClose(_) => Ok(Done::Left(Left::AnswerClose)),
-        Method::ExchangeDeclare(declare) => performed(find_exchange(alloc, id, depot, declare)),
-        Method::QueueDeclare(declare) => left(asked_queue(depot.topology(), declare)),
-        Method::QueuePurge(purged) => performed(purge(alloc, id, depot, purged)),
-        Method::BasicQos(qos) => performed(limit(alloc, id, channel, qos)),
-        Method::BasicConsume(asked) => performed(consume(alloc, id, channel, depot, asked)),
-        Method::BasicCancel(asked) => performed(cancel(alloc, id, channel, asked)),
-        Method::BasicPublish(published) => {
-            performed(publish(alloc, id, channel, depot, published, content))
-        }
-        Method::BasicGet(asked) => performed(get(alloc, id, channel, depot, asked)),
-        Method::BasicAck(settled) => performed(ack(alloc, id, channel, depot, settled)),
-        Method::BasicReject(settled) => performed(reject(alloc, id, channel, depot, settled)),
-        Method::BasicNack(settled) => performed(nack(alloc, id, channel, depot, settled)),
-        Method::BasicRecover { requeue } => {
-            performed(recover(alloc, id, channel, depot, *requeue))
-        }
-        Method::ConfirmSelect { no_wait } => performed(select(alloc, id, channel, *no_wait)),
-        _ => Err(Stop::Refused(refusal_of_other(method))),
-    }
-}
-
 /// A command on a channel that is open, of a connection with this greatest channel number: on one that awaits close-ok all is
 /// ignored but a close and close-ok.
 pub(crate) fn on_channel<'a>(
@@ -134,7 +92,28 @@ pub(crate) fn on_channel<'a>(
         return left(on_zero(method));
     }
     check_number(channel_max, id.number, method)?;
-    on_open(alloc, id, channel, depot, method, content)
+    match method {
+        Method::ChannelFlow { active } => performed(flow(alloc, id, *active)),
+        Method::ChannelClose(_) => Ok(Done::Left(Left::AnswerClose)),
+        Method::ExchangeDeclare(declare) => performed(find_exchange(alloc, id, depot, declare)),
+        Method::QueueDeclare(declare) => left(asked_queue(depot.topology(), declare)),
+        Method::QueuePurge(purged) => performed(purge(alloc, id, depot, purged)),
+        Method::BasicQos(qos) => performed(limit(alloc, id, channel, qos)),
+        Method::BasicConsume(asked) => performed(consume(alloc, id, channel, depot, asked)),
+        Method::BasicCancel(asked) => performed(cancel(alloc, id, channel, asked)),
+        Method::BasicPublish(published) => {
+            performed(publish(alloc, id, channel, depot, published, content))
+        }
+        Method::BasicGet(asked) => performed(get(alloc, id, channel, depot, asked)),
+        Method::BasicAck(settled) => performed(ack(alloc, id, channel, depot, settled)),
+        Method::BasicReject(settled) => performed(reject(alloc, id, channel, depot, settled)),
+        Method::BasicNack(settled) => performed(nack(alloc, id, channel, depot, settled)),
+        Method::BasicRecover { requeue } => {
+            performed(recover(alloc, id, channel, depot, *requeue))
+        }
+        Method::ConfirmSelect { no_wait } => performed(select(alloc, id, channel, *no_wait)),
+        _ => Err(Stop::Refused(refusal_of_other(method))),
+    }
 }
 
 /// A command on a channel that is not open, of a connection with this greatest channel number: on channel 0 only a close of the

@@ -55,23 +55,28 @@ fn shared(route: Option<&Arc<Route>>) -> Result<Option<Arc<Route>>, AllocError>
     }
 }
 
-/// The message of this content goes to each routed queue. Where there is none it is sent back if it is mandatory. Then it is
-/// confirmed where the channel confirms. All that takes memory is made before the first change.
-fn publish_content(
+/// The message goes to each routed queue, with no content where none came with the publish. Where there is no such queue it is sent
+/// back if it is mandatory. Then it is confirmed where the channel confirms. All that takes memory is made before the first change.
+pub(crate) fn publish(
     alloc: Global,
     id: ChannelId,
     channel: &mut Channel,
     depot: &mut Depot,
     publish: &Publish,
-    content: &Content,
+    content: &Option<Content>,
 ) -> Result<Step, Stop>
     requires { CanCommand id.connection id.number depot.old channel.old }
-    ensures commands { Commands id.connection id.number depot.old channel.old (BasicPublish publish.now) (Some content.now) result depot.new channel.new }
+    ensures commands { Commands id.connection id.number depot.old channel.old (BasicPublish publish.now) content.now result depot.new channel.new }
     ensures addressed { IfOk result (λ s. IsMethod (BasicPublish publish.now) → AreAddressed id.connection s.sends.items) }
     ensures topology { depot.new.topology ≡ depot.old.topology }
     ensures placed { IsPlaced depot.old.topology channel.new }
     ensures err { OnErr result ((depot.new ≡ depot.old) × (channel.new ≡ channel.old)) }
 {
+    let none = Content {
+        properties: Properties::none(),
+        body: Body::empty(),
+    };
+    let content = content.as_ref().unwrap_or(&none);
     let known = check_publish(depot, channel, publish)?;
     let route = shared(known)?;
     let number = depot.published() + 1;
@@ -90,32 +95,4 @@ fn publish_content(
         routed.is_some_full,
     );
     Ok(step)
-}
-
-/// A publish, of no content where none came with it.
-pub(crate) fn publish(
-    alloc: Global,
-    id: ChannelId,
-    channel: &mut Channel,
-    depot: &mut Depot,
-    publish: &Publish,
-    content: &Option<Content>,
-) -> Result<Step, Stop>
-    requires { CanCommand id.connection id.number depot.old channel.old }
-    ensures commands { Commands id.connection id.number depot.old channel.old (BasicPublish publish.now) content.now result depot.new channel.new }
-    ensures addressed { IfOk result (λ s. IsMethod (BasicPublish publish.now) → AreAddressed id.connection s.sends.items) }
-    ensures topology { depot.new.topology ≡ depot.old.topology }
-    ensures placed { IsPlaced depot.old.topology channel.new }
-    ensures err { OnErr result ((depot.new ≡ depot.old) × (channel.new ≡ channel.old)) }
-{
-    match content {
-        Some(content) => publish_content(alloc, id, channel, depot, publish, content),
-        None => {
-            let content = Content {
-                properties: Properties::none(),
-                body: Body::empty(),
-            };
-            publish_content(alloc, id, channel, depot, publish, &content)
-        }
-    }
 }
