@@ -2,7 +2,7 @@
 
 use exchange_graph::Topology;
 use model::{DeclaredQueue, Exchange, ExchangeKind, Text};
-use scenario_parts::{Unmet, expect, expect_bytes, value_of};
+use scenario_parts::{Unmet, expect, expect_bytes, plain_queue, value_of};
 use std::alloc::Global;
 
 /// A queue of this name, with the exchange `D` for its dead letters.
@@ -13,17 +13,6 @@ fn dying(name: Text, key: Option<Text>) -> DeclaredQueue {
         byte_limit: None,
         dead_letter_exchange: Some(Text::short(b"D")),
         dead_letter_key: key,
-    }
-}
-
-/// A queue of this name, whose messages don't die.
-fn undying(name: Text) -> DeclaredQueue {
-    DeclaredQueue {
-        name,
-        limit: None,
-        byte_limit: None,
-        dead_letter_exchange: None,
-        dead_letter_key: None,
     }
 }
 
@@ -38,7 +27,7 @@ fn topology(alloc: Global) -> Result<Topology, Unmet> {
     };
     value_of("Vec::push", exchanges.push(exchange))?;
     let mut queues = Vec::new(alloc);
-    value_of("Vec::push", queues.push(undying(Text::short(b"plain"))))?;
+    value_of("Vec::push", queues.push(plain_queue(Text::short(b"plain"))))?;
     value_of(
         "Vec::push",
         queues.push(dying(Text::short(b"fixed"), Some(Text::short(b"pay")))),

@@ -4,11 +4,11 @@ use crate::filing::{CERTIFICATES, DEFINITIONS, GUARANTEES};
 use crate::frugal::Frugal;
 use crate::parts::{Stated, checked, new_engine};
 use crate::room::{Room, can_be_taken};
-use certificate::{BadCertificates, CertFault, Certificate, Checked, Refutation, check, disprove};
-use definitions::{BadDefinitions, read_definitions};
+use certificate::{CertFault, Certificate, Checked, Refutation, check, disprove};
+use definitions::{FileCause, read_definitions};
 use engine::{Engine, Refused, Turn};
 use guarantee_search::{Verdict, search};
-use guarantees::{BadGuarantees, read_guarantees};
+use guarantees::read_guarantees;
 use model::{Note, Text};
 use runs::ReloadFault;
 use scenario_parts::{Unmet, expect, expect_bytes, value_of};
@@ -165,19 +165,19 @@ impl Calls {
     fn expect_readings(&self, alloc: Global, expected: Outcome) -> Result<(), Unmet> {
         let definitions = match read_definitions(alloc, DEFINITIONS) {
             Ok(_) => Outcome::Done,
-            Err(BadDefinitions::Memory) => Outcome::Wanting,
+            Err(FileCause::Memory) => Outcome::Wanting,
             Err(_) => Outcome::Other,
         };
         expect_outcome("read_definitions does as expected", definitions, expected)?;
         let guarantees = match read_guarantees(alloc, GUARANTEES, &self.stated.topology) {
             Ok(_) => Outcome::Done,
-            Err(BadGuarantees::Memory) => Outcome::Wanting,
+            Err(FileCause::Memory) => Outcome::Wanting,
             Err(_) => Outcome::Other,
         };
         expect_outcome("read_guarantees does as expected", guarantees, expected)?;
         let certificates = match Certificate::read(alloc, CERTIFICATES) {
             Ok(_) => Outcome::Done,
-            Err(BadCertificates::Memory) => Outcome::Wanting,
+            Err(FileCause::Memory) => Outcome::Wanting,
             Err(_) => Outcome::Other,
         };
         expect_outcome("Certificate::read does as expected", certificates, expected)

@@ -7,10 +7,10 @@ use Rattle.serde_json.specs.View.{items_of}
 use Rattle.serde_json.specs.Read.{read}
 use Rattle.serde_json.specs.Written.{compact_text, has_float, items_have_float}
 use Rattle.serde_json.proofs.OnLiterals.{serde_json_on_literals}
-use Rattle.json_file.specs.Members.{each, text_member}
+use Rattle.json_file.specs.Members.{array_member, each, text_member, whole_number}
 use Rattle.model.specs.Words.{Text}
 use Rattle.model.specs.Certificates.{Certificate, Form, Whole, Sliced, Excepting}
-use Rattle.certificate.specs.Stated.{whole_number, state_in, states_at, tracked_at, excepts_at, whole_at, sliced_at, excepting_of, excepting_at, form_of, form_at, certificate_at, certificates_stated}
+use Rattle.certificate.specs.Stated.{state_in, states_at, tracked_at, excepts_at, whole_at, sliced_at, excepting_of, excepting_at, form_of, form_at, certificate_at, certificates_stated}
 use Rattle.certificate.specs.Spelled.{number_data, state_data, states_data, places_data, excepts_data, Texts, texts_of, form_data, certificate_data, file_data}
 use Rattle.certificate.specs.Writes.{IsWritten}
 
@@ -45,7 +45,7 @@ behind_back : (t : Texts) (form : Form) (ss : List (List ℕ)) → behind t ss f
 behind_back t form ss = ap (λ (o : Option (List (List ℕ))). option_and_then (λ (read : List (List ℕ)). Some (made t form read)) o) (states_back ss)
 
 form_back : (form : Form) (t : Texts) (ss : List (List ℕ)) → certificate_at (form_data form t (states_data ss)) ≡ Some (made t form ss)
-unfolding certificate_at form_at form_of whole_at sliced_at excepting_at excepting_of tracked_at excepts_at states_at text_member serde_json_on_literals
+unfolding certificate_at form_at form_of whole_at sliced_at excepting_at excepting_of tracked_at excepts_at states_at array_member text_member serde_json_on_literals
 form_back Whole t ss = behind_back t Whole ss
 form_back (Sliced places) t ss = ap (λ (o : Option (List ℕ)). option_and_then (behind t ss) (option_map Sliced o)) (numbers_back places) ∙ behind_back t (Sliced places) ss
 form_back (Excepting excepts places) t ss =

@@ -5,8 +5,6 @@ pub mod Coverings
 pub mod Walks
 pub mod Checks
 pub mod Judgements
-pub mod Numbers
-pub mod Faults
 pub mod Stated
 pub mod Reads
 pub mod Spelled

@@ -2,14 +2,10 @@
 use Rattle.std.specs.Prelude.{codes, ℕ, List, [], ◌∷◌, Option, Some, None, option_and_then, option_map, if◌then◌else◌, ◌==◌}
 use Rattle.model.specs.Options.{◌>>=◌}
 use Rattle.serde_json.specs.Data.{Data}
-use Rattle.serde_json.specs.Find.{get, as_number, as_str, as_u64, as_array}
-use Rattle.json_file.specs.Members.{each, has_only, text_member}
+use Rattle.serde_json.specs.Find.{get, as_str, as_array}
+use Rattle.json_file.specs.Members.{array_member, each, has_only, text_member, whole_number}
 use Rattle.model.specs.Words.{Text}
 use Rattle.model.specs.Certificates.{Certificate, Form, Whole, Sliced, Excepting}
-
--- a whole number below 2^64
-abbrev pub whole_number : Data → Option ℕ
-whole_number d = option_and_then as_u64 (as_number d)
 
 -- a state: an array of numbers
 unfoldable pub state_in : Data → Option (List ℕ)
@@ -21,11 +17,11 @@ states_at d = option_and_then (each state_in) (option_and_then as_array (get (co
 
 -- the places at the member `tracked`
 unfoldable pub tracked_at : Data → Option (List ℕ)
-tracked_at d = option_and_then (each whole_number) (option_and_then as_array (get (codes "tracked") d))
+tracked_at d = option_and_then (each whole_number) (array_member (codes "tracked") d)
 
 -- the texts at the member `except`
 unfoldable pub excepts_at : Data → Option (List Text)
-excepts_at d = option_and_then (each as_str) (option_and_then as_array (get (codes "except") d))
+excepts_at d = option_and_then (each as_str) (array_member (codes "except") d)
 
 -- ---- forms, by their numbers: each has its own members
 

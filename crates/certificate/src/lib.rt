@@ -5,7 +5,6 @@
 #![tactic(auto)]
 
 mod admitted;
-mod bad;
 mod certificates;
 mod certified;
 mod checking;
@@ -25,13 +24,13 @@ mod walk;
 mod writing;
 
 pub use admitted::{Checked, admit};
-pub use bad::{BadCertificates, BadCertificates as Bad};
 pub use certificates::Certificate;
 pub use checking::check;
 pub use covering::Covering;
 pub use drafts::Draft;
 pub use faults::CertFault;
 pub use forms::Form;
+pub use json_file::{FileCause, FileCause as Bad};
 pub use places::{MOST_PATTERNS, at_places, passes_over};
 pub use refutations::{Refutation, disprove, refutes};
 pub use unwritten::Unwritten;

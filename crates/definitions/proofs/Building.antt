@@ -4,7 +4,7 @@ use Rattle.std.specs.Prelude.{All, MatchOption}
 use Rattle.model.specs.Topology.{Topology}
 use Rattle.model.specs.declared.messages.User.{User}
 use Rattle.topology_drafts.specs.Causes.{IsBuildable, KeyHasExchange}
-use Rattle.definitions.specs.declared.bad.BadDefinitions.TheVariants.{Repeated, Absent, Unsupported, Worded, TooMany, NoExchange, OtherHash, Memory}
+use Rattle.json_file.specs.declared.causes.FileCause.TheVariants.{Repeated, Absent, Unsupported, Worded, TooMany, NoExchange, OtherHash, Memory}
 use Rattle.definitions.specs.declared.document.QueueEntry.{QueueEntry}
 use Rattle.definitions.specs.declared.document.UserEntry.{UserEntry}
 use Rattle.definitions.specs.File.{File}

@@ -9,10 +9,10 @@ use Rattle.definitions.specs.declared.document.PermissionEntry.{PermissionEntry}
 use Rattle.definitions.specs.declared.document.ExchangeEntry.{ExchangeEntry}
 use Rattle.definitions.specs.declared.document.QueueEntry.{QueueEntry}
 use Rattle.definitions.specs.declared.document.BindingEntry.{BindingEntry}
-use Rattle.definitions.specs.declared.bad.BadDefinitions.{BadDefinitions}
-use Rattle.definitions.specs.declared.bad.BadDefinitions.TheVariants.{NotJson, Malformed, OtherVhost, Repeated, Absent, OtherType, Unsupported}
-use Rattle.definitions.specs.declared.bad.BadDefinitions.TheVariants.{NoOverflow, Worded, TooMany, NoExchange, OtherPermission, OtherHash, Memory}
-use Rattle.definitions.specs.Numbers.{definitions_cause}
+use Rattle.json_file.specs.declared.causes.FileCause.{FileCause}
+use Rattle.json_file.specs.declared.causes.FileCause.TheVariants.{OtherVhost, Repeated, Absent, OtherType, Unsupported}
+use Rattle.json_file.specs.declared.causes.FileCause.TheVariants.{NoOverflow, Worded, TooMany, NoExchange, OtherPermission, OtherHash, Memory}
+use Rattle.json_file.specs.Causes.{cause_number}
 use Rattle.definitions.specs.File.{File}
 use Rattle.definitions.specs.States.{hash_of, kind_named, topology_of}
 
@@ -151,9 +151,7 @@ HasHashes f = All (λ (u : UserEntry). IsSome (hash_of u)) f.users
 -- ---- all of them
 
 -- the file is clear of this cause
-abbrev pub IsClear : BadDefinitions → File → Type 0
-IsClear NotJson f = Unit {0}
-IsClear Malformed f = Unit {0}
+abbrev pub IsClear : FileCause → File → Type 0
 IsClear OtherVhost f = HasOneVhost f
 IsClear Repeated f = HasNamesApart f
 IsClear Absent f = HasAllJoin f
@@ -165,30 +163,18 @@ IsClear TooMany f = HasFew f
 IsClear NoExchange f = HasNamesLead f
 IsClear OtherPermission f = HasPermissions f
 IsClear OtherHash f = HasHashes f
-IsClear Memory f = Unit {0}
+IsClear _ f = Unit {0}
 
 -- .. and of every cause below this number
 abbrev pub IsClearBelow : ℕ → File → Type 0
-IsClearBelow n f = (bad : BadDefinitions) → definitions_cause bad < n → IsClear bad f
+IsClearBelow n f = (bad : FileCause) → cause_number bad < n → IsClear bad f
 
 -- This cause stands in the file, and none below it.
-pub record IsLeast (bad : BadDefinitions) (f : File) : Type 0 where
-  pub below : IsClearBelow (definitions_cause bad) f
+pub record IsLeast (bad : FileCause) (f : File) : Type 0 where
+  pub below : IsClearBelow (cause_number bad) f
   pub stands : IsClear bad f → ⊥
 
 -- the cause that is told is the least; want of memory owes nothing
-abbrev pub IsTold : BadDefinitions → File → Type 0
-IsTold NotJson f = IsLeast NotJson f
-IsTold Malformed f = IsLeast Malformed f
-IsTold OtherVhost f = IsLeast OtherVhost f
-IsTold Repeated f = IsLeast Repeated f
-IsTold Absent f = IsLeast Absent f
-IsTold OtherType f = IsLeast OtherType f
-IsTold Unsupported f = IsLeast Unsupported f
-IsTold NoOverflow f = IsLeast NoOverflow f
-IsTold Worded f = IsLeast Worded f
-IsTold TooMany f = IsLeast TooMany f
-IsTold NoExchange f = IsLeast NoExchange f
-IsTold OtherPermission f = IsLeast OtherPermission f
-IsTold OtherHash f = IsLeast OtherHash f
+abbrev pub IsTold : FileCause → File → Type 0
 IsTold Memory f = Unit {0}
+IsTold bad f = IsLeast bad f

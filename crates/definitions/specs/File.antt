@@ -4,7 +4,7 @@ use Rattle.model.specs.Options.{◌>>=◌}
 use Rattle.serde_json.specs.Data.{Data}
 use Rattle.json_file.specs.Members.{array_member, each}
 use Rattle.json_file.specs.Outcomes.{FailsJson}
-use Rattle.json_file.specs.declared.faults.BadJson.{BadJson}
+use Rattle.json_file.specs.declared.causes.FileCause.{FileCause}
 use Rattle.definitions.specs.declared.document.VhostEntry.{VhostEntry}
 use Rattle.definitions.specs.declared.document.UserEntry.{UserEntry}
 use Rattle.definitions.specs.declared.document.PermissionEntry.{PermissionEntry}
@@ -53,6 +53,6 @@ file_of d = record {
 }
 
 -- what a value states is given, or it is refused where it states nothing
-abbrev pub GivesFile : Result Document BadJson → Option File → Type 0
+abbrev pub GivesFile : Result Document FileCause → Option File → Type 0
 GivesFile (Ok d) o = o ≡ Some (file_of d)
 GivesFile (Err e) o = FailsJson e (o ≡ None)

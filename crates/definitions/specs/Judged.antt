@@ -1,8 +1,7 @@
 -- What is known of a file whose entries were looked at.
 use Rattle.std.specs.Prelude.{◌≡◌, ℕ, List, Result, Ok, Err, ⊤}
-use Rattle.definitions.specs.declared.bad.BadDefinitions.{BadDefinitions}
-use Rattle.definitions.specs.declared.bad.BadDefinitions.TheVariants.{NotJson, Malformed, OtherVhost, Repeated, Absent, OtherType, Unsupported}
-use Rattle.definitions.specs.declared.bad.BadDefinitions.TheVariants.{NoOverflow, Worded, TooMany, NoExchange, OtherPermission, OtherHash, Memory}
+use Rattle.json_file.specs.declared.causes.FileCause.{FileCause}
+use Rattle.json_file.specs.declared.causes.FileCause.TheVariants.{NotJson, Malformed, TooMany, Memory}
 use Rattle.definitions.specs.declared.document.Document.{Document}
 use Rattle.definitions.specs.File.{File, file_of}
 use Rattle.definitions.specs.Causes.{IsClearBelow, IsTold}
@@ -10,29 +9,20 @@ use Rattle.definitions.specs.States.{topology_of, users_of}
 use Rattle.definitions.specs.Reads.{IsDefinitionsFile, IsFirst, Stated}
 
 -- the entries of a file are given, or it is refused because it has none
-abbrev pub IsFileUnread : BadDefinitions → List ℕ → Type 0
+abbrev pub IsFileUnread : FileCause → List ℕ → Type 0
 IsFileUnread NotJson bytes = IsFirst NotJson bytes
 IsFileUnread Malformed bytes = IsFirst Malformed bytes
-IsFileUnread OtherVhost bytes = ⊥
-IsFileUnread Repeated bytes = ⊥
-IsFileUnread Absent bytes = ⊥
-IsFileUnread OtherType bytes = ⊥
-IsFileUnread Unsupported bytes = ⊥
-IsFileUnread NoOverflow bytes = ⊥
-IsFileUnread Worded bytes = ⊥
 IsFileUnread TooMany bytes = IsFirst TooMany bytes
-IsFileUnread NoExchange bytes = ⊥
-IsFileUnread OtherPermission bytes = ⊥
-IsFileUnread OtherHash bytes = ⊥
 IsFileUnread Memory bytes = Unit {0}
+IsFileUnread _ bytes = ⊥
 
 -- what the bytes of a file give: its entries, or the cause for which it is refused before there are any
-abbrev pub OpensDefinitions : Result Document BadDefinitions → List ℕ → Type 0
+abbrev pub OpensDefinitions : Result Document FileCause → List ℕ → Type 0
 OpensDefinitions (Ok d) bytes = IsDefinitionsFile bytes (file_of d)
 OpensDefinitions (Err bad) bytes = IsFileUnread bad bytes
 
 -- no cause below 13 stands in the entries, or the least is told
-abbrev pub JudgesFile : Result ⊤ BadDefinitions → File → Type 0
+abbrev pub JudgesFile : Result ⊤ FileCause → File → Type 0
 JudgesFile (Ok done) f = IsClearBelow 13 f
 JudgesFile (Err bad) f = IsTold bad f
 
@@ -43,6 +33,6 @@ pub record IsSettled (s : Stated) (f : File) : Type 0 where
   pub users : s.users ≡ users_of f
 
 -- .. or the least cause is told
-abbrev pub StatesOrTells : Result Stated BadDefinitions → File → Type 0
+abbrev pub StatesOrTells : Result Stated FileCause → File → Type 0
 StatesOrTells (Ok s) f = IsSettled s f
 StatesOrTells (Err bad) f = IsTold bad f

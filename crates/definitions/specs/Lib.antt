@@ -1,5 +1,3 @@
-pub mod Numbers
-pub mod Faults
 pub mod Shape
 pub mod File
 pub mod States

@@ -4,10 +4,9 @@ use Rattle.serde_json.specs.Data.{Data}
 use Rattle.json_file.specs.Members.{IsJson, IsJsonFile}
 use Rattle.model.specs.Topology.{Topology}
 use Rattle.model.specs.declared.messages.User.{User}
-use Rattle.definitions.specs.declared.bad.BadDefinitions.{BadDefinitions}
-use Rattle.definitions.specs.declared.bad.BadDefinitions.TheVariants.{NotJson, Malformed, OtherVhost, Repeated, Absent, OtherType, Unsupported}
-use Rattle.definitions.specs.declared.bad.BadDefinitions.TheVariants.{NoOverflow, Worded, TooMany, NoExchange, OtherPermission, OtherHash, Memory}
-use Rattle.definitions.specs.Numbers.{definitions_cause}
+use Rattle.json_file.specs.declared.causes.FileCause.{FileCause}
+use Rattle.json_file.specs.declared.causes.FileCause.TheVariants.{NotJson, Malformed, TooMany, Memory}
+use Rattle.json_file.specs.Causes.{cause_number}
 use Rattle.definitions.specs.File.{File, file_at}
 use Rattle.definitions.specs.Causes.{IsClear}
 use Rattle.definitions.specs.States.{topology_of, users_of}
@@ -23,7 +22,7 @@ abbrev pub IsWellShaped : List ℕ → Type 0
 IsWellShaped bytes = (d : Data) → IsJson bytes d → (f : File) × (file_at d ≡ Some f)
 
 -- the file's entries are clear of this cause
-abbrev pub HasClear : BadDefinitions → List ℕ → Type 0
+abbrev pub HasClear : FileCause → List ℕ → Type 0
 HasClear bad bytes = (f : File) → IsDefinitionsFile bytes f → IsClear bad f
 
 -- the file is not too long, and does not have too many entries
@@ -32,43 +31,21 @@ pub record IsInLimits (bytes : List ℕ) : Type 0 where
   pub few : HasClear TooMany bytes
 
 -- The file is free of this cause. A file that is too long is not read, so that no other cause stands in it.
-abbrev pub IsFree : BadDefinitions → List ℕ → Type 0
+abbrev pub IsFree : FileCause → List ℕ → Type 0
 IsFree NotJson bytes = IsJsonFile bytes
 IsFree Malformed bytes = IsWellShaped bytes
-IsFree OtherVhost bytes = HasClear OtherVhost bytes
-IsFree Repeated bytes = HasClear Repeated bytes
-IsFree Absent bytes = HasClear Absent bytes
-IsFree OtherType bytes = HasClear OtherType bytes
-IsFree Unsupported bytes = HasClear Unsupported bytes
-IsFree NoOverflow bytes = HasClear NoOverflow bytes
-IsFree Worded bytes = HasClear Worded bytes
 IsFree TooMany bytes = IsInLimits bytes
-IsFree NoExchange bytes = HasClear NoExchange bytes
-IsFree OtherPermission bytes = HasClear OtherPermission bytes
-IsFree OtherHash bytes = HasClear OtherHash bytes
-IsFree Memory bytes = Unit {0}
+IsFree bad bytes = HasClear bad bytes
 
 -- This cause stands in the file, and none of a smaller number does.
-pub record IsFirst (bad : BadDefinitions) (bytes : List ℕ) : Type 0 where
-  pub before : (lower : BadDefinitions) → definitions_cause lower < definitions_cause bad → IsFree lower bytes
+pub record IsFirst (bad : FileCause) (bytes : List ℕ) : Type 0 where
+  pub before : (lower : FileCause) → cause_number lower < cause_number bad → IsFree lower bytes
   pub stands : IsFree bad bytes → ⊥
 
 -- a file is refused by its first cause; want of memory owes nothing
-abbrev pub IsRefused : BadDefinitions → List ℕ → Type 0
-IsRefused NotJson bytes = IsFirst NotJson bytes
-IsRefused Malformed bytes = IsFirst Malformed bytes
-IsRefused OtherVhost bytes = IsFirst OtherVhost bytes
-IsRefused Repeated bytes = IsFirst Repeated bytes
-IsRefused Absent bytes = IsFirst Absent bytes
-IsRefused OtherType bytes = IsFirst OtherType bytes
-IsRefused Unsupported bytes = IsFirst Unsupported bytes
-IsRefused NoOverflow bytes = IsFirst NoOverflow bytes
-IsRefused Worded bytes = IsFirst Worded bytes
-IsRefused TooMany bytes = IsFirst TooMany bytes
-IsRefused NoExchange bytes = IsFirst NoExchange bytes
-IsRefused OtherPermission bytes = IsFirst OtherPermission bytes
-IsRefused OtherHash bytes = IsFirst OtherHash bytes
+abbrev pub IsRefused : FileCause → List ℕ → Type 0
 IsRefused Memory bytes = Unit {0}
+IsRefused bad bytes = IsFirst bad bytes
 
 -- what a file sets up
 pub record Stated : Type 0 where
@@ -77,13 +54,13 @@ pub record Stated : Type 0 where
 
 -- No cause stands in the file, and this is what it states.
 pub record IsAccepted (s : Stated) (bytes : List ℕ) : Type 0 where
-  pub free : (bad : BadDefinitions) → IsFree bad bytes
+  pub free : (bad : FileCause) → IsFree bad bytes
   pub file : File
   pub is_file : IsDefinitionsFile bytes file
   pub topology : s.topology ≡ topology_of file
   pub users : s.users ≡ users_of file
 
 -- A file is read exactly where no cause stands in it, and is given as what it states; else it is refused by its first cause.
-abbrev pub ReadsDefinitions : Result Stated BadDefinitions → List ℕ → Type 0
+abbrev pub ReadsDefinitions : Result Stated FileCause → List ℕ → Type 0
 ReadsDefinitions (Ok s) bytes = IsAccepted s bytes
 ReadsDefinitions (Err bad) bytes = IsRefused bad bytes

@@ -5,13 +5,12 @@ ghost use Rattle.definitions.specs.File.{file_of};
 ghost use Rattle.definitions.specs.Judged.{OpensDefinitions, StatesOrTells};
 ghost use Rattle.definitions.specs.Reads.{ReadsDefinitions};
 
-use crate::bad::BadDefinitions;
 use crate::document::Document;
 use crate::judging::judge;
 use crate::shape::document;
 use crate::stating::{Parts, users_of};
 use exchange_graph::Topology;
-use json_file::parse;
+use json_file::{FileCause, parse};
 use model::User;
 use std::alloc::Global;
 use std::marker::Model;
@@ -69,7 +68,7 @@ impl Definitions {
 }
 
 /// The entries of a file, or why it has none.
-fn open(alloc: Global, bytes: &[u8]) -> Result<Document, BadDefinitions>
+fn open(alloc: Global, bytes: &[u8]) -> Result<Document, FileCause>
     ensures { OpensDefinitions result bytes.now }
 {
     let value = parse(alloc, bytes)?;
@@ -78,13 +77,13 @@ fn open(alloc: Global, bytes: &[u8]) -> Result<Document, BadDefinitions>
 }
 
 /// What the entries of a file set up, or the least cause that stands in them.
-fn settle(alloc: Global, document: &Document) -> Result<Definitions, BadDefinitions>
+fn settle(alloc: Global, document: &Document) -> Result<Definitions, FileCause>
     ensures { StatesOrTells result (file_of document.now) }
 {
     let parts = Parts::of(alloc, document)?;
     judge(alloc, document, &parts)?;
     let Some(users) = users_of(alloc, document.users.as_slice())? else {
-        return Err(BadDefinitions::OtherHash);
+        return Err(FileCause::OtherHash);
     };
     let topology = parts.sound(alloc)?;
     Ok(Definitions { topology, users })
@@ -94,7 +93,7 @@ fn settle(alloc: Global, document: &Document) -> Result<Definitions, BadDefiniti
 ///
 /// A file has at most 16,777,216 bytes. Source: RabbitMQ, "Definition Export and Import"; `docs/FORMATS.md` lists the
 /// members, the causes and the limits.
-pub fn read_definitions(alloc: Global, bytes: &[u8]) -> Result<Definitions, BadDefinitions>
+pub fn read_definitions(alloc: Global, bytes: &[u8]) -> Result<Definitions, FileCause>
     ensures { ReadsDefinitions result bytes.now }
 {
     let document = open(alloc, bytes)?;

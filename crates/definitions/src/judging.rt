@@ -6,13 +6,13 @@ ghost use Rattle.definitions.specs.File.{file_of};
 ghost use Rattle.definitions.specs.Judged.{JudgesFile};
 ghost use Rattle.definitions.specs.States.{topology_of};
 
-use crate::bad::BadDefinitions;
 use crate::causes::{
     has_all_join, has_all_worded, has_few, has_names_apart, has_names_lead, has_one_vhost,
     has_overflows, has_permissions, has_types, is_supported,
 };
 use crate::document::{Document, UserEntry};
 use crate::stating::Parts;
+use json_file::FileCause;
 use std::alloc::Global;
 use topology_drafts::{Directory, Draft};
 
@@ -21,25 +21,25 @@ fn first_cause(
     document: &Document,
     users: &Directory<'_, UserEntry>,
     draft: &Draft<'_>,
-) -> Result<(), BadDefinitions>
+) -> Result<(), FileCause>
     requires users { users.now ≡ user_names (file_of document.now) }
     requires draft { draft.now ≡ topology_of (file_of document.now) }
     ensures { MatchResult result (λ _. IsClearBelow 8 (file_of document.now)) (λ bad. IsTold bad (file_of document.now)) }
 {
     if !has_one_vhost(document) {
-        return Err(BadDefinitions::OtherVhost);
+        return Err(FileCause::OtherVhost);
     }
     if !has_names_apart(document, users, draft) {
-        return Err(BadDefinitions::Repeated);
+        return Err(FileCause::Repeated);
     }
     if !has_all_join(document, draft) {
-        return Err(BadDefinitions::Absent);
+        return Err(FileCause::Absent);
     }
     if !has_types(document) {
-        return Err(BadDefinitions::OtherType);
+        return Err(FileCause::OtherType);
     }
     if !is_supported(document) {
-        return Err(BadDefinitions::Unsupported);
+        return Err(FileCause::Unsupported);
     }
     Ok(())
 }
@@ -50,26 +50,26 @@ fn next_cause(
     document: &Document,
     users: &Directory<'_, UserEntry>,
     draft: &Draft<'_>,
-) -> Result<(), BadDefinitions>
+) -> Result<(), FileCause>
     requires users { users.now ≡ user_names (file_of document.now) }
     requires draft { draft.now ≡ topology_of (file_of document.now) }
     requires clear { IsClearBelow 8 (file_of document.now) }
     ensures { JudgesFile result (file_of document.now) }
 {
     if !has_overflows(document) {
-        return Err(BadDefinitions::NoOverflow);
+        return Err(FileCause::NoOverflow);
     }
     if !has_all_worded(document, draft) {
-        return Err(BadDefinitions::Worded);
+        return Err(FileCause::Worded);
     }
     if !has_few(document, draft) {
-        return Err(BadDefinitions::TooMany);
+        return Err(FileCause::TooMany);
     }
     if !has_names_lead(document, draft) {
-        return Err(BadDefinitions::NoExchange);
+        return Err(FileCause::NoExchange);
     }
     if !has_permissions(alloc, document, users) {
-        return Err(BadDefinitions::OtherPermission);
+        return Err(FileCause::OtherPermission);
     }
     Ok(())
 }
@@ -80,7 +80,7 @@ fn least_cause(
     document: &Document,
     users: &Directory<'_, UserEntry>,
     draft: &Draft<'_>,
-) -> Result<(), BadDefinitions>
+) -> Result<(), FileCause>
     requires users { users.now ≡ user_names (file_of document.now) }
     requires draft { draft.now ≡ topology_of (file_of document.now) }
     ensures { JudgesFile result (file_of document.now) }
@@ -91,7 +91,7 @@ fn least_cause(
 
 /// Tells the least cause that stands in a file, if one below the users' hashes does. What the file sets up is asked of
 /// its draft.
-pub fn judge(alloc: Global, document: &Document, parts: &Parts) -> Result<(), BadDefinitions>
+pub fn judge(alloc: Global, document: &Document, parts: &Parts) -> Result<(), FileCause>
     requires { parts.now ≡ topology_of (file_of document.now) }
     ensures { JudgesFile result (file_of document.now) }
 {

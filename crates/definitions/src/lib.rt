@@ -1,7 +1,6 @@
 //! Definitions files: a topology and its users, read from JSON as RabbitMQ exports it.
 #![tactic(auto)]
 
-mod bad;
 mod causes;
 mod definitions;
 mod document;
@@ -10,5 +9,5 @@ mod names;
 mod shape;
 mod stating;
 
-pub use bad::{BadDefinitions, BadDefinitions as Bad};
 pub use definitions::{Definitions, Users, read_definitions};
+pub use json_file::{FileCause, FileCause as Bad};

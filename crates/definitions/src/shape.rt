@@ -16,7 +16,7 @@ use crate::document::{
     QueueEntry, UserEntry, VhostEntry,
 };
 use json_file::{
-    BadJson, FromValue, arguments, entries, has_only, is_filled, optional_number, optional_text,
+    FileCause, FromValue, arguments, entries, has_only, is_filled, optional_number, optional_text,
     text, truth,
 };
 use serde_json::Value;
@@ -28,7 +28,7 @@ impl FromValue for VhostEntry {
     ghost states = { vhost_entry_at };
 
     #[tactic(auto, unfolding(crate::specs::Shape::vhost_entry_at))]
-    fn read(alloc: Global, value: &Value) -> Result<VhostEntry, BadJson> {
+    fn read(alloc: Global, value: &Value) -> Result<VhostEntry, FileCause> {
         Ok(VhostEntry {
             name: text(alloc, value, "name")?,
         })
@@ -41,7 +41,7 @@ impl FromValue for UserEntry {
     ghost states = { user_entry_at };
 
     #[tactic(auto, unfolding(crate::specs::Shape::user_entry_at))]
-    fn read(alloc: Global, value: &Value) -> Result<UserEntry, BadJson> {
+    fn read(alloc: Global, value: &Value) -> Result<UserEntry, FileCause> {
         Ok(UserEntry {
             name: text(alloc, value, "name")?,
             password_hash: text(alloc, value, "password_hash")?,
@@ -56,7 +56,7 @@ impl FromValue for PermissionEntry {
     ghost states = { permission_entry_at };
 
     #[tactic(auto, unfolding(crate::specs::Shape::permission_entry_at))]
-    fn read(alloc: Global, value: &Value) -> Result<PermissionEntry, BadJson> {
+    fn read(alloc: Global, value: &Value) -> Result<PermissionEntry, FileCause> {
         Ok(PermissionEntry {
             user: text(alloc, value, "user")?,
             vhost: text(alloc, value, "vhost")?,
@@ -69,7 +69,7 @@ impl FromValue for PermissionEntry {
 
 /// The arguments of an exchange.
 #[tactic(auto, unfolding(crate::specs::Shape::exchange_arguments_at))]
-fn exchange_arguments(alloc: Global, value: &Value) -> Result<ExchangeArguments, BadJson>
+fn exchange_arguments(alloc: Global, value: &Value) -> Result<ExchangeArguments, FileCause>
     ensures { GivesValue result (exchange_arguments_at (view value.now)) }
 {
     let stated = arguments(value)?;
@@ -85,7 +85,7 @@ impl FromValue for ExchangeEntry {
     ghost states = { exchange_entry_at };
 
     #[tactic(auto, unfolding(crate::specs::Shape::exchange_entry_at))]
-    fn read(alloc: Global, value: &Value) -> Result<ExchangeEntry, BadJson> {
+    fn read(alloc: Global, value: &Value) -> Result<ExchangeEntry, FileCause> {
         let name = text(alloc, value, "name")?;
         let vhost = text(alloc, value, "vhost")?;
         let kind = text(alloc, value, "type")?;
@@ -119,7 +119,7 @@ impl FromValue for ExchangeEntry {
 
 /// The arguments of a queue.
 #[tactic(auto, unfolding(crate::specs::Shape::queue_arguments_at))]
-fn queue_arguments(alloc: Global, value: &Value) -> Result<QueueArguments, BadJson>
+fn queue_arguments(alloc: Global, value: &Value) -> Result<QueueArguments, FileCause>
     ensures { GivesValue result (queue_arguments_at (view value.now)) }
 {
     let stated = arguments(value)?;
@@ -154,7 +154,7 @@ impl FromValue for QueueEntry {
     ghost states = { queue_entry_at };
 
     #[tactic(auto, unfolding(crate::specs::Shape::queue_entry_at))]
-    fn read(alloc: Global, value: &Value) -> Result<QueueEntry, BadJson> {
+    fn read(alloc: Global, value: &Value) -> Result<QueueEntry, FileCause> {
         let name = text(alloc, value, "name")?;
         let vhost = text(alloc, value, "vhost")?;
         let _ = truth(value, "durable")?;
@@ -176,7 +176,7 @@ impl FromValue for QueueEntry {
 
 /// Whether a binding has only its members, and no argument.
 #[tactic(auto, unfolding(crate::specs::Shape::binding_listed_at))]
-fn binding_listed(value: &Value) -> Result<bool, BadJson>
+fn binding_listed(value: &Value) -> Result<bool, FileCause>
     ensures { GivesValue result (binding_listed_at (view value.now)) }
 {
     let stated = arguments(value)?;
@@ -200,7 +200,7 @@ impl FromValue for BindingEntry {
     ghost states = { binding_entry_at };
 
     #[tactic(auto, unfolding(crate::specs::Shape::binding_entry_at))]
-    fn read(alloc: Global, value: &Value) -> Result<BindingEntry, BadJson> {
+    fn read(alloc: Global, value: &Value) -> Result<BindingEntry, FileCause> {
         let source = text(alloc, value, "source")?;
         let vhost = text(alloc, value, "vhost")?;
         let destination = text(alloc, value, "destination")?;
@@ -220,7 +220,7 @@ impl FromValue for BindingEntry {
 
 /// Whether there is no policy, parameter or topic permission.
 #[tactic(auto, unfolding(crate::specs::Shape::plain_at))]
-fn plain(value: &Value) -> Result<bool, BadJson>
+fn plain(value: &Value) -> Result<bool, FileCause>
     ensures { GivesValue result (plain_at (view value.now)) }
 {
     let policies = is_filled(value, "policies")?;
@@ -231,7 +231,7 @@ fn plain(value: &Value) -> Result<bool, BadJson>
 
 /// The entries that a value states, if it is an object with all of them, each of its kind.
 #[tactic(auto, unfolding(crate::specs::File::file_at))]
-pub fn document(alloc: Global, value: &Value) -> Result<Document, BadJson>
+pub fn document(alloc: Global, value: &Value) -> Result<Document, FileCause>
     ensures { GivesFile result (file_at (view value.now)) }
 {
     let vhosts = entries::<VhostEntry>(alloc, value, "vhosts")?;

@@ -2,3 +2,4 @@ pub mod Finding
 pub mod Whole
 pub mod Coverings
 pub mod Keeping
+pub mod Judging

@@ -4,9 +4,9 @@ use Rattle.model.specs.Words.{Text}
 use Rattle.model.specs.Topology.{Topology, IsIn, exchange_names, queue_names}
 use Rattle.model.specs.Guarantee.{Guarantee}
 use Rattle.topic_match.specs.Patterns.{IsPattern}
-use Rattle.guarantees.specs.declared.bad.BadGuarantees.{BadGuarantees}
-use Rattle.guarantees.specs.declared.bad.BadGuarantees.TheVariants.{NotJson, Malformed, Absent, Worded, TooMany, Memory}
-use Rattle.guarantees.specs.Numbers.{guarantees_cause}
+use Rattle.json_file.specs.declared.causes.FileCause.{FileCause}
+use Rattle.json_file.specs.declared.causes.FileCause.TheVariants.{Absent, Worded, TooMany, Memory}
+use Rattle.json_file.specs.Causes.{cause_number}
 
 -- the exchange is the default one, or is there
 abbrev pub IsExchangeOrDefault : Topology → Text → Type 0
@@ -39,27 +39,21 @@ pub record AreFewEnough (gs : List Guarantee) : Type 0 where
   pub excepts : All TakesOutFew gs
 
 -- these guarantees of a topology are clear of this cause
-abbrev pub AreClear : BadGuarantees → Topology → List Guarantee → Type 0
-AreClear NotJson t gs = Unit {0}
-AreClear Malformed t gs = Unit {0}
+abbrev pub AreClear : FileCause → Topology → List Guarantee → Type 0
 AreClear Absent t gs = All (NamesAreThere t) gs
 AreClear Worded t gs = All IsGuaranteeWorded gs
 AreClear TooMany t gs = AreFewEnough gs
-AreClear Memory t gs = Unit {0}
+AreClear _ t gs = Unit {0}
 
 -- This cause stands in them, and none of a smaller number.
-pub record IsLeastAgainst (bad : BadGuarantees) (t : Topology) (gs : List Guarantee) : Type 0 where
-  pub below : (lower : BadGuarantees) → guarantees_cause lower < guarantees_cause bad → AreClear lower t gs
+pub record IsLeastAgainst (bad : FileCause) (t : Topology) (gs : List Guarantee) : Type 0 where
+  pub below : (lower : FileCause) → cause_number lower < cause_number bad → AreClear lower t gs
   pub stands : AreClear bad t gs → ⊥
 
 -- the cause that is told is the least; want of memory owes nothing
-abbrev pub AreTold : BadGuarantees → Topology → List Guarantee → Type 0
-AreTold NotJson t gs = IsLeastAgainst NotJson t gs
-AreTold Malformed t gs = IsLeastAgainst Malformed t gs
-AreTold Absent t gs = IsLeastAgainst Absent t gs
-AreTold Worded t gs = IsLeastAgainst Worded t gs
-AreTold TooMany t gs = IsLeastAgainst TooMany t gs
+abbrev pub AreTold : FileCause → Topology → List Guarantee → Type 0
 AreTold Memory t gs = Unit {0}
+AreTold bad t gs = IsLeastAgainst bad t gs
 
 -- a guarantee is made of what is given, exactly where its patterns are patterns
 abbrev pub Makes : Option Guarantee → Guarantee → Type 0
@@ -67,6 +61,6 @@ Makes (Some g) given = (g ≡ given) × ArePatterns given
 Makes None given = ArePatterns given → ⊥
 
 -- no cause stands in them, or the least is told
-abbrev pub JudgesGuarantees : Result ⊤ BadGuarantees → Topology → List Guarantee → Type 0
-JudgesGuarantees (Ok done) t gs = (bad : BadGuarantees) → AreClear bad t gs
+abbrev pub JudgesGuarantees : Result ⊤ FileCause → Topology → List Guarantee → Type 0
+JudgesGuarantees (Ok done) t gs = (bad : FileCause) → AreClear bad t gs
 JudgesGuarantees (Err bad) t gs = AreTold bad t gs

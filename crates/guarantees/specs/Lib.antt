@@ -1,5 +1,3 @@
-pub mod Numbers
-pub mod Faults
 pub mod Stated
 pub mod Causes
 pub mod Reads

@@ -2,19 +2,16 @@
 
 ghost use Rattle.std.specs.Prelude.{◌≡◌, All, Decides, IfOk};
 ghost use Rattle.model.specs.Topology.{IsIn, exchange_names, queue_names};
-ghost use Rattle.serde_json.specs.View.{items_view, view};
-ghost use Rattle.serde_json.specs.Find.{as_str};
-ghost use Rattle.json_file.specs.Members.{each};
+ghost use Rattle.serde_json.specs.View.{view};
 ghost use Rattle.json_file.specs.Outcomes.{GivesItems, GivesValue};
 ghost use Rattle.guarantees.specs.Stated.{excepts_at, mode_at};
 ghost use Rattle.guarantees.specs.Causes.{AreFewEnough, ArePatterns, IsExchangeOrDefault, IsGuaranteeWorded, JudgesGuarantees, NamesAreThere, TakesOutFew};
 ghost use Rattle.guarantees.specs.Reads.{OpensGuarantees, ReadsGuarantees};
 
-use crate::bad::BadGuarantees;
 use crate::promises::Guarantee;
 use crate::stated::{StatedGuarantee, has_patterns};
 use exchange_graph::Topology;
-use json_file::{BadJson, FromValue, entries, parse, text};
+use json_file::{FileCause, FromValue, elements, entries, parse, text};
 use model::{Mode, Text, limits};
 use serde_json::Value;
 use std::alloc::{AllocError, Global};
@@ -22,7 +19,7 @@ use topic_match::is_pattern;
 
 /// The mode that a value states.
 #[tactic(auto, unfolding(crate::specs::Stated::mode_at))]
-fn mode(alloc: Global, value: &Value) -> Result<Mode, BadJson>
+fn mode(alloc: Global, value: &Value) -> Result<Mode, FileCause>
     ensures { GivesValue result (mode_at (view value.now)) }
 {
     let name = text(alloc, value, "mode")?;
@@ -32,40 +29,19 @@ fn mode(alloc: Global, value: &Value) -> Result<Mode, BadJson>
     if name.as_bytes() == b"never".as_slice() {
         return Ok(Mode::Never);
     }
-    Err(BadJson::Malformed)
-}
-
-/// The text that a value states.
-fn text_of(alloc: Global, value: &Value) -> Result<Text, BadJson>
-    ensures { GivesValue result (as_str (view value.now)) }
-{
-    match value.as_str() {
-        Some(text) => Ok(Text::from_slice(alloc, text.as_bytes())?),
-        None => Err(BadJson::Malformed),
-    }
-}
-
-/// The texts that these values state.
-fn texts(alloc: Global, values: &[Value]) -> Result<Vec<Text>, BadJson>
-    ensures { GivesItems result (each as_str (items_view values.now)) }
-{
-    let mut found = Vec::new(alloc);
-    for value in values {
-        found.push(text_of(alloc, value)?)?;
-    }
-    Ok(found)
+    Err(FileCause::Malformed)
 }
 
 /// The patterns at the member `except`, where it is there.
 #[tactic(auto, unfolding(crate::specs::Stated::excepts_at))]
-fn excepts(alloc: Global, value: &Value) -> Result<Vec<Text>, BadJson>
+fn excepts(alloc: Global, value: &Value) -> Result<Vec<Text>, FileCause>
     ensures { GivesItems result (excepts_at (view value.now)) }
 {
     match value.get("except") {
         None => Ok(Vec::new(alloc)),
         Some(found) => match found.as_array() {
-            Some(array) => texts(alloc, array.as_slice()),
-            None => Err(BadJson::Malformed),
+            Some(array) => elements(alloc, array.as_slice()),
+            None => Err(FileCause::Malformed),
         },
     }
 }
@@ -76,7 +52,7 @@ impl FromValue for StatedGuarantee {
     ghost states = { guarantee_at };
 
     #[tactic(auto, unfolding(crate::specs::Stated::guarantee_at))]
-    fn read(alloc: Global, value: &Value) -> Result<StatedGuarantee, BadJson> {
+    fn read(alloc: Global, value: &Value) -> Result<StatedGuarantee, FileCause> {
         let mode = mode(alloc, value)?;
         let exchange = text(alloc, value, "exchange")?;
         let pattern = text(alloc, value, "pattern")?;
@@ -167,23 +143,23 @@ fn are_few(guarantees: &[StatedGuarantee]) -> bool
 }
 
 /// Tells the least cause that stands in the guarantees.
-fn judge(topology: &Topology, guarantees: &[StatedGuarantee]) -> Result<(), BadGuarantees>
+fn judge(topology: &Topology, guarantees: &[StatedGuarantee]) -> Result<(), FileCause>
     ensures { JudgesGuarantees result topology.now guarantees.now }
 {
     if !all_there(topology, guarantees) {
-        return Err(BadGuarantees::Absent);
+        return Err(FileCause::Absent);
     }
     if !all_worded(guarantees) {
-        return Err(BadGuarantees::Worded);
+        return Err(FileCause::Worded);
     }
     if !are_few(guarantees) {
-        return Err(BadGuarantees::TooMany);
+        return Err(FileCause::TooMany);
     }
     Ok(())
 }
 
 /// The guarantees of a file, or why it has none.
-fn open(alloc: Global, bytes: &[u8]) -> Result<Vec<StatedGuarantee>, BadGuarantees>
+fn open(alloc: Global, bytes: &[u8]) -> Result<Vec<StatedGuarantee>, FileCause>
     ensures { OpensGuarantees result bytes.now }
 {
     let value = parse(alloc, bytes)?;
@@ -212,7 +188,7 @@ pub fn read_guarantees(
     alloc: Global,
     bytes: &[u8],
     topology: &Topology,
-) -> Result<Vec<Guarantee>, BadGuarantees>
+) -> Result<Vec<Guarantee>, FileCause>
     ensures { ReadsGuarantees result topology.now bytes.now }
 {
     let stated = open(alloc, bytes)?;

@@ -10,16 +10,14 @@ use Rattle.serde_json.specs.Find.{as_object}
 use Rattle.serde_json.specs.View.{view, items_view, members_view}
 use Rattle.serde_json.specs.declared.value.Value.{Value}
 use Rattle.json_file.specs.Outcomes.{FailsJson}
-use Rattle.json_file.specs.declared.faults.BadJson.{BadJson}
-use Rattle.json_file.specs.declared.faults.BadJson.TheVariants.{TooLong, NotJson, Malformed, Memory}
+use Rattle.json_file.specs.declared.causes.FileCause.{FileCause}
+use Rattle.json_file.specs.declared.causes.FileCause.TheVariants.{Malformed}
 use Rattle.json_file.specs.Members.{each, fills, has_only, named_among}
 
 -- a reason that follows from another
-pub fails_then : (e : BadJson) (P Q : Type 0) → (P → Q) → FailsJson e P → FailsJson e Q
-fails_then TooLong P Q f h = h
-fails_then NotJson P Q f h = h
+pub fails_then : (e : FileCause) (P Q : Type 0) → (P → Q) → FailsJson e P → FailsJson e Q
 fails_then Malformed P Q f h = f h
-fails_then Memory P Q f h = h
+fails_then _ P Q f h = h
 
 -- ---- the names of an object's members
 

@@ -40,6 +40,10 @@ pub record IsJson (bytes : List ℕ) (d : Data) : Type 0 where
 abbrev pub IsJsonFile : List ℕ → Type 0
 IsJsonFile bytes = length bytes ≤ 16777216 → (d : Data) × IsJson bytes d
 
+-- a whole number below 2^64
+abbrev pub whole_number : Data → Option ℕ
+whole_number d = option_and_then as_u64 (as_number d)
+
 -- the text at this member
 unfoldable pub text_member : List ℕ → Data → Option (List ℕ)
 text_member name d = option_and_then as_str (get name d)
@@ -75,7 +79,7 @@ small n = if nat_lt n (2 ^ 32) then Some n else None
 
 -- the value, if it is a whole number below 2^32
 abbrev pub small_number : Data → Option ℕ
-small_number d = option_and_then small (option_and_then as_u64 (as_number d))
+small_number d = option_and_then small (whole_number d)
 
 -- the whole number below 2^32 at this member, where it is there
 unfoldable pub optional_number_member : List ℕ → Data → Option (Option ℕ)

@@ -6,35 +6,34 @@ use Rattle.serde_json.specs.Data.{Data}
 use Rattle.serde_json.specs.View.{view}
 use Rattle.serde_json.specs.declared.value.Value.{Value}
 use Rattle.json_file.specs.Members.{IsJson}
-use Rattle.json_file.specs.declared.faults.BadJson.{BadJson}
-use Rattle.json_file.specs.declared.faults.BadJson.TheVariants.{TooLong, NotJson, Malformed, Memory}
+use Rattle.json_file.specs.declared.causes.FileCause.{FileCause}
+use Rattle.json_file.specs.declared.causes.FileCause.TheVariants.{NotJson, Malformed, TooMany, Memory}
 
 -- a member is not read for this reason alone
-abbrev pub FailsJson : BadJson → Type 0 → Type 0
-FailsJson TooLong why = ⊥
-FailsJson NotJson why = ⊥
+abbrev pub FailsJson : FileCause → Type 0 → Type 0
 FailsJson Malformed why = why
 FailsJson Memory why = Unit {0}
+FailsJson _ why = ⊥
 
 -- what stands there is given, or it is refused where nothing does
-abbrev pub GivesValue : {A : Type 0} → Result A BadJson → Option A → Type 0
+abbrev pub GivesValue : {A : Type 0} → Result A FileCause → Option A → Type 0
 GivesValue (Ok x) o = o ≡ Some x
 GivesValue (Err e) o = FailsJson e (o ≡ None)
 
 -- the same of a value that is lent
-abbrev pub GivesView : Result (Bor Value) BadJson → Option Data → Type 0
+abbrev pub GivesView : Result (Bor Value) FileCause → Option Data → Type 0
 GivesView (Ok v) o = o ≡ Some (view v.now)
 GivesView (Err e) o = FailsJson e (o ≡ None)
 
 -- the same of a list
-abbrev pub GivesItems : {A : Type 0} → Result (Vec A Global) BadJson → Option (List A) → Type 0
+abbrev pub GivesItems : {A : Type 0} → Result (Vec A Global) FileCause → Option (List A) → Type 0
 GivesItems (Ok v) o = o ≡ Some v.items
 GivesItems (Err e) o = FailsJson e (o ≡ None)
 
 -- a file is parsed, or refused
-abbrev pub Parses : Result Value BadJson → List ℕ → Type 0
+abbrev pub Parses : Result Value FileCause → List ℕ → Type 0
 Parses (Ok v) bytes = IsJson bytes (view v)
-Parses (Err TooLong) bytes = 16777216 < length bytes
+Parses (Err TooMany) bytes = 16777216 < length bytes
 Parses (Err NotJson) bytes = (length bytes ≤ 16777216) × ((d : Data) → IsJson bytes d → ⊥)
-Parses (Err Malformed) bytes = ⊥
 Parses (Err Memory) bytes = Unit {0}
+Parses (Err _) bytes = ⊥

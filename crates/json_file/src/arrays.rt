@@ -6,7 +6,8 @@ ghost use Rattle.serde_json.specs.View.{view, items_view};
 ghost use Rattle.json_file.specs.Members.{array_member, each};
 ghost use Rattle.json_file.specs.Outcomes.{GivesValue, GivesItems};
 
-use crate::faults::BadJson;
+use crate::causes::FileCause;
+use model::Text;
 use serde_json::Value;
 use std::alloc::Global;
 
@@ -16,14 +17,40 @@ pub trait FromValue: Drop {
     ghost states: { Data → Option Self };
 
     /// The entry that the value states.
-    fn read(alloc: Global, value: &Value) -> Result<Self, BadJson>
+    fn read(alloc: Global, value: &Value) -> Result<Self, FileCause>
     where
         Self: Sized,
         ensures { GivesValue result (states (view value.now)) };
 }
 
+impl FromValue for u64 {
+    ghost use Rattle.json_file.specs.Members.{whole_number};
+
+    ghost states = { whole_number };
+
+    fn read(_: Global, value: &Value) -> Result<u64, FileCause> {
+        match value.as_u64() {
+            Some(number) => Ok(number),
+            None => Err(FileCause::Malformed),
+        }
+    }
+}
+
+impl FromValue for Text {
+    ghost use Rattle.serde_json.specs.Find.{as_str};
+
+    ghost states = { as_str };
+
+    fn read(alloc: Global, value: &Value) -> Result<Text, FileCause> {
+        match value.as_str() {
+            Some(text) => Ok(Text::from_slice(alloc, text.as_bytes())?),
+            None => Err(FileCause::Malformed),
+        }
+    }
+}
+
 /// The entries that these values state.
-fn entries_of<E: FromValue>(alloc: Global, values: &[Value]) -> Result<Vec<E>, BadJson>
+pub fn elements<E: FromValue>(alloc: Global, values: &[Value]) -> Result<Vec<E>, FileCause>
     ensures { GivesItems result (each E.states (items_view values.now)) }
 {
     let mut found = Vec::new(alloc);
@@ -35,11 +62,11 @@ fn entries_of<E: FromValue>(alloc: Global, values: &[Value]) -> Result<Vec<E>, B
 
 /// The entries of the array at this member.
 #[tactic(auto, unfolding(crate::specs::Members::array_member))]
-pub fn entries<E: FromValue>(alloc: Global, value: &Value, name: &str) -> Result<Vec<E>, BadJson>
+pub fn entries<E: FromValue>(alloc: Global, value: &Value, name: &str) -> Result<Vec<E>, FileCause>
     ensures { GivesItems result (option_and_then (each E.states) (array_member name.now (view value.now))) }
 {
     match value.get(name).and_then(Value::as_array) {
-        Some(array) => entries_of(alloc, array.as_slice()),
-        None => Err(BadJson::Malformed),
+        Some(array) => elements(alloc, array.as_slice()),
+        None => Err(FileCause::Malformed),
     }
 }

@@ -2,11 +2,11 @@
 #![tactic(auto)]
 
 mod arrays;
-mod faults;
+mod causes;
 mod members;
 
-pub use arrays::{FromValue, entries};
-pub use faults::BadJson;
+pub use arrays::{FromValue, elements, entries};
+pub use causes::FileCause;
 pub use members::{
     arguments, has_only, is_filled, optional_number, optional_text, parse, text, truth,
 };

@@ -17,25 +17,25 @@ ghost use Rattle.json_file.specs.Members.{
 };
 ghost use Rattle.json_file.specs.Outcomes.{GivesValue, GivesView, Parses};
 
-use crate::faults::BadJson;
+use crate::causes::FileCause;
 use model::{Text, limits};
 use serde_json::{Map, Value};
 use std::alloc::Global;
 
 /// The value that a file states, where it is JSON of at most 16,777,216 bytes and nests at most 127 deep.
-pub fn parse(alloc: Global, bytes: &[u8]) -> Result<Value, BadJson>
+pub fn parse(alloc: Global, bytes: &[u8]) -> Result<Value, FileCause>
     ensures { Parses result bytes.now }
 {
     if bytes.len() > limits::FILE_BYTES {
-        return Err(BadJson::TooLong);
+        return Err(FileCause::TooMany);
     }
     match Value::from_slice(alloc, bytes) {
         Ok(value) => Ok(value),
         Err(error) => {
             if error.is_memory() {
-                Err(BadJson::Memory)
+                Err(FileCause::Memory)
             } else {
-                Err(BadJson::NotJson)
+                Err(FileCause::NotJson)
             }
         }
     }
@@ -43,75 +43,75 @@ pub fn parse(alloc: Global, bytes: &[u8]) -> Result<Value, BadJson>
 
 /// The text at this member.
 #[tactic(auto, unfolding(crate::specs::Members::text_member))]
-pub fn text(alloc: Global, value: &Value, name: &str) -> Result<Text, BadJson>
+pub fn text(alloc: Global, value: &Value, name: &str) -> Result<Text, FileCause>
     ensures { GivesValue result (text_member name.now (view value.now)) }
 {
     match value.get(name).and_then(Value::as_str) {
         Some(text) => Ok(Text::from_slice(alloc, text.as_bytes())?),
-        None => Err(BadJson::Malformed),
+        None => Err(FileCause::Malformed),
     }
 }
 
 /// The truth value at this member.
 #[tactic(auto, unfolding(crate::specs::Members::truth_member))]
-pub fn truth(value: &Value, name: &str) -> Result<bool, BadJson>
+pub fn truth(value: &Value, name: &str) -> Result<bool, FileCause>
     ensures { GivesValue result (truth_member name.now (view value.now)) }
 {
     match value.get(name).and_then(Value::as_bool) {
         Some(truth) => Ok(truth),
-        None => Err(BadJson::Malformed),
+        None => Err(FileCause::Malformed),
     }
 }
 
 /// The object at the member `arguments`.
 #[tactic(auto, unfolding(crate::specs::Members::arguments_member))]
-pub fn arguments(value: &Value) -> Result<&Value, BadJson>
+pub fn arguments(value: &Value) -> Result<&Value, FileCause>
     ensures { GivesView result (arguments_member (view value.now)) }
 {
     match value.get("arguments") {
         Some(found) if found.is_object() => Ok(found),
-        _ => Err(BadJson::Malformed),
+        _ => Err(FileCause::Malformed),
     }
 }
 
 /// The text at this member, where it is there.
 #[tactic(auto, unfolding(crate::specs::Members::optional_text_member))]
-pub fn optional_text(alloc: Global, value: &Value, name: &str) -> Result<Option<Text>, BadJson>
+pub fn optional_text(alloc: Global, value: &Value, name: &str) -> Result<Option<Text>, FileCause>
     ensures { GivesValue result (optional_text_member name.now (view value.now)) }
 {
     match value.get(name) {
         None => Ok(None),
         Some(found) => match found.as_str() {
             Some(text) => Ok(Some(Text::from_slice(alloc, text.as_bytes())?)),
-            None => Err(BadJson::Malformed),
+            None => Err(FileCause::Malformed),
         },
     }
 }
 
 /// The whole number below 2^32 at this member, where it is there.
 #[tactic(auto, unfolding(crate::specs::Members::optional_number_member))]
-pub fn optional_number(value: &Value, name: &str) -> Result<Option<u32>, BadJson>
+pub fn optional_number(value: &Value, name: &str) -> Result<Option<u32>, FileCause>
     ensures { GivesValue result (optional_number_member name.now (view value.now)) }
 {
     match value.get(name) {
         None => Ok(None),
         Some(found) => match found.as_u64() {
             Some(number) if number <= 4_294_967_295 => Ok(Some(number as u32)),
-            _ => Err(BadJson::Malformed),
+            _ => Err(FileCause::Malformed),
         },
     }
 }
 
 /// Whether there is an array at this member with an element, where it is there.
 #[tactic(auto, unfolding(crate::specs::Members::is_filled))]
-pub fn is_filled(value: &Value, name: &str) -> Result<bool, BadJson>
+pub fn is_filled(value: &Value, name: &str) -> Result<bool, FileCause>
     ensures { GivesValue result (is_filled name.now (view value.now)) }
 {
     match value.get(name) {
         None => Ok(false),
         Some(found) => match found.as_array() {
             Some(array) => Ok(!array.is_empty()),
-            None => Err(BadJson::Malformed),
+            None => Err(FileCause::Malformed),
         },
     }
 }

@@ -1,13 +1,11 @@
 //! Single calls, each made once more where memory was wanting.
 
 use crate::counts::{Counts, count};
-use certificate::{
-    BadCertificates, CertFault, Certificate, Checked, Refutation, admit, check, disprove,
-};
-use definitions::{BadDefinitions, Definitions, read_definitions};
+use certificate::{CertFault, Certificate, Checked, Refutation, admit, check, disprove};
+use definitions::{Definitions, FileCause, read_definitions};
 use exchange_graph::Topology;
 use guarantee_search::{Verdict, search};
-use guarantees::{BadGuarantees, Guarantee, read_guarantees};
+use guarantees::{Guarantee, read_guarantees};
 use model::User;
 use std::alloc::{AllocError, Global};
 use std::io::{self, ErrorKind};
@@ -33,7 +31,7 @@ fn definitions_of(
 ) -> io::Result<Definitions> {
     let bytes = setting.definitions.as_bytes();
     let read = match read_definitions(alloc, bytes) {
-        Err(BadDefinitions::Memory) => {
+        Err(FileCause::Memory) => {
             count(&mut counts.definitions);
             read_definitions(alloc, bytes)
         }
@@ -41,7 +39,7 @@ fn definitions_of(
     };
     match read {
         Ok(definitions) => Ok(definitions),
-        Err(BadDefinitions::Memory) => Err(io::Error::from(AllocError)),
+        Err(FileCause::Memory) => Err(io::Error::from(AllocError)),
         Err(_) => Err(malformed()),
     }
 }
@@ -55,7 +53,7 @@ fn guarantees_of(
 ) -> io::Result<Vec<Guarantee>> {
     let bytes = setting.guarantees.as_bytes();
     let read = match read_guarantees(alloc, bytes, topology) {
-        Err(BadGuarantees::Memory) => {
+        Err(FileCause::Memory) => {
             count(&mut counts.guarantees);
             read_guarantees(alloc, bytes, topology)
         }
@@ -63,7 +61,7 @@ fn guarantees_of(
     };
     match read {
         Ok(guarantees) => Ok(guarantees),
-        Err(BadGuarantees::Memory) => Err(io::Error::from(AllocError)),
+        Err(FileCause::Memory) => Err(io::Error::from(AllocError)),
         Err(_) => Err(malformed()),
     }
 }
@@ -83,7 +81,7 @@ pub fn stated(
 pub fn certificates_of(alloc: Global, setting: Setting<'_>) -> io::Result<Vec<Certificate>> {
     match Certificate::read(alloc, setting.certificates.as_bytes()) {
         Ok(certificates) => Ok(certificates),
-        Err(BadCertificates::Memory) => Err(io::Error::from(AllocError)),
+        Err(FileCause::Memory) => Err(io::Error::from(AllocError)),
         Err(_) => Err(malformed()),
     }
 }

@@ -1,5 +1,5 @@
 -- Turns, arrivals and lists of them, one after another.
-use Rattle.std.proofs.Common.{◌≡◌, ℕ, List, [], ◌∷◌, ◌++◌, Bool, true, false, map, take, refl, sym, ap, subst, ◌∙◌, append_assoc, append-nil, inl, inr}
+use Rattle.std.proofs.Common.{◌≡◌, ℕ, List, [], ◌∷◌, ◌++◌, Bool, true, false, map, take, refl, sym, ap, subst, ◌∙◌, append_assoc, append-nil}
 use Rattle.std.specs.Prelude.{MatchBool, Some, None, Result, Ok, Err, OnOk}
 use Rattle.std.proofs.lemmas.List.{map-append}
 use Rattle.model.specs.Opening.{new_session}
@@ -8,8 +8,8 @@ use Rattle.model.specs.Run.{Happening}
 use Rattle.model.specs.State.{Config}
 use Rattle.model.specs.Headline.{IsSound}
 use Rattle.model.specs.Reloading.{IsObstacle}
-use Rattle.model.specs.History.{Occurrence, Of_event, Of_reload, Reload}
-use Rattle.model.specs.Arrivals.{World, Seen, Turns, Works, none_more, one_more, Same, with_heard, is_over, is_gone, can_open, Loses, Takes_off, delivers, idles, Reloads, Plays}
+use Rattle.model.specs.History.{Occurrence, Of_event, Of_reload}
+use Rattle.model.specs.Arrivals.{World, Seen, Turns, Works, none_more, one_more, Same, with_heard, is_over, is_gone, can_open, Loses, Takes_off, delivers, idles, Plays}
 use Rattle.model.specs.declared.notes.Note.{Note}
 use Rattle.model.specs.declared.notes.Note.TheVariants.{Reloaded, ReloadRefused}
 use Rattle.model.specs.declared.obstacles.Obstacle.{Obstacle}
@@ -23,6 +23,7 @@ use Rattle.runs.specs.Opened.{OpensNew, OpensReady, Hears, Did, DidNothing, Idle
 use Rattle.runs.specs.Reloaded.{IsPutInForce}
 use Rattle.runs.specs.Runs.{WorksAndTells, AnswersAndTells, PlaysAndTells}
 use Rattle.runs.proofs.Worlds.{world_same}
+use Rattle.runs.proofs.Reloads.{reload_of, put_reloads, refused_reloads}
 use Rattle.runs.proofs.Steps.{tells_then, tells_same, tells_turns, tells_delivers, tells_waits, tells_heard, tells_takes, tells_loses, tells_opens, tells_reloads, tells_not}
 
 -- ---- tests
@@ -120,56 +121,20 @@ pumps a b s t c notes (hs, noted, made) e = (map Of_event hs, tt, (hs, refl, del
 pub pumps_not : (a b : World) (s : Seen) → Idles a b → AnswersAndTells a arrival.Pump s b s
 pumps_not a b s i = ([], tt, ([], refl, idles i.0 (refl, i.1)), tells_same a b s i.1)
 
--- a reload between these worlds
-abbrev reload_of : World → Config → World → List Note → Config → Reload
-reload_of a offered b notes in_force = record { config = a.config; offered = offered; before = a.state; notes = notes; after = b.state; in_force = in_force }
-
 -- what was offered is in force, and that is noted
 pub reloads_done : (a b : World) (offered : Config) (s t : Seen) → IsSound offered → IsPutInForce a offered b → t ≡ record s { notes = s.notes ++ Reloaded ∷ [] } → AnswersAndTells a (arrival.Reload offered) s b t
-reloads_done a b offered s t sound p e = (
-  Of_reload (reload_of a offered b (Reloaded ∷ []) b.config) ∷ [],
-  sound,
-  done,
-  subst (λ (z : Seen). TellsEvents a s (Of_reload (reload_of a offered b (Reloaded ∷ []) b.config) ∷ []) b z) (sym e) (tells_reloads a b offered _ s (Reloaded ∷ []) sound refl done),
-)
-  where
-    done : Reloads a offered (Of_reload (reload_of a offered b (Reloaded ∷ []) b.config) ∷ []) b
-    done = record {
-      r = reload_of a offered b (Reloaded ∷ []) b.config;
-      all = refl;
-      under = refl;
-      offers = refl;
-      before = refl;
-      after = refl;
-      in_force = refl;
-      decided = inl (record { nothing = p.nothing; noted = refl; in_force = p.config; broker = p.broker; session = p.session });
-      given = p.given;
-      wires = p.wires;
-    }
+reloads_done a b offered s t sound p e =
+    let os = Of_reload (reload_of a offered b (Reloaded ∷ [])) ∷ [] in
+    let done = put_reloads a b offered p in
+    (os, sound, done, subst (λ (z : Seen). TellsEvents a s os b z) (sym e) (tells_reloads a b offered _ s (Reloaded ∷ []) sound refl done))
 
 -- something stands against it, which is noted, and nothing is different
 pub reloads_refused : (a b : World) (offered : Config) (o : Obstacle) (s t : Seen) → IsSound offered → IsObstacle a.config.topology offered a.state.broker o → Same a b → t ≡ record s { notes = s.notes ++ ReloadRefused o ∷ [] }
     → AnswersAndTells a (arrival.Reload offered) s b t
-reloads_refused a b offered o s t sound stands same e = (
-  Of_reload (reload_of a offered b (ReloadRefused o ∷ []) b.config) ∷ [],
-  sound,
-  refused,
-  subst (λ (z : Seen). TellsEvents a s (Of_reload (reload_of a offered b (ReloadRefused o ∷ []) b.config) ∷ []) b z) (sym e) (tells_reloads a b offered _ s (ReloadRefused o ∷ []) sound refl refused),
-)
-  where
-    refused : Reloads a offered (Of_reload (reload_of a offered b (ReloadRefused o ∷ []) b.config) ∷ []) b
-    refused = record {
-      r = reload_of a offered b (ReloadRefused o ∷ []) b.config;
-      all = refl;
-      under = refl;
-      offers = refl;
-      before = refl;
-      after = refl;
-      in_force = refl;
-      decided = inr (record { obstacle = o; stands = stands; noted = refl; in_force = same.config; after = same.state });
-      given = same.given;
-      wires = same.wires;
-    }
+reloads_refused a b offered o s t sound stands same e =
+    let os = Of_reload (reload_of a offered b (ReloadRefused o ∷ [])) ∷ [] in
+    let refused = refused_reloads a b offered o stands same in
+    (os, sound, refused, subst (λ (z : Seen). TellsEvents a s os b z) (sym e) (tells_reloads a b offered _ s (ReloadRefused o ∷ []) sound refl refused))
 
 -- ---- lists of arrivals
 

@@ -16,4 +16,4 @@ pub use closed::Closed;
 pub use disk::{ScenarioDisk, new_broker};
 pub use expectations::{Unmet, expect, expect_bytes, expect_number, value_of};
 pub use sums::Sums;
-pub use topologies::in_force;
+pub use topologies::{in_force, plain_queue};

@@ -3,7 +3,7 @@
 use crate::expectations::{Unmet, value_of};
 use certificate::{Checked, admit};
 use exchange_graph::Topology;
-use model::{Binding, DeclaredQueue, Exchange};
+use model::{Binding, DeclaredQueue, Exchange, Text};
 use std::alloc::Global;
 
 /// A topology of these exchanges, queues and bindings, under no guarantees.
@@ -18,4 +18,15 @@ pub fn in_force(
         Topology::build(alloc, exchanges, queues, bindings),
     )?;
     value_of("admit", admit(alloc, topology, Vec::new(alloc), &[]))
+}
+
+/// A queue of this name, with no limit, whose messages don't die.
+pub fn plain_queue(name: Text) -> DeclaredQueue {
+    DeclaredQueue {
+        name,
+        limit: None,
+        byte_limit: None,
+        dead_letter_exchange: None,
+        dead_letter_key: None,
+    }
 }

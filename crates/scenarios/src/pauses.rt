@@ -4,7 +4,7 @@ use certificate::Checked;
 use engine::{Setup, run};
 use model::{Arrival, Binding, DeclaredQueue, Exchange, ExchangeKind, Note, Place, Text};
 use runs::Transcript;
-use scenario_parts::{Unmet, expect, expect_number, in_force, value_of};
+use scenario_parts::{Unmet, expect, expect_number, in_force, plain_queue, value_of};
 use std::alloc::{AllocError, Global};
 
 /// basic.publish to `orders` under the key `new` on channel 1, and a header of a body of 1,048,576 bytes.
@@ -35,22 +35,11 @@ fn single<T: Drop>(alloc: Global, value: T) -> Result<Vec<T>, Unmet> {
     Ok(values)
 }
 
-/// A queue of this name, with no limit.
-fn queue(name: Text) -> DeclaredQueue {
-    DeclaredQueue {
-        name,
-        limit: None,
-        byte_limit: None,
-        dead_letter_exchange: None,
-        dead_letter_key: None,
-    }
-}
-
 /// The queues `audit` and `ledger`.
 fn queues(alloc: Global) -> Result<Vec<DeclaredQueue>, AllocError> {
     let mut queues = Vec::new(alloc);
-    queues.push(queue(Text::short(b"audit")))?;
-    queues.push(queue(Text::short(b"ledger")))?;
+    queues.push(plain_queue(Text::short(b"audit")))?;
+    queues.push(plain_queue(Text::short(b"ledger")))?;
     Ok(queues)
 }
 

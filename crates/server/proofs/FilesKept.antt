@@ -4,7 +4,7 @@ use Rattle.model.specs.Words.{Text}
 use Rattle.model.specs.Topology.{Topology}
 use Rattle.model.specs.Guarantee.{Guarantee}
 use Rattle.model.specs.Certificates.{Certificate}
-use Rattle.guarantees.specs.declared.bad.BadGuarantees.TheVariants.{TooMany}
+use Rattle.json_file.specs.declared.causes.FileCause.TheVariants.{TooMany}
 use Rattle.server.specs.declared.file_refusals.FileRefusal.{FileRefusal}
 use Rattle.server.specs.Files.{Known, AreKept, AreKeptBut}
 use Rattle.server.specs.Stated.{PromisesAt, HoldsCertificates, CertifiesAt, IsWhyNone}

@@ -7,14 +7,10 @@ use Rattle.model.specs.Guarantee.{Guarantee}
 use Rattle.model.specs.Certificates.{Certificate}
 use Rattle.model.specs.declared.topologies.ExchangeKind.TheVariants.{Direct}
 use Rattle.model.specs.declared.topologies.Place.TheVariants as place
-use Rattle.definitions.specs.declared.bad.BadDefinitions.{BadDefinitions}
-use Rattle.definitions.specs.Numbers.{definitions_cause}
+use Rattle.json_file.specs.declared.causes.FileCause.{FileCause}
+use Rattle.json_file.specs.Causes.{cause_number}
 use Rattle.definitions.specs.Reads.{Stated, ReadsDefinitions, IsFirst}
-use Rattle.guarantees.specs.declared.bad.BadGuarantees.{BadGuarantees}
-use Rattle.guarantees.specs.Numbers.{guarantees_cause}
 use Rattle.guarantees.specs.Reads.{AreAccepted, IsFirstAgainst}
-use Rattle.certificate.specs.declared.bad.BadCertificates.{BadCertificates}
-use Rattle.certificate.specs.Numbers.{certificates_cause}
 use Rattle.certificate.specs.Reads.{IsCertificatesFile, ReadsCertificateFile}
 use Rattle.server.specs.declared.file_refusals.FileRefusal.{FileRefusal}
 use Rattle.server.specs.declared.file_refusals.FileRefusal.TheVariants.{Refused, TooLong, Unread, Memory}
@@ -76,7 +72,7 @@ IsWhyNot Stands Memory known = ⊤
 
 -- the cause of this number stands in the definitions, and none of a smaller number
 abbrev pub NamesCause : ℕ → Text → Type 0
-NamesCause n text = (cause : BadDefinitions) × (n ≡ definitions_cause cause) × IsFirst cause text
+NamesCause n text = (cause : FileCause) × (n ≡ cause_number cause) × IsFirst cause text
 
 -- why definitions are refused
 abbrev pub IsWhyUnstated : FileRefusal → Known → Type 0
@@ -84,7 +80,7 @@ IsWhyUnstated why known = IsWhyNot NamesCause why known
 
 -- the cause of this number stands in the guarantees of this topology, and none of a smaller number
 abbrev pub HasGuaranteeCause : Topology → ℕ → Text → Type 0
-HasGuaranteeCause t n text = (cause : BadGuarantees) × (n ≡ guarantees_cause cause) × IsFirstAgainst cause t text
+HasGuaranteeCause t n text = (cause : FileCause) × (n ≡ cause_number cause) × IsFirstAgainst cause t text
 
 -- why guarantees of this topology are refused
 abbrev pub IsWhyUnpromised : Topology → FileRefusal → Known → Type 0
@@ -92,7 +88,7 @@ IsWhyUnpromised t why known = IsWhyNot (HasGuaranteeCause t) why known
 
 -- the one cause that stands in the certificates file has this number
 abbrev pub HasCertificateCause : ℕ → Text → Type 0
-HasCertificateCause n text = (cause : BadCertificates) × (n ≡ certificates_cause cause) × ReadsCertificateFile (Err cause) text
+HasCertificateCause n text = (cause : FileCause) × (n ≡ cause_number cause) × ReadsCertificateFile (Err cause) text
 
 -- why a certificates file is refused
 abbrev pub IsWhyUncertified : FileRefusal → Known → Type 0

@@ -1,7 +1,7 @@
 //! Why a file is refused.
 
 use crate::storage;
-use definitions::BadDefinitions;
+use json_file::FileCause;
 use std::alloc::AllocError;
 
 /// Why a file is refused.
@@ -40,41 +40,13 @@ impl From<storage::Unread> for FileRefusal {
     }
 }
 
-impl From<BadDefinitions> for FileRefusal {
+impl From<FileCause> for FileRefusal {
     ghost use Rattle.std.specs.Prelude.{◌≡◌};
     ghost use Rattle.server.specs.FileRefusals.{of_cause};
 
     ghost from_gives = { λ cause r. r ≡ of_cause cause };
 
-    fn from(cause: BadDefinitions) -> FileRefusal {
-        match cause.number() {
-            14 => FileRefusal::Memory,
-            number => FileRefusal::Refused(number),
-        }
-    }
-}
-
-impl From<guarantees::BadGuarantees> for FileRefusal {
-    ghost use Rattle.std.specs.Prelude.{◌≡◌};
-    ghost use Rattle.server.specs.FileRefusals.{of_guarantees};
-
-    ghost from_gives = { λ cause r. r ≡ of_guarantees cause };
-
-    fn from(cause: guarantees::BadGuarantees) -> FileRefusal {
-        match cause.number() {
-            14 => FileRefusal::Memory,
-            number => FileRefusal::Refused(number),
-        }
-    }
-}
-
-impl From<certificate::BadCertificates> for FileRefusal {
-    ghost use Rattle.std.specs.Prelude.{◌≡◌};
-    ghost use Rattle.server.specs.FileRefusals.{of_certificates};
-
-    ghost from_gives = { λ cause r. r ≡ of_certificates cause };
-
-    fn from(cause: certificate::BadCertificates) -> FileRefusal {
+    fn from(cause: FileCause) -> FileRefusal {
         match cause.number() {
             14 => FileRefusal::Memory,
             number => FileRefusal::Refused(number),

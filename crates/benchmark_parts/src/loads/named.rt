@@ -48,75 +48,41 @@ pub fn plain(name: &'static str, shape: Shape, publishes: u64, body: usize) -> L
 /// A load by so many connections in turn.
 fn by(name: &'static str, connections: u64) -> Load {
     Load {
-        name,
-        shape: Shape::Direct,
         connections,
-        publishes: 100_000,
-        window: WINDOW,
-        body: 12,
-        piece: WHOLE,
-        keys: Keys::One,
-        properties: NONE,
+        ..plain(name, Shape::Direct, 100_000, 12)
     }
 }
 
 /// A load whose keys never come again.
 fn fresh(name: &'static str, shape: Shape, publishes: u64) -> Load {
     Load {
-        name,
-        shape,
-        connections: 1,
-        publishes,
-        window: WINDOW,
-        body: 12,
-        piece: WHOLE,
         keys: Keys::Fresh,
-        properties: NONE,
+        ..plain(name, shape, publishes, 12)
     }
 }
 
 /// A load handed in by pieces of so many bytes.
 fn pieces(name: &'static str, piece: usize, publishes: u64) -> Load {
     Load {
-        name,
-        shape: Shape::Direct,
-        connections: 1,
-        publishes,
-        window: WINDOW,
-        body: 12,
         piece,
-        keys: Keys::One,
-        properties: NONE,
+        ..plain(name, Shape::Direct, publishes, 12)
     }
 }
 
 /// A load whose contents have these properties.
 fn with_properties(name: &'static str, properties: &'static [u8]) -> Load {
     Load {
-        name,
-        shape: Shape::Direct,
-        connections: 1,
-        publishes: 100_000,
-        window: WINDOW,
-        body: 12,
-        piece: WHOLE,
-        keys: Keys::One,
         properties,
+        ..plain(name, Shape::Direct, 100_000, 12)
     }
 }
 
 /// A load of large bodies, each of which is read in parts.
 fn large(name: &'static str, publishes: u64, body: usize) -> Load {
     Load {
-        name,
-        shape: Shape::Direct,
-        connections: 1,
-        publishes,
         window: 1,
-        body,
         piece: READ,
-        keys: Keys::One,
-        properties: NONE,
+        ..plain(name, Shape::Direct, publishes, body)
     }
 }
 

@@ -1,4 +1,4 @@
-use Rattle.definitions.specs.declared.bad.BadDefinitions.TheVariants.{OtherVhost, Repeated, Absent, OtherType, Unsupported}
+use Rattle.json_file.specs.declared.causes.FileCause.TheVariants.{OtherVhost, Repeated, Absent, OtherType, Unsupported}
 use Rattle.definitions.specs.File.{file_of}
 use Rattle.definitions.proofs.Order.{none_below, below_next, least}
 use Rattle.definitions.proofs.judging.first_cause.Goals as goal

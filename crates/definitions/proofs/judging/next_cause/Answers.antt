@@ -1,4 +1,4 @@
-use Rattle.definitions.specs.declared.bad.BadDefinitions.TheVariants.{NoOverflow, Worded, TooMany, NoExchange, OtherPermission}
+use Rattle.json_file.specs.declared.causes.FileCause.TheVariants.{NoOverflow, Worded, TooMany, NoExchange, OtherPermission}
 use Rattle.definitions.specs.File.{file_of}
 use Rattle.definitions.proofs.Order.{below_next, least}
 use Rattle.definitions.proofs.judging.next_cause.Goals as goal

@@ -1,7 +1,7 @@
 use Rattle.std.proofs.Common.{sym, ◌∙◌, arith}
 use Rattle.std.proofs.lemmas.Result.{err_from_is_err_and}
 use Rattle.json_file.proofs.Reading.{each_done, each_none, each_more, fails_then}
-use Rattle.json_file.proofs.arrays.entries_of.Goals as goal
+use Rattle.json_file.proofs.arrays.elements.Goals as goal
 
 pub returns-in_err-read : goal.returns-in_err-read
 returns-in_err-read g c =

@@ -1,0 +1,94 @@
+//! Why a file is refused.
+
+ghost use Rattle.std.specs.Prelude.{◌≡◌};
+ghost use Rattle.json_file.specs.Causes.{cause_number};
+
+use std::alloc::{AllocError, AllocFailed};
+
+/// A cause for which a file of definitions, guarantees or certificates is refused. Of several the one of the least number is
+/// told. Guarantees have only the causes 1, 2, 5, 9, 10 and 14, certificates only 1, 2, 10 and 14, as every JSON file may.
+#[derive(Clone, Copy, PartialEq, Eq, Debug, Drop)]
+pub enum FileCause {
+    /// 1: the file is not JSON.
+    NotJson,
+    /// 2: a required member is missing; a member, an array or an argument is of the wrong kind; or a number is out of its
+    /// range. Of guarantees: a mode is neither `reaches` nor `never`. Of certificates: the file is not an array of objects
+    /// that each have exactly the members of a certificate.
+    Malformed,
+    /// 3: there is another vhost than `/`, or not exactly one.
+    OtherVhost,
+    /// 4: two users, two queues or two exchanges have one name.
+    Repeated,
+    /// 5: the source or the destination of a binding is not there. Of guarantees: an exchange or a queue is not there; the
+    /// default exchange `""` is.
+    Absent,
+    /// 6: an exchange has another type than `direct`, `fanout` and `topic`.
+    OtherType,
+    /// 7: something is stated that is not built: an argument or a member that is not listed, arguments of a binding,
+    /// another destination type, auto-delete, another overflow, a dead-letter key without a dead-letter exchange, or a
+    /// policy, parameter or topic permission.
+    Unsupported,
+    /// 8: a queue has `x-max-length` or `x-max-length-bytes` without `x-overflow`.
+    NoOverflow,
+    /// 9: a binding key, a dead-letter key, a pattern (of `except` too) or a queue name has an empty word, over 31 words or
+    /// over 255 bytes; an exchange or a queue has no name; or a name has over 255 bytes.
+    Worded,
+    /// 10: there are over 256 exchanges, 256 queues, 4,096 bindings or 256 users; there are over 64 guarantees, or one takes
+    /// keys out by over 16 patterns; or the file has over 16,777,216 bytes.
+    TooMany,
+    /// 11: an alternate exchange is not there, or a dead-letter exchange is neither there nor the default one.
+    NoExchange,
+    /// 12: a user does not have exactly one permission, a permission is of no user, or is another than to configure
+    /// nothing and to write and read all.
+    OtherPermission,
+    /// 13: a password is hashed in another way, or its hash is not the Base64 of 36 bytes.
+    OtherHash,
+    /// 14: a growth was refused.
+    Memory,
+}
+
+impl FileCause {
+    /// The number of the cause, from 1 to 14: the same one in each of the files.
+    pub fn number(self) -> u8
+        ensures { result ≡ cause_number self }
+    {
+        match self {
+            FileCause::NotJson => 1,
+            FileCause::Malformed => 2,
+            FileCause::OtherVhost => 3,
+            FileCause::Repeated => 4,
+            FileCause::Absent => 5,
+            FileCause::OtherType => 6,
+            FileCause::Unsupported => 7,
+            FileCause::NoOverflow => 8,
+            FileCause::Worded => 9,
+            FileCause::TooMany => 10,
+            FileCause::NoExchange => 11,
+            FileCause::OtherPermission => 12,
+            FileCause::OtherHash => 13,
+            FileCause::Memory => 14,
+        }
+    }
+}
+
+impl From<AllocError> for FileCause {
+    ghost use Rattle.std.specs.Prelude.{◌≡◌};
+    ghost use Rattle.json_file.specs.declared.causes.FileCause.TheVariants.{Memory};
+
+    ghost from_gives = { λ _ r. r ≡ Memory };
+
+    fn from(_: AllocError) -> FileCause {
+        FileCause::Memory
+    }
+}
+
+impl<T: Drop> From<AllocFailed<T>> for FileCause {
+    ghost use Rattle.std.specs.Prelude.{◌≡◌};
+    ghost use Rattle.json_file.specs.declared.causes.FileCause.TheVariants.{Memory};
+
+    ghost from_gives = { λ _ r. r ≡ Memory };
+
+    fn from(_: AllocFailed<T>) -> FileCause {
+        FileCause::Memory
+    }
+}
