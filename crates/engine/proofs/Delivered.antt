@@ -30,7 +30,6 @@ use Rattle.engine.proofs.Numbered.{connection_in-place}
 use Rattle.engine.proofs.Agreeing.{agreed, same_agrees, delivers_agrees}
 use Rattle.engine.proofs.Lifted.{Ended, ended, at_own, at_others, same_config, output_in, with_same}
 use Rattle.engine.proofs.Tooks.{Stays, becomes, sound, world_stays, engine_change}
-use Rattle.engine.proofs.Turned.{on_err_map}
 
 -- ---- where a delivery can be made
 
@@ -73,7 +72,7 @@ output_changes ls new_ls c f awake =
       over = λ gone. absurd (false≢true (sym still ∙ gone));
     }
 
-abbrev pub output_change : (ls : List Connection) (c i : ℕ) (old new : Connection) → IsConnectionPlace ls c (Some i) → get_or ls i old ≡ old → new ≡ record old { output = new.output } → OutputChanges c ls (set ls i new)
+abbrev output_change : (ls : List Connection) (c i : ℕ) (old new : Connection) → IsConnectionPlace ls c (Some i) → get_or ls i old ≡ old → new ≡ record old { output = new.output } → OutputChanges c ls (set ls i new)
 output_change ls c i old new at here only = record {
   place = i;
   within = at.0;
@@ -84,16 +83,6 @@ output_change ls c i old new at here only = record {
   rest = only;
   left = refl;
 }
-
-connections_pumped : {V E : Type 0} (r : Result V E) (notes : V → List Note) (t : Topology) (b new_b : Broker) (c : ℕ) (ls new_ls : List Connection) (f : OutputChanges c ls new_ls)
-    → IfOk r (λ v. ConnectionPumped t b c f.old (notes v) new_b f.new) → IfOk r (λ v. ConnectionsPumped t b c ls (notes v) new_b new_ls)
-connections_pumped (Ok v) notes t b new_b c ls new_ls f pumped = record { change = f; pumped = pumped }
-connections_pumped (Err x) notes t b new_b c ls new_ls f pumped = tt
-
-not_pumped_by : {T E : Type 0} (r : Result T E) (b new_b : Broker) (c : ℕ) (ls new_ls : List Connection) (f : OutputChanges c ls new_ls) → OnErr r (new_b ≡ b) → OnErr r (f.new.output.bytes ≡ f.old.output.bytes)
-    → OnErr r (ConnectionsNotPumped b c ls new_b new_ls)
-not_pumped_by (Ok x) b new_b c ls new_ls f kept output = tt
-not_pumped_by (Err x) b new_b c ls new_ls f kept output = record { change = f; broker = kept; output = output }
 
 -- the wire is as before, but for its output
 output_alone : (b : Bool) (l : Connection) (o : WaitingBytes) → wire_in b (record l { output = o }) ≡ record (wire_in b l) { output = o.bytes }
@@ -195,13 +184,6 @@ not_pumped_engine old new c e st made p =
     engine_change old new f.place f.old f.new e st (output_changes old.connections new.connections c f (open_still old c new.connections f e made))
     (same_agrees (world_of old) (world_of new) (agreed old e) (not_pumped old new c e st made p))
 
--- every engine stays one
-pumped_engine : {V E : Type 0} (r : Result V E) (notes : V → List Note) (old new : Parts) (c : ℕ) → IsEngine old → Stays old new → CanDeliver (broker_of old.broker) c
-    → IfOk r (λ v. ConnectionsPumped (topology_kept old.broker) (broker_of old.broker) c old.connections (notes v) (broker_of new.broker) new.connections)
-    → OnErr r (ConnectionsNotPumped (broker_of old.broker) c old.connections (broker_of new.broker) new.connections) → IsEngine new
-pumped_engine (Ok v) notes old new c e st made ok err = pumps_engine old new c (notes v) e st ok
-pumped_engine (Err x) notes old new c e st made ok err = not_pumped_engine old new c e st made err
-
 -- ---- where the broker picked first, which leaves it as it was but for the turn
 
 -- whose turn it is matters to nothing that an engine keeps
@@ -215,7 +197,7 @@ with_kept old b kept = record old { broker = record b { kept = kept } }
 pub picked_engine : (old : Parts) (b : WithTurn) → b.kept ≡ old.broker.kept → IsEngine old → IsEngine (record old { broker = b })
 picked_engine old b same e = subst (λ (k : Kept). IsEngine (with_kept old b k)) (sym same) (turned_engine old b e)
 
-pub picked_pumps : (old new : Parts) (b : WithTurn) (c : ℕ) (notes : List Note) → IsEngine old → b.kept ≡ old.broker.kept → Stays (record old { broker = b }) new
+picked_pumps : (old new : Parts) (b : WithTurn) (c : ℕ) (notes : List Note) → IsEngine old → b.kept ≡ old.broker.kept → Stays (record old { broker = b }) new
     → ConnectionsPumped (topology_kept b) (broker_of b) c old.connections notes (broker_of new.broker) new.connections → IsPump (world_of old) c notes (world_of new)
 picked_pumps old new b c notes e same st p =
     subst (λ (k : Kept). IsPump (world_of (with_kept old b k)) c notes (world_of new)) same (pumps (record old { broker = b }) new c notes (picked_engine old b same e) st p)
@@ -223,25 +205,35 @@ picked_pumps old new b c notes e same st p =
 can_still : (old : Parts) (b : WithTurn) (c : ℕ) → b.kept ≡ old.broker.kept → CanDeliver (broker_of old.broker) c → CanDeliver (broker_of b) c
 can_still old b c same made = subst (λ (k : Kept). CanDeliver (core.broker_of k) c) (sym same) made
 
-pub picked_not : (old new : Parts) (b : WithTurn) (c : ℕ) → IsEngine old → b.kept ≡ old.broker.kept → Stays (record old { broker = b }) new → CanDeliver (broker_of old.broker) c
+picked_not : (old new : Parts) (b : WithTurn) (c : ℕ) → IsEngine old → b.kept ≡ old.broker.kept → Stays (record old { broker = b }) new → CanDeliver (broker_of old.broker) c
     → ConnectionsNotPumped (broker_of b) c old.connections (broker_of new.broker) new.connections → Same (world_of old) (world_of new)
 picked_not old new b c e same st made p =
     subst (λ (k : Kept). Same (world_of (with_kept old b k)) (world_of new)) same
     (not_pumped (record old { broker = b }) new c (picked_engine old b same e) st (can_still old b c same made) p)
 
-picked_stays : {V E : Type 0} (r : Result V E) (notes : V → List Note) (old new : Parts) (b : WithTurn) (c : ℕ) → IsEngine old → b.kept ≡ old.broker.kept → Stays (record old { broker = b }) new → CanDeliver (broker_of old.broker) c
-    → IfOk r (λ v. ConnectionsPumped (topology_kept b) (broker_of b) c old.connections (notes v) (broker_of new.broker) new.connections)
-    → OnErr r (ConnectionsNotPumped (broker_of b) c old.connections (broker_of new.broker) new.connections) → IsEngine new
-picked_stays r notes old new b c e same st made ok err =
-    pumped_engine r notes (record old { broker = b }) new c (picked_engine old b same e) st (can_still old b c same made) ok err
+-- ---- the delivery, whatever it answered
 
--- the same by what became of its connection
-pub pumped_stays : {V E : Type 0} (r : Result V E) (notes : V → List Note) (old new : Parts) (b : WithTurn) (c : ℕ) (f : OutputChanges c old.connections new.connections) → IsEngine old → b.kept ≡ old.broker.kept
-    → Stays (record old { broker = b }) new → CanDeliver (broker_of old.broker) c → IfOk r (λ v. ConnectionPumped (topology_kept b) (broker_of b) c f.old (notes v) (broker_of new.broker) f.new)
-    → OnErr r (new.broker ≡ b) → OnErr r (f.new.output.bytes ≡ f.old.output.bytes) → IsEngine new
-pumped_stays r notes old new b c f e same st made ok kept output =
-    picked_stays r notes old new b c e same st made (connections_pumped r notes (topology_kept b) (broker_of b) (broker_of new.broker) c old.connections new.connections f ok)
-    (not_pumped_by r (broker_of b) (broker_of new.broker) c old.connections new.connections f (on_err_map r _ _ (λ is. ap broker_of is) kept) output)
+-- what it comes to for the engine
+pub record PumpedAt {V E : Type 0} (r : Result V E) (notes : V → List Note) (old : Parts) (c : ℕ) (new : Parts) : Type 0 where
+  pub engine : IsEngine new
+  pub ok : IfOk r (λ v. IsPump (world_of old) c (notes v) (world_of new))
+  pub err : OnErr r (Same (world_of old) (world_of new))
+
+-- the connection of this number stands at this place, and became another by it
+pub pumped_at : {V E : Type 0} (r : Result V E) (notes : V → List Note) (old : Parts) (b new_b : WithTurn) (c place : ℕ) (l l' : Connection) → IsEngine old → b.kept ≡ old.broker.kept → topology_kept new_b ≡ topology_kept b
+    → CanDeliver (broker_of old.broker) c → IsConnectionPlace old.connections c (Some place) → get_or old.connections place l ≡ l → l' ≡ record l { output = l'.output }
+    → IfOk r (λ v. ConnectionPumped (topology_kept b) (broker_of b) c l (notes v) (broker_of new_b) l') → OnErr r (new_b ≡ b) → OnErr r (l'.output.bytes ≡ l.output.bytes)
+    → PumpedAt r notes old c (record old { broker = new_b; connections = set old.connections place l' })
+pumped_at (Ok v) notes old b new_b c place l l' e same topology made at here only ok kept output =
+    let new : Parts = record old { broker = new_b; connections = set old.connections place l' } in
+    let stays : Stays (record old { broker = b }) new = record { topology = topology; guarantees = refl; users = refl; given = refl } in
+    let p : ConnectionsPumped (topology_kept b) (broker_of b) c old.connections (notes v) (broker_of new_b) new.connections = record { change = output_change old.connections c place l l' at here only; pumped = ok } in
+    record { engine = pumps_engine (record old { broker = b }) new c (notes v) (picked_engine old b same e) stays p; ok = picked_pumps old new b c (notes v) e same stays p; err = tt }
+pumped_at (Err x) notes old b new_b c place l l' e same topology made at here only ok kept output =
+    let new : Parts = record old { broker = new_b; connections = set old.connections place l' } in
+    let stays : Stays (record old { broker = b }) new = record { topology = topology; guarantees = refl; users = refl; given = refl } in
+    let p : ConnectionsNotPumped (broker_of b) c old.connections (broker_of new_b) new.connections = record { change = output_change old.connections c place l l' at here only; broker = ap broker_of kept; output = output } in
+    record { engine = not_pumped_engine (record old { broker = b }) new c (picked_engine old b same e) stays (can_still old b c same made) p; ok = tt; err = picked_not old new b c e same stays made p }
 
 -- nothing can be delivered, and the engine is as before
 pub picked_none : (old : Parts) (b : WithTurn) → b.kept ≡ old.broker.kept → NoneCanDeliver (world_of old) → Idles (world_of old) (world_of (record old { broker = b }))

@@ -16,7 +16,7 @@ use Rattle.model.specs.Arrivals.{Wire, new_wire, new_world, is_ended, can_open, 
 use Rattle.model.specs.declared.events.Event.{Event}
 use Rattle.model.specs.declared.events.Event.TheVariants as event
 use Rattle.commands.specs.State.{nothing}
-use Rattle.broker.specs.Turns.{topology_kept, broker_of}
+use Rattle.broker.specs.Turns.{WithTurn, topology_kept, broker_of}
 use Rattle.runs.specs.Opened.{IsOpened}
 use Rattle.engine.specs.Reading.{IsKeptEvent, kept_of}
 use Rattle.engine.specs.World.{Parts, connection_in, session_of, wire_in, wire_of, config_of, state_of, world_of, AreConnections, IsConnection, IsNew, IsEngine}
@@ -26,7 +26,7 @@ use Rattle.engine.specs.declared.engines.Refused.TheVariants.{Full, Spent, Memor
 use Rattle.engine.specs.declared.connection.Connection.{Connection}
 use Rattle.engine.proofs.Numbered.{connection_in-push, rising-push, other_false}
 use Rattle.engine.proofs.Standing.{standing_is}
-use Rattle.engine.proofs.Agreeing.{Agrees}
+use Rattle.engine.proofs.Agreeing.{Agrees, agreed, opens_new_agrees, opens_ready_agrees}
 use Rattle.engine.proofs.Asked.{is_same}
 use Rattle.engine.proofs.Changed.{either}
 
@@ -61,7 +61,7 @@ none_above given (l ∷ ls) c a lt =
     ap (λ (b : Bool). cond b (Some l) (connection_in ls c)) (other_false l.number c (λ k. let w = a.0.within in omega (arith, w, lt, k))) ∙ none_above given ls c a.1 lt
 
 -- One more connection stands, under the next number, in this session and with this stream: it is not over.
-pub record IsOneMore (old new : Parts) (l : Connection) (session : Session) (stream : Stream) : Type 0 where
+record IsOneMore (old new : Parts) (l : Connection) (session : Session) (stream : Stream) : Type 0 where
   pub topology : topology_kept new.broker ≡ topology_kept old.broker
   pub guarantees : new.guarantees ≡ old.guarantees
   pub users : new.users ≡ old.users
@@ -111,7 +111,7 @@ can_open_is p a few left = let same = standing_is p a in grind (arith, nat_tests
 -- ---- what happens then
 
 -- no byte of it has come, and the broker is as before
-pub steps_new : (old new : Parts) (l : Connection) → AreConnections old.given old.connections → IsOneMore old new l new_session opened_stream → broker_of new.broker ≡ broker_of old.broker
+steps_new : (old new : Parts) (l : Connection) → AreConnections old.given old.connections → IsOneMore old new l new_session opened_stream → broker_of new.broker ≡ broker_of old.broker
     → Step (config_of old) (state_of old) (event.Open (old.given + 1)) [] [] (state_of new)
 steps_new old new l a m same = record {
   free = ap (λ (o : Option Connection). (session_of o).phase) (none_above old.given old.connections (old.given + 1) a.each (omega arith));
@@ -119,12 +119,12 @@ steps_new old new l a m same = record {
 }
 
 -- it runs at once, and is one of the broker's
-pub steps_ready : (old new : Parts) (l : Connection) (k : ℕ) → AreConnections old.given old.connections → IsOneMore old new l running_session running_stream
+steps_ready : (old new : Parts) (l : Connection) (k : ℕ) → AreConnections old.given old.connections → IsOneMore old new l running_session running_stream
     → Acts (topology_kept old.broker) (broker_of old.broker) (event.Running (old.given + 1) 255 k) [] [] (broker_of new.broker)
     → Step (config_of old) (state_of old) (event.Running (old.given + 1) 255 k) [] [] (state_of new)
 steps_ready old new l k a m acts = record { acts = acts; session = sessions_are old new l running_session running_stream a m }
 
-pub opened : (old new : Parts) (l : Connection) (e : Event) (sess : Session) (st : Stream) → AreConnections old.given old.connections → length old.connections < 1024 → old.given < 18446744073709551615 → IsOneMore old new l sess st
+opened : (old new : Parts) (l : Connection) (e : Event) (sess : Session) (st : Stream) → AreConnections old.given old.connections → length old.connections < 1024 → old.given < 18446744073709551615 → IsOneMore old new l sess st
     → Step (config_of old) (state_of old) e [] [] (state_of new) → IsOpened e st (world_of old) (Some (old.given + 1)) (world_of new)
 opened old new l e sess st a few left m stepped =
     let h : Happening = record { config = config_of old; event = e; before = state_of old; sends = []; notes = []; frame_max = 0; after = state_of new } in (
@@ -145,13 +145,13 @@ opened old new l e sess st a few left m stepped =
     )
 
 -- so it is under the number that was found
-pub opened_new : (old new : Parts) (l : Connection) (n : ℕ) → AreConnections old.given old.connections → Numbers old.given old.connections (Ok n) → IsOneMore old new l new_session opened_stream → broker_of new.broker ≡ broker_of old.broker
+opened_new : (old new : Parts) (l : Connection) (n : ℕ) → AreConnections old.given old.connections → Numbers old.given old.connections (Ok n) → IsOneMore old new l new_session opened_stream → broker_of new.broker ≡ broker_of old.broker
     → IsOpened (event.Open (old.given + 1)) opened_stream (world_of old) (Some n) (world_of new)
 opened_new old new l n a numbers m same =
     subst (λ (k : ℕ). IsOpened (event.Open (old.given + 1)) opened_stream (world_of old) (Some k) (world_of new)) (sym numbers.0)
     (opened old new l (event.Open (old.given + 1)) new_session opened_stream a numbers.1 numbers.2 m (steps_new old new l a m same))
 
-pub opened_ready : (old new : Parts) (l : Connection) (n k : ℕ) → AreConnections old.given old.connections → Numbers old.given old.connections (Ok n) → IsOneMore old new l running_session running_stream
+opened_ready : (old new : Parts) (l : Connection) (n k : ℕ) → AreConnections old.given old.connections → Numbers old.given old.connections (Ok n) → IsOneMore old new l running_session running_stream
     → Acts (topology_kept old.broker) (broker_of old.broker) (event.Running n 255 k) [] [] (broker_of new.broker)
     → IsOpened (event.Running (old.given + 1) 255 k) running_stream (world_of old) (Some n) (world_of new)
 opened_ready old new l n k a numbers m acts =
@@ -160,7 +160,7 @@ opened_ready old new l n k a numbers m acts =
     subst (λ (c : ℕ). IsOpened (event.Running (old.given + 1) 255 k) running_stream (world_of old) (Some c) (world_of new)) (sym numbers.0)
     (opened old new l (event.Running (old.given + 1) 255 k) running_session running_stream a numbers.1 numbers.2 m (steps_ready old new l k a m here))
 
-pub engine_opened : (old new : Parts) (l : Connection) (sess : Session) (st : Stream) → IsEngine old → IsOneMore old new l sess st → Agrees (world_of new) → IsEngine new
+engine_opened : (old new : Parts) (l : Connection) (sess : Session) (st : Stream) → IsEngine old → IsOneMore old new l sess st → Agrees (world_of new) → IsEngine new
 engine_opened old new l sess st e m k = record {
   hold = subst (λ (gs : List Guarantee). Rattle.model.specs.Guarantee.AllHold (topology_kept new.broker) gs) (sym m.guarantees)
       (subst (λ (x : Topology). Rattle.model.specs.Guarantee.AllHold x old.guarantees) (sym m.topology) e.hold);
@@ -169,6 +169,45 @@ engine_opened old new l sess st e m k = record {
   consistent = k.consistent;
   named = k.named;
 }
+
+-- ---- an opening
+
+-- the connection stands under the number that was found, and the broker is this now
+one_more : (old : Parts) (b : WithTurn) (l : Connection) (n : ℕ) (ls new_ls : List Connection) (sess : Session) (st : Stream) → topology_kept b ≡ topology_kept old.broker → n ≡ old.given + 1 → ls ≡ old.connections → new_ls ≡ ls ++ l ∷ []
+    → IsNew l n sess st → is_ended sess.phase ≡ false → IsOneMore old (record old { broker = b; given = n; connections = new_ls }) l sess st
+one_more old b l n ls new_ls sess st topology number same more is awake = record {
+  topology = topology;
+  guarantees = refl;
+  users = refl;
+  given = number;
+  connections = more ∙ ap (λ (z : List Connection). z ++ l ∷ []) same;
+  is = subst (λ (k : ℕ). IsNew l k sess st) number is;
+  awake = awake;
+}
+
+-- what it comes to for the engine
+pub record Opens (old : Parts) (e : Event) (st : Stream) (n : ℕ) (new : Parts) : Type 0 where
+  pub engine : IsEngine new
+  pub opened : IsOpened e st (world_of old) (Some n) (world_of new)
+
+pub opens_new : (old : Parts) (l : Connection) (n : ℕ) (ls new_ls : List Connection) → IsEngine old → Numbers old.given old.connections (Ok n) → ls ≡ old.connections → new_ls ≡ ls ++ l ∷ [] → IsNew l n new_session opened_stream
+    → Opens old (event.Open (old.given + 1)) opened_stream n (record old { given = n; connections = new_ls })
+opens_new old l n ls new_ls e numbers same more is =
+    let new : Parts = record old { given = n; connections = new_ls } in
+    let one = one_more old old.broker l n ls new_ls new_session opened_stream refl numbers.0 same more is refl in
+    let done = opened_new old new l n e.connections numbers one refl in
+    record { engine = engine_opened old new l new_session opened_stream e one (opens_new_agrees (world_of old) (world_of new) n (agreed old e) done); opened = done }
+
+-- the broker has it, with this many channels
+pub opens_ready : (old : Parts) (b : WithTurn) (l : Connection) (n k given : ℕ) (ls new_ls : List Connection) → IsEngine old → Numbers old.given old.connections (Ok n) → ls ≡ old.connections → new_ls ≡ ls ++ l ∷ []
+    → IsNew l n running_session running_stream → topology_kept b ≡ topology_kept old.broker → given ≡ k → Acts (topology_kept old.broker) (broker_of old.broker) (event.Running n 255 given) [] [] (broker_of b)
+    → Opens old (event.Running (old.given + 1) 255 k) running_stream n (record old { broker = b; given = n; connections = new_ls })
+opens_ready old b l n k given ls new_ls e numbers same more is topology count acts =
+    let new : Parts = record old { broker = b; given = n; connections = new_ls } in
+    let one = one_more old b l n ls new_ls running_session running_stream topology numbers.0 same more is refl in
+    let here = subst (λ (j : ℕ). Acts (topology_kept old.broker) (broker_of old.broker) (event.Running n 255 j) [] [] (broker_of b)) count acts in
+    let done = opened_ready old new l n k e.connections numbers one here in
+    record { engine = engine_opened old new l running_session running_stream e one (opens_ready_agrees (world_of old) (world_of new) k n (agreed old e) done); opened = done }
 
 -- ---- refusals
 

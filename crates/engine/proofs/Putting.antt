@@ -1,17 +1,16 @@
 -- What is put in force leaves an engine one.
-use Rattle.std.proofs.Common.{◌≡◌, ◌∙◌, ℕ, List, [], ◌∷◌, Option, Some, None, Result, Err, inl, refl, sym, ap, subst}
+use Rattle.std.proofs.Common.{◌≡◌, ◌∙◌, ℕ, List, [], ◌∷◌, Option, Some, None, Result, Err, refl, sym, ap, subst}
 use Rattle.model.specs.State.{Config}
-use Rattle.model.specs.History.{Occurrence, Of_reload, Reload}
-use Rattle.model.specs.Arrivals.{World, Same, Reloads}
+use Rattle.model.specs.Arrivals.{World, Same}
 use Rattle.model.specs.Headline.{IsSound}
 use Rattle.model.specs.Guarantee.{Guarantee, AllHold}
 use Rattle.model.specs.Topology.{Topology, IsWellFormed}
 use Rattle.model.specs.Reloading.{NothingStands}
 use Rattle.model.specs.declared.messages.User.{User}
 use Rattle.model.specs.declared.obstacles.Obstacle.{Obstacle}
-use Rattle.model.specs.declared.notes.Note.TheVariants.{Reloaded}
 use Rattle.laws.proofs.Consistency.{stay_consistent}
 use Rattle.laws.proofs.Naming.{worlds_named}
+use Rattle.runs.proofs.Reloads.{put_reloads}
 use Rattle.runs.specs.Faults.{obstacle_in}
 use Rattle.runs.specs.Reloaded.{IsPutInForce, TellsReload, IsMemory, wanting}
 use Rattle.runs.specs.declared.faults.ReloadFault.{ReloadFault}
@@ -27,28 +26,10 @@ use Rattle.engine.proofs.Agreeing.{Agrees, agreed}
 
 -- ---- what a reload that was done leaves
 
-reloads : (old new : World) (offered : Config) → IsPutInForce old offered new → (os : List Occurrence) × Reloads old offered os new
-reloads old new offered p =
-    let r : Reload = record { config = old.config; offered = offered; before = old.state; notes = Reloaded ∷ []; after = new.state; in_force = new.config } in (
-      Of_reload r ∷ [],
-      record {
-        r = r;
-        all = refl;
-        under = refl;
-        offers = refl;
-        before = refl;
-        after = refl;
-        in_force = refl;
-        decided = inl (record { nothing = p.nothing; noted = refl; in_force = p.config; broker = p.broker; session = p.session });
-        given = p.given;
-        wires = p.wires;
-      },
-    )
-
 put_agrees : (old new : World) (offered : Config) → IsSound offered → Agrees old → IsPutInForce old offered new → Agrees new
 put_agrees old new offered sound k p =
-    let done = reloads old new offered p in
-    record { consistent = stay_consistent.reloads old new offered done.0 sound k.consistent done.1; named = worlds_named.reloads old new offered done.0 k.named done.1 }
+    let done = put_reloads old new offered p in
+    record { consistent = stay_consistent.reloads old new offered _ sound k.consistent done; named = worlds_named.reloads old new offered _ k.named done }
 
 -- the broker was put, what is in force is what was offered, and the connections are as before
 pub record Takes (old : Parts) (offered : Config) (new : Parts) : Type 0 where

@@ -23,7 +23,7 @@ use Rattle.assembly.proofs.Fronts.{ends_front, yields_front}
 use Rattle.engine.specs.Reading.{kept_of, IsEventMade, IsKeptEvent, HasMore, HasEvent, ComesNext, to_read}
 use Rattle.engine.specs.Performing.{Rules, DecidesByPhase, PausesOr}
 use Rattle.engine.specs.Turning.{Performed, ConnectionPerformed, DidEvent, ConnectionStays, ConnectionTook, ConnectionWaits, OnIdle}
-use Rattle.outputs.specs.Waiting.{HoldsNone}
+use Rattle.outputs.specs.Waiting.{HoldsNone, WaitingBytes}
 use Rattle.engine.specs.declared.reading.Next.{Next}
 use Rattle.engine.specs.declared.reading.Next.TheVariants as next
 use Rattle.engine.specs.declared.connection.Connection.{Connection}
@@ -184,6 +184,10 @@ waits_kept b new_b old mid new read same broker was = record {
   output = was.bytes ∙ read.output;
   coming = subst (λ (z : Connection). SameToCome (kept_of old.kept) (stream_of old.stream) (kept_of z.kept) (stream_of z.stream)) (sym was.rest) same;
 }
+
+-- it stays where memory was refused
+pub stays_refused : (l : Connection) (s : Session) (o : WaitingBytes) → s ≡ l.session → o.bytes ≡ l.output.bytes → HoldsNone o → ConnectionStays l (record l { session = s; output = o })
+stays_refused l s o session bytes none = record { rest = λ i. record { number = l.number; session = session i; stream = l.stream; kept = l.kept; output = o }; bytes = bytes; none = none }
 
 -- so where nothing more was done to it
 pub waits_read : (b : Broker) (old new : Connection) → IsRead old new → SameToCome (kept_of old.kept) (stream_of old.stream) (kept_of new.kept) (stream_of new.stream) → ConnectionWaits b old b new

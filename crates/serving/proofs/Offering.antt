@@ -1,21 +1,18 @@
 -- A reload between two calls that serve: what is offered is decided, or memory was refused, and no slot and no output is different.
-use Rattle.std.proofs.Common.{◌≡◌, ℕ, List, [], ◌∷◌, Bool, Option, refl, ◌∙◌, inl, inr, arith}
+use Rattle.std.proofs.Common.{◌≡◌, ℕ, List, [], ◌∷◌, Bool, Option, refl, ◌∙◌, arith}
 use Rattle.std.specs.Prelude.{Result, Ok, Err}
 use Rattle.model.specs.State.{Config}
-use Rattle.model.specs.History.{Occurrence, Of_reload, Reload}
-use Rattle.model.specs.Reloading.{IsObstacle}
+use Rattle.model.specs.History.{Occurrence}
 use Rattle.model.specs.Headline.{IsSound}
 use Rattle.model.specs.Arrivals.{World, Reloads, Same}
 use Rattle.model.specs.declared.events.Arrival.TheVariants as arrival
-use Rattle.model.specs.declared.notes.Note.{Note}
-use Rattle.model.specs.declared.notes.Note.TheVariants.{Reloaded, ReloadRefused}
-use Rattle.model.specs.declared.obstacles.Obstacle.{Obstacle}
 use Rattle.model.specs.declared.obstacles.Obstacle.TheVariants as obstacle
 use Rattle.slab.specs.Slab.{Slab}
 use Rattle.runs.specs.Wants.{Lacks, To_reload}
-use Rattle.runs.specs.Reloaded.{IsPutInForce, TellsReload, IsMemory, wanting}
+use Rattle.runs.specs.Reloaded.{TellsReload, IsMemory, wanting}
 use Rattle.runs.specs.declared.faults.ReloadFault.{ReloadFault}
 use Rattle.runs.specs.declared.faults.ReloadFault.TheVariants.{InUse, Breaks, Memory}
+use Rattle.runs.proofs.Reloads.{put_reloads, refused_reloads}
 use Rattle.serving.specs.Wire.{Told}
 use Rattle.serving.specs.Coming.{whole, short}
 use Rattle.serving.specs.Story.{served, Reload_decided, Reload_undecided}
@@ -28,50 +25,10 @@ use Rattle.serving.proofs.Fits.{fit_within}
 use Rattle.serving.proofs.Quieting.{still_quiet}
 use Rattle.serving.proofs.Keeping.{Went, went_one, went_on}
 
--- ---- what happened
-
--- a reload between these worlds
-abbrev reload_of : World → Config → World → List Note → Reload
-reload_of a offered b notes = record { config = a.config; offered = offered; before = a.state; notes = notes; after = b.state; in_force = b.config }
-
-reloads_done : (a b : World) (offered : Config) → IsPutInForce a offered b → (os : List Occurrence) × Reloads a offered os b
-reloads_done a b offered p = (
-  Of_reload (reload_of a offered b (Reloaded ∷ [])) ∷ [],
-  record {
-    r = reload_of a offered b (Reloaded ∷ []);
-    all = refl;
-    under = refl;
-    offers = refl;
-    before = refl;
-    after = refl;
-    in_force = refl;
-    decided = inl (record { nothing = p.nothing; noted = refl; in_force = p.config; broker = p.broker; session = p.session });
-    given = p.given;
-    wires = p.wires;
-  },
-)
-
-reloads_refused : (a b : World) (offered : Config) (o : Obstacle) → IsObstacle a.config.topology offered a.state.broker o → Same a b → (os : List Occurrence) × Reloads a offered os b
-reloads_refused a b offered o stands same = (
-  Of_reload (reload_of a offered b (ReloadRefused o ∷ [])) ∷ [],
-  record {
-    r = reload_of a offered b (ReloadRefused o ∷ []);
-    all = refl;
-    under = refl;
-    offers = refl;
-    before = refl;
-    after = refl;
-    in_force = refl;
-    decided = inr (record { obstacle = o; stands = stands; noted = refl; in_force = same.config; after = same.state });
-    given = same.given;
-    wires = same.wires;
-  },
-)
-
 -- ---- the deed
 
-decided : {L : Lacks} (a b : World) (ps : List (Option Peer)) (told : Told) (offered : Config) → IsSound offered → (os : List Occurrence) × Reloads a offered os b → Went L (served a ps told) (served b ps told)
-decided {L = L} a b ps told offered sound (os, p) =
+decided : {L : Lacks} (a b : World) (ps : List (Option Peer)) (told : Told) (offered : Config) → IsSound offered → (os : List Occurrence) → Reloads a offered os b → Went L (served a ps told) (served b ps told)
+decided {L = L} a b ps told offered sound os p =
     went_one (served a ps told) (served b ps told) (Reload_decided offered) os (record { table = (sound, refl); brings = attempt_one L a b (whole (arrival.Reload offered)) os p; welcomes = tt; told = tells_none told })
 
 undecided : {L : Lacks} (a b : World) (ps : List (Option Peer)) (told : Told) (offered : Config) → IsSound offered → L a (To_reload offered) → Same a b → Went L (served a ps told) (served b ps told)
@@ -79,9 +36,9 @@ undecided {L = L} a b ps told offered sound wants same =
     went_one (served a ps told) (served b ps told) (Reload_undecided offered) [] (record { table = (sound, refl); brings = attempt_one L a b (short (arrival.Reload offered)) [] ([], refl, (wants, (refl, same))); welcomes = tt; told = tells_none told })
 
 went_reload : {L : Lacks} (a b : World) (ps : List (Option Peer)) (told : Told) (offered : Config) (r : Result Unit ReloadFault) → IsSound offered → TellsReload a offered r b → (IsMemory r → L a (To_reload offered)) → Went L (served a ps told) (served b ps told)
-went_reload a b ps told offered (Ok x) sound p wants = decided a b ps told offered sound (reloads_done a b offered p)
-went_reload a b ps told offered (Err (InUse q)) sound p wants = decided a b ps told offered sound (reloads_refused a b offered (obstacle.InUse q) p.0 p.1)
-went_reload a b ps told offered (Err (Breaks q key number)) sound p wants = decided a b ps told offered sound (reloads_refused a b offered (obstacle.Breaks q key number) p.0 p.1)
+went_reload a b ps told offered (Ok x) sound p wants = decided a b ps told offered sound _ (put_reloads a b offered p)
+went_reload a b ps told offered (Err (InUse q)) sound p wants = decided a b ps told offered sound _ (refused_reloads a b offered (obstacle.InUse q) p.0 p.1)
+went_reload a b ps told offered (Err (Breaks q key number)) sound p wants = decided a b ps told offered sound _ (refused_reloads a b offered (obstacle.Breaks q key number) p.0 p.1)
 went_reload a b ps told offered (Err Memory) sound p wants = undecided a b ps told offered sound (wants wanting) p
 
 -- what was served before is served after

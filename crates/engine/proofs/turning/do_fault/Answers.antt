@@ -3,7 +3,7 @@ use Rattle.model.specs.declared.events.Event.TheVariants as event
 use Rattle.broker.specs.Turns.{topology_kept, broker_of}
 use Rattle.engine.specs.Performing.{rules_of}
 use Rattle.engine.specs.Turning.{Performed}
-use Rattle.engine.proofs.Turned.{performed_put}
+use Rattle.engine.proofs.Turned.{performed_put, stays_refused}
 use Rattle.engine.proofs.Waiting.{one_then}
 use Rattle.engine.proofs.turning.do_fault.Goals as goal
 
@@ -35,11 +35,7 @@ returns-in-Err c =
     record {
       ok = tt;
       broker_kept = kept.broker_kept;
-      connection_kept = record {
-        rest = λ i. record { number = l.number; session = kept.session_kept i; stream = l.stream; kept = l.kept; output = c.take_back.new.output };
-        bytes = c.take_back.ensures.bytes;
-        none = c.take_back.ensures.none;
-      };
+      connection_kept = stays_refused l c.perform-done.new.session c.take_back.new.output kept.session_kept c.take_back.ensures.bytes c.take_back.ensures.none;
       topology = c.perform-done.ensures.topology;
       turn = c.perform-done.ensures.turn;
       later = tt;

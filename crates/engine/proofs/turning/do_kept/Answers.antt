@@ -5,7 +5,7 @@ use Rattle.broker.specs.Turns.{topology_kept, broker_of}
 use Rattle.broker.specs.Waiting.{OneComesIn}
 use Rattle.engine.specs.Performing.{rules_of}
 use Rattle.engine.specs.Turning.{Performed}
-use Rattle.engine.proofs.Turned.{performed_is, performed_put}
+use Rattle.engine.proofs.Turned.{performed_is, performed_put, stays_refused}
 use Rattle.engine.proofs.Waiting.{one_then}
 use Rattle.engine.proofs.turning.do_kept.Goals as goal
 
@@ -37,11 +37,7 @@ returns-in-Err c =
     record {
       ok = tt;
       broker_kept = kept.broker_kept;
-      connection_kept = record {
-        rest = λ i. record { number = l.number; session = kept.session_kept i; stream = l.stream; kept = l.kept; output = c.take_back.new.output };
-        bytes = c.take_back.ensures.bytes;
-        none = c.take_back.ensures.none;
-      };
+      connection_kept = stays_refused l c.perform.new.session c.take_back.new.output kept.session_kept c.take_back.ensures.bytes c.take_back.ensures.none;
       topology = c.perform.ensures.topology;
       turn = c.perform.ensures.turn;
       later = tt;

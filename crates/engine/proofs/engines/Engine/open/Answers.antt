@@ -1,14 +1,11 @@
-use Rattle.std.proofs.Common.{refl, ap, subst, ◌∙◌, ◌+◌, ℕ, Some, List, ◌++◌, ◌∷◌, []}
+use Rattle.std.proofs.Common.{refl, subst, ◌+◌, Some}
 use Rattle.std.proofs.lemmas.Result.{err_from_is_err_and}
 use Rattle.model.specs.Commands.{opened_stream}
-use Rattle.model.specs.Opening.{new_session}
 use Rattle.model.specs.declared.events.Event.TheVariants as event
 use Rattle.runs.specs.Opened.{IsOpened}
-use Rattle.engine.specs.declared.connection.Connection.{Connection}
-use Rattle.engine.specs.World.{Parts, world_of, IsNew}
+use Rattle.engine.specs.World.{Parts, world_of}
 use Rattle.engine.specs.Opening.{OpenedNew}
-use Rattle.engine.proofs.Openings.{IsOneMore, refused_so, engine_opened, opened_new}
-use Rattle.engine.proofs.Agreeing.{agreed, opens_new_agrees}
+use Rattle.engine.proofs.Openings.{opens_new, refused_so}
 use Rattle.engine.proofs.Tooks.{world_stays}
 use Rattle.engine.proofs.engines.Engine.open.Goals as goal
 
@@ -26,37 +23,14 @@ pub invariant_of-self-2 : goal.invariant_of-self-2
 invariant_of-self-2 c =
     let i = c.self.inside in
     let old : Parts = record { broker = i.broker; guarantees = i.guarantees.items; users = i.users.items; given = i.given; connections = i.connections.items } in
-    let new : Parts = record old { given = c.in_ok-number.number; connections = c.push_reserved.new.self.items } in
-    let numbers = c.in_ok-number.ensures.numbers in
-    let more : IsOneMore old new c.new.result new_session opened_stream = record {
-      topology = refl;
-      guarantees = refl;
-      users = refl;
-      given = numbers.0;
-      connections = c.push_reserved.ensures.items ∙ ap (λ (z : List Connection). z ++ c.new.result ∷ []) c.in_ok-number.ensures.same;
-      is = subst (λ (n : ℕ). IsNew c.new.result n new_session opened_stream) numbers.0 c.new.ensures;
-      awake = refl;
-    } in
-    engine_opened old new c.new.result new_session opened_stream c.self.invariant more
-    (opens_new_agrees (world_of old) (world_of new) c.in_ok-number.number (agreed old c.self.invariant) (opened_new old new c.new.result c.in_ok-number.number c.self.invariant.connections numbers more refl))
+    (opens_new old c.new.result c.in_ok-number.number c.next_number.new.connections.items c.push_reserved.new.self.items c.self.invariant c.in_ok-number.ensures.numbers c.in_ok-number.ensures.same c.push_reserved.ensures.items c.new.ensures).engine
 
 pub returns-clause-opened : goal.returns-clause-opened
 returns-clause-opened c =
     let i = c.self.inside in
     let old : Parts = record { broker = i.broker; guarantees = i.guarantees.items; users = i.users.items; given = i.given; connections = i.connections.items } in
-    let new : Parts = record old { given = c.in_ok-number.number; connections = c.push_reserved.new.self.items } in
-    let numbers = c.in_ok-number.ensures.numbers in
-    let more : IsOneMore old new c.new.result new_session opened_stream = record {
-      topology = refl;
-      guarantees = refl;
-      users = refl;
-      given = numbers.0;
-      connections = c.push_reserved.ensures.items ∙ ap (λ (z : List Connection). z ++ c.new.result ∷ []) c.in_ok-number.ensures.same;
-      is = subst (λ (n : ℕ). IsNew c.new.result n new_session opened_stream) numbers.0 c.new.ensures;
-      awake = refl;
-    } in
-    subst (λ (p : Parts). IsOpened (event.Open (p.given + 1)) opened_stream (world_of p) (Some c.in_ok-number.number) (world_of new)) c.self.view_is
-    (opened_new old new c.new.result c.in_ok-number.number c.self.invariant.connections numbers more refl)
+    let done = opens_new old c.new.result c.in_ok-number.number c.next_number.new.connections.items c.push_reserved.new.self.items c.self.invariant c.in_ok-number.ensures.numbers c.in_ok-number.ensures.same c.push_reserved.ensures.items c.new.ensures in
+    subst (λ (p : Parts). IsOpened (event.Open (p.given + 1)) opened_stream (world_of p) (Some c.in_ok-number.number) (world_of (record old { given = c.in_ok-number.number; connections = c.push_reserved.new.self.items }))) c.self.view_is done.opened
 
 pub returns-in_err-number-clause-broker : goal.returns-in_err-number-clause-broker
 returns-in_err-number-clause-broker c = rw (← c.self.view_is) refl

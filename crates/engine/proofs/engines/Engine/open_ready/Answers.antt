@@ -1,16 +1,12 @@
-use Rattle.std.proofs.Common.{refl, ap, subst, ◌∙◌, ◌+◌, ℕ, Some, List, ◌++◌, ◌∷◌, []}
+use Rattle.std.proofs.Common.{refl, ap, subst, ◌+◌, Some}
 use Rattle.std.proofs.lemmas.Result.{err_from_is_err_and}
 use Rattle.model.specs.Commands.{running_stream}
-use Rattle.model.specs.Phases.{running_session}
-use Rattle.model.specs.Step.{Acts}
 use Rattle.model.specs.declared.events.Event.TheVariants as event
-use Rattle.broker.specs.Turns.{topology_kept, broker_of}
+use Rattle.broker.specs.Turns.{broker_of}
 use Rattle.runs.specs.Opened.{IsOpened}
-use Rattle.engine.specs.declared.connection.Connection.{Connection}
-use Rattle.engine.specs.World.{Parts, world_of, IsNew}
+use Rattle.engine.specs.World.{Parts, world_of}
 use Rattle.engine.specs.Opening.{OpenedReady}
-use Rattle.engine.proofs.Openings.{IsOneMore, refused_so, refused_memory, engine_opened, opened_ready}
-use Rattle.engine.proofs.Agreeing.{agreed, opens_ready_agrees}
+use Rattle.engine.proofs.Openings.{opens_ready, refused_so, refused_memory}
 use Rattle.engine.proofs.Tooks.{world_stays}
 use Rattle.engine.specs.Waiting.{KeepsTurns}
 use Rattle.engine.proofs.Waiting.{turns_same, turns_if}
@@ -40,41 +36,17 @@ pub invariant_of-self-2 : goal.invariant_of-self-2
 invariant_of-self-2 c =
     let i = c.self.inside in
     let old : Parts = record { broker = i.broker; guarantees = i.guarantees.items; users = i.users.items; given = i.given; connections = i.connections.items } in
-    let new : Parts = record old { broker = c.open.new.self; given = c.in_ok-number.number; connections = c.push_reserved.new.self.items } in
-    let numbers = c.in_ok-number.ensures.numbers in
-    let more : IsOneMore old new c.running.result running_session running_stream = record {
-      topology = c.open.ensures.topology;
-      guarantees = refl;
-      users = refl;
-      given = numbers.0;
-      connections = c.push_reserved.ensures.items ∙ ap (λ (z : List Connection). z ++ c.running.result ∷ []) c.in_ok-number.ensures.same;
-      is = subst (λ (n : ℕ). IsNew c.running.result n running_session running_stream) numbers.0 c.running.ensures;
-      awake = refl;
-    } in
-    let acts : Acts (topology_kept i.broker) (broker_of i.broker) (event.Running c.in_ok-number.number 255 c.args.channels) [] [] (broker_of c.open.new.self) =
-    subst (λ (k : ℕ). Acts (topology_kept i.broker) (broker_of i.broker) (event.Running c.in_ok-number.number 255 k) [] [] (broker_of c.open.new.self)) c.from.ensures c.in_ok-open.ensures.ok in
-    engine_opened old new c.running.result running_session running_stream c.self.invariant more
-    (opens_ready_agrees (world_of old) (world_of new) c.args.channels c.in_ok-number.number (agreed old c.self.invariant) (opened_ready old new c.running.result c.in_ok-number.number c.args.channels c.self.invariant.connections numbers more acts))
+    (opens_ready old c.open.new.self c.running.result c.in_ok-number.number c.args.channels c.from.result c.next_number.new.connections.items c.push_reserved.new.self.items c.self.invariant
+    c.in_ok-number.ensures.numbers c.in_ok-number.ensures.same c.push_reserved.ensures.items c.running.ensures c.open.ensures.topology c.from.ensures c.in_ok-open.ensures.ok).engine
 
 pub returns-clause-opened : goal.returns-clause-opened
 returns-clause-opened c =
     let i = c.self.inside in
     let old : Parts = record { broker = i.broker; guarantees = i.guarantees.items; users = i.users.items; given = i.given; connections = i.connections.items } in
-    let new : Parts = record old { broker = c.open.new.self; given = c.in_ok-number.number; connections = c.push_reserved.new.self.items } in
-    let numbers = c.in_ok-number.ensures.numbers in
-    let more : IsOneMore old new c.running.result running_session running_stream = record {
-      topology = c.open.ensures.topology;
-      guarantees = refl;
-      users = refl;
-      given = numbers.0;
-      connections = c.push_reserved.ensures.items ∙ ap (λ (z : List Connection). z ++ c.running.result ∷ []) c.in_ok-number.ensures.same;
-      is = subst (λ (n : ℕ). IsNew c.running.result n running_session running_stream) numbers.0 c.running.ensures;
-      awake = refl;
-    } in
-    let acts : Acts (topology_kept i.broker) (broker_of i.broker) (event.Running c.in_ok-number.number 255 c.args.channels) [] [] (broker_of c.open.new.self) =
-    subst (λ (k : ℕ). Acts (topology_kept i.broker) (broker_of i.broker) (event.Running c.in_ok-number.number 255 k) [] [] (broker_of c.open.new.self)) c.from.ensures c.in_ok-open.ensures.ok in
-    subst (λ (p : Parts). IsOpened (event.Running (p.given + 1) 255 c.args.channels) running_stream (world_of p) (Some c.in_ok-number.number) (world_of new)) c.self.view_is
-    (opened_ready old new c.running.result c.in_ok-number.number c.args.channels c.self.invariant.connections numbers more acts)
+    let done = opens_ready old c.open.new.self c.running.result c.in_ok-number.number c.args.channels c.from.result c.next_number.new.connections.items c.push_reserved.new.self.items c.self.invariant
+    c.in_ok-number.ensures.numbers c.in_ok-number.ensures.same c.push_reserved.ensures.items c.running.ensures c.open.ensures.topology c.from.ensures c.in_ok-open.ensures.ok in
+    subst (λ (p : Parts). IsOpened (event.Running (p.given + 1) 255 c.args.channels) running_stream (world_of p) (Some c.in_ok-number.number)
+    (world_of (record old { broker = c.open.new.self; given = c.in_ok-number.number; connections = c.push_reserved.new.self.items }))) c.self.view_is done.opened
 
 pub returns-in_err-number-clause-turns : goal.returns-in_err-number-clause-turns
 returns-in_err-number-clause-turns c = rw (← c.self.view_is) (turns_same c.self.inside.broker)

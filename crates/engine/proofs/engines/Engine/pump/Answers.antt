@@ -1,18 +1,17 @@
-use Rattle.std.proofs.Common.{ℕ, Some, set, refl, sym, ap, subst}
+use Rattle.std.proofs.Common.{ℕ, List, Ok, Err, set, refl, sym, subst}
 use Rattle.model.specs.Consuming.{CanDeliver}
 use Rattle.model.specs.Naming.{AreNamed}
 use Rattle.model.specs.Arrivals.{Same}
+use Rattle.model.specs.declared.notes.Note.{Note}
 use Rattle.commands.specs.State.{Kept, topology_kept, broker_of}
 use Rattle.commands.specs.Picked.{IsPick}
-use Rattle.broker.specs.Turns as broker
 use Rattle.broker.specs.Turns.{WithTurn}
 use Rattle.runs.specs.Opened.{Idles}
 use Rattle.engine.specs.World.{Parts, world_of}
-use Rattle.engine.specs.Engines.{IsConnectionPlace}
-use Rattle.engine.specs.Pumping.{IsPump, OutputChanges}
+use Rattle.engine.specs.Pumping.{IsPump}
 use Rattle.engine.specs.Waiting.{ServesOne, TellsOne}
 use Rattle.engine.proofs.Asked.{on_err}
-use Rattle.engine.proofs.Delivered.{output_change, pumped_stays, picked_engine, picked_pumps, picked_not, picked_none}
+use Rattle.engine.proofs.Delivered.{picked_engine, picked_none, pumped_at}
 use Rattle.engine.proofs.Waiting.{serves_one, told_again}
 use Rattle.engine.proofs.engines.Engine.pump.Goals as goal
 
@@ -26,39 +25,26 @@ pub invariant_of-self-in_err-notes : goal.invariant_of-self-in_err-notes
 invariant_of-self-in_err-notes c =
     let i = c.self.inside in
     let old : Parts = record { broker = i.broker; guarantees = i.guarantees.items; users = i.users.items; given = i.given; connections = i.connections.items } in
-    let pick = c.in-Some.pick in
-    let place = c.in-Some-connection_place.place in
-    let at : IsConnectionPlace i.connections.items pick.connection (Some place) = rw (← c.deref.ensures.value) c.in-Some-connection_place.ensures.place in
-    let change : OutputChanges pick.connection i.connections.items (set i.connections.items place c.pump_connection.new.connection) =
-    output_change i.connections.items pick.connection place c.index_mut.result.now c.pump_connection.new.connection at (sym c.index_mut.ensures.value) c.pump_connection.ensures.rest in
-    pumped_stays c.pump_connection.result (λ v. v.items) old _ c.pick.new.self pick.connection change c.self.invariant c.in-Some.ensures.kept (record { topology = c.pump_connection.ensures.topology; guarantees = refl; users = refl; given = refl }) c.in-Some.ensures.some.0
-    c.pump_connection.ensures.ok c.pump_connection.ensures.broker_kept c.pump_connection.ensures.output_kept
+    (pumped_at c.pump_connection.result (λ v. v.items) old c.pick.new.self c.pump_connection.new.broker c.in-Some.pick.connection c.in-Some-connection_place.place c.index_mut.result.now c.pump_connection.new.connection
+    c.self.invariant c.in-Some.ensures.kept c.pump_connection.ensures.topology c.in-Some.ensures.some.0 (rw (← c.deref.ensures.value) c.in-Some-connection_place.ensures.place) (sym c.index_mut.ensures.value)
+    c.pump_connection.ensures.rest c.pump_connection.ensures.ok c.pump_connection.ensures.broker_kept c.pump_connection.ensures.output_kept).engine
 
 pub invariant_of-self-2 : goal.invariant_of-self-2
 invariant_of-self-2 c =
     let i = c.self.inside in
     let old : Parts = record { broker = i.broker; guarantees = i.guarantees.items; users = i.users.items; given = i.given; connections = i.connections.items } in
-    let pick = c.in-Some.pick in
-    let place = c.in-Some-connection_place.place in
-    let at : IsConnectionPlace i.connections.items pick.connection (Some place) = rw (← c.deref.ensures.value) c.in-Some-connection_place.ensures.place in
-    let change : OutputChanges pick.connection i.connections.items (set i.connections.items place c.pump_connection.new.connection) =
-    output_change i.connections.items pick.connection place c.index_mut.result.now c.pump_connection.new.connection at (sym c.index_mut.ensures.value) c.pump_connection.ensures.rest in
-    pumped_stays c.pump_connection.result (λ v. v.items) old _ c.pick.new.self pick.connection change c.self.invariant c.in-Some.ensures.kept (record { topology = c.pump_connection.ensures.topology; guarantees = refl; users = refl; given = refl }) c.in-Some.ensures.some.0
-    c.pump_connection.ensures.ok c.pump_connection.ensures.broker_kept c.pump_connection.ensures.output_kept
+    (pumped_at c.pump_connection.result (λ v. v.items) old c.pick.new.self c.pump_connection.new.broker c.in-Some.pick.connection c.in-Some-connection_place.place c.index_mut.result.now c.pump_connection.new.connection
+    c.self.invariant c.in-Some.ensures.kept c.pump_connection.ensures.topology c.in-Some.ensures.some.0 (rw (← c.deref.ensures.value) c.in-Some-connection_place.ensures.place) (sym c.index_mut.ensures.value)
+    c.pump_connection.ensures.rest c.pump_connection.ensures.ok c.pump_connection.ensures.broker_kept c.pump_connection.ensures.output_kept).engine
 
 pub returns-in_err-notes-clause-err : goal.returns-in_err-notes-clause-err
 returns-in_err-notes-clause-err c =
     let i = c.self.inside in
     let old : Parts = record { broker = i.broker; guarantees = i.guarantees.items; users = i.users.items; given = i.given; connections = i.connections.items } in
-    let pick = c.in-Some.pick in
-    let place = c.in-Some-connection_place.place in
-    let at : IsConnectionPlace i.connections.items pick.connection (Some place) = rw (← c.deref.ensures.value) c.in-Some-connection_place.ensures.place in
-    let change : OutputChanges pick.connection i.connections.items (set i.connections.items place c.pump_connection.new.connection) =
-    output_change i.connections.items pick.connection place c.index_mut.result.now c.pump_connection.new.connection at (sym c.index_mut.ensures.value) c.pump_connection.ensures.rest in
-    let new : Parts = record old { broker = c.pump_connection.new.broker; connections = set i.connections.items place c.pump_connection.new.connection } in
-    on_err c.from_residual.result _ (subst (λ (p : Parts). Same (world_of p) (world_of new)) c.self.view_is
-    (picked_not old new c.pick.new.self pick.connection c.self.invariant c.in-Some.ensures.kept (record { topology = c.pump_connection.ensures.topology; guarantees = refl; users = refl; given = refl }) c.in-Some.ensures.some.0
-    (record { change = change; broker = ap broker.broker_of c.in_err-notes.ensures.broker_kept; output = c.in_err-notes.ensures.output_kept })))
+    let did = pumped_at {E = Unit {0}} (Err tt) (λ (v : List Note). v) old c.pick.new.self c.pump_connection.new.broker c.in-Some.pick.connection c.in-Some-connection_place.place c.index_mut.result.now c.pump_connection.new.connection
+    c.self.invariant c.in-Some.ensures.kept c.pump_connection.ensures.topology c.in-Some.ensures.some.0 (rw (← c.deref.ensures.value) c.in-Some-connection_place.ensures.place) (sym c.index_mut.ensures.value)
+    c.pump_connection.ensures.rest tt c.in_err-notes.ensures.broker_kept c.in_err-notes.ensures.output_kept in
+    on_err c.from_residual.result _ (subst (λ (p : Parts). Same (world_of p) (world_of (record old { broker = c.pump_connection.new.broker; connections = set i.connections.items c.in-Some-connection_place.place c.pump_connection.new.connection }))) c.self.view_is did.err)
 
 pub returns-in_err-notes-clause-wanted : goal.returns-in_err-notes-clause-wanted
 returns-in_err-notes-clause-wanted c =
@@ -81,15 +67,11 @@ pub returns-clause-ok : goal.returns-clause-ok
 returns-clause-ok c =
     let i = c.self.inside in
     let old : Parts = record { broker = i.broker; guarantees = i.guarantees.items; users = i.users.items; given = i.given; connections = i.connections.items } in
-    let pick = c.in-Some.pick in
-    let place = c.in-Some-connection_place.place in
-    let at : IsConnectionPlace i.connections.items pick.connection (Some place) = rw (← c.deref.ensures.value) c.in-Some-connection_place.ensures.place in
-    let change : OutputChanges pick.connection i.connections.items (set i.connections.items place c.pump_connection.new.connection) =
-    output_change i.connections.items pick.connection place c.index_mut.result.now c.pump_connection.new.connection at (sym c.index_mut.ensures.value) c.pump_connection.ensures.rest in
-    let new : Parts = record old { broker = c.pump_connection.new.broker; connections = set i.connections.items place c.pump_connection.new.connection } in
     let notes = c.in_ok-notes.notes.items in
-    subst (λ (p : Parts). IsPump (world_of p) pick.connection notes (world_of new)) c.self.view_is
-    (picked_pumps old new c.pick.new.self pick.connection notes c.self.invariant c.in-Some.ensures.kept (record { topology = c.pump_connection.ensures.topology; guarantees = refl; users = refl; given = refl }) (record { change = change; pumped = c.in_ok-notes.ensures.ok }))
+    let did = pumped_at {E = Unit {0}} (Ok notes) (λ (v : List Note). v) old c.pick.new.self c.pump_connection.new.broker c.in-Some.pick.connection c.in-Some-connection_place.place c.index_mut.result.now c.pump_connection.new.connection
+    c.self.invariant c.in-Some.ensures.kept c.pump_connection.ensures.topology c.in-Some.ensures.some.0 (rw (← c.deref.ensures.value) c.in-Some-connection_place.ensures.place) (sym c.index_mut.ensures.value)
+    c.pump_connection.ensures.rest c.in_ok-notes.ensures.ok tt tt in
+    subst (λ (p : Parts). IsPump (world_of p) c.in-Some.pick.connection notes (world_of (record old { broker = c.pump_connection.new.broker; connections = set i.connections.items c.in-Some-connection_place.place c.pump_connection.new.connection }))) c.self.view_is did.ok
 
 pub returns-clause-in_turn : goal.returns-clause-in_turn
 returns-clause-in_turn c =
