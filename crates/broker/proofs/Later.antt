@@ -8,7 +8,7 @@ use Rattle.commands.specs.State.{Kept}
 use Rattle.commands.specs.declared.picks.Pick.{Pick}
 use Rattle.broker.specs.declared.rounds.waiters.Waiter.{Waiter}
 use Rattle.broker.specs.Lines.{turned, standing, AreDistinct}
-use Rattle.broker.specs.Rounds.{Waiters, picks, order, is_consumer, has_its_consumer, is_of, KeepsThose, KeepsLine, LetsIn}
+use Rattle.broker.specs.Rounds.{Waiters, picks, order, is_consumer, has_its_consumer, is_of, KeepsThose, KeepsLine, LetsIn, AreFound}
 use Rattle.broker.proofs.Among.{one_consumer, same_consumer}
 use Rattle.broker.proofs.Picks.{picks_length, picks_swept, picks_end}
 use Rattle.broker.proofs.Standing.{one_more, distinct_turned, filter_twice, filter_end}
@@ -95,3 +95,8 @@ module _ {X : Type 0} (test : X → Bool) where
       let long = length-append xs (x ∷ []) in
       let count = count-append test xs (x ∷ []) in
       inr (omega (arith, le, long, count))
+
+-- those that were found are so still
+pub found_end : (kept : Kept) (queue : ℕ) (before : ℕ) (waiters : List Waiter) (s : Waiter) (found : ℕ) → AreFound kept queue before waiters found → AreFound kept queue before (waiters ++ s ∷ []) found
+found_end kept queue before waiters s found (inl same) = inl same
+found_end kept queue before waiters s found (inr le) = let count = count-append (has_its_consumer kept queue) waiters (s ∷ []) in inr (omega (arith, le, count))

@@ -33,8 +33,8 @@ pub record Waiters : Type 0 where
   pub marks : List ℕ
   -- the place from which they are gone round
   pub next : ℕ
-  -- how many there is room for
-  pub room : ℕ
+  -- how many were found there when it was last swept
+  pub found : ℕ
 
 -- The waiter of a consumer, by its numbers, and the place of the queue in whose round it is.
 pub record Listing : Type 0 where
@@ -59,11 +59,11 @@ pub record Rounds : Type 0 where
 
 -- the waiters of the consumers of the queue at this place, where each queue has such a round
 abbrev pub round_at : List Waiters → ℕ → Waiters
-round_at rounds place = slice_index_or rounds place (record { waiters = []; marks = []; next = 0; room = 0 })
+round_at rounds place = slice_index_or rounds place (record { waiters = []; marks = []; next = 0; found = 0 })
 
 -- waiters and their bits, gone round from the first
 abbrev pub round_of : List Waiter → List ℕ → Waiters
-round_of waiters marks = record { waiters = waiters; marks = marks; next = 0; room = 0 }
+round_of waiters marks = record { waiters = waiters; marks = marks; next = 0; found = 0 }
 
 -- rounds, and what sleeps, gone round from the first
 abbrev pub rounds_of : List Waiters → Lists → Rounds
@@ -361,14 +361,18 @@ pub record GoesOn (old new : Rounds) : Type 0 where
   pub same : SameOrders old.rounds new.rounds
   pub next : new.next ≡ old.next
 
+-- no more waiters stand in a round than twice those that were found there when it was last swept, and one
+abbrev pub AreFew : List Waiter → ℕ → Type 0
+AreFew waiters found = length waiters ≤ 2 * found + 1
+
+-- so many were found as before, or the consumers of those that are found now are there
+abbrev pub AreFound : Kept → ℕ → ℕ → List Waiter → ℕ → Type 0
+AreFound kept queue before waiters found = (found ≡ before) ⊎ (found ≤ count_by (has_its_consumer kept queue) waiters)
+
 -- How many waiters a round has where one was to be made:
-pub data IsBounded (kept : Kept) (queue : ℕ) (old new : Waiters) : Type 0 where
-  -- no more than it had
-  as_many : length new.waiters ≤ length old.waiters → IsBounded kept queue old new
-  -- there was room for them
-  had_room : length new.waiters ≤ old.room → IsBounded kept queue old new
-  -- all but one are of consumers that are there
-  all_there : length new.waiters ≤ count_by (has_its_consumer kept queue) new.waiters + 1 → IsBounded kept queue old new
+pub record IsBounded (kept : Kept) (queue : ℕ) (old new : Waiters) : Type 0 where
+  pub few : AreFew new.waiters new.found
+  pub found : AreFound kept queue old.found new.waiters new.found
 
 -- How many are listed on a channel where one was to be listed:
 pub data AreBounded (kept : Kept) (room : ℕ) (old new : List Listing) : Type 0 where

@@ -1,11 +1,12 @@
 //! The consumers of one queue, over which its deliveries go round.
 //!
-//! Each consumer waits in the round, by its numbers. A waiter stays there after its consumer is gone, until the round is full
-//! and is swept. What is picked is found by looking at one waiter after another, from the one behind that which was picked last. A
-//! waiter whose consumer may take nothing then falls asleep, and is passed over until it is woken. Picks look at
-//! the waiters whose bit is 1: that of a waiter that sleeps may be, after a sweep, until one looks at it.
+//! Each consumer waits in the round, by its numbers. A waiter stays there after its consumer is gone, until the round is swept: as one
+//! comes in, where there are more than twice those that were found at the last sweep. What is picked is found by looking at one waiter
+//! after another, from the one behind that which was picked last. A waiter whose consumer may take nothing then falls asleep, and is
+//! passed over until it is woken. Picks look at the waiters whose bit is 1: that of a waiter that sleeps may be, after a sweep, until one
+//! looks at it.
 
-ghost use Rattle.std.specs.Prelude.{◌≡◌, ◌<◌, ◌≤◌, ◌+◌, ◌*◌, ◌⊎◌, ℕ, true, false};
+ghost use Rattle.std.specs.Prelude.{◌≡◌, ◌<◌, ◌≤◌, ◌+◌, ◌*◌, ℕ, true, false};
 ghost use Rattle.std.specs.Prelude.{None, IfSome, OnOk, length, count_by, filter, slice_index_or, vec_len, vec_capacity};
 ghost use Rattle.std.specs.List.{position_from};
 ghost use Rattle.model.specs.Topology.{IsIn};
@@ -18,7 +19,7 @@ ghost use Rattle.broker.specs.declared.rounds.waiters.Waiter.{Waiter as InRound}
 ghost use Rattle.broker.specs.Lines.{turned, AreDistinct};
 ghost use Rattle.broker.specs.Rounds.{round_of, picks, is_consumer, is_able, is_waiter_of, has_its_consumer, listing};
 ghost use Rattle.broker.specs.Rounds.{AllAreNoted, FindsWaiter, IsNoted, IsAwakeAt, IsAwake, IsAsleep, StaysAt};
-ghost use Rattle.broker.specs.Rounds.{KeepsIn, KeepsRound, KeepsThose, KeepsOthers, NoneAwake, NoneAwakePassed, ListsMore, Wakens};
+ghost use Rattle.broker.specs.Rounds.{KeepsIn, KeepsRound, KeepsThose, KeepsOthers, NoneAwake, NoneAwakePassed, ListsMore, Wakens, AreFew, AreFound};
 ghost use Rattle.broker.specs.Moving.{all_awake};
 
 use crate::rounds::finding::{Found, find, is_able, is_of};
@@ -93,8 +94,7 @@ fn rouse_each(waiters: &mut [Waiter])
 
 /// Takes out the waiters whose consumer is gone, or takes from another queue than that at this place.
 fn sweep(waiters: &mut Vec<Waiter>, core: &Core, queue: usize)
-    ensures waiters { waiters.new.items ≡ filter (has_its_consumer core.now queue) waiters.old.items }
-    ensures capacity { vec_capacity waiters.new ≡ vec_capacity waiters.old }
+    ensures { waiters.new.items ≡ filter (has_its_consumer core.now queue) waiters.old.items }
 {
     waiters.retain(|waiter| is_of(core, queue, waiter.pick));
 }
@@ -112,13 +112,27 @@ fn staying(waiters: &[Waiter], core: &Core, queue: usize) -> usize
     count
 }
 
-/// Makes room for one waiter more. Where the list is full, the waiters whose consumer is gone, or takes from another queue, are taken
-/// out, picks look at those that are left, and then there is room for as many again, so that few sweeps are made. Where memory is
-/// wanting, no other waiter is gone.
+/// Room for one waiter more, and for its bit.
+fn grow(waiters: &mut Vec<Waiter>, awake: &mut PlaceMarks) -> Result<(), AllocError>
+    requires { length waiters.old.items ≤ length awake.old * 64 }
+    ensures room { OnOk result (vec_len waiters.new < vec_capacity waiters.new) }
+    ensures mark { OnOk result (vec_len waiters.new + 1 ≤ length awake.new * 64) }
+    ensures marks { length waiters.new.items ≤ length awake.new * 64 }
+    ensures same { waiters.new.items ≡ waiters.old.items }
+    ensures bits { (i : ℕ) → bit_of awake.new i ≡ bit_of awake.old i }
+{
+    awake.grow(waiters.len() + 1)?;
+    waiters.reserve(1)
+}
+
+/// Makes room for one waiter more. Where there are more than twice those that were found at the last sweep, the waiters whose consumer
+/// is gone, or takes from another queue, are taken out, picks look at those that are left, and these are found now. So few sweeps are
+/// made, and few waiters stand there whose consumer is gone. Where memory is wanting, no other waiter is gone.
 fn make_room(
     waiters: &mut Vec<Waiter>,
     awake: &mut PlaceMarks,
     next: &mut usize,
+    found: &mut usize,
     core: &Core,
     queue: usize,
 ) -> Result<(), AllocError>
@@ -130,18 +144,19 @@ fn make_room(
     ensures fewer { (p : Consumer) → IsIn p (picks waiters.new.items) → IsIn p (picks waiters.old.items) }
     ensures apart { AreDistinct (picks waiters.old.items) → AreDistinct (picks waiters.new.items) }
     ensures line { KeepsThose core.now queue (turned next.old (picks waiters.old.items)) (turned next.new (picks waiters.new.items)) }
-    ensures bounded { (length waiters.new.items < vec_capacity waiters.old)
-        ⊎ (length waiters.new.items ≤ count_by (has_its_consumer core.now queue) waiters.new.items) }
+    ensures few { length waiters.new.items ≤ 2 * found.new }
+    ensures found { AreFound core.now queue found.old waiters.new.items found.new }
 {
-    if waiters.len() < waiters.capacity() {
-        return awake.grow(waiters.len() + 1);
+    let others = waiters.len().saturating_sub(*found);
+    if others <= *found {
+        return grow(waiters, awake);
     }
     let before = (*next).min(waiters.len());
     *next = staying(waiters.split_at(before).0, core, queue);
     sweep(waiters, core, queue);
-    mark_all(awake, waiters.len());
-    awake.grow(waiters.len() + 1)?;
-    waiters.reserve(waiters.len().max(1))
+    *found = waiters.len();
+    mark_all(awake, *found);
+    grow(waiters, awake)
 }
 
 /// This consumer has a waiter behind all others from now on, which is awake. Where memory is wanting it may not; no waiter of a
@@ -150,6 +165,7 @@ fn add_waiter(
     waiters: &mut Vec<Waiter>,
     awake: &mut PlaceMarks,
     next: &mut usize,
+    found: &mut usize,
     core: &Core,
     queue: usize,
     consumer: Pick,
@@ -159,12 +175,12 @@ fn add_waiter(
     ensures marks { length waiters.new.items ≤ length awake.new * 64 }
     ensures apart { AreDistinct (picks waiters.old.items) → AreDistinct (picks waiters.new.items) }
     ensures line { KeepsOthers core.now queue consumer (turned next.old (picks waiters.old.items)) (turned next.new (picks waiters.new.items)) }
-    ensures bounded { (length waiters.new.items ≤ vec_capacity waiters.old)
-        ⊎ (length waiters.new.items ≤ count_by (has_its_consumer core.now queue) waiters.new.items + 1) }
+    ensures few { AreFew waiters.new.items found.new }
+    ensures found { AreFound core.now queue found.old waiters.new.items found.new }
     ensures joined { OnOk result (IsAwake (round_of waiters.new.items awake.new) consumer) }
     ensures kept { KeepsRound core.now queue (round_of waiters.old.items awake.old) (round_of waiters.new.items awake.new) }
 {
-    make_room(waiters, awake, next, core, queue)?;
+    make_room(waiters, awake, next, found, core, queue)?;
     let place = waiters.len();
     waiters.push_reserved(Waiter {
         pick: consumer,
@@ -326,6 +342,8 @@ pub(crate) struct Round {
     awake: PlaceMarks,
     /// The place behind the waiter that was picked last.
     next: usize,
+    /// How many were found when it was last swept.
+    found: usize,
 }
 
 /// Written out, so that a drop is one call.
@@ -335,20 +353,21 @@ impl Drop for Round {
             waiters: _,
             awake: _,
             next: _,
+            found: _,
         } = self;
     }
 }
 
 impl Model for Round {
-    ghost use Rattle.std.specs.Prelude.{◌≤◌, ◌*◌, length, vec_capacity};
+    ghost use Rattle.std.specs.Prelude.{◌≤◌, ◌*◌, length};
     ghost use Rattle.broker.specs.Lines.{AreDistinct};
-    ghost use Rattle.broker.specs.Rounds.{Waiters, picks};
+    ghost use Rattle.broker.specs.Rounds.{Waiters, picks, AreFew};
 
     ghost Value = { Waiters };
 
-    ghost view = { λ r. record { waiters = r.waiters.items; marks = r.awake; next = r.next; room = vec_capacity r.waiters } };
+    ghost view = { λ r. record { waiters = r.waiters.items; marks = r.awake; next = r.next; found = r.found } };
 
-    ghost invariant = { λ r. (length r.waiters.items ≤ length r.awake * 64) × AreDistinct (picks r.waiters.items) };
+    ghost invariant = { λ r. (length r.waiters.items ≤ length r.awake * 64) × AreDistinct (picks r.waiters.items) × AreFew r.waiters.items r.found };
 }
 
 impl Round {
@@ -370,6 +389,7 @@ impl Round {
             waiters: Vec::new(alloc),
             awake: <Over<Flat>>::empty(alloc),
             next: 0,
+            found: 0,
         }
     }
 
@@ -389,6 +409,7 @@ impl Round {
             &mut self.waiters,
             &mut self.awake,
             &mut self.next,
+            &mut self.found,
             core,
             queue,
             consumer,

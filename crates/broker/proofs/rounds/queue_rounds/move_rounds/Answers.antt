@@ -16,7 +16,7 @@ loop-from-preserved c =
     let mid = c.loop-from.rounds in
     let new = c.move_round.new.rounds in
     let one = c.index-old-from.result in
-    let none : Waiters = record { waiters = []; marks = []; next = 0; room = 0 } in
+    let none : Waiters = record { waiters = []; marks = []; next = 0; found = 0 } in
     let lt = c.loop-from-test.true in
     let len = c.loop-from.auto.rounds in
     let old_len = c.loop-from.auto.old in

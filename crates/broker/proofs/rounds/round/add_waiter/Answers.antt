@@ -1,10 +1,10 @@
-use Rattle.std.proofs.Common.{◌∙◌, ◌≤◌, ◌+◌, ◌⊎◌, List, [], ◌∷◌, length, filter, count_by, sym, ap, subst}
-use Rattle.std.specs.Prelude.{vec_capacity}
+use Rattle.std.proofs.Common.{◌∙◌, List, [], ◌∷◌, length, filter, sym, ap, subst, arith}
+use Rattle.std.proofs.lemmas.List.{length-append}
 use Rattle.commands.specs.State.{broker_of}
 use Rattle.broker.specs.declared.rounds.waiters.Waiter.{Waiter}
 use Rattle.broker.specs.Lines.{turned, AreDistinct}
-use Rattle.broker.specs.Rounds.{round_of, picks, has_its_consumer, awake_waiter, IsInRound}
-use Rattle.broker.proofs.Later.{others_end, bounded_end}
+use Rattle.broker.specs.Rounds.{round_of, picks, awake_waiter, IsInRound, AreFound}
+use Rattle.broker.proofs.Later.{others_end, found_end}
 use Rattle.broker.proofs.Picks.{apart_end}
 use Rattle.broker.proofs.Sleeping.{pushed}
 use Rattle.broker.proofs.rounds.round.add_waiter.Goals as goal
@@ -24,7 +24,14 @@ returns-clause-line c = λ test there none.
     ap (λ (xs : List Waiter). filter test (turned c.make_room.new.next (picks xs))) c.push_reserved.ensures.items
     ∙ others_end c.make_room.new.waiters.items (awake_waiter c.args.consumer) c.make_room.new.next test none ∙ c.make_room.ensures.line test there
 
-pub returns-clause-bounded : goal.returns-clause-bounded
-returns-clause-bounded c =
-    subst (λ (xs : List Waiter). (length xs ≤ vec_capacity c.args.waiters.now) ⊎ (length xs ≤ count_by (has_its_consumer c.args.core.now c.args.queue) xs + 1)) (sym c.push_reserved.ensures.items)
-    (bounded_end (has_its_consumer c.args.core.now c.args.queue) c.make_room.new.waiters.items (awake_waiter c.args.consumer) (vec_capacity c.args.waiters.now) c.make_room.ensures.bounded)
+pub returns-clause-few : goal.returns-clause-few
+returns-clause-few c =
+    let few = c.make_room.ensures.few in
+    let long = ap length c.push_reserved.ensures.items in
+    let more = length-append c.make_room.new.waiters.items (awake_waiter c.args.consumer ∷ []) in
+    omega (arith, few, long, more)
+
+pub returns-clause-found : goal.returns-clause-found
+returns-clause-found c =
+    subst (λ (xs : List Waiter). AreFound c.args.core.now c.args.queue c.args.found.now xs c.make_room.new.found) (sym c.push_reserved.ensures.items)
+    (found_end c.args.core.now c.args.queue c.args.found.now c.make_room.new.waiters.items (awake_waiter c.args.consumer) c.make_room.new.found c.make_room.ensures.found)

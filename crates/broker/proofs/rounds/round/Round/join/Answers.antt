@@ -1,5 +1,4 @@
 use Rattle.std.proofs.Common.{◌∙◌, List, [], length, filter, drop, inl, inr, sym, ap, subst, arith}
-use Rattle.std.specs.Prelude.{vec_capacity}
 use Rattle.std.proofs.lemmas.List.{take_at}
 use Rattle.model.specs.Topology.{IsIn}
 use Rattle.commands.specs.State.{broker_of}
@@ -7,7 +6,6 @@ use Rattle.commands.specs.declared.picks.Pick.{Pick}
 use Rattle.broker.specs.declared.rounds.waiters.Waiter.{Waiter}
 use Rattle.broker.specs.Lines.{turned, AreDistinct}
 use Rattle.broker.specs.Rounds.{Waiters, round_of, picks, order, IsInRound}
-use Rattle.broker.specs.Rounds.IsBounded.{as_many, had_room, all_there}
 use Rattle.broker.proofs.Later.{lets_in}
 use Rattle.broker.proofs.Outcomes.{on_ok}
 use Rattle.broker.proofs.Sleeping.{joined_woken}
@@ -17,7 +15,7 @@ use Rattle.broker.proofs.rounds.round.Round.join.Goals as goal
 pub returns-then-wake_waiter-clause-kept : goal.returns-then-wake_waiter-clause-kept
 returns-then-wake_waiter-clause-kept c = λ lists p i has.
     let b = broker_of c.args.core.now in
-    let was = ap (λ (xs : List Waiter). record { waiters = xs; marks = c.self.inside.awake; next = c.self.inside.next; room = vec_capacity c.self.inside.waiters }) c.deref_mut.ensures.value ∙ c.self.view_is in
+    let was = ap (λ (xs : List Waiter). record { waiters = xs; marks = c.self.inside.awake; next = c.self.inside.next; found = c.self.inside.found }) c.deref_mut.ensures.value ∙ c.self.view_is in
     let back = take_at c.wake_waiter.new.waiters _ c.self.inside.waiters.len (c.wake_waiter.auto.waiters ∙ c.deref_mut.ensures.len) in
     (subst (λ (xs : List Waiter). IsInRound b lists c.args.queue (round_of xs c.wake_waiter.new.awake) p) (sym back)
     (joined_woken b lists c.args.queue (round_of c.deref_mut.result.now c.self.inside.awake) (round_of c.wake_waiter.new.waiters c.wake_waiter.new.awake) p c.wake_waiter.ensures.wakens (subst (λ (r : Waiters). IsInRound b lists c.args.queue r p) (sym was) i)))
@@ -25,7 +23,7 @@ returns-then-wake_waiter-clause-kept c = λ lists p i has.
 pub returns-clause-kept : goal.returns-clause-kept
 returns-clause-kept c = λ lists p i has.
     let b = broker_of c.args.core.now in
-    let was = ap (λ (xs : List Waiter). record { waiters = xs; marks = c.self.inside.awake; next = c.self.inside.next; room = vec_capacity c.self.inside.waiters }) c.deref_mut.ensures.value ∙ c.self.view_is in
+    let was = ap (λ (xs : List Waiter). record { waiters = xs; marks = c.self.inside.awake; next = c.self.inside.next; found = c.self.inside.found }) c.deref_mut.ensures.value ∙ c.self.view_is in
     let back = take_at c.wake_waiter.new.waiters _ c.self.inside.waiters.len (c.wake_waiter.auto.waiters ∙ c.deref_mut.ensures.len) in
     c.add_waiter.ensures.kept lists p
     (subst (λ (xs : List Waiter). IsInRound b lists c.args.queue (round_of xs c.wake_waiter.new.awake) p) (sym back)
@@ -42,15 +40,15 @@ pub returns-then-wake_waiter-clause-comes : goal.returns-then-wake_waiter-clause
 returns-then-wake_waiter-clause-comes c =
     let back = take_at c.wake_waiter.new.waiters (drop (length c.wake_waiter.new.waiters) c.self.inside.waiters.items) c.self.inside.waiters.len (c.wake_waiter.auto.waiters ∙ c.deref_mut.ensures.len) in
     let same = ap picks back ∙ c.wake_waiter.ensures.wakens.same ∙ ap picks c.deref_mut.ensures.value in
-    lets_in c.args.core.now c.args.queue c.args.consumer c.args.self.now (record { waiters = _; marks = []; next = c.self.inside.next; room = 0 }) (subst (λ (ps : List Pick). AreDistinct ps) (sym same) c.self.invariant.1) (returns-then-wake_waiter-clause-line c)
+    lets_in c.args.core.now c.args.queue c.args.consumer c.args.self.now (record { waiters = _; marks = []; next = c.self.inside.next; found = 0 }) (subst (λ (ps : List Pick). AreDistinct ps) (sym same) c.self.invariant.1) (returns-then-wake_waiter-clause-line c)
 
 pub returns-then-wake_waiter-clause-bounded : goal.returns-then-wake_waiter-clause-bounded
 returns-then-wake_waiter-clause-bounded c =
     let back = ap (λ (xs : List Waiter). length xs) (take_at c.wake_waiter.new.waiters (drop (length c.wake_waiter.new.waiters) c.self.inside.waiters.items) c.self.inside.waiters.len (c.wake_waiter.auto.waiters ∙ c.deref_mut.ensures.len)) in
     let same = c.wake_waiter.auto.waiters in
     let value = ap (λ (xs : List Waiter). length xs) c.deref_mut.ensures.value in
-    let was = ap (λ (r : Waiters). length r.waiters) c.self.view_is in
-    as_many (omega (arith, back, same, value, was))
+    let few = c.self.invariant.2 in
+    record { few = omega (arith, back, same, value, few); found = inl (ap (λ (r : Waiters). r.found) c.self.view_is) }
 
 pub add_waiter-requires-clause-absent : goal.add_waiter-requires-clause-absent
 add_waiter-requires-clause-absent c =
@@ -73,15 +71,14 @@ returns-clause-comes c =
     let back = take_at c.wake_waiter.new.waiters (drop (length c.wake_waiter.new.waiters) c.self.inside.waiters.items) c.self.inside.waiters.len (c.wake_waiter.auto.waiters ∙ c.deref_mut.ensures.len) in
     let same = ap picks back ∙ c.wake_waiter.ensures.wakens.same ∙ ap picks c.deref_mut.ensures.value in
     on_ok c.add_waiter.result
-    (λ up. lets_in c.args.core.now c.args.queue c.args.consumer c.args.self.now (record { waiters = c.add_waiter.new.waiters.items; marks = []; next = c.add_waiter.new.next; room = 0 }) (c.add_waiter.ensures.apart (subst (λ (ps : List Pick). AreDistinct ps) (sym same) c.self.invariant.1)) (returns-clause-line c))
+    (λ up. lets_in c.args.core.now c.args.queue c.args.consumer c.args.self.now (record { waiters = c.add_waiter.new.waiters.items; marks = []; next = c.add_waiter.new.next; found = 0 }) (c.add_waiter.ensures.apart (subst (λ (ps : List Pick). AreDistinct ps) (sym same) c.self.invariant.1)) (returns-clause-line c))
     c.add_waiter.ensures.joined
 
 pub returns-clause-bounded : goal.returns-clause-bounded
-returns-clause-bounded c =
-    elim c.add_waiter.ensures.bounded [
-      | inl room ↦ had_room (let was = ap (λ (r : Waiters). r.room) c.self.view_is in omega (arith, room, was))
-      | inr all ↦ all_there all
-    ]
+returns-clause-bounded c = record {
+  few = c.add_waiter.ensures.few;
+  found = elim c.add_waiter.ensures.found [ inl same ↦ inl (same ∙ ap (λ (r : Waiters). r.found) c.self.view_is) | inr le ↦ inr le ];
+}
 
 pub invariant_of-self : goal.invariant_of-self
 invariant_of-self c =
@@ -92,10 +89,11 @@ invariant_of-self c =
     let three = ap (λ (xs : List Waiter). length xs) c.deref_mut.ensures.value in
     let marks = c.wake_waiter.ensures.len in
     let room = c.self.invariant.0 in
-    (omega (arith, one, two, three, marks, room), subst (λ (ps : List Pick). AreDistinct ps) (sym same) c.self.invariant.1)
+    let few = c.self.invariant.2 in
+    (omega (arith, one, two, three, marks, room), subst (λ (ps : List Pick). AreDistinct ps) (sym same) c.self.invariant.1, omega (arith, one, two, three, few))
 
 pub invariant_of-self-2 : goal.invariant_of-self-2
 invariant_of-self-2 c =
     let back = take_at c.wake_waiter.new.waiters (drop (length c.wake_waiter.new.waiters) c.self.inside.waiters.items) c.self.inside.waiters.len (c.wake_waiter.auto.waiters ∙ c.deref_mut.ensures.len) in
     let same = ap picks back ∙ c.wake_waiter.ensures.wakens.same ∙ ap picks c.deref_mut.ensures.value in
-    (c.add_waiter.ensures.marks, c.add_waiter.ensures.apart (subst (λ (ps : List Pick). AreDistinct ps) (sym same) c.self.invariant.1))
+    (c.add_waiter.ensures.marks, c.add_waiter.ensures.apart (subst (λ (ps : List Pick). AreDistinct ps) (sym same) c.self.invariant.1), c.add_waiter.ensures.few)

@@ -35,4 +35,5 @@ invariant_of-self c =
     let three = ap (λ (xs : List Waiter). length xs) c.deref_mut.ensures.value in
     let room = c.self.invariant.0 in
     let marks = c.mark_all.ensures.len in
-    (omega (arith, one, two, three, room, marks), subst (λ (ps : List Pick). AreDistinct ps) (sym same) c.self.invariant.1)
+    let few = c.self.invariant.2 in
+    (omega (arith, one, two, three, room, marks), subst (λ (ps : List Pick). AreDistinct ps) (sym same) c.self.invariant.1, omega (arith, one, two, three, few))
