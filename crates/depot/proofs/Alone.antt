@@ -1,6 +1,7 @@
 -- The turn of a publish that is routed to one queue.
-use Rattle.std.proofs.Common.{◌≡◌, ℕ, List, [], ◌∷◌, ◌++◌, Bool, true, false, refl, ap, ◌∙◌, append_assoc, length, get_or, arith}
+use Rattle.std.proofs.Common.{◌≡◌, ℕ, List, [], ◌∷◌, ◌++◌, Bool, true, false, refl, ap, sym, subst, ◌∙◌, append_assoc, length, get_or, arith}
 use Rattle.std.specs.Prelude.{◌||◌}
+use Rattle.model.specs.Words.{Text}
 use Rattle.model.specs.Topology.{Topology}
 use Rattle.model.specs.Message.{Message}
 use Rattle.model.specs.declared.messages.Entry.{Entry}
@@ -9,6 +10,8 @@ use Rattle.model.specs.declared.topologies.DeclaredQueue.{DeclaredQueue}
 use Rattle.model.specs.declared.notes.Note.{Note}
 use Rattle.model.specs.declared.notes.Way.TheVariants as way
 use Rattle.exchange_graph.specs.Targets.{AreTargets}
+use Rattle.exchange_graph.specs.Routers.{IsRoute}
+use Rattle.exchange_graph.specs.declared.routes.Route.{Route}
 use Rattle.depot.specs.declared.turns.PlannedTurn.{PlannedTurn}
 use Rattle.depot.specs.Turns.{TurnOutcome, turn_at, outcome, is_refusal, entered_one, Enters}
 
@@ -21,6 +24,11 @@ pub one_target : (places : List ℕ) → length places ≡ 1 → places ≡ get_
 one_target [] one = absurd (omega (arith, one))
 one_target (place ∷ []) one = refl
 one_target (place ∷ other ∷ more) one = absurd (omega (arith, one))
+
+-- the places that a route tells
+pub targets_here : (t here : Topology) (exchange key : Text) (places : List ℕ) (r : Route) → here ≡ t → places ≡ r.targets.items → IsRoute t exchange key r → AreTargets here exchange key places
+targets_here t here exchange key places r same told route =
+    subst (λ (u : Topology). AreTargets u exchange key places) (sym same) (subst (AreTargets t exchange key) (sym told) route.targets)
 
 -- the one turn of a publish is taken
 pub one_enters : (t : Topology) (p : Publish) (m : Message) (place : ℕ) (first : Note) (before pushed after : List Note) (declared : List DeclaredQueue) (old mid new : List (List Entry)) (turn : PlannedTurn) (full : Bool)

@@ -317,3 +317,16 @@ published old new c h p content confirm before after routed formed len counted s
             ∙ entered_by_names t way.Publish lists p.exchange p.routing_key m e.turns e.plan q apart len;
       };
     }
+
+-- the same, where its topology, its message and its first note are told
+pub published_as : (was now s : Store) (c h : ℕ) (p : Publish) (content : Content) (confirm : Option ℕ) (before after : List Note) (routed : Routed) (t : Topology) (m : Message) (first : Note)
+    → was ≡ s → t ≡ was.topology → m ≡ message (was.published + 1) p content → first ≡ Published (was.published + 1) c h p.exchange p.routing_key confirm
+    → IsWellFormed t → length was.queues ≡ length was.topology.queues → now.published ≡ was.published + 1 → now.topology ≡ was.topology
+    → Enters t was.queues now.queues p m first before after routed → Publishing s c h p content confirm before after routed now
+published_as was now s c h p content confirm before after routed t m first view same made told formed len counted topology enters =
+    let number = was.published + 1 in
+    let note = Published number c h p.exchange p.routing_key confirm in
+    subst (λ (x : Store). Publishing x c h p content confirm before after routed now) view
+    (published was now c h p content confirm before after routed (subst IsWellFormed same formed) len counted topology
+    (subst (λ (u : Topology). Enters u was.queues now.queues p (message number p content) note before after routed) same
+    (subst (λ (x : Message). Enters t was.queues now.queues p x note before after routed) made (subst (λ (x : Note). Enters t was.queues now.queues p m x before after routed) told enters))))

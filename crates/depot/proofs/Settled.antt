@@ -179,12 +179,6 @@ one_left t c h n (x ∷ []) old new before after formed len apart within one w m
     (leaves_first Acked (store_of t old n) c h x [] new before after after (store_of t new n) (record { formed = formed; len = len }) apart (subst (AreWithin t) alone within 0 x (omega arith)) moved noted
     (none_leaves Acked (store_of t new n) c h after))
 
--- and where it doesn't, none leaves
-pub none_left : (s : Store) (c h : ℕ) (gone : List Delivery) (notes : List Note) → length gone ≡ 1 → is_waiting (get_or gone 0 nothing) ≡ false → AreSettledBy (Leaves Acked) s c h (waiting gone) notes notes s
-none_left s c h [] notes one w = absurd (omega (arith, one))
-none_left s c h (x ∷ y ∷ zs) notes one w = absurd (omega (arith, one))
-none_left s c h (x ∷ []) notes one w = subst (λ (ds : List Delivery). AreSettledBy (Leaves Acked) s c h ds notes notes s) (sym (ap (λ (b : Bool). cond b (x ∷ []) []) w)) (none_leaves Acked s c h notes)
-
 -- those that wait from this place on are ready again
 pub returned_next : (t : Topology) (n c h : ℕ) (gone : List Delivery) (i : ℕ) (d : Delivery) (old new : List (List Entry)) (last : Store) → IsWellFormed t → length old ≡ length t.queues → i < length gone
     → (is_waiting (get_or gone i d) ≡ true → (get_or gone i d).queue < length old) → (is_waiting (get_or gone i d) ≡ true → new ≡ returned_at c h old (get_or gone i d)) → (is_waiting (get_or gone i d) ≡ false → new ≡ old)

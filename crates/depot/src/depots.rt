@@ -3,16 +3,18 @@
 ghost use Rattle.std.specs.Prelude.{◌<◌, ℕ, length};
 ghost use Rattle.depot.specs.Store.{Store, IsStoreWhole, IsQueueNamed};
 
+use crate::entering::enter;
 use crate::givings::Giving;
 use crate::moving::places_in;
-use crate::publishing::{note_of, publish_in, route_of};
+use crate::publishing::{note_of, publish_to_many, route_of};
 use crate::purging::purge_in;
 use crate::queues::Queues;
 use crate::rejecting::reject_in;
-use crate::settling::{ack_in, requeue_in};
+use crate::settling::{ack_all, leave, name_of, requeue_in};
 use crate::taking::give;
+use crate::turns::PlannedTurn;
 use exchange_graph::{Route, Router, Topology};
-use model::{ChannelId, Content, Delivery, Entry, Holder, Note, Publish};
+use model::{ChannelId, Content, Delivery, Entry, Holder, Message, Note, Publish, Way};
 use queue::{Store as _, Walk};
 use std::alloc::{AllocError, Global};
 use std::marker::Model;
@@ -138,21 +140,41 @@ impl Depot {
         let number = self.published + 1;
         let first = note_of(number, id, publish, confirm)?;
         let route = route_of(alloc, &mut self.router, publish, route)?;
+        let message = Message::of_publish(alloc, number, publish, content)?;
         let topology = self.router.topology();
         topology.is_well_formed();
-        let routed = publish_in(
-            alloc,
-            topology,
-            &mut self.queues,
-            &route.targets,
-            number,
-            publish,
-            content,
-            first,
-            notes,
-        )?;
+        let targets: &[usize] = &route.targets;
+        if targets.len() != 1 {
+            let routed = publish_to_many(
+                alloc,
+                topology,
+                &mut self.queues,
+                targets,
+                message,
+                first,
+                notes,
+            )?;
+            self.published = number;
+            return Ok(routed);
+        }
+        let place = targets[0];
+        let declared = topology.queue(place);
+        let turn = PlannedTurn {
+            place,
+            name: declared.name.clone()?,
+            message,
+        };
+        let queue = self.queues.queue_mut(place);
+        queue.reserve(1)?;
+        notes.reserve_exact(4)?;
+        notes.push_reserved(first);
+        let is_some_full = enter(declared, queue, turn, Way::Publish, notes);
+        self.queues.count_coming(place, is_some_full);
         self.published = number;
-        Ok(routed)
+        Ok(Routed {
+            is_none: false,
+            is_some_full,
+        })
     }
 
     /// Those of these messages that wait, which the channel holds, leave their queues because they were acknowledged, one after
@@ -173,7 +195,17 @@ impl Depot {
     {
         let topology = self.router.topology();
         topology.is_well_formed();
-        ack_in(alloc, topology, &mut self.queues, id, gone, notes)
+        if gone.len() != 1 {
+            return ack_all(alloc, topology, &mut self.queues, id, gone, notes);
+        }
+        let given = &gone[0];
+        if !given.is_waiting() {
+            return Ok(());
+        }
+        let queue = name_of(topology, given)?;
+        notes.reserve_exact(1)?;
+        leave(&mut self.queues, id, given, queue, notes);
+        Ok(())
     }
 
     /// Those of these messages that wait, which the channel holds, leave their queues by a rejection, in the order of their

@@ -2,7 +2,6 @@
 
 ghost use Rattle.std.specs.Prelude.{◌≡◌, ◌+◌, ◌<◌, ◌≤◌, length, All, AllPairs, IfOk, IfSome, OnOk, OnErr, vec_len, vec_capacity};
 ghost use Rattle.std.specs.Arc.{arc_value};
-ghost use Rattle.model.specs.Step.{message};
 ghost use Rattle.model.specs.declared.methods.Publish.{Publish as Seen};
 ghost use Rattle.model.specs.declared.notes.Note.TheVariants.{Published};
 ghost use Rattle.exchange_graph.specs.Targets.{AreTargets};
@@ -11,12 +10,10 @@ ghost use Rattle.depot.specs.Store.{entries_of};
 ghost use Rattle.depot.specs.Turns.{Enters};
 
 use crate::depots::Routed;
-use crate::entering::{enter, enter_all, make_room, turns};
+use crate::entering::{enter_all, make_room, turns};
 use crate::queues::Queues;
-use crate::turns::PlannedTurn;
 use exchange_graph::{Route, Router, Topology};
-use model::{ChannelId, Content, Message, Note, Publish, Way};
-use queue::Store;
+use model::{ChannelId, Message, Note, Publish, Way};
 use std::alloc::{AllocError, Global};
 use std::sync::Arc;
 
@@ -56,54 +53,8 @@ pub(crate) fn note_of(
     })
 }
 
-/// Publishes to the queues of this topology at these places, to which it is routed, under this publish number. The first
-/// note tells of the publish itself. One queue alone takes no list of turns.
-pub(crate) fn publish_in(
-    alloc: Global,
-    topology: &Topology,
-    queues: &mut Queues,
-    targets: &[usize],
-    number: u64,
-    publish: &Publish,
-    content: &Content,
-    first: Note,
-    notes: &mut Vec<Note>,
-) -> Result<Routed, AllocError>
-    requires len { length queues.old ≡ length topology.now.queues }
-    requires routed { AreTargets topology.now publish.now.exchange publish.now.routing_key targets.now }
-    ensures ok { IfOk result (λ routed.
-        Enters topology.now (entries_of queues.old) (entries_of queues.new) publish.now (message number publish.now content.now)
-        first notes.old.items notes.new.items routed) }
-    ensures len { length queues.new ≡ length queues.old }
-    ensures room { OnOk result (vec_len notes.new + 2 ≤ vec_capacity notes.new) }
-    ensures queues { OnErr result (entries_of queues.new ≡ entries_of queues.old) }
-    ensures notes { OnErr result (notes.new.items ≡ notes.old.items) }
-{
-    let message = Message::of_publish(alloc, number, publish, content)?;
-    if targets.len() != 1 {
-        return publish_to_many(alloc, topology, queues, targets, message, first, notes);
-    }
-    let place = targets[0];
-    let declared = topology.queue(place);
-    let turn = PlannedTurn {
-        place,
-        name: declared.name.clone()?,
-        message,
-    };
-    let queue = queues.queue_mut(place);
-    queue.reserve(1)?;
-    notes.reserve_exact(4)?;
-    notes.push_reserved(first);
-    let is_some_full = enter(declared, queue, turn, Way::Publish, notes);
-    queues.count_coming(place, is_some_full);
-    Ok(Routed {
-        is_none: false,
-        is_some_full,
-    })
-}
-
 /// The message comes to each queue that it is routed to, at these places, or is refused there.
-fn publish_to_many(
+pub(crate) fn publish_to_many(
     alloc: Global,
     topology: &Topology,
     queues: &mut Queues,

@@ -17,7 +17,7 @@ use queue::Store;
 use std::alloc::{AllocError, Global};
 
 /// The name of the queue from which this was given out.
-fn name_of(topology: &Topology, given: &Delivery) -> Result<Text, AllocError>
+pub(crate) fn name_of(topology: &Topology, given: &Delivery) -> Result<Text, AllocError>
     requires { given.now.queue < length topology.now.queues }
     ensures { IfOk result (λ name. name ≡ (departure_in topology.now given.now).queue) }
 {
@@ -67,7 +67,13 @@ fn departures_of(
 }
 
 /// This message leaves its queue, which has this name, and that is noted, if it is there. There is room for the note.
-fn leave(queues: &mut Queues, id: ChannelId, given: &Delivery, queue: Text, notes: &mut Vec<Note>)
+pub(crate) fn leave(
+    queues: &mut Queues,
+    id: ChannelId,
+    given: &Delivery,
+    queue: Text,
+    notes: &mut Vec<Note>,
+)
     requires within { given.now.queue < length queues.old }
     requires room { vec_len notes.old < vec_capacity notes.old }
     ensures entries { entries_of queues.new ≡ left_at id.connection id.number (entries_of queues.old) given.now }
@@ -89,7 +95,7 @@ fn leave(queues: &mut Queues, id: ChannelId, given: &Delivery, queue: Text, note
 }
 
 /// Those of these messages that wait leave their queues, one after another. All that takes memory is made before the first leaves.
-fn ack_all(
+pub(crate) fn ack_all(
     alloc: Global,
     topology: &Topology,
     queues: &mut Queues,
@@ -113,38 +119,6 @@ fn ack_all(
         let Departure { given, queue } = departure;
         leave(queues, id, &given, queue, notes);
     }
-    Ok(())
-}
-
-/// Those of these messages that wait, which the channel holds, are acknowledged. One alone wants no list.
-pub(crate) fn ack_in(
-    alloc: Global,
-    topology: &Topology,
-    queues: &mut Queues,
-    id: ChannelId,
-    gone: &[Delivery],
-    notes: &mut Vec<Note>,
-) -> Result<(), AllocError>
-    requires formed { IsWellFormed topology.now }
-    requires len { length queues.old ≡ length topology.now.queues }
-    requires within { AreWithin topology.now (waiting gone.now) }
-    requires apart { IsApart (store_of topology.now (entries_of queues.old) 0) }
-    ensures ok { OnOk result ((n : ℕ) → AreSettledBy (Leaves Acked) (store_of topology.now (entries_of queues.old) n)
-        id.connection id.number (waiting gone.now) notes.old.items notes.new.items (store_of topology.now (entries_of queues.new) n)) }
-    ensures len { length queues.new ≡ length queues.old }
-    ensures queues { OnErr result (entries_of queues.new ≡ entries_of queues.old) }
-    ensures notes { OnErr result (notes.new.items ≡ notes.old.items) }
-{
-    if gone.len() != 1 {
-        return ack_all(alloc, topology, queues, id, gone, notes);
-    }
-    let given = &gone[0];
-    if !given.is_waiting() {
-        return Ok(());
-    }
-    let queue = name_of(topology, given)?;
-    notes.reserve_exact(1)?;
-    leave(queues, id, given, queue, notes);
     Ok(())
 }
 

@@ -55,7 +55,7 @@ class Map(TreeTest):
     def test_a_long_path(self):
         rest = "".join(f"{it}. `bag::put`\n" for it in range(4, 19))
         self.write("docs/inside/ARCHITECTURE.md", PAGE.replace("3. `bag::put`\n", "3. `bag::put`\n" + rest))
-        self.assertIn("17 items below the first, and not 16 at most", self.told())
+        self.assertIn("17 items below the first, and not 12 at most", self.told())
 
     def test_a_crate_without_a_row(self):
         self.write("crates.txt", LISTED + "stamps may_abort=2:\n")

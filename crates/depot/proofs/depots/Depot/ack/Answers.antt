@@ -1,10 +1,53 @@
-use Rattle.std.proofs.Common.{sym, subst}
-use Rattle.model.specs.Topology.{Topology}
-use Rattle.depot.specs.Store.{Store, entries_of}
-use Rattle.depot.specs.Settled.{IsApart, store_of}
+use Rattle.std.proofs.Common.{◌≡◌, ◌∙◌, ◌++◌, true, ap, sym, subst, arith, get_or, rules, length, List}
+use Rattle.model.specs.Words.{Text}
+use Rattle.model.specs.Topology.{Topology, IsWellFormed}
+use Rattle.model.specs.Deliveries.{Leaves, left_note}
+use Rattle.model.specs.Placed.{is_waiting, waiting, AreWithin}
+use Rattle.model.specs.declared.messages.Entry.{Entry}
+use Rattle.model.specs.declared.notes.Cause.TheVariants.{Acked}
+use Rattle.model.specs.declared.notes.Note.{Note}
+use Rattle.exchange_graph.specs.Marks.{queue_name}
+use Rattle.depot.specs.Dying.{given_at}
+use Rattle.depot.specs.Store.{Store, entries_of, IsStoreWhole}
+use Rattle.depot.specs.Settled.{AreSettledBy, IsApart, store_of}
+use Rattle.depot.proofs.Changes.{entries_of-length}
+use Rattle.depot.proofs.Rejected.{apart_by}
+use Rattle.depot.proofs.Settled.{one_left}
+use Rattle.depot.proofs.Waiting.{nothing, at_waiting}
 use Rattle.depot.proofs.depots.Depot.ack.Goals as goal
 
-pub ack_in-requires-clause-apart : goal.ack_in-requires-clause-apart
-ack_in-requires-clause-apart c =
+pub ack_all-requires-clause-apart : goal.ack_all-requires-clause-apart
+ack_all-requires-clause-apart c =
     subst (λ (t : Topology). IsApart (store_of t (entries_of c.self.inside.queues) 0)) (sym c.topology-topology.ensures)
     (subst (λ (s : Store). IsApart (store_of s.topology s.queues 0)) (sym c.self.view_is) c.requires.apart)
+
+pub leave-requires-clause-within : goal.leave-requires-clause-within
+leave-requires-clause-within c =
+    let waits : is_waiting (get_or c.args.gone.now 0 nothing) ≡ true = search rules in
+    let one : length c.args.gone.now ≡ 1 = search rules in
+    let within : AreWithin c.self.inside.router (waiting c.args.gone.now) = subst (λ (s : Store). AreWithin s.topology (waiting c.args.gone.now)) (sym c.self.view_is) c.requires.within in
+    let lt = at_waiting c.self.inside.router c.args.gone.now 0 nothing within (omega (arith, one)) waits in
+    let len = c.self.invariant in
+    omega (arith, lt, len)
+
+pub returns-clause-ok : goal.returns-clause-ok
+returns-clause-ok c =
+    let t = c.self.inside.router in
+    let n = c.self.inside.published in
+    let k = c.args.id.connection in
+    let h = c.args.id.number in
+    let d = get_or c.args.gone.now 0 nothing in
+    let old : List (List Entry) = entries_of c.self.inside.queues in
+    let before : List Note = c.args.notes.now.items in
+    let now : Store = store_of t (entries_of c.leave.new.queues) n in
+    let waits : is_waiting d ≡ true = search rules in
+    let one : length c.args.gone.now ≡ 1 = search rules in
+    let whole : IsStoreWhole (store_of t old n) = record { formed = subst IsWellFormed c.topology-topology.ensures c.is_well_formed.ensures; len = entries_of-length c.self.inside.queues ∙ c.self.invariant } in
+    let within : AreWithin t (waiting c.args.gone.now) = subst (λ (s : Store). AreWithin s.topology (waiting c.args.gone.now)) (sym c.self.view_is) c.requires.within in
+    let apart : IsApart (store_of t old n) = subst IsApart (sym c.self.view_is) c.requires.apart in
+    let noted : c.leave.new.notes.items ≡ before ++ left_note Acked (queue_name t d.queue) (given_at k h old d) =
+    c.leave.ensures.notes
+    ∙ ap (λ (ns : List Note). ns ++ left_note Acked c.in_ok-queue.queue (given_at k h old d)) c.reserve_exact.ensures.items
+    ∙ ap (λ (q : Text). before ++ left_note Acked q (given_at k h old d)) (c.in_ok-queue.ensures ∙ ap (λ (u : Topology). queue_name u d.queue) c.topology-topology.ensures) in
+    subst (λ (s : Store). AreSettledBy (Leaves Acked) s k h (waiting c.args.gone.now) before c.leave.new.notes.items now) c.self.view_is
+    (one_left t k h n c.args.gone.now old (entries_of c.leave.new.queues) before c.leave.new.notes.items whole.formed whole.len (apart_by (store_of t old n) whole apart) within one waits c.leave.ensures.entries noted)

@@ -1,4 +1,4 @@
-use Rattle.std.proofs.Common.{◌≡◌, ◌∙◌, ◌++◌, List, ap, sym, subst, find}
+use Rattle.std.proofs.Common.{◌∙◌, ◌++◌, List, ap, sym, subst, find}
 use Rattle.model.specs.Broker.{is_ready}
 use Rattle.model.specs.declared.messages.Entry.{Entry}
 use Rattle.depot.specs.Givings.{CanGive, TellsArrival, given_notes, given_so}
