@@ -1,7 +1,9 @@
 -- The command line of warren, as clap's contract reads it: which subcommand the words name, and what its arguments are.
-use Rattle.std.specs.Prelude.{◌≡◌, ◌⊎◌, ℕ, List, [], Option, Some, None, true, codes, if◌then◌else◌, option_map, option_and_then}
+use Rattle.std.specs.Prelude.{◌≡◌, ◌⊎◌, ℕ, List, [], Option, Some, None, false, true, codes, if◌then◌else◌, option_map, option_and_then}
 use Rattle.std.specs.Str.{bytes_eq}
-use Rattle.clap.specs.Words.{App, Row, Rule, Text, first_of, new_app, new_rule, subcommand_of, with_rule, with_subcommand, fault_of, kind_of}
+use Rattle.clap.specs.Words.{App, Row, Rule, Text, app_of, first_of, new_app, new_rule, subcommand_of, with_rule, with_subcommand, fault_of, kind_of}
+use Rattle.clap.specs.declared.builder.command.Command.{Command}
+use Rattle.clap.specs.declared.builder.command.Command.TheViews.{out-Command as fields_of}
 use Rattle.clap.specs.declared.error.Error.{Error}
 use Rattle.clap.specs.declared.error.kind.ErrorKind.TheVariants.{OutOfMemory}
 use Rattle.clap.specs.declared.builder.ArgAction.TheVariants.{Set}
@@ -10,6 +12,11 @@ use Rattle.command_line.specs.declared.asked.Asked.{Asked}
 use Rattle.command_line.specs.declared.asked.Asked.TheVariants as asked
 
 -- ---- the subcommands and their arguments
+
+-- the command has these arguments, and none of them is given to its subcommands as well
+pub record IsCommand (command : Command) (wanted : App) : Type 0 where
+  pub app : app_of command ≡ wanted
+  pub local : (fields_of command).has_globals ≡ false
 
 -- a text that has to be given, by its place
 abbrev pub needed : Text → Rule

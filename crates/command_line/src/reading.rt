@@ -27,6 +27,7 @@ ghost use Rattle.clap.specs.declared.Command.TheViews.{out-Command as fields_of}
 ghost use Rattle.command_line.specs.CommandLine.{
   Asks,
   AreWordsRefused,
+  IsCommand,
   check,
   check_of,
   judging,
@@ -114,8 +115,7 @@ fn number_option<'a>(alloc: Global, least: u64, id: &'a str, help: &'a str) -> A
 
 /// A command without arguments, with what help says of it.
 fn bare<'a>(alloc: Global, name: &'a str, about: &'a str) -> Command<'a>
-    ensures app { app_of result ≡ new_app name.entry.now }
-    ensures local { (fields_of result).has_globals ≡ false }
+    ensures { IsCommand result (new_app name.entry.now) }
 {
     Command::new(alloc, name).about(about)
 }
@@ -124,10 +124,44 @@ fn bare<'a>(alloc: Global, name: &'a str, about: &'a str) -> Command<'a>
 fn with_argument<'a>(command: Command<'a>, argument: Arg<'a>) -> Result<Command<'a>, AllocError>
     requires command { (fields_of command).has_globals ≡ false }
     requires argument { argument.global ≡ false }
-    ensures app { IfOk result (λ c. app_of c ≡ with_rule (app_of command.entry) (rule_of argument.entry)) }
-    ensures local { IfOk result (λ c. (fields_of c).has_globals ≡ false) }
+    ensures { IfOk result (λ c. IsCommand c (with_rule (app_of command.entry) (rule_of argument.entry))) }
 {
     command.arg(argument)
+}
+
+/// The command with one more text that has to be given, with what help says of it.
+fn with_needed<'a>(
+    alloc: Global,
+    command: Command<'a>,
+    id: &'a str,
+    help: &'a str,
+) -> Result<Command<'a>, AllocError>
+    requires { (fields_of command).has_globals ≡ false }
+    ensures { IfOk result (λ c. IsCommand c (with_rule (app_of command.entry) (needed id.entry.now))) }
+{
+    with_argument(command, needed(alloc, id, help))
+}
+
+/// The command with one more file that may be named, with what help says of it.
+fn with_option<'a>(
+    alloc: Global,
+    command: Command<'a>,
+    id: &'a str,
+    help: &'a str,
+) -> Result<Command<'a>, AllocError>
+    requires { (fields_of command).has_globals ≡ false }
+    ensures { IfOk result (λ c. IsCommand c (with_rule (app_of command.entry) (option id.entry.now))) }
+{
+    with_argument(command, option(alloc, id, help))
+}
+
+/// The command with the certificates file that has to be given.
+fn with_certificates<'a>(alloc: Global, command: Command<'a>) -> Result<Command<'a>, AllocError>
+    requires { (fields_of command).has_globals ≡ false }
+    ensures { IfOk result (λ c. IsCommand c (with_rule (app_of command.entry) (needed (codes "CERTS")))) }
+{
+    let help = "The certificates file, a certificate for each guarantee in the same order";
+    with_needed(alloc, command, "CERTS", help)
 }
 
 /// A command that looks at a definitions file and a guarantees file, with what help says of it.
@@ -136,163 +170,98 @@ fn over_guarantees<'a>(
     name: &'a str,
     about: &'a str,
 ) -> Result<Command<'a>, AllocError>
-    ensures app { IfOk result (λ c. app_of c ≡ over_guarantees name.entry.now) }
-    ensures local { IfOk result (λ c. (fields_of c).has_globals ≡ false) }
+    ensures { IfOk result (λ c. IsCommand c (over_guarantees name.entry.now)) }
 {
     let command = bare(alloc, name, about);
-    let definitions = needed(alloc, "DEFS", "The definitions file");
-    let command = with_argument(command, definitions)?;
-    let guarantees = needed(alloc, "GUARANTEES", "The guarantees file");
-    with_argument(command, guarantees)
+    let command = with_needed(alloc, command, "DEFS", "The definitions file")?;
+    with_needed(alloc, command, "GUARANTEES", "The guarantees file")
 }
 
 /// `check DEFS GUARANTEES [--out FILE]`.
 fn check_command<'a>(alloc: Global) -> Result<Command<'a>, AllocError>
-    ensures app { IfOk result (λ c. app_of c ≡ check) }
-    ensures local { IfOk result (λ c. (fields_of c).has_globals ≡ false) }
+    ensures { IfOk result (λ c. IsCommand c check) }
 {
-    let command = over_guarantees(
-        alloc,
-        "check",
-        "Tells of each guarantee whether it holds, or a key that breaks it",
-    )?;
-    let out = option(
-        alloc,
-        "out",
-        "The file to write the certificates to, where every guarantee holds",
-    );
-    with_argument(command, out)
+    let about = "Tells of each guarantee whether it holds, or a key that breaks it";
+    let command = over_guarantees(alloc, "check", about)?;
+    let out = "The file to write the certificates to, where every guarantee holds";
+    with_option(alloc, command, "out", out)
 }
 
 /// `verify DEFS GUARANTEES CERTS`.
 fn verify_command<'a>(alloc: Global) -> Result<Command<'a>, AllocError>
-    ensures app { IfOk result (λ c. app_of c ≡ verify) }
-    ensures local { IfOk result (λ c. (fields_of c).has_globals ≡ false) }
+    ensures { IfOk result (λ c. IsCommand c verify) }
 {
-    let command = over_guarantees(
-        alloc,
-        "verify",
-        "Tells of each guarantee whether its certificate is accepted",
-    )?;
-    let certificates = needed(
-        alloc,
-        "CERTS",
-        "The certificates file, a certificate for each guarantee in the same order",
-    );
-    with_argument(command, certificates)
+    let about = "Tells of each guarantee whether its certificate is accepted";
+    let command = over_guarantees(alloc, "verify", about)?;
+    with_certificates(alloc, command)
 }
 
 /// `serve DEFS GUARANTEES CERTS --listen IP:PORT`.
 fn serve_at<'a>(alloc: Global) -> Result<Command<'a>, AllocError>
-    ensures app { IfOk result (λ c. app_of c ≡ serve_at) }
-    ensures local { IfOk result (λ c. (fields_of c).has_globals ≡ false) }
+    ensures { IfOk result (λ c. IsCommand c serve_at) }
 {
-    let command = over_guarantees(
-        alloc,
-        "serve",
-        "Serves clients under guarantees that are shown by their certificates",
-    )?;
-    let certificates = needed(
-        alloc,
-        "CERTS",
-        "The certificates file, a certificate for each guarantee in the same order",
-    );
-    let command = with_argument(command, certificates)?;
-    let listen = needed_option(
-        alloc,
-        "listen",
-        "IP:PORT",
-        "The address at which clients connect",
-    );
+    let about = "Serves clients under guarantees that are shown by their certificates";
+    let command = over_guarantees(alloc, "serve", about)?;
+    let command = with_certificates(alloc, command)?;
+    let address = "The address at which clients connect";
+    let listen = needed_option(alloc, "listen", "IP:PORT", address);
     with_argument(command, listen)
 }
 
 /// `serve DEFS GUARANTEES CERTS --listen IP:PORT [--turns N]`.
 fn serve_for<'a>(alloc: Global) -> Result<Command<'a>, AllocError>
-    ensures app { IfOk result (λ c. app_of c ≡ serve_for) }
-    ensures local { IfOk result (λ c. (fields_of c).has_globals ≡ false) }
+    ensures { IfOk result (λ c. IsCommand c serve_for) }
 {
     let command = serve_at(alloc)?;
-    let turns = number_option(
-        alloc,
-        0,
-        "turns",
-        "How many turns to serve; without it, until the process is ended",
-    );
-    with_argument(command, turns)
+    let help = "How many turns to serve; without it, until the process is ended";
+    with_argument(command, number_option(alloc, 0, "turns", help))
 }
 
 /// `serve DEFS GUARANTEES CERTS --listen IP:PORT [--turns N] [--reload N]`.
 fn serve_command<'a>(alloc: Global) -> Result<Command<'a>, AllocError>
-    ensures app { IfOk result (λ c. app_of c ≡ serve) }
-    ensures local { IfOk result (λ c. (fields_of c).has_globals ≡ false) }
+    ensures { IfOk result (λ c. IsCommand c serve) }
 {
     let command = serve_for(alloc)?;
-    let reload = number_option(
-        alloc,
-        1,
-        "reload",
-        "After how many turns the three files are read again; without it, never",
-    );
-    with_argument(command, reload)
+    let help = "After how many turns the three files are read again; without it, never";
+    with_argument(command, number_option(alloc, 1, "reload", help))
 }
 
 /// `replay SCRIPT [--definitions FILE]`.
 fn replay_over<'a>(alloc: Global) -> Result<Command<'a>, AllocError>
-    ensures app { IfOk result (λ c. app_of c ≡ replay_over) }
-    ensures local { IfOk result (λ c. (fields_of c).has_globals ≡ false) }
+    ensures { IfOk result (λ c. IsCommand c replay_over) }
 {
     let command = bare(alloc, "replay", "Runs a script and prints what it puts out");
-    let script = needed(alloc, "SCRIPT", "The script file");
-    let command = with_argument(command, script)?;
-    let definitions = option(
-        alloc,
-        "definitions",
-        "The definitions file to run over, in place of the built-in topology",
-    );
-    with_argument(command, definitions)
+    let command = with_needed(alloc, command, "SCRIPT", "The script file")?;
+    let definitions = "The definitions file to run over, in place of the built-in topology";
+    with_option(alloc, command, "definitions", definitions)
 }
 
 /// `replay SCRIPT [--definitions FILE] [--guarantees FILE] [--certificates FILE]`.
 fn replay_command<'a>(alloc: Global) -> Result<Command<'a>, AllocError>
-    ensures app { IfOk result (λ c. app_of c ≡ replay) }
-    ensures local { IfOk result (λ c. (fields_of c).has_globals ≡ false) }
+    ensures { IfOk result (λ c. IsCommand c replay) }
 {
     let command = replay_over(alloc)?;
-    let guarantees = option(
-        alloc,
-        "guarantees",
-        "The guarantees file to run under; without it there are none",
-    );
-    let command = with_argument(command, guarantees)?;
-    let certificates = option(
-        alloc,
-        "certificates",
-        "The certificates file of the guarantees; without it there are none",
-    );
-    with_argument(command, certificates)
+    let guarantees = "The guarantees file to run under; without it there are none";
+    let command = with_option(alloc, command, "guarantees", guarantees)?;
+    let certificates = "The certificates file of the guarantees; without it there are none";
+    with_option(alloc, command, "certificates", certificates)
 }
 
 /// `route DEFS EXCHANGE KEY`.
 fn route_command<'a>(alloc: Global) -> Result<Command<'a>, AllocError>
-    ensures app { IfOk result (λ c. app_of c ≡ route) }
-    ensures local { IfOk result (λ c. (fields_of c).has_globals ≡ false) }
+    ensures { IfOk result (λ c. IsCommand c route) }
 {
-    let command = bare(
+    let about = "Prints the queues to which a key leads from an exchange";
+    let command = bare(alloc, "route", about);
+    let command = with_needed(alloc, command, "DEFS", "The definitions file")?;
+    let exchange = "The exchange that a message is sent to; \"\" is the default exchange";
+    let command = with_needed(alloc, command, "EXCHANGE", exchange)?;
+    with_needed(
         alloc,
-        "route",
-        "Prints the queues to which a key leads from an exchange",
-    );
-    let definitions = needed(alloc, "DEFS", "The definitions file");
-    let command = with_argument(command, definitions)?;
-    let exchange = needed(
-        alloc,
-        "EXCHANGE",
-        "The exchange that a message is sent to; \"\" is the default exchange",
-    );
-    let command = with_argument(command, exchange)?;
-    let key = needed(alloc, "KEY", "The routing key that it is sent under");
-    with_argument(command, key)
+        command,
+        "KEY",
+        "The routing key that it is sent under",
+    )
 }
 
 /// The program before its subcommands.
