@@ -144,41 +144,26 @@ impl Core {
         match left {
             Left::OpenChannel => {
                 let step = self.open_channel(alloc, connection, number)?;
-                Ok(Acted {
-                    step,
-                    has_ended: false,
-                })
+                Ok(Acted::running(step))
             }
             Left::AnswerClose => {
                 let step = self.answer_close(alloc, connection, number)?;
-                Ok(Acted {
-                    step,
-                    has_ended: false,
-                })
+                Ok(Acted::running(step))
             }
             Left::AnswerClosing => {
                 let step = self.answer_closing(alloc, connection, number)?;
-                Ok(Acted {
-                    step,
-                    has_ended: false,
-                })
+                Ok(Acted::running(step))
             }
             Left::EndChannel => {
                 let step = self.end_channel(alloc, connection, number);
-                Ok(Acted {
-                    step,
-                    has_ended: false,
-                })
+                Ok(Acted::running(step))
             }
             Left::CloseConnection => {
                 self.close_connection(alloc, connection, connection_close_ok(connection))
             }
             Left::FindQueue(place, declare) => {
                 let step = self.find_queue(alloc, connection, number, place, declare)?;
-                Ok(Acted {
-                    step,
-                    has_ended: false,
-                })
+                Ok(Acted::running(step))
             }
         }
     }
@@ -205,14 +190,8 @@ impl Core {
         ensures err { OnErr result (self.new ≡ self.old) }
     {
         match self.decide(alloc, id, method, content) {
-            None => Ok(Acted {
-                step: Step::nothing(alloc),
-                has_ended: false,
-            }),
-            Some(Ok(Done::Performed(step))) => Ok(Acted {
-                step,
-                has_ended: false,
-            }),
+            None => Ok(Acted::running(Step::nothing(alloc))),
+            Some(Ok(Done::Performed(step))) => Ok(Acted::running(step)),
             Some(Ok(Done::Left(left))) => self.finish(alloc, id, left),
             Some(Err(Stop::Refused(refusal))) => {
                 self.refuse(alloc, id.connection, id.number, method.ids(), refusal)
@@ -238,10 +217,7 @@ impl Core {
         ensures err { OnErr result (self.new ≡ self.old) }
     {
         match self.judge_large(connection, channel) {
-            None => Ok(Acted {
-                step: Step::nothing(alloc),
-                has_ended: false,
-            }),
+            None => Ok(Acted::running(Step::nothing(alloc))),
             Some(refusal) => self.refuse(alloc, connection, channel, PUBLISH, refusal),
         }
     }
@@ -263,22 +239,14 @@ impl Core {
         ensures quiet { WantsNoMemory (topology_kept self.old) (broker_of self.old) event.now → IsOk result }
     {
         match event {
-            Event::Open { .. } | Event::First { .. } => {
-                Ok(Acted {
-                    step: Step::nothing(alloc),
-                    has_ended: false,
-                })
-            }
+            Event::Open { .. } | Event::First { .. } => { Ok(Acted::running(Step::nothing(alloc))) }
             Event::Running {
                 connection,
                 channel_max,
                 channels,
             } => {
                 self.open(alloc, *connection, *channel_max, *channels)?;
-                Ok(Acted {
-                    step: Step::nothing(alloc),
-                    has_ended: false,
-                })
+                Ok(Acted::running(Step::nothing(alloc)))
             }
             Event::Command {
                 connection,
@@ -313,17 +281,11 @@ impl Core {
             }
             Event::Pause { connection } => {
                 self.pause(*connection);
-                Ok(Acted {
-                    step: Step::nothing(alloc),
-                    has_ended: false,
-                })
+                Ok(Acted::running(Step::nothing(alloc)))
             }
             Event::Resume { connection } => {
                 self.resume(*connection);
-                Ok(Acted {
-                    step: Step::nothing(alloc),
-                    has_ended: false,
-                })
+                Ok(Acted::running(Step::nothing(alloc)))
             }
             Event::Deliver { .. } => unreachable!(),
         }

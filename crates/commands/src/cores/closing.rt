@@ -153,17 +153,11 @@ impl Core {
         ensures err { OnErr result (self.new ≡ self.old) }
     {
         match refusal {
-            Refusal::Ignored => Ok(Acted {
-                step: Step::nothing(alloc),
-                has_ended: false,
-            }),
+            Refusal::Ignored => Ok(Acted::running(Step::nothing(alloc))),
             Refusal::Channel(code) => {
                 let send = channel_close(connection, channel, code, cause);
                 let step = self.close_channel(alloc, connection, channel, send)?;
-                Ok(Acted {
-                    step,
-                    has_ended: false,
-                })
+                Ok(Acted::running(step))
             }
             Refusal::Connection(code) => {
                 let send = connection_close(connection, code, cause);
