@@ -40,7 +40,7 @@ try:
 look:
 	@python3 tools/look $(DEFS) $(GUARANTEES)
 
-# the proved program of a crate, made by `rt ci` if its sources are newer: what one target proved, the others and `make test` take
+# the proved program of a crate, made by `rt run` if its sources are newer: what one target proved, the others take; `make test` leaves it too
 PROVED = python3 tools/program proved
 WARREN = crates/warren/out/warren
 

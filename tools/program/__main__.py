@@ -14,7 +14,7 @@ MADE, FAILED = 0, 3
 
 def words():
     parser = Parser(prog="program", description=__doc__, epilog="Status: 0 it is there; 3 it could not be made.")
-    parser.add_argument("how", choices=("proved", "unproved"), help="by `rt ci`, at crates/NAME/out/NAME; or by `rt try`, at out/try/warren")
+    parser.add_argument("how", choices=("proved", "unproved"), help="by `rt run`, at crates/NAME/out/NAME; or by `rt try`, at out/try/warren")
     parser.add_argument("name", nargs="?", default="warren", help="the crate of the program; only warren is made unproved")
     return parser.parse_args()
 
