@@ -1,6 +1,7 @@
 //! Frames are written.
 
-ghost use Rattle.std.specs.Prelude.{◌≡◌, ◌+◌, ◌<◌, ◌≤◌, ◌^◌, ◌++◌, length, vec_len, vec_capacity, OnOk, OnErr};
+ghost use Rattle.std.specs.Prelude.{◌≡◌, ◌+◌, ◌<◌, ◌≤◌, ◌^◌, ◌∷◌, ◌++◌, length, vec_len, vec_capacity, OnOk, OnErr};
+ghost use Rattle.std.specs.Int.{w16, w32, to_be_bytes};
 ghost use Rattle.model.specs.Frames.{frame_bytes};
 ghost use Rattle.frame.specs.Reading.{seen};
 
@@ -30,11 +31,19 @@ pub fn put_frame(out: &mut Vec<u8>, frame: &Frame<'_>)
     ensures len { vec_len out.new ≡ vec_len out.old + (length frame.now.payload.now + 8) }
     ensures capacity { vec_capacity out.old ≤ vec_capacity out.new }
 {
-    out.push_reserved(frame.kind);
-    put_bytes(out, &frame.channel.to_be_bytes());
-    put_bytes(out, &(frame.payload.len() as u32).to_be_bytes());
+    put_bytes(out, &head_of(frame));
     put_bytes(out, frame.payload);
     out.push_reserved(0xCE);
+}
+
+/// What stands before the payload: type, channel and size.
+fn head_of(frame: &Frame<'_>) -> [u8; 7]
+    requires { length frame.now.payload.now < 2 ^ 32 }
+    ensures { result ≡ frame.now.kind ∷ to_be_bytes w16 frame.now.channel ++ to_be_bytes w32 (length frame.now.payload.now) }
+{
+    let [channel_high, channel_low] = frame.channel.to_be_bytes();
+    let [a, b, c, d] = (frame.payload.len() as u32).to_be_bytes();
+    [frame.kind, channel_high, channel_low, a, b, c, d]
 }
 
 /// Appends bytes for which there is room.

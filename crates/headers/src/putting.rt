@@ -25,8 +25,8 @@ pub(crate) fn put_sized(out: &mut Vec<u8>, size: u64)
     ensures len { vec_len out.new ≡ vec_len out.old + 12 }
     ensures capacity { vec_capacity out.old ≤ vec_capacity out.new }
 {
-    put_bytes(out, &[0, 60, 0, 0]);
-    put_bytes(out, &size.to_be_bytes());
+    let [a, b, c, d, e, f, g, h] = size.to_be_bytes();
+    put_bytes(out, &[0, 60, 0, 0, a, b, c, d, e, f, g, h]);
 }
 
 /// Appends the first seven properties.
@@ -73,7 +73,7 @@ fn put_text(out: &mut Vec<u8>, text: &Option<Text>)
     match text {
         None => {}
         Some(text) => {
-            put_bytes(out, &[text.len() as u8]);
+            out.push_reserved(text.len() as u8);
             put_bytes(out, text.as_bytes());
         }
     }
@@ -103,7 +103,7 @@ fn put_octet(out: &mut Vec<u8>, number: &Option<u8>)
 {
     match number {
         None => {}
-        Some(number) => put_bytes(out, &[*number]),
+        Some(number) => out.push_reserved(*number),
     }
 }
 

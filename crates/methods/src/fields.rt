@@ -1,7 +1,7 @@
 //! The arguments of each method are read.
 
-ghost use Rattle.std.specs.Prelude.{◌≡◌, [], ◌∷◌};
-ghost use Rattle.model.specs.Grammar.{arguments, Long, Short_text, Long_text, Bits};
+ghost use Rattle.std.specs.Prelude.{◌≡◌, [], ◌∷◌, option_map};
+ghost use Rattle.model.specs.Grammar.{arguments, Long, Long_long, Short_text, Long_text, Bits};
 ghost use Rattle.model.specs.declared.methods.Method.TheVariants as method;
 ghost use Rattle.field_table.specs.Arguments.{arguments_at, a_long, a_short_text, a_long_text, some_bits};
 ghost use Rattle.methods.specs.Kinds.{
@@ -29,6 +29,7 @@ use crate::pieces::Kind;
 use crate::refusals::BadMethod;
 use crate::tables::table_in;
 use crate::taking::pieces_at;
+use field_table::{long_long_at, one_bit_at};
 use model::{
     Ack, Cancel, Close, Consume, Deliver, Get, GetOk, Nack, Open, Publish, Purge, Qos,
     QueueDeclared, Reject, Return, Start, StartOk, Text, Tuning,
@@ -108,8 +109,6 @@ const GET_OK: [Kind; 5] = [
     Kind::ShortText,
     Kind::Long,
 ];
-
-const TAG_AND_BIT: [Kind; 2] = [Kind::LongLong, Kind::Bit];
 
 const TAG_AND_TWO_BITS: [Kind; 2] = [Kind::LongLong, Kind::TwoBits];
 
@@ -373,21 +372,34 @@ pub(crate) fn get_ok_in(alloc: Global, bytes: &[u8]) -> Result<GetOk, BadMethod>
 pub(crate) fn ack_in(bytes: &[u8]) -> Result<Ack, BadMethod>
     ensures { GivesArguments (λ x. arguments (method.BasicAck x)) result (arguments_at (tag_kinds 1) bytes.now) }
 {
-    let pieces = pieces_at(&TAG_AND_BIT, bytes).ok_or(BadMethod::SyntaxError)?;
+    let (delivery_tag, multiple) = tag_and_bit_in(bytes).ok_or(BadMethod::SyntaxError)?;
     Ok(Ack {
-        delivery_tag: pieces.first.long_long(),
-        multiple: pieces.second.bit(),
+        delivery_tag,
+        multiple,
     })
 }
 
 pub(crate) fn reject_in(bytes: &[u8]) -> Result<Reject, BadMethod>
     ensures { GivesArguments (λ x. arguments (method.BasicReject x)) result (arguments_at (tag_kinds 1) bytes.now) }
 {
-    let pieces = pieces_at(&TAG_AND_BIT, bytes).ok_or(BadMethod::SyntaxError)?;
+    let (delivery_tag, requeue) = tag_and_bit_in(bytes).ok_or(BadMethod::SyntaxError)?;
     Ok(Reject {
-        delivery_tag: pieces.first.long_long(),
-        requeue: pieces.second.bit(),
+        delivery_tag,
+        requeue,
     })
+}
+
+/// A delivery tag and a bit, where these are all. They come once a message, and go by no table.
+fn tag_and_bit_in(bytes: &[u8]) -> Option<(u64, bool)>
+    ensures { option_map (λ x. Long_long x.0 ∷ Bits (x.1 ∷ []) ∷ []) result ≡ arguments_at (tag_kinds 1) bytes.now }
+{
+    let (tag, rest) = long_long_at(bytes)?;
+    let (bit, rest) = one_bit_at(rest)?;
+    if rest.is_empty() {
+        Some((tag, bit))
+    } else {
+        None
+    }
 }
 
 pub(crate) fn nack_in(bytes: &[u8]) -> Result<Nack, BadMethod>

@@ -116,7 +116,7 @@ fn put_octet(out: &mut Vec<u8>, n: u8)
     ensures len { vec_len out.new ≡ vec_len out.old + 1 }
     ensures capacity { vec_capacity out.old ≤ vec_capacity out.new }
 {
-    put_bytes(out, &[n]);
+    out.push_reserved(n);
 }
 
 fn put_long_text(out: &mut Vec<u8>, text: &[u8])

@@ -1,7 +1,8 @@
 //! Methods are written.
 
 ghost use Rattle.std.specs.Prelude.{◌≡◌, ◌+◌, ◌<◌, ◌≤◌, ◌++◌, length, vec_len, vec_capacity, OnOk, IfErr, Err};
-ghost use Rattle.model.specs.Grammar.{method_bytes, IsMethod};
+ghost use Rattle.std.specs.Int.{w16, to_be_bytes};
+ghost use Rattle.model.specs.Grammar.{ids_of, method_bytes, IsMethod};
 ghost use Rattle.methods.specs.declared.refusals.UnwrittenMethod.TheVariants.{Memory};
 ghost use Rattle.methods.specs.Writing.{CountsMethod, MethodRefused};
 
@@ -47,8 +48,16 @@ pub fn put_method(out: &mut Vec<u8>, m: &Method)
     ensures len { vec_len out.new ≡ vec_len out.old + length (method_bytes m.now) }
     ensures capacity { vec_capacity out.old ≤ vec_capacity out.new }
 {
-    let ids = m.ids();
-    put_bytes(out, &ids.class.to_be_bytes());
-    put_bytes(out, &ids.method.to_be_bytes());
+    put_bytes(out, &head_of(m));
     put_pieces(out, &arguments_of(m));
+}
+
+/// Class and method, as they are spelled.
+fn head_of(m: &Method) -> [u8; 4]
+    ensures { result ≡ to_be_bytes w16 (ids_of m.now).class ++ to_be_bytes w16 (ids_of m.now).method }
+{
+    let ids = m.ids();
+    let [class_high, class_low] = ids.class.to_be_bytes();
+    let [method_high, method_low] = ids.method.to_be_bytes();
+    [class_high, class_low, method_high, method_low]
 }
