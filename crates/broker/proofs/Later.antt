@@ -1,5 +1,5 @@
 -- A waiter is made, and those of consumers that are gone may go: those who are there are gone round as before.
-use Rattle.std.proofs.Common.{◌≡◌, ◌∙◌, ◌<◌, ◌≤◌, ◌+◌, ◌++◌, ◌⊎◌, ℕ, zero, suc, List, [], ◌∷◌, Bool, true, false, cond, length, take, drop, filter, min, inl, inr, refl, sym, ap, subst, arith}
+use Rattle.std.proofs.Common.{◌≡◌, ◌∙◌, ◌<◌, ◌≤◌, ◌+◌, ◌++◌, ℕ, zero, suc, List, [], ◌∷◌, Bool, true, false, cond, length, take, drop, filter, min, inl, inr, refl, sym, ap, subst, arith}
 use Rattle.std.specs.Prelude.{count_by}
 use Rattle.std.proofs.lemmas.List.{drop_min, take_min, length-append}
 use Rattle.std.proofs.lemmas.List.Elements.{filter-append}
@@ -88,15 +88,7 @@ module _ {X : Type 0} (test : X → Bool) where
           by true e le = let more = count-cons_yes test x (filter test xs) e in omega (arith, le, more)
           by false e le = le
 
-  -- one more at the end
-  pub bounded_end : (xs : List X) (x : X) (room : ℕ) → (length xs < room) ⊎ (length xs ≤ count_by test xs) → (length (xs ++ x ∷ []) ≤ room) ⊎ (length (xs ++ x ∷ []) ≤ count_by test (xs ++ x ∷ []) + 1)
-  bounded_end xs x room (inl lt) = let long = length-append xs (x ∷ []) in inl (omega (arith, lt, long))
-  bounded_end xs x room (inr le) =
-      let long = length-append xs (x ∷ []) in
-      let count = count-append test xs (x ∷ []) in
-      inr (omega (arith, le, long, count))
-
--- those that were found are so still
-pub found_end : (kept : Kept) (queue : ℕ) (before : ℕ) (waiters : List Waiter) (s : Waiter) (found : ℕ) → AreFound kept queue before waiters found → AreFound kept queue before (waiters ++ s ∷ []) found
-found_end kept queue before waiters s found (inl same) = inl same
-found_end kept queue before waiters s found (inr le) = let count = count-append (has_its_consumer kept queue) waiters (s ∷ []) in inr (omega (arith, le, count))
+  -- those that were found are so still, where one more comes in at the end
+  pub found_end : (before : ℕ) (xs : List X) (x : X) (found : ℕ) → AreFound test before xs found → AreFound test before (xs ++ x ∷ []) found
+  found_end before xs x found (inl same) = inl same
+  found_end before xs x found (inr le) = let count = count-append test xs (x ∷ []) in inr (omega (arith, le, count))

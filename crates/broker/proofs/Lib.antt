@@ -12,6 +12,7 @@ mod Outcomes
 mod Picks
 mod Present
 mod Reloading
+mod Rising
 mod Sleepers
 mod Sleeping
 mod Standing

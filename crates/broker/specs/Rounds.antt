@@ -1,13 +1,14 @@
 -- The consumers of all channels by their numbers, over which deliveries go round, and which of them are passed over (own).
 use Rattle.std.specs.Prelude.{◌≡◌, ◌==◌, ◌&&◌, ◌<◌, ◌≤◌, ◌*◌, ◌+◌, ◌⊎◌, ◌++◌, ℕ, List, []}
 use Rattle.std.specs.Prelude.{◌∷◌, map, filter, Bool, true, false, Option, Some, None, length, slice_index_or, nat_eq, nat_lt, count_by, IfSome}
-use Rattle.std.specs.List.{list_any}
+use Rattle.std.specs.List.{list_any, All}
 use Rattle.std.specs.Map.{lookup}
 use Rattle.std.specs.Str.{bytes_eq}
 use Rattle.model.specs.Words.{Text}
 use Rattle.model.specs.Topology.{Topology, IsIn}
 use Rattle.model.specs.Broker.{Consumer, Channel, Broker}
 use Rattle.model.specs.Agreement.{IsAgreed}
+use Rattle.model.specs.Settling.{Rises}
 use Rattle.model.specs.declared.events.Event.{Event}
 use Rattle.model.specs.declared.events.Event.TheVariants.{Command, Resume}
 use Rattle.model.specs.declared.methods.Method.{Method}
@@ -153,6 +154,23 @@ is_listing l m = (l.queue == m.queue) && is_consumer l.consumer m.consumer
 -- the consumer of the listed waiter is there, and takes from the queue
 abbrev pub is_listed_there : Kept → Listing → Bool
 is_listed_there kept l = is_of kept l.queue l.consumer
+
+-- the number of the consumer of a listing, on its channel
+abbrev pub number_of : Listing → ℕ
+number_of l = l.consumer.number
+
+-- numbers rise along a list, so that no consumer is listed twice
+abbrev pub NumbersRise : List Listing → Type 0
+NumbersRise ls = Rises number_of ls
+
+-- those of all that are listed are less than this one
+abbrev pub AreBelow : List Listing → ℕ → Type 0
+AreBelow ls number = All (λ (l : Listing). number_of l < number) ls
+
+-- At this place of the list the listing stands.
+pub record IsListedAt (ls : List Listing) (i : ℕ) (l : Listing) : Type 0 where
+  pub within : i < length ls
+  pub there : (d : Listing) → slice_index_or ls i d ≡ l
 
 -- what is listed on a channel, of what is listed on all channels of its connection
 abbrev pub listings_on : List Listings → ℕ → Listings
@@ -361,27 +379,18 @@ pub record GoesOn (old new : Rounds) : Type 0 where
   pub same : SameOrders old.rounds new.rounds
   pub next : new.next ≡ old.next
 
--- no more waiters stand in a round than twice those that were found there when it was last swept, and one
-abbrev pub AreFew : List Waiter → ℕ → Type 0
-AreFew waiters found = length waiters ≤ 2 * found + 1
+-- no more stand in a list than twice those that were found there when it was last swept, and one
+abbrev pub AreFew : {X : Type 0} → List X → ℕ → Type 0
+AreFew xs found = length xs ≤ 2 * found + 1
 
--- so many were found as before, or the consumers of those that are found now are there
-abbrev pub AreFound : Kept → ℕ → ℕ → List Waiter → ℕ → Type 0
-AreFound kept queue before waiters found = (found ≡ before) ⊎ (found ≤ count_by (has_its_consumer kept queue) waiters)
+-- so many were found as before, or the consumers of those that are found now are there, which this test tells
+abbrev pub AreFound : {X : Type 0} → (X → Bool) → ℕ → List X → ℕ → Type 0
+AreFound is_there before xs found = (found ≡ before) ⊎ (found ≤ count_by is_there xs)
 
 -- How many waiters a round has where one was to be made:
 pub record IsBounded (kept : Kept) (queue : ℕ) (old new : Waiters) : Type 0 where
   pub few : AreFew new.waiters new.found
-  pub found : AreFound kept queue old.found new.waiters new.found
-
--- How many are listed on a channel where one was to be listed:
-pub data AreBounded (kept : Kept) (room : ℕ) (old new : List Listing) : Type 0 where
-  -- no more than were
-  as_many : length new ≤ length old → AreBounded kept room old new
-  -- there was room for them
-  had_room : length new ≤ room → AreBounded kept room old new
-  -- all but one are of consumers that are there
-  all_there : length new ≤ count_by (is_listed_there kept) new + 1 → AreBounded kept room old new
+  pub found : AreFound (has_its_consumer kept queue) old.found new.waiters new.found
 
 -- ---- what stays
 

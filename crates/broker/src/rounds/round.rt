@@ -145,7 +145,7 @@ fn make_room(
     ensures apart { AreDistinct (picks waiters.old.items) → AreDistinct (picks waiters.new.items) }
     ensures line { KeepsThose core.now queue (turned next.old (picks waiters.old.items)) (turned next.new (picks waiters.new.items)) }
     ensures few { length waiters.new.items ≤ 2 * found.new }
-    ensures found { AreFound core.now queue found.old waiters.new.items found.new }
+    ensures found { AreFound (has_its_consumer core.now queue) found.old waiters.new.items found.new }
 {
     let others = waiters.len().saturating_sub(*found);
     if others <= *found {
@@ -176,7 +176,7 @@ fn add_waiter(
     ensures apart { AreDistinct (picks waiters.old.items) → AreDistinct (picks waiters.new.items) }
     ensures line { KeepsOthers core.now queue consumer (turned next.old (picks waiters.old.items)) (turned next.new (picks waiters.new.items)) }
     ensures few { AreFew waiters.new.items found.new }
-    ensures found { AreFound core.now queue found.old waiters.new.items found.new }
+    ensures found { AreFound (has_its_consumer core.now queue) found.old waiters.new.items found.new }
     ensures joined { OnOk result (IsAwake (round_of waiters.new.items awake.new) consumer) }
     ensures kept { KeepsRound core.now queue (round_of waiters.old.items awake.old) (round_of waiters.new.items awake.new) }
 {

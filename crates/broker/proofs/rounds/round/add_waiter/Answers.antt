@@ -3,7 +3,7 @@ use Rattle.std.proofs.lemmas.List.{length-append}
 use Rattle.commands.specs.State.{broker_of}
 use Rattle.broker.specs.declared.rounds.waiters.Waiter.{Waiter}
 use Rattle.broker.specs.Lines.{turned, AreDistinct}
-use Rattle.broker.specs.Rounds.{round_of, picks, awake_waiter, IsInRound, AreFound}
+use Rattle.broker.specs.Rounds.{round_of, picks, awake_waiter, has_its_consumer, IsInRound, AreFound}
 use Rattle.broker.proofs.Later.{others_end, found_end}
 use Rattle.broker.proofs.Picks.{apart_end}
 use Rattle.broker.proofs.Sleeping.{pushed}
@@ -33,5 +33,5 @@ returns-clause-few c =
 
 pub returns-clause-found : goal.returns-clause-found
 returns-clause-found c =
-    subst (λ (xs : List Waiter). AreFound c.args.core.now c.args.queue c.args.found.now xs c.make_room.new.found) (sym c.push_reserved.ensures.items)
-    (found_end c.args.core.now c.args.queue c.args.found.now c.make_room.new.waiters.items (awake_waiter c.args.consumer) c.make_room.new.found c.make_room.ensures.found)
+    subst (λ (xs : List Waiter). AreFound (has_its_consumer c.args.core.now c.args.queue) c.args.found.now xs c.make_room.new.found) (sym c.push_reserved.ensures.items)
+    (found_end (has_its_consumer c.args.core.now c.args.queue) c.args.found.now c.make_room.new.waiters.items (awake_waiter c.args.consumer) c.make_room.new.found c.make_room.ensures.found)
