@@ -13,6 +13,7 @@ mod Picks
 mod Present
 mod Reloading
 mod Rising
+mod Sizing
 mod Sleepers
 mod Sleeping
 mod Standing
