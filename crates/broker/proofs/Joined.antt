@@ -24,7 +24,7 @@ use Rattle.channels.specs.Open.{Open, open_in}
 use Rattle.channels.specs.RunningConnections.{Running, running_in, channel_in, channel_at, connection_at, limits_of}
 use Rattle.commands.specs.State.{Kept, broker_of, topology_kept, names_of}
 use Rattle.commands.specs.Judged.{IsIgnored}
-use Rattle.broker.specs.Rounds.{Rounds, Lists, Listing, round_at, listing, is_of, wakes, HasConsumer, HasJoined, AllAreInRounds, AllAreNoted, IsServing, AllRun, HasNoList, MakesNoList, NotesStay, IsNoted, IsInItsRound, IsAwake, KeepsWaiters, KeepsAll}
+use Rattle.broker.specs.Rounds.{Rounds, Lists, Listing, round_at, listing, is_of, wakes, HasConsumer, AllAreInRounds, AllAreNoted, AllAreFew, IsServing, AllRun, HasNoList, MakesNoList, NotesStay, IsNoted, IsInItsRound, IsAwake, KeepsWaiters, KeepsAll}
 use Rattle.channels.specs.Consumers.{next_number}
 use Rattle.commands.specs.Seats.{next_seat, seat_of, consumed, IsConsumed}
 use Rattle.commands.specs.declared.picks.Pick.{Pick}
@@ -225,18 +225,9 @@ came_there law t kept new e sends notes acts place p has = go (law t b new e sen
     go (inl was) = before was
     go (inr m) = made m
 
--- and has its waiter where the event's waiter is there
-pub joined_next : ConsumersAreMade → (t : Topology) (kept : Kept) (new : Broker) (e : Event) (sends : List Send) (notes : List Note) (rounds : Rounds) → Acts t (broker_of kept) e sends notes new → AreWoken t (broker_of kept) e rounds → AllAreInRounds t (broker_of kept) rounds
-    → IfSome (seat_of kept e) (λ p. (place : ℕ) → IsConsumed t e place → IsAwake (round_at rounds.rounds place) p) → AllAreInRounds t new rounds
-joined_next law t kept new e sends notes rounds acts woken joined next place p has = go (came_there law t kept new e sends notes acts place p has)
-  where
-    go : HasConsumer t (broker_of kept) place p ⊎ (IsConsumed t e place × (seat_of kept e ≡ Some p)) → IsInItsRound new rounds place p
-    go (inl was) = joined_then t (broker_of kept) new e sends notes rounds acts woken joined place p was
-    go (inr (here, is)) = inl (subst (λ (o : Option Pick). IfSome o (λ q. (at : ℕ) → IsConsumed t e at → IsAwake (round_at rounds.rounds at) q)) is next place here)
-
 -- ---- what every broker keeps
 
--- What it keeps but for that what is listed is of connections that run.
+-- What it keeps but for that what is listed is of connections that run, and that its rounds have few.
 pub record Holds (kept : Kept) (r : Rounds) : Type 0 where
   pub agreed : IsAgreed (broker_of kept)
   pub rounds_for : length r.rounds ≡ length (topology_kept kept).queues
@@ -246,8 +237,8 @@ pub record Holds (kept : Kept) (r : Rounds) : Type 0 where
 pub holds : (kept : Kept) (r : Rounds) → IsServing kept r → Holds kept r
 holds kept r serving = record { agreed = serving.agreed; rounds_for = serving.rounds_for; joined = serving.joined; noted = serving.noted }
 
-pub serves : (kept : Kept) (r : Rounds) → Holds kept r → AllRun (broker_of kept) r.lists → IsServing kept r
-serves kept r held running = record { agreed = held.agreed; rounds_for = held.rounds_for; joined = held.joined; noted = held.noted; running = running }
+pub serves : (kept : Kept) (r : Rounds) → Holds kept r → AllRun (broker_of kept) r.lists → AllAreFew r.rounds → IsServing kept r
+serves kept r held running few = record { agreed = held.agreed; rounds_for = held.rounds_for; joined = held.joined; noted = held.noted; running = running; few = few }
 
 -- where no connection ends, and no list is made, what is listed is of connections that run
 pub running_still : (old new : Broker) (before after : Lists) → ((d : ℕ) → new.connection d ≡ None → old.connection d ≡ None) → MakesNoList before after → AllRun old before → AllRun new after
@@ -281,25 +272,39 @@ pub serves_asleep : StayAgreed → ConsumersAreMade → (t : Topology) (old new 
 serves_asleep agrees law t old new e sends notes rounds acts asleep none was is serving =
     serves_still agrees law t old new e sends notes rounds acts (λ place p woken has. absurd (false≢true (sym (asleep p) ∙ woken))) none was is serving
 
--- so does one whose waiter is there
-pub serves_next : StayAgreed → ConsumersAreMade → (old new : Kept) (e : Event) (sends : List Send) (notes : List Note) (rounds : Rounds)
-    → Acts (topology_kept old) (broker_of old) e sends notes (broker_of new) → AreWoken (topology_kept old) (broker_of old) e rounds → topology_kept new ≡ topology_kept old
-    → IfSome (seat_of old e) (λ p. (place : ℕ) → IsConsumed (topology_kept old) e place → HasJoined rounds place p) → Holds old rounds → Holds new rounds
-serves_next agrees law old new e sends notes rounds acts woken is next serving = record {
-  agreed = agrees (topology_kept old) (broker_of old) (broker_of new) e sends notes serving.agreed acts;
-  rounds_for = serving.rounds_for ∙ ap (λ (x : Topology). length x.queues) (sym is);
-  joined = subst (λ (x : Topology). AllAreInRounds x (broker_of new) rounds) (sym is)
-      (joined_next law (topology_kept old) old (broker_of new) e sends notes rounds acts woken serving.joined
-      (if_some (seat_of old e) (λ p. (place : ℕ) → IsConsumed (topology_kept old) e place → HasJoined rounds place p) (λ p. (place : ℕ) → IsConsumed (topology_kept old) e place → IsAwake (round_at rounds.rounds place) p) (λ p up place here. (up place here).awake) next));
-  noted = subst (λ (x : Topology). AllAreNoted x (broker_of new) rounds.lists) (sym is) noted;
-}
-  where
-    noted : AllAreNoted (topology_kept old) (broker_of new) rounds.lists
-    noted place p has = go (came_there law (topology_kept old) old (broker_of new) e sends notes acts place p has)
-      where
-        go : HasConsumer (topology_kept old) (broker_of old) place p ⊎ (IsConsumed (topology_kept old) e place × (seat_of old e ≡ Some p)) → IsNoted rounds.lists (listing place p)
-        go (inl there) = serving.noted place p there
-        go (inr (here, consumer)) = (told_some (seat_of old e) p (λ q. (at : ℕ) → IsConsumed (topology_kept old) e at → HasJoined rounds at q) consumer next place here).noted
+-- The consumer's waiter stands there, awake, and is listed, so that it can fall asleep without memory.
+pub record HasJoined (r : Rounds) (place : ℕ) (p : Pick) : Type 0 where
+  pub awake : IsAwake (round_at r.rounds place) p
+  pub noted : IsNoted r.lists (listing place p)
+
+-- so does one behind which the consumer that it makes comes in
+module _ (agrees : StayAgreed) (law : ConsumersAreMade) (old new : Kept) (e : Event) (sends : List Send) (notes : List Note) (rounds after : Rounds)
+    (acts : Acts (topology_kept old) (broker_of old) e sends notes (broker_of new)) (woken : AreWoken (topology_kept old) (broker_of old) e rounds) (is : topology_kept new ≡ topology_kept old)
+    (next : (place : ℕ) (p : Pick) → IsConsumed (topology_kept old) e place → seat_of old e ≡ Some p → HasJoined after place p)
+    (keeps : KeepsWaiters new rounds after) (lists : after.lists ≡ rounds.lists) (len : length after.rounds ≡ length rounds.rounds) (serving : Holds old rounds) where
+  there : (place : ℕ) (p : Pick) → HasConsumer (topology_kept new) (broker_of new) place p
+      → HasConsumer (topology_kept old) (broker_of old) place p ⊎ (IsConsumed (topology_kept old) e place × (seat_of old e ≡ Some p))
+  there place p has = came_there law (topology_kept old) old (broker_of new) e sends notes acts place p (subst (λ (x : Topology). HasConsumer x (broker_of new) place p) is has)
+
+  joined : AllAreInRounds (topology_kept new) (broker_of new) after
+  joined place p has = elim (there place p has) [
+    | inl was ↦ keeps place p (joined_then (topology_kept old) (broker_of old) (broker_of new) e sends notes rounds acts woken serving.joined place p was) (has_of new place p has)
+    | inr made ↦ inl (next place p made.0 made.1).awake
+  ]
+
+  noted : AllAreNoted (topology_kept new) (broker_of new) after.lists
+  noted place p has = elim (there place p has) [
+    | inl was ↦ subst (λ (ls : Lists). IsNoted ls (listing place p)) (sym lists) (serving.noted place p was)
+    | inr made ↦ (next place p made.0 made.1).noted
+  ]
+
+  pub serves_next : Holds new after
+  serves_next = record {
+    agreed = agrees (topology_kept old) (broker_of old) (broker_of new) e sends notes serving.agreed acts;
+    rounds_for = len ∙ serving.rounds_for ∙ ap (λ (x : Topology). length x.queues) (sym is);
+    joined = joined;
+    noted = noted;
+  }
 
 -- the waiters of consumers that are there are listed as before
 abbrev pub NotesKeep : Kept → Lists → Lists → Type 0

@@ -1,6 +1,6 @@
 -- A waiter is made, and those of consumers that are gone may go: those who are there are gone round as before.
-use Rattle.std.proofs.Common.{◌≡◌, ◌∙◌, ◌<◌, ◌≤◌, ◌+◌, ◌++◌, ◌⊎◌, ℕ, zero, suc, List, [], ◌∷◌, Bool, true, false, cond, length, take, drop, filter, min, inl, inr, refl, sym, ap, subst, arith}
-use Rattle.std.specs.Prelude.{count_by}
+use Rattle.std.proofs.Common.{◌≡◌, ◌∙◌, ◌<◌, ◌≤◌, ◌+◌, ◌++◌, ℕ, zero, suc, List, [], ◌∷◌, Bool, true, false, cond, length, take, drop, filter, min, inl, inr, refl, sym, ap, subst, arith}
+use Rattle.std.specs.Prelude.{count_by, ◌&&◌}
 use Rattle.std.proofs.lemmas.List.{drop_min, take_min, length-append}
 use Rattle.std.proofs.lemmas.List.Elements.{filter-append}
 use Rattle.laws.proofs.Counts.{count-append, count-cons, count-cons_yes}
@@ -11,7 +11,8 @@ use Rattle.broker.specs.Lines.{turned, standing, AreDistinct}
 use Rattle.broker.specs.Rounds.{Waiters, picks, order, is_consumer, has_its_consumer, is_of, KeepsThose, KeepsLine, LetsIn, AreFound}
 use Rattle.broker.proofs.Among.{one_consumer, same_consumer}
 use Rattle.broker.proofs.Picks.{picks_length, picks_swept, picks_end}
-use Rattle.broker.proofs.Standing.{one_more, distinct_turned, filter_twice, filter_end}
+use Rattle.broker.proofs.Standing.{fewer, one_more, distinct_turned, filter_twice, filter_end}
+use Rattle.broker.proofs.Waking.{both, and}
 
 -- ---- a sweep
 
@@ -69,9 +70,20 @@ others_end waiters s next test none = ap (λ (ps : List Pick). filter test (turn
 
 -- where no two are one, and those who were there are gone round as before, this one comes in
 pub lets_in : (kept : Kept) (queue : ℕ) (p : Pick) (old new : Waiters) → AreDistinct (picks new.waiters) → KeepsLine kept queue old new → LetsIn kept queue p old new
-lets_in kept queue p old new apart keeps before after stand more q its =
-    subst (λ (ps : List Pick). standing (is_consumer q) (filter after (order new)) ≤ standing (is_consumer q) ps + 1) (keeps before stand)
-    (one_more (is_consumer q) q (one_consumer q) (same_consumer q) p after before (order new) more (distinct_turned new.next (picks new.waiters) apart) its)
+lets_in kept queue p old new apart keeps before after of wait more q its =
+    let here : standing (is_consumer q) (filter after (order new)) ≤ standing (is_consumer q) (filter left (order old)) + 1 =
+    subst (λ (ps : List Pick). standing (is_consumer q) (filter after (order new)) ≤ standing (is_consumer q) ps + 1) (keeps left (λ x t. (of x (parts x t).0, wait x (parts x t).1)))
+    (one_more (is_consumer q) q (one_consumer q) (same_consumer q) p after left (order new) (λ x a. elim (more x a) [ inl b ↦ inl (and (after x) (before x) a b) | inr e ↦ inr e ]) (distinct_turned new.next (picks new.waiters) apart) its) in
+    let there : standing (is_consumer q) (filter left (order old)) ≤ standing (is_consumer q) (filter before (order old)) =
+    fewer (is_consumer q) q (one_consumer q) (same_consumer q) left before (order old) (λ x i t. (parts x t).1) (λ b. and (after q) (before q) its b) in
+    omega (arith, here, there)
+  where
+    -- who was there before and is there after
+    left : Pick → Bool
+    left x = after x && before x
+
+    parts : (x : Pick) → left x ≡ true → (after x ≡ true) × (before x ≡ true)
+    parts x t = both (after x) (before x) t
 
 -- ---- how many there are
 
@@ -88,15 +100,7 @@ module _ {X : Type 0} (test : X → Bool) where
           by true e le = let more = count-cons_yes test x (filter test xs) e in omega (arith, le, more)
           by false e le = le
 
-  -- one more at the end
-  pub bounded_end : (xs : List X) (x : X) (room : ℕ) → (length xs < room) ⊎ (length xs ≤ count_by test xs) → (length (xs ++ x ∷ []) ≤ room) ⊎ (length (xs ++ x ∷ []) ≤ count_by test (xs ++ x ∷ []) + 1)
-  bounded_end xs x room (inl lt) = let long = length-append xs (x ∷ []) in inl (omega (arith, lt, long))
-  bounded_end xs x room (inr le) =
-      let long = length-append xs (x ∷ []) in
-      let count = count-append test xs (x ∷ []) in
-      inr (omega (arith, le, long, count))
-
--- those that were found are so still
-pub found_end : (kept : Kept) (queue : ℕ) (before : ℕ) (waiters : List Waiter) (s : Waiter) (found : ℕ) → AreFound kept queue before waiters found → AreFound kept queue before (waiters ++ s ∷ []) found
-found_end kept queue before waiters s found (inl same) = inl same
-found_end kept queue before waiters s found (inr le) = let count = count-append (has_its_consumer kept queue) waiters (s ∷ []) in inr (omega (arith, le, count))
+  -- those that were found are so still, where one more comes in at the end
+  pub found_end : (before : ℕ) (xs : List X) (x : X) (found : ℕ) → AreFound test before xs found → AreFound test before (xs ++ x ∷ []) found
+  found_end before xs x found (inl same) = inl same
+  found_end before xs x found (inr le) = let count = count-append test xs (x ∷ []) in inr (omega (arith, le, count))

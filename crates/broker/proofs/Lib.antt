@@ -12,6 +12,8 @@ mod Outcomes
 mod Picks
 mod Present
 mod Reloading
+mod Rising
+mod Sizing
 mod Sleepers
 mod Sleeping
 mod Standing

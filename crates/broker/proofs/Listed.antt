@@ -1,11 +1,9 @@
 -- Lists of the channels: which waiters are listed, and which of them sleep.
-use Rattle.std.proofs.Common.{◌≡◌, ◌∙◌, ◌<◌, ◌≤◌, ◌+◌, ◌++◌, ℕ, zero, suc, List, [], ◌∷◌, Bool, true, false, cond, Some, None, length, get_or, set, filter, inl, inr, refl, sym, ap, subst, arith, if◌then◌else◌}
-use Rattle.std.specs.Prelude.{is_some, ◌==◌}
-use Rattle.std.specs.List.{position_from}
-use Rattle.std.proofs.lemmas.Bool.{eqb-true, eq-eqb, false≢true}
+use Rattle.std.proofs.Common.{◌≡◌, ◌∙◌, ◌<◌, ◌≤◌, ◌+◌, ◌++◌, ℕ, zero, suc, List, [], ◌∷◌, Bool, true, false, length, get_or, set, filter, inl, inr, refl, sym, ap, subst, arith, if◌then◌else◌}
+use Rattle.std.specs.Prelude.{◌==◌}
+use Rattle.std.proofs.lemmas.Bool.{eqb-true, eq-eqb}
 use Rattle.std.proofs.lemmas.Bool.Decides.{leb_tells}
 use Rattle.std.proofs.lemmas.List.{length-append, get_or-set_same, get_or-set_other}
-use Rattle.std.proofs.lemmas.Option.{same_Some}
 use Rattle.model.specs.Topology.{IsIn}
 use Rattle.marks.specs.Places.{bit_of, Differs}
 use Rattle.channels.proofs.Setting.{same_default}
@@ -24,49 +22,6 @@ pub same_listing : (l m : Listing) → is_listing l m ≡ true → l ≡ m
 same_listing l m e =
     let parts = both (l.queue == m.queue) (is_consumer l.consumer m.consumer) e in
     ap (λ (n : ℕ). listing n l.consumer) (eqb-true l.queue m.queue parts.0) ∙ ap (listing m.queue) (same_consumer l.consumer m.consumer parts.1)
-
--- what is found stands at or behind the place from which it is looked for
-far_behind : (l : Listing) (n from : ℕ) (ls : List Listing) → position_from (is_listing l) from ls ≡ Some n → n < from → ⊥
-far_behind l n from [] g far = false≢true (ap is_some g)
-far_behind l n from (y ∷ ys) g far = by (is_listing l y) g (λ h. far_behind l n (from + 1) ys h (omega (arith, far)))
-  where
-    by : (v : Bool) → cond v (Some from) (position_from (is_listing l) (from + 1) ys) ≡ Some n → (position_from (is_listing l) (from + 1) ys ≡ Some n → ⊥) → ⊥
-    by true h more = let at : from ≡ n = same_Some from n h in omega (arith, at, far)
-    by false h more = more h
-
--- where one is found it stands
-pub found_there : (l : Listing) (n i : ℕ) (ls : List Listing) (d : Listing) → position_from (is_listing l) n ls ≡ Some (n + i) → i < length ls → get_or ls i d ≡ l
-found_there l n i [] d e lt = absurd (omega (arith, lt))
-found_there l n zero (x ∷ ls) d e lt = go (is_listing l x) refl e
-  where
-    go : (v : Bool) → is_listing l x ≡ v → cond v (Some n) (position_from (is_listing l) (n + 1) ls) ≡ Some (n + zero) → x ≡ l
-    go true is f = sym (same_listing l x is)
-    go false is f = absurd (far_behind l (n + zero) (n + 1) ls f (omega arith))
-found_there l n (suc i) (x ∷ ls) d e lt =
-    go (is_listing l x) refl e (λ f. let same : n + suc i ≡ n + 1 + i = omega arith in found_there l (n + 1) i ls d (f ∙ ap (λ (q : ℕ). Some q) same) (omega (arith, lt)))
-  where
-    go : (v : Bool) → is_listing l x ≡ v → cond v (Some n) (position_from (is_listing l) (n + 1) ls) ≡ Some (n + suc i) → (position_from (is_listing l) (n + 1) ls ≡ Some (n + suc i) → get_or ls i d ≡ l) → get_or ls i d ≡ l
-    go true is f more = let bad : n ≡ n + suc i = same_Some n (n + suc i) f in absurd (omega (arith, bad))
-    go false is f more = more f
-
--- where any is found it stands
-pub any_listed : (l : Listing) (n : ℕ) (ls : List Listing) → is_some (position_from (is_listing l) n ls) ≡ true → IsIn l ls
-any_listed l n [] e = absurd (false≢true e)
-any_listed l n (x ∷ ls) e = go (is_listing l x) refl e (any_listed l (n + 1) ls)
-  where
-    go : (v : Bool) → is_listing l x ≡ v → is_some (cond v (Some n) (position_from (is_listing l) (n + 1) ls)) ≡ true → (is_some (position_from (is_listing l) (n + 1) ls) ≡ true → IsIn l ls) → IsIn l (x ∷ ls)
-    go true is f more = inl (same_listing l x is)
-    go false is f more = inr (more f)
-
--- none is found where none stands
-pub not_listed : (l : Listing) (n : ℕ) (ls : List Listing) → position_from (is_listing l) n ls ≡ None → IsIn l ls → ⊥
-not_listed l n [] e i = i
-not_listed l n (x ∷ ls) e i = go (is_listing l x) refl e i (not_listed l (n + 1) ls)
-  where
-    go : (v : Bool) → is_listing l x ≡ v → cond v (Some n) (position_from (is_listing l) (n + 1) ls) ≡ None → IsIn l (x ∷ ls) → (position_from (is_listing l) (n + 1) ls ≡ None → IsIn l ls → ⊥) → ⊥
-    go true is f j more = false≢true (sym (ap is_some f))
-    go false is f (inl here) more = false≢true (sym is ∙ ap (is_listing l) (sym here) ∙ one_listing l)
-    go false is f (inr j) more = more f j
 
 -- ---- a list with its bits
 
@@ -112,6 +67,16 @@ keeps_same kept s = record { noted = λ l i its. i; asleep = λ l i its. i }
 pub keeps_grown : (kept : Kept) (all : List Listing) (old new : List ℕ) → ((k : ℕ) → bit_of new k ≡ bit_of old k) → KeepsListings kept (record { all = all; asleep = old }) (record { all = all; asleep = new })
 keeps_grown kept all old new same = record { noted = λ l i its. i; asleep = λ l i its. (i.0, record { within = i.1.within; there = i.1.there; marked = same i.0 ∙ i.1.marked }) }
 
+pub keeps_then : (kept : Kept) (old mid new : Listings) → KeepsListings kept old mid → KeepsListings kept mid new → KeepsListings kept old new
+keeps_then kept old mid new f g = record { noted = λ l i its. g.noted l (f.noted l i its) its; asleep = λ l i its. g.asleep l (f.asleep l i its) its }
+
+-- room is made in a list that was kept
+pub keeps_roomy : (kept : Kept) (old : Listings) (mid : List Listing) (before : List ℕ) (all : List Listing) (marks : List ℕ) → KeepsListings kept old (record { all = mid; asleep = before }) → all ≡ mid → ((k : ℕ) → bit_of marks k ≡ bit_of before k)
+    → KeepsListings kept old (record { all = all; asleep = marks })
+keeps_roomy kept old mid before all marks keeps same bits =
+    let one : Listings = record { all = mid; asleep = before } in
+    keeps_then kept old one (record { all = all; asleep = marks }) keeps (subst (λ (ls : List Listing). KeepsListings kept one (record { all = ls; asleep = marks })) (sym same) (keeps_grown kept mid before marks bits))
+
 -- ---- the lists of all channels
 
 -- one of them changes
@@ -154,7 +119,7 @@ kept_more kept true old new s none is = subst (KeepListingsOn kept old) (sym is)
 kept_more kept false old new s none is = subst (KeepListingsOn kept old) (sym is) (λ h. keeps_same kept (listings_on old h))
 
 pub kept_then : (kept : Kept) (old mid new : List Listings) → KeepListingsOn kept old mid → KeepListingsOn kept mid new → KeepListingsOn kept old new
-kept_then kept old mid new f g h = record { noted = λ l i its. (g h).noted l ((f h).noted l i its) its; asleep = λ l i its. (g h).asleep l ((f h).asleep l i its) its }
+kept_then kept old mid new f g h = keeps_then kept (listings_on old h) (listings_on mid h) (listings_on new h) (f h) (g h)
 
 -- ---- those of a list that sleep are woken
 

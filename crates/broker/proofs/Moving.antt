@@ -52,7 +52,7 @@ marked_moved rounds old new place r lt len stay here m = record {
 }
   where
     none : Waiters
-    none = record { waiters = []; marks = []; next = 0; found = 0 }
+    none = record { waiters = []; marks = []; next = 0; found = 0; capacity = 0 }
 
     go : (q : ℕ) (p : Pick) → IsAwake (round_at (set rounds place r) q) p → (v : Bool) → (q == place) ≡ v → bit_of new q ≡ 1
     go q p up true f =

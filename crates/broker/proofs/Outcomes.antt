@@ -17,6 +17,11 @@ pub on_ok : {A E : Type 0} {X Y : Type 0} (r : Result A E) → (X → Y) → OnO
 on_ok (Ok x) f ok = f ok
 on_ok (Err e) f ok = ok
 
+-- what follows from two facts follows where it succeeds
+pub on_both : {A E : Type 0} {X Y Z : Type 0} (r : Result A E) → (X → Y → Z) → OnOk r X → OnOk r Y → OnOk r Z
+on_both (Ok x) f one two = f one two
+on_both (Err e) f one two = one
+
 -- what follows of whatever is there follows
 pub if_some : {A : Type 0} (o : Option A) (P Q : A → Type 0) → ((x : A) → P x → Q x) → IfSome o P → IfSome o Q
 if_some None P Q f p = p

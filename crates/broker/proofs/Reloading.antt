@@ -25,11 +25,13 @@ use Rattle.commands.proofs.Placing.{takes_within}
 use Rattle.commands.proofs.Reloading.{in_mapped, seen_of, one_place}
 use Rattle.commands.proofs.Stepping.{seen_there}
 use Rattle.exchange_graph.specs.Marks.{queue_name}
-use Rattle.broker.specs.Rounds.{Rounds, Lists, Waiters, round_at, order, has_taker, takes_from, IsAwake, IsInRound, listing, HasConsumer, AllAreInRounds, AllAreNoted, IsNoted, IsServing}
-use Rattle.broker.specs.Moving.{StandsIn, ArePlacesApart, RoundsAreMoved, ListsAreMoved}
+use Rattle.broker.specs.Rounds.{Rounds, Lists, Waiters, round_at, order, has_taker, takes_from, IsAwake, IsInRound, listing, HasConsumer, AllAreInRounds, AllAreNoted, IsNoted, IsServing, AllAreEmpty}
+use Rattle.broker.specs.Moving.{StandsIn, IsMoved, ArePlacesApart, RoundsAreMoved, SizesCome, ListsAreMoved}
+use Rattle.broker.specs.Sizes.{SizesMove}
 use Rattle.broker.specs.Turns.{with_turn}
 use Rattle.broker.specs.Waiting.{line_at, LinesMove}
 use Rattle.broker.proofs.Joined.{Holds, serves, running_still}
+use Rattle.broker.proofs.Sizing.{few_came, size_is}
 use Rattle.broker.proofs.Takers.{line_is}
 
 -- ---- what is held and what is outstanding
@@ -134,17 +136,35 @@ module _ (old new : Kept) (places : List ℕ) (after : IsStoreWhole new.store) (
       let was = was_at place p has in
       subst (λ (n : ℕ). IsNoted left.lists (listing n p)) was.now (lists.noted (listing was.from p) (noted was.from p was.has))
 
-  pub serves_moved : (before left : Rounds) → IsServing old before → RoundsAreMoved places before.rounds left.rounds → ListsAreMoved places before.lists left.lists → length left.rounds ≡ length (topology_kept new).queues → IsServing new left
-  serves_moved before left serving rounds lists len =
+  pub serves_moved : (before empty left : Rounds) → IsServing old before → RoundsAreMoved places before.rounds left.rounds → SizesCome before.rounds empty.rounds left.rounds → AllAreEmpty empty.rounds → ListsAreMoved places before.lists left.lists
+      → length left.rounds ≡ length (topology_kept new).queues → IsServing new left
+  serves_moved before empty left serving rounds came none lists len =
       serves new left
       (record { agreed = agreed_stood (broker_of old) (broker_of new) stood serving.agreed; rounds_for = len; joined = joined_moved before left serving.joined rounds len; noted = noted_moved before left serving.noted lists })
       (running_still (broker_of old) (broker_of new) before.lists left.lists (λ d none. sym (stood.connections d) ∙ none) lists.made serving.running)
+      (few_came before.rounds empty.rounds left.rounds came none serving.few)
 
   -- whoever takes from a queue takes from it still
   takes_still : (q : Text) → takes_from (broker_of new) q ≡ takes_from (broker_of old) q
   takes_still q = fun_ext (λ p. ap (has_taker q p.number) (stood.channels p.connection p.channel))
 
-  -- so each queue that is there still has its line
+  -- the round of each queue that is there still stands at its new place
+  round_moved : (before left : Rounds) → RoundsAreMoved places before.rounds left.rounds → length left.rounds ≡ length (topology_kept new).queues
+      → (from to : ℕ) → from < length (topology_kept old).queues → to < length (topology_kept new).queues → queue_name (topology_kept old) from ≡ queue_name (topology_kept new) to
+      → IsMoved (round_at before.rounds from) (round_at left.rounds to)
+  round_moved before left rounds len from to lt within named =
+      let long = names-length (topology_kept old).queues in
+      let more = names-length (topology_kept new).queues in
+      let size = moved.len in
+      let stands_at : get_or places from 0 ≡ to =
+      elim (moved.each from (omega (arith, lt, long))) [
+        | stays inside is ↦ one_place (names_of new) (get_or places from 0) to after.formed.queues_apart inside (omega (arith, within, more)) (is ∙ named)
+        | goes gone behind ↦ absurd (gone (subst (λ (q : Text). IsIn q (names_of new)) (sym named) (is_in (names_of new) to (omega (arith, within, more)))))
+      ] in
+      let now : place_now places from ≡ to = same_default places from from 0 (omega (arith, lt, long, size)) ∙ stands_at in
+      subst (λ (n : ℕ). IsMoved (round_at before.rounds from) (round_at left.rounds n)) now (rounds from (omega (arith, lt, long, size)) (omega (arith, now, within, len)))
+
+  -- so each has its line
   pub lines_moved : (before left : Rounds) (x : Option Pick) → Holds old before → RoundsAreMoved places before.rounds left.rounds → length left.rounds ≡ length (topology_kept new).queues → left.next ≡ 0
       → LinesMove (with_turn old before x) (with_turn new left None)
   lines_moved before left x held rounds len next = record { next = next; lines = lines }
@@ -152,19 +172,19 @@ module _ (old new : Kept) (places : List ℕ) (after : IsStoreWhole new.store) (
       lines : (from to : ℕ) → from < length (topology_kept old).queues → to < length (topology_kept new).queues → queue_name (topology_kept old) from ≡ queue_name (topology_kept new) to
           → line_at (with_turn new left None) to ≡ line_at (with_turn old before x) from
       lines from to lt within named =
-          let long = names-length (topology_kept old).queues in
-          let more = names-length (topology_kept new).queues in
-          let size = moved.len in
-          let stands_at : get_or places from 0 ≡ to =
-          elim (moved.each from (omega (arith, lt, long))) [
-            | stays inside is ↦ one_place (names_of new) (get_or places from 0) to after.formed.queues_apart inside (omega (arith, within, more)) (is ∙ named)
-            | goes gone behind ↦ absurd (gone (subst (λ (q : Text). IsIn q (names_of new)) (sym named) (is_in (names_of new) to (omega (arith, within, more)))))
-          ] in
-          let now : place_now places from ≡ to = same_default places from from 0 (omega (arith, lt, long, size)) ∙ stands_at in
-          let round = rounds from (omega (arith, lt, long, size)) (omega (arith, now, within, len)) in
-          let same : order (round_at left.rounds to) ≡ order (round_at before.rounds from) = subst (λ (n : ℕ). order (round_at left.rounds n) ≡ order (round_at before.rounds from)) now round.same in
           line_is new left.rounds to len within
           ∙ ap (λ (q : Text). filter (takes_from (broker_of new) q) (order (round_at left.rounds to))) (sym named)
           ∙ ap (λ (test : Pick → Bool). filter test (order (round_at left.rounds to))) (takes_still (queue_name (topology_kept old) from))
-          ∙ ap (filter (takes_from (broker_of old) (queue_name (topology_kept old) from))) same
+          ∙ ap (filter (takes_from (broker_of old) (queue_name (topology_kept old) from))) (round_moved before left rounds len from to lt within named).same
           ∙ sym (line_is old before.rounds from held.rounds_for lt)
+
+  -- and its size
+  pub sizes_moved : (before empty left : Rounds) (x : Option Pick) → RoundsAreMoved places before.rounds left.rounds → SizesCome before.rounds empty.rounds left.rounds → AllAreEmpty empty.rounds
+      → length left.rounds ≡ length (topology_kept new).queues → SizesMove (with_turn old before x) (with_turn new left None)
+  sizes_moved before empty left x rounds came none len = record {
+    sizes = λ from to lt within named. size_is left.rounds to ∙ (round_moved before left rounds len from to lt within named).size ∙ sym (size_is before.rounds from);
+    came = λ to. elim (came to) [
+      | inl same ↦ inl (size_is left.rounds to ∙ same ∙ none to)
+      | inr its ↦ inr (its.0, size_is left.rounds to ∙ its.1 ∙ sym (size_is before.rounds its.0))
+    ];
+  }

@@ -13,7 +13,7 @@ use Rattle.commands.specs.State.{Kept, broker_of}
 use Rattle.commands.specs.Picked.{IsPickFrom, CannotTake}
 use Rattle.commands.specs.declared.picks.Pick.{Pick}
 use Rattle.broker.specs.declared.rounds.waiters.Waiter.{Waiter}
-use Rattle.broker.specs.Rounds.{Waiters, Lists, Listing, round_of, awake_waiter, asleep_waiter, has_its_consumer, is_of, listing, IsAwakeAt, IsAwake, IsAsleep, IsListed, IsInRound, KeepsIn, KeepsRound, ListsMore, ListsStay, NoneAwake, Dozes, FallsAsleep, NoneInRound, StaysAt, Wakens, AllWaken, IsWoken}
+use Rattle.broker.specs.Rounds.{Waiters, Lists, Listing, round_of, picks, awake_waiter, asleep_waiter, has_its_consumer, is_of, listing, IsAwakeAt, IsAwake, IsAsleep, IsListed, IsInRound, KeepsIn, KeepsRound, ListsMore, ListsStay, NoneAwake, Dozes, FallsAsleep, NoneInRound, StaysAt, Wakens, AllWaken, IsWoken}
 use Rattle.broker.proofs.Picks.{picks_set}
 use Rattle.broker.proofs.Among.{stays, place_in, in_at, in_front, front_at}
 
@@ -77,7 +77,7 @@ module _ (waiters : List Waiter) (old new : List ℕ) (place : ℕ) (s : Waiter)
 
   -- it is woken
   pub roused : ((d : Waiter) → get_or waiters place d ≡ s) → Differs (bit_of old) (bit_of new) place 1 → Wakens (round_of waiters old) (round_of (set waiters place (awake_waiter s.pick)) new)
-  roused there d = record { awake = awake; asleep = asleep; same = picks_set waiters place (awake_waiter s.pick) s within (ap (λ (z : Waiter). z.pick) (sym (there s))); next = refl }
+  roused there d = record { awake = awake; asleep = asleep; same = picks_set waiters place (awake_waiter s.pick) s within (ap (λ (z : Waiter). z.pick) (sym (there s))); next = refl; found = refl }
     where
       here : (p : Pick) → s.pick ≡ p → IsAwake (round_of (set waiters place (awake_waiter s.pick)) new) p
       here p is = (place, awake_here (awake_waiter s.pick) p (ap awake_waiter is) d.there)
@@ -226,8 +226,28 @@ joined_woken b lists queue old new p w (inr f) = elim (w.asleep p f.asleep) [
   | inr up ↦ inl up
 ]
 
+-- where the same waiters stand there, and picks look at the same
+pub awake_bits : (old new : Waiters) → new.waiters ≡ old.waiters → ((i : ℕ) → bit_of new.marks i ≡ bit_of old.marks i) → (p : Pick) → IsAwake old p → IsAwake new p
+awake_bits old new same bits p (i, at) = (
+  i,
+  record {
+    within = let lt = at.within in let long = ap length same in omega (arith, lt, long);
+    there = λ d. ap (λ (xs : List Waiter). get_or xs i d) same ∙ at.there d;
+    marked = bits i ∙ at.marked;
+  },
+)
+
+pub waken_bits : (old new : Waiters) → new.waiters ≡ old.waiters → ((i : ℕ) → bit_of new.marks i ≡ bit_of old.marks i) → new.next ≡ old.next → new.found ≡ old.found → Wakens old new
+waken_bits old new same bits next found = record {
+  awake = awake_bits old new same bits;
+  asleep = λ p i. inl (subst (λ (xs : List Waiter). IsIn (asleep_waiter p) xs) (sym same) i);
+  same = ap picks same;
+  next = next;
+  found = found;
+}
+
 pub waken_on : (old mid new : Waiters) → Wakens old mid → Wakens mid new → Wakens old new
-waken_on old mid new v w = record { awake = λ p up. w.awake p (v.awake p up); asleep = λ p i. elim (v.asleep p i) [ inl still ↦ w.asleep p still | inr up ↦ inr (w.awake p up) ]; same = w.same ∙ v.same; next = w.next ∙ v.next }
+waken_on old mid new v w = record { awake = λ p up. w.awake p (v.awake p up); asleep = λ p i. elim (v.asleep p i) [ inl still ↦ w.asleep p still | inr up ↦ inr (w.awake p up) ]; same = w.same ∙ v.same; next = w.next ∙ v.next; found = w.found ∙ v.found }
 
 -- after a sweep picks look at all that are left
 pub swept : (kept : Kept) (queue : ℕ) (old new : Waiters) → new.waiters ≡ filter (has_its_consumer kept queue) old.waiters → ((i : ℕ) → i < length new.waiters → bit_of new.marks i ≡ 1) → KeepsRound kept queue old new

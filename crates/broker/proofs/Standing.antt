@@ -10,8 +10,8 @@ use Rattle.broker.proofs.Lining.{in_either}
 -- ---- how many stand before one
 
 module _ {X : Type 0} (is : X → Bool) (p : X) (own : is p ≡ true) (only : (x : X) → is x ≡ true → p ≡ x) where
-  -- where fewer pass
-  pub fewer : (f g : X → Bool) (xs : List X) → ((x : X) → IsIn x xs → f x ≡ true → g x ≡ true) → f p ≡ true → standing is (filter f xs) ≤ standing is (filter g xs)
+  -- where fewer pass, but this one if it may
+  pub fewer : (f g : X → Bool) (xs : List X) → ((x : X) → IsIn x xs → f x ≡ true → g x ≡ true) → (g p ≡ true → f p ≡ true) → standing is (filter f xs) ≤ standing is (filter g xs)
   fewer f g [] sub its = omega arith
   fewer f g (x ∷ xs) sub its = go (f x) (g x) (is x) refl refl refl (fewer f g xs (λ y i. sub y (inr i)) its)
     where
@@ -23,7 +23,7 @@ module _ {X : Type 0} (is : X → Bool) (p : X) (own : is p ≡ true) (only : (x
           by true = omega arith
           by false = omega (arith, le)
       go true false w a b e le = absurd (false≢true (sym b ∙ sub x (inl refl) a))
-      go false true true a b e le = absurd (false≢true (sym a ∙ ap f (sym (only x e)) ∙ its))
+      go false true true a b e le = absurd (false≢true (sym a ∙ ap f (sym (only x e)) ∙ its (ap g (only x e) ∙ b)))
       go false true false a b e le = subst (λ (z : Bool). standing is (filter f xs) ≤ (if z then 0 else 1 + standing is (filter g xs))) (sym e) (omega (arith, le))
       go false false w a b e le = le
 
@@ -34,7 +34,7 @@ module _ {X : Type 0} (is : X → Bool) (p : X) (own : is p ≡ true) (only : (x
     where
       -- behind the one who passes beside
       rest : g x ≡ false → f x ≡ true → standing is (filter f xs) ≤ standing is (filter g xs)
-      rest b a = fewer f g xs (λ y i e. of y i (sub y e)) its
+      rest b a = fewer f g xs (λ y i e. of y i (sub y e)) (λ v. its)
         where
           here : (g x ≡ true) ⊎ (x ≡ q) → x ≡ q
           here (inl e) = absurd (false≢true (sym b ∙ e))

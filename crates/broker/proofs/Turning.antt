@@ -1,11 +1,10 @@
 -- A broker with its rounds, as its callers see it: who stands in the lines of its queues.
-use Rattle.std.proofs.Common.{◌≡◌, ◌∙◌, ◌<◌, ◌≤◌, ◌+◌, ◌⊎◌, ℕ, List, Bool, true, false, Option, Some, None, length, filter, inl, inr, refl, sym, ap, subst, arith}
+use Rattle.std.proofs.Common.{◌≡◌, ◌∙◌, ◌<◌, ◌≤◌, ◌+◌, ◌⊎◌, ℕ, List, [], Bool, true, false, Option, Some, None, length, filter, get_or, inl, inr, refl, sym, ap, subst, arith}
 use Rattle.std.specs.Prelude.{is_some}
 use Rattle.std.specs.Str.{bytes_eq}
 use Rattle.std.proofs.lemmas.Bool.{false≢true}
 use Rattle.std.proofs.lemmas.Option.{same_Some}
 use Rattle.std.proofs.lemmas.Slice.Eq.{bytes_eq-Decides}
-use Rattle.depot.proofs.Naming.{names-length}
 use Rattle.model.specs.Words.{Text}
 use Rattle.model.specs.Topology.{Topology, IsIn}
 use Rattle.model.specs.declared.events.Event.{Event}
@@ -15,13 +14,14 @@ use Rattle.commands.specs.Picked.{IsPickFrom}
 use Rattle.commands.specs.Seats.{seat_of, consumed, IsConsumed}
 use Rattle.commands.specs.declared.picks.Pick.{Pick}
 use Rattle.broker.specs.Lines.{standing}
-use Rattle.broker.specs.Rounds.{Waiters, Rounds, round_at, order, is_consumer, takes_from, line_of, lines_of, HasConsumer, AllStandIn, KeepLines, LetsNextIn, SameOrders, IsInItsRound, PicksFirst}
+use Rattle.broker.specs.Rounds.{Waiters, Rounds, round_at, order, is_consumer, takes_from, is_of, line_of, lines_of, HasConsumer, AllStandIn, KeepLines, LetsIn, SameOrders, GoesOn, IsInItsRound, PicksFirst}
 use Rattle.broker.specs.Turns.{with_turn}
 use Rattle.broker.specs.Waiting.{line_at, standing_at, AllStand, NoneIsLater, OneComesIn, IsToldInTurn}
 use Rattle.broker.proofs.Among.{one_consumer, same_consumer, stays}
 use Rattle.broker.proofs.Nearer.{in_order, in_turn}
 use Rattle.broker.proofs.Present.{has_picked}
 use Rattle.broker.proofs.Joined.{Holds}
+use Rattle.broker.proofs.Sizing.{sizes_same}
 use Rattle.broker.proofs.Standing.{fewer, passes}
 use Rattle.broker.proofs.Takers.{has_of, has_takes, takes_has, line_is, in_line_of, lines_same}
 
@@ -55,26 +55,12 @@ all_stand kept r x held place p = (into, out)
         let lt = in_line_of kept r.rounds place p i in
         takes_has (topology_kept kept) (broker_of kept) place p lt (passes (test_at kept place) p (order (round_at r.rounds place)) (subst (IsIn p) (is lt) i))
 
--- where those who are there are gone round as before, the lines are as they were
-pub same_turns : (kept : Kept) (old new : Rounds) (x : Option Pick) → Holds kept old → length new.rounds ≡ length old.rounds → KeepLines kept old.rounds new.rounds → new.next ≡ old.next → with_turn kept new x ≡ with_turn kept old x
-same_turns kept old new x held len keeps next = cc (lines, next)
+-- where all go on as before, callers see nothing of it
+pub same_turns : (kept : Kept) (old new : Rounds) (x : Option Pick) → GoesOn old new → with_turn kept new x ≡ with_turn kept old x
+same_turns kept old new x on = cc (lines, on.next, sizes_same old.rounds new.rounds on.len on.sizes)
   where
     lines : lines_of (broker_of kept) (names_of kept) new.rounds ≡ lines_of (broker_of kept) (names_of kept) old.rounds
-    lines =
-        let more = names-length (topology_kept kept).queues in
-        lines_same (broker_of kept) (names_of kept) old.rounds new.rounds len (λ place lt. keeps place (test_at kept place) (stand_in kept old place held (omega (arith, lt, more))))
-
--- ---- one after another
-
-pub keep_then : (kept : Kept) (old mid new : List Waiters) → KeepLines kept old mid → SameOrders mid new → KeepLines kept old new
-keep_then kept old mid new keeps same place test stand = ap (filter test) (same place) ∙ keeps place test stand
-
-pub lets_then : (kept : Kept) (e : Event) (old mid new : List Waiters) → LetsNextIn kept e old mid → SameOrders mid new → LetsNextIn kept e old new
-lets_then kept e old mid new lets same place p here is first last stand more q its =
-    subst (λ (ps : List Pick). standing (is_consumer q) (filter last ps) ≤ standing (is_consumer q) (filter first (order (round_at old place))) + 1) (sym (same place)) (lets place p here is first last stand more q its)
-
-pub orders_then : (old mid new : List Waiters) → SameOrders old mid → SameOrders mid new → SameOrders old new
-orders_then old mid new same more place = more place ∙ same place
+    lines = lines_same (broker_of kept) (names_of kept) old.rounds new.rounds on.len (λ place lt. ap (filter (takes_from (broker_of kept) (get_or (names_of kept) place []))) (on.same place))
 
 -- ---- events
 
@@ -89,18 +75,22 @@ module _ (old new : Kept) (r s : Rounds) (x y : Option Pick) (is : topology_kept
       line_is new s.rounds place (len ∙ held.rounds_for ∙ ap (λ (z : Topology). length z.queues) (sym is)) (subst (λ (z : Topology). place < length z.queues) (sym is) lt)
       ∙ ap (λ (z : Topology). line_of (broker_of new) (queue_name z place) (round_at s.rounds place)) is
 
+  -- whoever takes from the queue after it passes the test
+  there : (place : ℕ) → place < length t.queues → (q : Pick) → takes_from (broker_of new) (queue_name t place) q ≡ true → is_of new place q ≡ true
+  there place lt q e = has_of new place q (subst (λ (z : Topology). HasConsumer z (broker_of new) place q) (sym is) (takes_has t (broker_of new) place q lt e))
+
   -- where those who were there are gone round as before, and nobody came
-  pub not_later : (place : ℕ) (p : Pick) → KeepLines old r.rounds s.rounds → ((q : Pick) → HasConsumer t (broker_of new) place q → HasConsumer t (broker_of old) place q) → HasConsumer t (broker_of new) place p
+  pub not_later : (place : ℕ) (p : Pick) → KeepLines new r.rounds s.rounds → ((q : Pick) → HasConsumer t (broker_of new) place q → HasConsumer t (broker_of old) place q) → HasConsumer t (broker_of new) place p
       → standing_at (with_turn new s y) place p ≤ standing_at (with_turn old r x) place p
   not_later place p keeps was has =
       let f = takes_from (broker_of new) (queue_name t place) in
       let g = takes_from (broker_of old) (queue_name t place) in
       let lt = has.within in
       let sub : (q : Pick) → f q ≡ true → g q ≡ true = λ q e. has_takes t (broker_of old) place q (was q (takes_has t (broker_of new) place q lt e)) in
-      let same : filter f (order (round_at s.rounds place)) ≡ filter f (order (round_at r.rounds place)) = keeps place f (λ q e. stand_in old r place held lt q (sub q e)) in
+      let same : filter f (order (round_at s.rounds place)) ≡ filter f (order (round_at r.rounds place)) = keeps place f (λ q e. (there place lt q e, (stand_in old r place held lt q (sub q e)).1)) in
       subst (λ (ps : List Pick). standing (is_consumer p) ps ≤ standing_at (with_turn old r x) place p) (sym (line_then place lt ∙ same))
       (subst (λ (ps : List Pick). standing (is_consumer p) (filter f (order (round_at r.rounds place))) ≤ standing (is_consumer p) ps) (sym (line_is old r.rounds place held.rounds_for lt))
-      (fewer (is_consumer p) p (one_consumer p) (same_consumer p) f g (order (round_at r.rounds place)) (λ q i e. sub q e) (has_takes t (broker_of new) place p has)))
+      (fewer (is_consumer p) p (one_consumer p) (same_consumer p) f g (order (round_at r.rounds place)) (λ q i e. sub q e) (λ v. has_takes t (broker_of new) place p has)))
 
   pub none_later : SameOrders r.rounds s.rounds → s.next ≡ r.next → ((place : ℕ) (q : Pick) → HasConsumer t (broker_of new) place q → HasConsumer t (broker_of old) place q) → NoneIsLater (with_turn old r x) (with_turn new s y)
   none_later same next was = record {
@@ -110,7 +100,8 @@ module _ (old new : Kept) (r s : Rounds) (x y : Option Pick) (is : topology_kept
   }
 
   -- where one came that the event makes
-  module _ (e : Event) (keeps : KeepLines old r.rounds s.rounds) (comes : LetsNextIn old e r.rounds s.rounds) (next : s.next ≡ r.next)
+  module _ (e : Event) (keeps : KeepLines new r.rounds s.rounds)
+      (comes : (place : ℕ) (q : Pick) → IsConsumed t e place → seat_of old e ≡ Some q → LetsIn new place q (round_at r.rounds place) (round_at s.rounds place)) (next : s.next ≡ r.next)
       (came : (place : ℕ) (q : Pick) → HasConsumer t (broker_of new) place q → HasConsumer t (broker_of old) place q ⊎ (IsConsumed t e place × (seat_of old e ≡ Some q))) where
     abbrev Later : ℕ → Pick → Type 0
     Later place p = standing_at (with_turn new s y) place p ≤ standing_at (with_turn old r x) place p + 1
@@ -130,7 +121,7 @@ module _ (old new : Kept) (r s : Rounds) (x y : Option Pick) (is : topology_kept
         λ q e'. elim (came place q (takes_has t (broker_of new) place q lt e')) [ inl was ↦ inl (has_takes t (broker_of old) place q was) | inr both ↦ inr (same_Some q c (sym both.1 ∙ f)) ] in
         subst (λ (ps : List Pick). standing (is_consumer p) ps ≤ standing_at (with_turn old r x) place p + 1) (sym (line_then place lt))
         (subst (λ (ps : List Pick). standing (is_consumer p) (filter f' (order (round_at s.rounds place))) ≤ standing (is_consumer p) ps + 1) (sym (line_is old r.rounds place held.rounds_for lt))
-        (comes place c here f g f' (stand_in old r place held lt) sub p (has_takes t (broker_of new) place p has)))
+        (comes place c here f g f' (there place lt) (λ q e'. (stand_in old r place held lt q e').1) sub p (has_takes t (broker_of new) place p has)))
 
     -- in each other
     in_other : (place : ℕ) (p : Pick) → (IsConsumed t e place → ⊥) → HasConsumer t (broker_of new) place p → standing_at (with_turn new s y) place p ≤ standing_at (with_turn old r x) place p

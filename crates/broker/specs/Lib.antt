@@ -1,5 +1,6 @@
 pub mod Lines
 pub mod Moving
 pub mod Rounds
+pub mod Sizes
 pub mod Turns
 pub mod Waiting

@@ -3,7 +3,7 @@ use Rattle.std.specs.Prelude.{◌≡◌, ◌<◌, ◌⊎◌, ℕ, List, map, len
 use Rattle.channels.specs.Moving.{place_now}
 use Rattle.commands.specs.declared.picks.Pick.{Pick}
 use Rattle.broker.specs.declared.rounds.waiters.Waiter.{Waiter}
-use Rattle.broker.specs.Rounds.{Waiters, Lists, Listing, Listings, round_at, order, awake_waiter, IsAwake, IsAsleep, IsNoted, MakesNoList}
+use Rattle.broker.specs.Rounds.{Waiters, Lists, Listing, Listings, round_at, order, size_of, awake_waiter, IsAwake, IsAsleep, IsNoted, MakesNoList}
 
 -- ---- rounds
 
@@ -19,10 +19,11 @@ StandsIn r p = IsAwake r p ⊎ IsAsleep r p
 abbrev pub AllRoused : Waiters → Waiters → Type 0
 AllRoused old new = (p : Pick) → StandsIn old p → IsAwake new p
 
--- Each waiter of the one round stands in the other, awake, and that is gone round as the one was.
+-- Each waiter of the one round stands in the other, awake, which is gone round as the one was, and is as large.
 pub record IsMoved (old new : Waiters) : Type 0 where
   pub roused : AllRoused old new
   pub same : order new ≡ order old
+  pub size : size_of new ≡ size_of old
 
 -- no two entries of the table are one of so many places
 abbrev pub ArePlacesApart : List ℕ → ℕ → Type 0
@@ -32,6 +33,15 @@ ArePlacesApart places count = (i j : ℕ) → i < length places → j < length p
 abbrev pub RoundsAreMoved : List ℕ → List Waiters → List Waiters → Type 0
 RoundsAreMoved places old new = (from : ℕ) → from < length places → place_now places from < length new
     → IsMoved (round_at old from) (round_at new (place_now places from))
+
+-- the round is as large as the one of these, or as the other
+abbrev pub IsOfEither : Waiters → Waiters → Waiters → Type 0
+IsOfEither one other new = (size_of new ≡ size_of one) ⊎ (size_of new ≡ size_of other)
+
+-- each round is as large as it was before, or as one of the old was
+abbrev pub SizesCome : List Waiters → List Waiters → List Waiters → Type 0
+SizesCome old before new = (at : ℕ) → (size_of (round_at new at) ≡ size_of (round_at before at))
+    ⊎ ((from : ℕ) × (size_of (round_at new at) ≡ size_of (round_at old from)))
 
 -- ---- lists
 

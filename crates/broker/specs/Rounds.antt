@@ -1,13 +1,14 @@
 -- The consumers of all channels by their numbers, over which deliveries go round, and which of them are passed over (own).
 use Rattle.std.specs.Prelude.{◌≡◌, ◌==◌, ◌&&◌, ◌<◌, ◌≤◌, ◌*◌, ◌+◌, ◌⊎◌, ◌++◌, ℕ, List, []}
 use Rattle.std.specs.Prelude.{◌∷◌, map, filter, Bool, true, false, Option, Some, None, length, slice_index_or, nat_eq, nat_lt, count_by, IfSome}
-use Rattle.std.specs.List.{list_any}
+use Rattle.std.specs.List.{list_any, All}
 use Rattle.std.specs.Map.{lookup}
 use Rattle.std.specs.Str.{bytes_eq}
 use Rattle.model.specs.Words.{Text}
 use Rattle.model.specs.Topology.{Topology, IsIn}
 use Rattle.model.specs.Broker.{Consumer, Channel, Broker}
 use Rattle.model.specs.Agreement.{IsAgreed}
+use Rattle.model.specs.Settling.{Rises}
 use Rattle.model.specs.declared.events.Event.{Event}
 use Rattle.model.specs.declared.events.Event.TheVariants.{Command, Resume}
 use Rattle.model.specs.declared.methods.Method.{Method}
@@ -22,6 +23,7 @@ use Rattle.commands.specs.Seats.{seat_of, IsConsumed}
 use Rattle.commands.specs.declared.picks.Pick.{Pick}
 use Rattle.broker.specs.declared.rounds.finding.Found.{Found}
 use Rattle.broker.specs.declared.rounds.finding.Found.TheVariants.{Able, Unable, Over}
+use Rattle.broker.specs.declared.rounds.waiters.Newcomer.{Newcomer}
 use Rattle.broker.specs.declared.rounds.waiters.Waiter.{Waiter}
 use Rattle.broker.specs.Lines.{turned, standing, IsPassed}
 
@@ -35,6 +37,8 @@ pub record Waiters : Type 0 where
   pub next : ℕ
   -- how many were found there when it was last swept
   pub found : ℕ
+  -- how many have room
+  pub capacity : ℕ
 
 -- The waiter of a consumer, by its numbers, and the place of the queue in whose round it is.
 pub record Listing : Type 0 where
@@ -59,11 +63,11 @@ pub record Rounds : Type 0 where
 
 -- the waiters of the consumers of the queue at this place, where each queue has such a round
 abbrev pub round_at : List Waiters → ℕ → Waiters
-round_at rounds place = slice_index_or rounds place (record { waiters = []; marks = []; next = 0; found = 0 })
+round_at rounds place = slice_index_or rounds place (record { waiters = []; marks = []; next = 0; found = 0; capacity = 0 })
 
 -- waiters and their bits, gone round from the first
 abbrev pub round_of : List Waiter → List ℕ → Waiters
-round_of waiters marks = record { waiters = waiters; marks = marks; next = 0; found = 0 }
+round_of waiters marks = record { waiters = waiters; marks = marks; next = 0; found = 0; capacity = 0 }
 
 -- rounds, and what sleeps, gone round from the first
 abbrev pub rounds_of : List Waiters → Lists → Rounds
@@ -154,6 +158,23 @@ is_listing l m = (l.queue == m.queue) && is_consumer l.consumer m.consumer
 abbrev pub is_listed_there : Kept → Listing → Bool
 is_listed_there kept l = is_of kept l.queue l.consumer
 
+-- the number of the consumer of a listing, on its channel
+abbrev pub number_of : Listing → ℕ
+number_of l = l.consumer.number
+
+-- numbers rise along a list, so that no consumer is listed twice
+abbrev pub NumbersRise : List Listing → Type 0
+NumbersRise ls = Rises number_of ls
+
+-- those of all that are listed are less than this one
+abbrev pub AreBelow : List Listing → ℕ → Type 0
+AreBelow ls number = All (λ (l : Listing). number_of l < number) ls
+
+-- At this place of the list the listing stands.
+pub record IsListedAt (ls : List Listing) (i : ℕ) (l : Listing) : Type 0 where
+  pub within : i < length ls
+  pub there : (d : Listing) → slice_index_or ls i d ≡ l
+
 -- what is listed on a channel, of what is listed on all channels of its connection
 abbrev pub listings_on : List Listings → ℕ → Listings
 listings_on channels h = slice_index_or channels h (record { all = []; asleep = [] })
@@ -202,14 +223,26 @@ IsInRound b lists queue r p = IsAwake r p ⊎ Sleeps b lists queue r.waiters p
 abbrev pub IsInItsRound : Broker → Rounds → ℕ → Pick → Type 0
 IsInItsRound b r place p = IsInRound b r.lists place (round_at r.rounds place) p
 
--- The consumer's waiter stands there, awake, and is listed, so that it can fall asleep without memory.
-pub record HasJoined (r : Rounds) (place : ℕ) (p : Pick) : Type 0 where
-  pub awake : IsAwake (round_at r.rounds place) p
-  pub noted : IsNoted r.lists (listing place p)
+-- ---- one who comes in
 
--- the consumer that this event is to make waits in its round
-abbrev pub JoinsNext : Kept → Event → Rounds → Type 0
-JoinsNext kept e r = IfSome (seat_of kept e) (λ p. (place : ℕ) → IsConsumed (topology_kept kept) e place → HasJoined r place p)
+-- There is room for one waiter more, and for its bit.
+pub record HasRoom (r : Waiters) : Type 0 where
+  pub waiter : length r.waiters < r.capacity
+  pub mark : length r.waiters + 1 ≤ length r.marks * 64
+
+-- The newcomer can wait in its round.
+pub record CanJoin (r : Rounds) (n : Newcomer) : Type 0 where
+  pub within : n.queue < length r.rounds
+  pub room : HasRoom (round_at r.rounds n.queue)
+
+-- it is this consumer, of the queue at this place, and is listed, so that it can fall asleep without memory
+abbrev pub IsNewcomer : Rounds → ℕ → Pick → Option Newcomer → Type 0
+IsNewcomer r place p newcomer = (newcomer ≡ Some (record { queue = place; consumer = p })) × IsNoted r.lists (listing place p)
+
+-- The newcomer, if there is one, can wait in its round, and the consumer that this event is to make is it.
+pub record IsExpected (kept : Kept) (e : Event) (r : Rounds) (newcomer : Option Newcomer) : Type 0 where
+  pub room : IfSome newcomer (CanJoin r)
+  pub told : (place : ℕ) (p : Pick) → IsConsumed (topology_kept kept) e place → seat_of kept e ≡ Some p → IsNewcomer r place p newcomer
 
 -- ---- what every broker keeps
 
@@ -237,6 +270,14 @@ HasNoList lists c = lookup (nat_eq c) lists ≡ None
 abbrev pub AllRun : Broker → Lists → Type 0
 AllRun b lists = (c : ℕ) → b.connection c ≡ None → HasNoList lists c
 
+-- no more stand in a list than twice those that were found there when it was last swept, and one
+abbrev pub AreFew : {X : Type 0} → List X → ℕ → Type 0
+AreFew xs found = length xs ≤ 2 * found + 1
+
+-- each round has few
+abbrev pub AllAreFew : List Waiters → Type 0
+AllAreFew rounds = (place : ℕ) → AreFew (round_at rounds place).waiters (round_at rounds place).found
+
 -- What every broker keeps:
 pub record IsServing (kept : Kept) (r : Rounds) : Type 0 where
   pub agreed : IsAgreed (broker_of kept)
@@ -246,6 +287,8 @@ pub record IsServing (kept : Kept) (r : Rounds) : Type 0 where
   pub noted : AllAreNoted (topology_kept kept) (broker_of kept) r.lists
   -- of a connection that runs no more nothing is listed
   pub running : AllRun (broker_of kept) r.lists
+  -- no round keeps many whose consumers are gone
+  pub few : AllAreFew r.rounds
 
 -- ---- which queues are gone over
 
@@ -344,44 +387,62 @@ KeepsLine kept queue old new = (test : Pick → Bool) → AllStandIn kept queue 
 abbrev pub KeepLines : Kept → List Waiters → List Waiters → Type 0
 KeepLines kept old new = (place : ℕ) → KeepsLine kept place (round_at old place) (round_at new place)
 
+-- whoever passes this test stands in the line
+abbrev pub AllWait : (Pick → Bool) → List Pick → Type 0
+AllWait test line = (p : Pick) → test p ≡ true → IsIn p line
+
 -- and where this one joins them, each has at most one more before it
 abbrev pub LetsIn : Kept → ℕ → Pick → Waiters → Waiters → Type 0
-LetsIn kept queue p old new = (before after : Pick → Bool) → AllStandIn kept queue before (order old)
+LetsIn kept queue p old new = (before after : Pick → Bool) → AllAreOf kept queue after → AllWait before (order old)
     → ((q : Pick) → after q ≡ true → (before q ≡ true) ⊎ (q ≡ p))
     → (q : Pick) → after q ≡ true → standing (is_consumer q) (filter after (order new)) ≤ standing (is_consumer q) (filter before (order old)) + 1
 
--- so it is in the round of the queue from which this event is to make a consumer
-abbrev pub LetsNextIn : Kept → Event → List Waiters → List Waiters → Type 0
-LetsNextIn kept e old new = (place : ℕ) (p : Pick) → IsConsumed (topology_kept kept) e place → seat_of kept e ≡ Some p
-    → LetsIn kept place p (round_at old place) (round_at new place)
+-- so it is where the newcomer joins them
+abbrev pub LetsNewcomerIn : Kept → List Waiters → List Waiters → Newcomer → Type 0
+LetsNewcomerIn kept old new n = LetsIn kept n.queue n.consumer (round_at old n.queue) (round_at new n.queue)
+
+-- ---- how many wait
+
+-- How many waiters a round keeps, and how many were found there when it was last swept.
+pub record Size : Type 0 where
+  pub kept : ℕ
+  pub found : ℕ
+
+-- the size of a round
+abbrev pub size_of : Waiters → Size
+size_of r = record { kept = length r.waiters; found = r.found }
+
+-- no waiter is kept, and none was found
+abbrev pub no_waiters : Size
+no_waiters = record { kept = 0; found = 0 }
+
+-- so it is in each round
+abbrev pub AllAreEmpty : List Waiters → Type 0
+AllAreEmpty rounds = (at : ℕ) → size_of (round_at rounds at) ≡ no_waiters
+
+-- each round is as large as before
+abbrev pub SameSizes : List Waiters → List Waiters → Type 0
+SameSizes old new = (at : ℕ) → size_of (round_at new at) ≡ size_of (round_at old at)
 
 -- The rounds go on as before, and so do the queues.
 pub record GoesOn (old new : Rounds) : Type 0 where
   pub len : length new.rounds ≡ length old.rounds
   pub same : SameOrders old.rounds new.rounds
+  pub sizes : SameSizes old.rounds new.rounds
   pub next : new.next ≡ old.next
 
--- no more waiters stand in a round than twice those that were found there when it was last swept, and one
-abbrev pub AreFew : List Waiter → ℕ → Type 0
-AreFew waiters found = length waiters ≤ 2 * found + 1
+-- so many were found as before, or the consumers of those that are found now are there, which this test tells
+abbrev pub AreFound : {X : Type 0} → (X → Bool) → ℕ → List X → ℕ → Type 0
+AreFound is_there before xs found = (found ≡ before) ⊎ (found ≤ count_by is_there xs)
 
--- so many were found as before, or the consumers of those that are found now are there
-abbrev pub AreFound : Kept → ℕ → ℕ → List Waiter → ℕ → Type 0
-AreFound kept queue before waiters found = (found ≡ before) ⊎ (found ≤ count_by (has_its_consumer kept queue) waiters)
-
--- How many waiters a round has where one was to be made:
+-- How many waiters a round has where one was to come in:
 pub record IsBounded (kept : Kept) (queue : ℕ) (old new : Waiters) : Type 0 where
-  pub few : AreFew new.waiters new.found
-  pub found : AreFound kept queue old.found new.waiters new.found
+  pub few : AreFew old.waiters old.found → AreFew new.waiters new.found
+  pub found : AreFound (has_its_consumer kept queue) old.found new.waiters new.found
 
--- How many are listed on a channel where one was to be listed:
-pub data AreBounded (kept : Kept) (room : ℕ) (old new : List Listing) : Type 0 where
-  -- no more than were
-  as_many : length new ≤ length old → AreBounded kept room old new
-  -- there was room for them
-  had_room : length new ≤ room → AreBounded kept room old new
-  -- all but one are of consumers that are there
-  all_there : length new ≤ count_by (is_listed_there kept) new + 1 → AreBounded kept room old new
+-- so it is in each round
+abbrev pub AllAreBounded : Kept → List Waiters → List Waiters → Type 0
+AllAreBounded kept old new = (place : ℕ) → IsBounded kept place (round_at old place) (round_at new place)
 
 -- ---- what stays
 
@@ -484,6 +545,7 @@ pub record Wakens (old new : Waiters) : Type 0 where
   pub asleep : (p : Pick) → IsAsleep old p → IsAsleep new p ⊎ IsAwake new p
   pub same : picks new.waiters ≡ picks old.waiters
   pub next : new.next ≡ old.next
+  pub found : new.found ≡ old.found
 
 -- in each round
 abbrev pub AllWaken : List Waiters → List Waiters → Type 0

@@ -78,6 +78,7 @@ impl Broker {
     ghost use Rattle.commands.specs.Judged.{IsAsked, WantsNoMemory};
     ghost use Rattle.commands.specs.Picked.{IsPick};
     ghost use Rattle.commands.specs.declared.picks.Pick.{Pick as Consumer};
+    ghost use Rattle.broker.specs.Sizes.{NoneWait, KeepsFew, SizesMove};
     ghost use Rattle.broker.specs.Turns.{broker_of, topology_kept};
     ghost use Rattle.broker.specs.Waiting.{AllStand, NoneIsLater, OneComesIn, IsToldInTurn, LinesMove, ServesSoon};
     ghost use Rattle.replies.specs.Sent.{AreAddressed, connection_of_event};
@@ -86,6 +87,7 @@ impl Broker {
     pub fn new(alloc: Global, topology: Topology) -> Result<Broker, AllocError>
         ensures topology { IfOk result (λ b. topology_kept b ≡ topology) }
         ensures empty { IfOk result (λ b. Is nothing (broker_of b)) }
+        ensures none { IfOk result NoneWait }
     {
         brokers_stay_agreed();
         let rounds = ConsumerRounds::new(alloc, topology.queues().len())?;
@@ -108,14 +110,16 @@ impl Broker {
         ensures topology { topology_kept self.new ≡ topology_kept self.old }
         ensures turn { self.new.turn ≡ self.old.turn }
         ensures later { OnOk result (OneComesIn event.now self.old self.new) }
+        ensures few { KeepsFew self.old self.new }
         ensures err { OnErr result (self.new ≡ self.old) }
         ensures quiet { WantsNoMemory (topology_kept self.old) (broker_of self.old) event.now → IsOk result }
     {
         brokers_stay_agreed();
         consumers_are_made();
-        self.rounds.join_next(alloc, &self.core, event)?;
         self.rounds.wake_for(event);
+        let newcomer = self.rounds.expect_next(alloc, &self.core, event)?;
         let acted = self.core.step(alloc, event)?;
+        self.rounds.join(&self.core, newcomer);
         if !acted.has_ended {
             return Ok(acted.step);
         }
@@ -137,6 +141,7 @@ impl Broker {
         ensures turn { self.new.turn ≡ result }
         ensures stand { AllStand self.old }
         ensures in_turn { IsToldInTurn self.old result self.new }
+        ensures sizes { self.new.sizes ≡ self.old.sizes }
         ensures again { (p : Consumer) → self.old.turn ≡ Some p → IsPick (broker_of self.old) p → result ≡ Some p }
         ensures some { IfSome result (λ p. IsPick (broker_of self.old) p) }
         ensures none { result ≡ None → (c : ℕ) → CanDeliver (broker_of self.old) c → ⊥ }
@@ -152,6 +157,7 @@ impl Broker {
         ensures kept { self.new.kept ≡ self.old.kept }
         ensures turn { self.new.turn ≡ result }
         ensures in_turn { IsToldInTurn self.old result self.new }
+        ensures sizes { self.new.sizes ≡ self.old.sizes }
         ensures some { IfSome result (λ p. IsPick (broker_of self.old) p) }
         ensures none { result ≡ None → (c : ℕ) → CanDeliver (broker_of self.old) c → ⊥ }
     {
@@ -171,6 +177,7 @@ impl Broker {
             → AreNamed (topology_kept self.old) (broker_of self.old) → AreAddressed pick.connection s.sends.items) }
         ensures over { OnOk result (self.new.turn ≡ None) }
         ensures later { OnOk result (NoneIsLater self.old self.new) }
+        ensures sizes { self.new.sizes ≡ self.old.sizes }
         ensures soon { OnOk result (ServesSoon self.old pick) }
         ensures topology { topology_kept self.new ≡ topology_kept self.old }
         ensures err { OnErr result (self.new ≡ self.old) }
@@ -196,6 +203,7 @@ impl Broker {
         ensures topology { topology_kept self.new ≡ topology_kept self.old }
         ensures turn { self.new.turn ≡ self.old.turn }
         ensures later { OnOk result (NoneIsLater self.old self.new) }
+        ensures sizes { self.new.sizes ≡ self.old.sizes }
         ensures err { OnErr result (self.new ≡ self.old) }
     {
         brokers_stay_agreed();
@@ -209,6 +217,7 @@ impl Broker {
         ensures topology { topology_kept self.new ≡ topology_kept self.old }
         ensures turn { self.new.turn ≡ self.old.turn }
         ensures later { NoneIsLater self.old self.new }
+        ensures sizes { self.new.sizes ≡ self.old.sizes }
     {
         brokers_stay_agreed();
         consumers_are_made();
@@ -222,6 +231,7 @@ impl Broker {
         ensures topology { topology_kept self.new ≡ topology_kept self.old }
         ensures turn { self.new.turn ≡ self.old.turn }
         ensures later { NoneIsLater self.old self.new }
+        ensures sizes { self.new.sizes ≡ self.old.sizes }
     {
         brokers_stay_agreed();
         consumers_are_made();
@@ -234,6 +244,7 @@ impl Broker {
         ensures topology { topology_kept self.new ≡ topology_kept self.old }
         ensures turn { self.new.turn ≡ self.old.turn }
         ensures later { NoneIsLater self.old self.new }
+        ensures sizes { self.new.sizes ≡ self.old.sizes }
     {
         brokers_stay_agreed();
         consumers_are_made();
@@ -265,6 +276,7 @@ impl Broker {
         ensures stood { OnOk result (Is (with_all_stood (broker_of self.old)) (broker_of self.new)) }
         ensures turn { OnOk result (self.new.turn ≡ None) }
         ensures lines { OnOk result (LinesMove self.old self.new) }
+        ensures sizes { OnOk result (SizesMove self.old self.new) }
         ensures err { OnErr result (self.new ≡ self.old) }
     {
         let empty = ConsumerRounds::new(alloc, topology.queues().len())?;

@@ -6,6 +6,7 @@
 
 mod brokers;
 mod rounds;
+mod sizes;
 mod turns;
 mod waiting;
 
@@ -13,4 +14,5 @@ pub use brokers::Broker;
 pub use commands::Pick;
 pub use model::Event;
 pub use replies::Step;
+pub use sizes::nothing_grows;
 pub use waiting::nobody_waits;

@@ -20,6 +20,7 @@ use crate::rounds::queue_rounds::QueueRounds;
 use crate::rounds::sleepers::{
     Sleepers, forget_connection, move_sleepers, note_waiter, wake_connection,
 };
+use crate::rounds::waiters::Newcomer;
 use commands::{Core, Pick};
 use model::{Event, Method};
 use std::alloc::{AllocError, Global};
@@ -66,13 +67,15 @@ impl ConsumerRounds {
     ghost use Rattle.commands.specs.State.{Kept, broker_of, topology_kept};
     ghost use Rattle.commands.specs.Picked.{IsPickFrom};
     ghost use Rattle.commands.specs.Seats.{seat_of};
-    ghost use Rattle.broker.specs.Rounds.{wakes, AllAreNoted, IsAt, IsInItsRound, JoinsNext, HasNoList, MakesNoList, NotesStay, KeepLists, ListsRunning};
-    ghost use Rattle.broker.specs.Rounds.{KeepsWaiters, KeepsAll, KeepLines, LetsNextIn, AllWaken, WakesWaiter, PicksFirst, GoesOn};
-    ghost use Rattle.broker.specs.Moving.{ArePlacesApart, RoundsAreMoved, ListsAreMoved};
+    ghost use Rattle.broker.specs.Rounds.{round_at, wakes, AllAreNoted, IsAt, IsAwake, IsInItsRound, IsExpected, CanJoin, HasNoList, MakesNoList, NotesStay};
+    ghost use Rattle.broker.specs.Rounds.{KeepLists, ListsRunning, KeepsWaiters, KeepsAll, KeepLines, LetsNewcomerIn, AllAreBounded, AllWaken, WakesWaiter};
+    ghost use Rattle.broker.specs.Rounds.{PicksFirst, GoesOn, SameSizes, AllAreEmpty};
+    ghost use Rattle.broker.specs.Moving.{ArePlacesApart, RoundsAreMoved, SizesCome, ListsAreMoved};
 
     /// No waiter, for so many queues.
     pub fn new(alloc: Global, queues: usize) -> Result<ConsumerRounds, AllocError>
         ensures rounds { IfOk result (λ r. length r.rounds ≡ queues) }
+        ensures empty { IfOk result (λ r. AllAreEmpty r.rounds) }
         ensures lists { IfOk result (λ r. r.lists ≡ []) }
         ensures next { IfOk result (λ r. r.next ≡ 0) }
     {
@@ -83,28 +86,50 @@ impl ConsumerRounds {
         })
     }
 
-    /// The consumer that this event is to make, if any, waits in the round of its queue from now on, awake, and is listed for when it sleeps.
-    /// Where memory is wanting it may not; no waiter of a consumer that is there is gone.
-    pub fn join_next(&mut self, alloc: Global, core: &Core, event: &Event) -> Result<(), AllocError>
+    /// The consumer that this event is to make, if any: it is listed for when it sleeps, and there is room for its waiter in the round of
+    /// its queue. Where memory is wanting it may not be; no waiter of a consumer that is there is gone, and all go on as before.
+    pub fn expect_next(
+        &mut self,
+        alloc: Global,
+        core: &Core,
+        event: &Event,
+    ) -> Result<Option<Newcomer>, AllocError>
         requires { length self.old.rounds ≡ length (topology_kept core.now).queues }
-        ensures joined { OnOk result (JoinsNext core.now event.now self.new) }
+        ensures expected { IfOk result (IsExpected core.now event.now self.new) }
         ensures kept { KeepsWaiters core.now self.old self.new }
         ensures noted { KeepLists core.now self.old.lists self.new.lists }
         ensures running { ListsRunning (broker_of core.now) self.old.lists self.new.lists }
-        ensures len { length self.new.rounds ≡ length self.old.rounds }
+        ensures wakens { AllWaken self.old.rounds self.new.rounds }
         ensures quiet { seat_of core.now event.now ≡ None → IsOk result }
-        ensures next { self.new.next ≡ self.old.next }
-        ensures lines { KeepLines core.now self.old.rounds self.new.rounds }
-        ensures comes { OnOk result (LetsNextIn core.now event.now self.old.rounds self.new.rounds) }
+        ensures on { GoesOn self.old self.new }
     {
         let Some(consumer) = core.seat_of(event) else {
-            return Ok(());
+            return Ok(None);
         };
         let Some(queue) = core.queue_consumed(event) else {
-            return Ok(());
+            return Ok(None);
         };
         note_waiter(&mut self.sleepers, alloc, core, queue, consumer)?;
-        self.rounds.join(core, queue, consumer)
+        self.rounds.reserve(queue)?;
+        Ok(Some(Newcomer { queue, consumer }))
+    }
+
+    /// The newcomer, if there is one, waits in the round of its queue from now on, awake. No waiter of a consumer that is there is gone.
+    /// It takes no memory.
+    pub fn join(&mut self, core: &Core, newcomer: Option<Newcomer>)
+        requires { IfSome newcomer (CanJoin self.old) }
+        ensures joined { IfSome newcomer (λ n. IsAwake (round_at self.new.rounds n.queue) n.consumer) }
+        ensures kept { KeepsWaiters core.now self.old self.new }
+        ensures lists { self.new.lists ≡ self.old.lists }
+        ensures len { length self.new.rounds ≡ length self.old.rounds }
+        ensures next { self.new.next ≡ self.old.next }
+        ensures lines { KeepLines core.now self.old.rounds self.new.rounds }
+        ensures comes { IfSome newcomer (LetsNewcomerIn core.now self.old.rounds self.new.rounds) }
+        ensures bounded { AllAreBounded core.now self.old.rounds self.new.rounds }
+    {
+        if let Some(Newcomer { queue, consumer }) = newcomer {
+            self.rounds.join(core, queue, consumer);
+        }
     }
 
     /// The waiters of this connection's consumers are awake from now on that are of this channel, or all where none is named. It
@@ -152,6 +177,7 @@ impl ConsumerRounds {
         ensures kept { (k : Kept) → (broker_of k).connection connection ≡ None → KeepsWaiters k self.old self.new }
         ensures noted { (k : Kept) → (broker_of k).connection connection ≡ None → KeepLists k self.old.lists self.new.lists }
         ensures gone { HasNoList self.new.lists connection }
+        ensures rounds { self.new.rounds ≡ self.old.rounds }
         ensures none { MakesNoList self.old.lists self.new.lists }
         ensures len { length self.new.rounds ≡ length self.old.rounds }
         ensures on { GoesOn self.old self.new }
@@ -165,6 +191,7 @@ impl ConsumerRounds {
         requires len { length places.now ≡ length old.rounds }
         requires apart { ArePlacesApart places.now (length self.old.rounds) }
         ensures moved { RoundsAreMoved places.now old.rounds self.new.rounds }
+        ensures came { SizesCome old.rounds self.old.rounds self.new.rounds }
         ensures lists { ListsAreMoved places.now old.lists self.new.lists }
         ensures next { self.new.next ≡ self.old.next }
         ensures len { length self.new.rounds ≡ length self.old.rounds }
@@ -192,6 +219,7 @@ impl ConsumerRounds {
         ensures none { result ≡ None → (place : ℕ) (p : Consumer) → IsInItsRound (broker_of core.now) self.old place p → IsPickFrom core.now place p → ⊥ }
         ensures told { IfSome result (λ p. PicksFirst core.now self.old self.new p) }
         ensures on { result ≡ None → GoesOn self.old self.new }
+        ensures sizes { SameSizes self.old.rounds self.new.rounds }
     {
         let found = self.rounds.pick(core, &mut self.sleepers, self.next)?;
         self.next = found.queue + 1;

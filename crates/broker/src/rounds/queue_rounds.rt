@@ -4,14 +4,15 @@
 //! something ready and whose bit is 1. A pick that finds none to whom it may deliver at a queue leaves no waiter awake there, and
 //! clears the bit, and the next waiter that is woken or made there sets it. So a queue that lacks one of the two is passed over.
 
-ghost use Rattle.std.specs.Prelude.{◌≡◌, ◌<◌, ◌≤◌, ◌*◌, [], ℕ, None, IfSome, IfOk, OnOk, length};
+ghost use Rattle.std.specs.Prelude.{◌≡◌, ◌<◌, ◌≤◌, ◌*◌, [], ℕ, List, None, IfSome, IfOk, OnOk, length};
 ghost use Rattle.marks.specs.Places.{bit_of};
 ghost use Rattle.depot.specs.Store.{HasReady};
 ghost use Rattle.commands.specs.State.{broker_of, topology_kept};
 ghost use Rattle.commands.specs.Picked.{IsPickFrom};
 ghost use Rattle.broker.specs.Rounds.{round_at, rounds_of, AllAreNoted, IsAwake, IsAsleep, QueuesAreMarked, IsNextMarked, KeepRounds, KeepLines, LetsIn};
-ghost use Rattle.broker.specs.Rounds.{IsBounded, KeepsWaiters, ListsMore, AllWaken, NoneInRound, NoneBetween, NonePassed, PicksFrom, SameOrders};
-ghost use Rattle.broker.specs.Moving.{IsMoved, ArePlacesApart, RoundsAreMoved};
+ghost use Rattle.broker.specs.Rounds.{AllAreBounded, HasRoom, KeepsWaiters, ListsMore, AllWaken, NoneInRound, NoneBetween, NonePassed, PicksFrom};
+ghost use Rattle.broker.specs.Rounds.{SameOrders, SameSizes};
+ghost use Rattle.broker.specs.Moving.{IsMoved, IsOfEither, SizesCome, ArePlacesApart, RoundsAreMoved};
 ghost use Rattle.commands.specs.declared.picks.Pick.{Pick as Consumer};
 
 use crate::rounds::round::Round;
@@ -34,6 +35,7 @@ pub(crate) struct FoundWaiter {
 fn empty_rounds(alloc: Global, count: usize) -> Result<Vec<Round>, AllocError>
     ensures len { IfOk result (λ rounds. length rounds.items ≡ count) }
     ensures empty { IfOk result (λ rounds. (place : ℕ) → (round_at rounds.items place).waiters ≡ []) }
+    ensures found { IfOk result (λ rounds. (place : ℕ) → (round_at rounds.items place).found ≡ 0) }
 {
     let mut rounds = Vec::new(alloc);
     for _ in 0..count {
@@ -51,26 +53,31 @@ fn empty_marks(alloc: Global, count: usize) -> Result<PlaceMarks, AllocError>
     Ok(marks)
 }
 
-/// This consumer waits in the round of the queue at this place from now on, and is awake. Where memory is wanting it may
-/// not; no waiter of a consumer that is there is gone.
-fn join_at(
-    rounds: &mut [Round],
-    awake: &mut PlaceMarks,
-    core: &Core,
-    queue: usize,
-    consumer: Pick,
-) -> Result<(), AllocError>
+/// There is room for one waiter more in the round of the queue at this place from now on. No waiter has changed.
+fn reserve_at(rounds: &mut [Round], queue: usize) -> Result<(), AllocError>
+    requires { queue < length rounds.old }
+    ensures room { OnOk result (HasRoom (round_at rounds.new queue)) }
+    ensures wakens { AllWaken rounds.old rounds.new }
+    ensures marked { (marks : List ℕ) → QueuesAreMarked rounds.old marks → QueuesAreMarked rounds.new marks }
+{
+    rounds[queue].reserve()
+}
+
+/// This consumer, for whose waiter there is room, waits in the round of the queue at this place from now on, and is awake. No waiter of
+/// a consumer that is there is gone. It takes no memory.
+fn join_at(rounds: &mut [Round], awake: &mut PlaceMarks, core: &Core, queue: usize, consumer: Pick)
     requires within { queue < length rounds.old }
+    requires room { HasRoom (round_at rounds.old queue) }
     requires marked { QueuesAreMarked rounds.old awake.old }
-    ensures joined { OnOk result (IsAwake (round_at rounds.new queue) consumer) }
+    ensures joined { IsAwake (round_at rounds.new queue) consumer }
     ensures kept { KeepRounds core.now rounds.old rounds.new }
     ensures lines { KeepLines core.now rounds.old rounds.new }
-    ensures comes { OnOk result (LetsIn core.now queue consumer (round_at rounds.old queue) (round_at rounds.new queue)) }
-    ensures bounded { IsBounded core.now queue (round_at rounds.old queue) (round_at rounds.new queue) }
+    ensures comes { LetsIn core.now queue consumer (round_at rounds.old queue) (round_at rounds.new queue) }
+    ensures bounded { AllAreBounded core.now rounds.old rounds.new }
     ensures marked { QueuesAreMarked rounds.new awake.new }
 {
     awake.set(queue);
-    rounds[queue].join(core, queue, consumer)
+    rounds[queue].join(core, queue, consumer);
 }
 
 /// This consumer's waiter is awake from now on in the round of the queue at this place, where it is looked for at this place first.
@@ -123,6 +130,7 @@ fn pick_at(
     ensures none { result ≡ None → NoneInRound core.now sleepers.old.entries queue (round_at rounds.old queue) }
     ensures told { IfSome result (λ p. PicksFrom core.now sleepers.old.entries rounds.old rounds.new queue p) }
     ensures same { result ≡ None → SameOrders rounds.old rounds.new }
+    ensures sizes { SameSizes rounds.old rounds.new }
 {
     match rounds[queue].pick(core, sleepers, queue) {
         Some(pick) => Some(pick),
@@ -156,6 +164,7 @@ fn first_between(
     ensures below { IfSome result (λ f. f.queue < to) }
     ensures told { IfSome result (λ f. PicksFrom core.now sleepers.old.entries rounds.old rounds.new f.queue f.pick) }
     ensures same { result ≡ None → SameOrders rounds.old rounds.new }
+    ensures sizes { SameSizes rounds.old rounds.new }
 {
     let mut next = from;
     'queues: while let Some(queue) = next_both(core, awake, next) {
@@ -190,6 +199,7 @@ fn first_from(
     ensures passed { IfSome result (λ f. NonePassed core.now (rounds_of rounds.old sleepers.old.entries) next f.queue) }
     ensures told { IfSome result (λ f. PicksFrom core.now sleepers.old.entries rounds.old rounds.new f.queue f.pick) }
     ensures same { result ≡ None → SameOrders rounds.old rounds.new }
+    ensures sizes { SameSizes rounds.old rounds.new }
 {
     let turn = next.min(rounds.len());
     match first_between(rounds, awake, core, sleepers, turn, rounds.len()) {
@@ -216,6 +226,7 @@ fn take_round(rounds: &mut [Round], awake: &mut PlaceMarks, place: usize, round:
     requires marked { QueuesAreMarked rounds.old awake.old }
     ensures moved { IsMoved round.old (round_at rounds.new place) }
     ensures others { (i : ℕ) → (i ≡ place → ⊥) → round_at rounds.new i ≡ round_at rounds.old i }
+    ensures came { (i : ℕ) → IsOfEither (round_at rounds.old i) round.old (round_at rounds.new i) }
     ensures marked { QueuesAreMarked rounds.new awake.new }
 {
     round.wake_all();
@@ -228,6 +239,7 @@ fn move_round(rounds: &mut [Round], awake: &mut PlaceMarks, place: usize, round:
     requires { QueuesAreMarked rounds.old awake.old }
     ensures moved { place < length rounds.old → IsMoved round.old (round_at rounds.new place) }
     ensures others { (i : ℕ) → (i ≡ place → ⊥) → round_at rounds.new i ≡ round_at rounds.old i }
+    ensures came { (i : ℕ) → IsOfEither (round_at rounds.old i) round.old (round_at rounds.new i) }
     ensures marked { QueuesAreMarked rounds.new awake.new }
 {
     if place < rounds.len() {
@@ -241,6 +253,7 @@ fn move_rounds(rounds: &mut [Round], awake: &mut PlaceMarks, old: &mut [Round], 
     requires apart { ArePlacesApart places.now (length rounds.old) }
     requires marked { QueuesAreMarked rounds.old awake.old }
     ensures moved { RoundsAreMoved places.now old.old rounds.new }
+    ensures came { SizesCome old.old rounds.old rounds.new }
     ensures marked { QueuesAreMarked rounds.new awake.new }
 {
     for (from, place) in places.iter().enumerate() {
@@ -280,31 +293,43 @@ impl QueueRounds {
     ghost use Rattle.std.specs.Prelude.{◌≡◌, ◌<◌, ◌+◌, ◌^◌, ℕ, None, IfSome, IfOk, OnOk, length};
     ghost use Rattle.commands.specs.State.{broker_of, topology_kept};
     ghost use Rattle.commands.specs.Picked.{IsPickFrom};
-    ghost use Rattle.broker.specs.Rounds.{round_at, rounds_of, AllAreNoted, IsAwake, IsAsleep, KeepRounds, KeepLines, LetsIn, IsBounded};
-    ghost use Rattle.broker.specs.Rounds.{KeepsWaiters, ListsMore, AllWaken, NoneBetween, NonePassed, PicksFrom, SameOrders};
-    ghost use Rattle.broker.specs.Moving.{ArePlacesApart, RoundsAreMoved};
+    ghost use Rattle.broker.specs.Rounds.{round_at, rounds_of, AllAreNoted, IsAwake, IsAsleep, HasRoom, KeepRounds, KeepLines, LetsIn, AllAreBounded};
+    ghost use Rattle.broker.specs.Rounds.{KeepsWaiters, ListsMore, AllWaken, NoneBetween, NonePassed, PicksFrom, SameOrders, SameSizes, AllAreEmpty};
+    ghost use Rattle.broker.specs.Moving.{ArePlacesApart, RoundsAreMoved, SizesCome};
 
     /// So many rounds with no waiter.
     pub fn new(alloc: Global, queues: usize) -> Result<QueueRounds, AllocError>
-        ensures { IfOk result (λ s. length s ≡ queues) }
+        ensures len { IfOk result (λ s. length s ≡ queues) }
+        ensures empty { IfOk result AllAreEmpty }
     {
         let rounds = empty_rounds(alloc, queues)?;
         let awake = empty_marks(alloc, queues)?;
         Ok(QueueRounds { rounds, awake })
     }
 
-    /// This consumer waits in the round of the queue at this place from now on, and is awake. Where memory is wanting it
-    /// may not; no waiter of a consumer that is there is gone.
-    pub fn join(&mut self, core: &Core, queue: usize, consumer: Pick) -> Result<(), AllocError>
+    /// There is room for one waiter more in the round of the queue at this place from now on. No waiter has changed.
+    pub fn reserve(&mut self, queue: usize) -> Result<(), AllocError>
         requires { queue < length self.old }
-        ensures joined { OnOk result (IsAwake (round_at self.new queue) consumer) }
-        ensures kept { KeepRounds core.now self.old self.new }
-        ensures lines { KeepLines core.now self.old self.new }
-        ensures comes { OnOk result (LetsIn core.now queue consumer (round_at self.old queue) (round_at self.new queue)) }
-        ensures bounded { IsBounded core.now queue (round_at self.old queue) (round_at self.new queue) }
+        ensures room { OnOk result (HasRoom (round_at self.new queue)) }
+        ensures wakens { AllWaken self.old self.new }
         ensures len { length self.new ≡ length self.old }
     {
-        join_at(&mut self.rounds, &mut self.awake, core, queue, consumer)
+        reserve_at(&mut self.rounds, queue)
+    }
+
+    /// This consumer, for whose waiter there is room, waits in the round of the queue at this place from now on, and is awake. No waiter
+    /// of a consumer that is there is gone. It takes no memory.
+    pub fn join(&mut self, core: &Core, queue: usize, consumer: Pick)
+        requires within { queue < length self.old }
+        requires room { HasRoom (round_at self.old queue) }
+        ensures joined { IsAwake (round_at self.new queue) consumer }
+        ensures kept { KeepRounds core.now self.old self.new }
+        ensures lines { KeepLines core.now self.old self.new }
+        ensures comes { LetsIn core.now queue consumer (round_at self.old queue) (round_at self.new queue) }
+        ensures bounded { AllAreBounded core.now self.old self.new }
+        ensures len { length self.new ≡ length self.old }
+    {
+        join_at(&mut self.rounds, &mut self.awake, core, queue, consumer);
     }
 
     /// This consumer's waiter is awake from now on in the round of the queue at this place, if it is there; it is looked for at this
@@ -325,6 +350,7 @@ impl QueueRounds {
         requires len { length places.now ≡ length old }
         requires apart { ArePlacesApart places.now (length self.old) }
         ensures moved { RoundsAreMoved places.now old self.new }
+        ensures came { SizesCome old self.old self.new }
         ensures len { length self.new ≡ length self.old }
     {
         let QueueRounds {
@@ -348,6 +374,7 @@ impl QueueRounds {
         ensures passed { IfSome result (λ f. NonePassed core.now (rounds_of self.old sleepers.old.entries) next f.queue) }
         ensures told { IfSome result (λ f. PicksFrom core.now sleepers.old.entries self.old self.new f.queue f.pick) }
         ensures same { result ≡ None → SameOrders self.old self.new }
+        ensures sizes { SameSizes self.old self.new }
     {
         first_from(&mut self.rounds, &mut self.awake, core, sleepers, next)
     }

@@ -94,7 +94,8 @@ fn rouse_each(waiters: &mut [Waiter])
 
 /// Takes out the waiters whose consumer is gone, or takes from another queue than that at this place.
 fn sweep(waiters: &mut Vec<Waiter>, core: &Core, queue: usize)
-    ensures { waiters.new.items ≡ filter (has_its_consumer core.now queue) waiters.old.items }
+    ensures waiters { waiters.new.items ≡ filter (has_its_consumer core.now queue) waiters.old.items }
+    ensures capacity { vec_capacity waiters.new ≡ vec_capacity waiters.old }
 {
     waiters.retain(|waiter| is_of(core, queue, waiter.pick));
 }
@@ -115,8 +116,8 @@ fn staying(waiters: &[Waiter], core: &Core, queue: usize) -> usize
 /// Room for one waiter more, and for its bit.
 fn grow(waiters: &mut Vec<Waiter>, awake: &mut PlaceMarks) -> Result<(), AllocError>
     requires { length waiters.old.items ≤ length awake.old * 64 }
-    ensures room { OnOk result (vec_len waiters.new < vec_capacity waiters.new) }
-    ensures mark { OnOk result (vec_len waiters.new + 1 ≤ length awake.new * 64) }
+    ensures room { OnOk result (length waiters.new.items < vec_capacity waiters.new) }
+    ensures mark { OnOk result (length waiters.new.items + 1 ≤ length awake.new * 64) }
     ensures marks { length waiters.new.items ≤ length awake.new * 64 }
     ensures same { waiters.new.items ≡ waiters.old.items }
     ensures bits { (i : ℕ) → bit_of awake.new i ≡ bit_of awake.old i }
@@ -125,42 +126,41 @@ fn grow(waiters: &mut Vec<Waiter>, awake: &mut PlaceMarks) -> Result<(), AllocEr
     waiters.reserve(1)
 }
 
-/// Makes room for one waiter more. Where there are more than twice those that were found at the last sweep, the waiters whose consumer
-/// is gone, or takes from another queue, are taken out, picks look at those that are left, and these are found now. So few sweeps are
-/// made, and few waiters stand there whose consumer is gone. Where memory is wanting, no other waiter is gone.
-fn make_room(
+/// Where there are more than twice those that were found at the last sweep, the waiters whose consumer is gone, or takes from another
+/// queue, are taken out, picks look at those that are left, and these are found now. So few sweeps are made, and few waiters stand there
+/// whose consumer is gone. It takes no memory.
+fn tidy(
     waiters: &mut Vec<Waiter>,
     awake: &mut PlaceMarks,
     next: &mut usize,
     found: &mut usize,
     core: &Core,
     queue: usize,
-) -> Result<(), AllocError>
+)
     requires { length waiters.old.items ≤ length awake.old * 64 }
-    ensures room { OnOk result (vec_len waiters.new < vec_capacity waiters.new) }
-    ensures mark { OnOk result (vec_len waiters.new + 1 ≤ length awake.new * 64) }
-    ensures marks { length waiters.new.items ≤ length awake.new * 64 }
+    ensures shorter { length waiters.new.items ≤ length waiters.old.items }
+    ensures capacity { vec_capacity waiters.new ≡ vec_capacity waiters.old }
+    ensures marks { length awake.new ≡ length awake.old }
     ensures kept { KeepsRound core.now queue (round_of waiters.old.items awake.old) (round_of waiters.new.items awake.new) }
     ensures fewer { (p : Consumer) → IsIn p (picks waiters.new.items) → IsIn p (picks waiters.old.items) }
     ensures apart { AreDistinct (picks waiters.old.items) → AreDistinct (picks waiters.new.items) }
     ensures line { KeepsThose core.now queue (turned next.old (picks waiters.old.items)) (turned next.new (picks waiters.new.items)) }
     ensures few { length waiters.new.items ≤ 2 * found.new }
-    ensures found { AreFound core.now queue found.old waiters.new.items found.new }
+    ensures found { AreFound (has_its_consumer core.now queue) found.old waiters.new.items found.new }
 {
     let others = waiters.len().saturating_sub(*found);
     if others <= *found {
-        return grow(waiters, awake);
+        return;
     }
     let before = (*next).min(waiters.len());
     *next = staying(waiters.split_at(before).0, core, queue);
     sweep(waiters, core, queue);
     *found = waiters.len();
     mark_all(awake, *found);
-    grow(waiters, awake)
 }
 
-/// This consumer has a waiter behind all others from now on, which is awake. Where memory is wanting it may not; no waiter of a
-/// consumer that is there is gone.
+/// This consumer has a waiter behind all others from now on, which is awake, and for which there is room. No waiter of a consumer that
+/// is there is gone. It takes no memory.
 fn add_waiter(
     waiters: &mut Vec<Waiter>,
     awake: &mut PlaceMarks,
@@ -169,25 +169,25 @@ fn add_waiter(
     core: &Core,
     queue: usize,
     consumer: Pick,
-) -> Result<(), AllocError>
-    requires room { length waiters.old.items ≤ length awake.old * 64 }
+)
+    requires room { length waiters.old.items < vec_capacity waiters.old }
+    requires mark { length waiters.old.items + 1 ≤ length awake.old * 64 }
     requires absent { IsIn consumer (picks waiters.old.items) → ⊥ }
     ensures marks { length waiters.new.items ≤ length awake.new * 64 }
     ensures apart { AreDistinct (picks waiters.old.items) → AreDistinct (picks waiters.new.items) }
     ensures line { KeepsOthers core.now queue consumer (turned next.old (picks waiters.old.items)) (turned next.new (picks waiters.new.items)) }
     ensures few { AreFew waiters.new.items found.new }
-    ensures found { AreFound core.now queue found.old waiters.new.items found.new }
-    ensures joined { OnOk result (IsAwake (round_of waiters.new.items awake.new) consumer) }
+    ensures found { AreFound (has_its_consumer core.now queue) found.old waiters.new.items found.new }
+    ensures joined { IsAwake (round_of waiters.new.items awake.new) consumer }
     ensures kept { KeepsRound core.now queue (round_of waiters.old.items awake.old) (round_of waiters.new.items awake.new) }
 {
-    make_room(waiters, awake, next, found, core, queue)?;
+    tidy(waiters, awake, next, found, core, queue);
     let place = waiters.len();
     waiters.push_reserved(Waiter {
         pick: consumer,
         asleep: false,
     });
     awake.set(place);
-    Ok(())
 }
 
 /// Whether picks look at one of the waiters at places below this.
@@ -359,15 +359,15 @@ impl Drop for Round {
 }
 
 impl Model for Round {
-    ghost use Rattle.std.specs.Prelude.{◌≤◌, ◌*◌, length};
+    ghost use Rattle.std.specs.Prelude.{◌≤◌, ◌*◌, length, vec_capacity};
     ghost use Rattle.broker.specs.Lines.{AreDistinct};
-    ghost use Rattle.broker.specs.Rounds.{Waiters, picks, AreFew};
+    ghost use Rattle.broker.specs.Rounds.{Waiters, picks};
 
     ghost Value = { Waiters };
 
-    ghost view = { λ r. record { waiters = r.waiters.items; marks = r.awake; next = r.next; found = r.found } };
+    ghost view = { λ r. record { waiters = r.waiters.items; marks = r.awake; next = r.next; found = r.found; capacity = vec_capacity r.waiters } };
 
-    ghost invariant = { λ r. (length r.waiters.items ≤ length r.awake * 64) × AreDistinct (picks r.waiters.items) × AreFew r.waiters.items r.found };
+    ghost invariant = { λ r. (length r.waiters.items ≤ length r.awake * 64) × AreDistinct (picks r.waiters.items) };
 }
 
 impl Round {
@@ -378,12 +378,13 @@ impl Round {
     ghost use Rattle.commands.specs.declared.picks.Pick.{Pick as Consumer};
     ghost use Rattle.commands.specs.Picked.{IsPickFrom};
     ghost use Rattle.broker.specs.Rounds.{order, AllAreNoted, IsAwake, IsAsleep, KeepsIn, KeepsRound};
-    ghost use Rattle.broker.specs.Rounds.{NoneInRound, GoesLast, KeepsLine, LetsIn, IsBounded, ListsMore, Wakens};
+    ghost use Rattle.broker.specs.Rounds.{NoneInRound, GoesLast, KeepsLine, LetsIn, HasRoom, IsBounded, ListsMore, Wakens, size_of};
     ghost use Rattle.broker.specs.Moving.{AllRoused};
 
     /// No waiter. It takes no memory.
     pub fn new(alloc: Global) -> Round
-        ensures { result.waiters ≡ [] }
+        ensures empty { result.waiters ≡ [] }
+        ensures found { result.found ≡ 0 }
     {
         Round {
             waiters: Vec::new(alloc),
@@ -393,17 +394,27 @@ impl Round {
         }
     }
 
-    /// This consumer waits in the round from now on, and is awake. Where memory is wanting it may not; no waiter of a consumer that is
-    /// there is gone.
-    pub fn join(&mut self, core: &Core, queue: usize, consumer: Pick) -> Result<(), AllocError>
-        ensures joined { OnOk result (IsAwake self.new consumer) }
+    /// There is room for one waiter more from now on. No waiter has changed.
+    pub fn reserve(&mut self) -> Result<(), AllocError>
+        ensures room { OnOk result (HasRoom self.new) }
+        ensures wakens { Wakens self.old self.new }
+        ensures none { (p : Consumer) → IsAwake self.new p → IsAwake self.old p }
+    {
+        grow(&mut self.waiters, &mut self.awake)
+    }
+
+    /// This consumer, for whose waiter there is room, waits in the round from now on, and is awake. No waiter of a consumer that is there
+    /// is gone. It takes no memory.
+    pub fn join(&mut self, core: &Core, queue: usize, consumer: Pick)
+        requires { HasRoom self.old }
+        ensures joined { IsAwake self.new consumer }
         ensures kept { KeepsRound core.now queue self.old self.new }
         ensures line { KeepsLine core.now queue self.old self.new }
-        ensures comes { OnOk result (LetsIn core.now queue consumer self.old self.new) }
+        ensures comes { LetsIn core.now queue consumer self.old self.new }
         ensures bounded { IsBounded core.now queue self.old self.new }
     {
         if wake_waiter(&mut self.waiters, &mut self.awake, consumer, 0) {
-            return Ok(());
+            return;
         }
         add_waiter(
             &mut self.waiters,
@@ -413,7 +424,7 @@ impl Round {
             core,
             queue,
             consumer,
-        )
+        );
     }
 
     /// This consumer's waiter is awake from now on, if it is there; it is looked for at this place first.
@@ -428,6 +439,7 @@ impl Round {
     pub fn wake_all(&mut self)
         ensures roused { AllRoused self.old self.new }
         ensures same { order self.new ≡ order self.old }
+        ensures size { size_of self.new ≡ size_of self.old }
     {
         rouse_each(&mut self.waiters);
         mark_all(&mut self.awake, self.waiters.len());
@@ -454,6 +466,7 @@ impl Round {
         ensures none { result ≡ None → NoneInRound core.now sleepers.old.entries queue self.old }
         ensures told { IfSome result (λ p. GoesLast core.now sleepers.old.entries queue self.old self.new p) }
         ensures same { result ≡ None → order self.new ≡ order self.old }
+        ensures size { size_of self.new ≡ size_of self.old }
         // Where nobody is told, nobody is awake any more: who may take nothing sleeps.
         ensures rested { result ≡ None → (p : Consumer) → IsAwake self.new p → ⊥ }
     {

@@ -3,13 +3,15 @@
 mod moving;
 mod waking;
 
-ghost use Rattle.std.specs.Prelude.{◌≡◌, ◌≤◌, ◌<◌, ◌+◌, ◌*◌, ◌⊎◌, ℕ, true, None, IfSome, OnOk, length, count_by, filter, slice_index_or, vec_len, vec_capacity};
-ghost use Rattle.std.specs.List.{position_from};
+ghost use Rattle.std.specs.Prelude.{◌≡◌, ◌≤◌, ◌<◌, ◌+◌, ◌*◌, ℕ, true, false, None, IfSome, OnOk, length, filter, vec_len, vec_capacity};
+ghost use Rattle.std.specs.List.{AllWithin};
 ghost use Rattle.model.specs.Topology.{IsIn};
+ghost use Rattle.marks.specs.Places.{bit_of};
 ghost use Rattle.commands.specs.State.{Kept, broker_of};
-ghost use Rattle.broker.specs.Rounds.{is_listing, is_listed_there, listing, listings_on, Listing};
+ghost use Rattle.broker.specs.Rounds.{is_listed_there, listing, listings_on, number_of, Listing};
 ghost use Rattle.broker.specs.Rounds.{IsAsleepIn, IsListedOn, IsNotedOn, IsNoted, IsListed, HasNoList};
-ghost use Rattle.broker.specs.Rounds.{AreBounded, MakesNoList, KeepsListings, KeepListingsOn, KeepLists, SleepMore, ListsMore};
+ghost use Rattle.broker.specs.Rounds.{NumbersRise, AreBelow, IsListedAt, AreFew, AreFound};
+ghost use Rattle.broker.specs.Rounds.{MakesNoList, KeepsListings, KeepListingsOn, KeepLists, SleepMore, ListsMore};
 
 use crate::rounds::finding::is_of;
 use crate::rounds::waiters::{PlaceMarks, is_same, mark_all};
@@ -78,12 +80,47 @@ impl Listed {
     }
 }
 
+/// The place of the first listing of this number or a greater one. It is found by halving, since numbers rise.
+fn place_near(listed: &[Listed], number: u64) -> usize
+    requires { NumbersRise listed.now }
+    ensures within { result ≤ length listed.now }
+    ensures before { AllWithin (λ l. number_of l < number) listed.now 0 result }
+    ensures behind { AllWithin (λ l. number ≤ number_of l) listed.now result (length listed.now) }
+{
+    listed.partition_point(|one| one.consumer.number < number)
+}
+
+/// Whether this consumer's waiter in this queue's round is listed at this place.
+fn is_at(listed: &[Listed], place: usize, queue: usize, consumer: Pick) -> bool
+    ensures yes { result ≡ true → IsListedAt listed.now place (listing queue consumer) }
+    ensures no { result ≡ false → IsListedAt listed.now place (listing queue consumer) → ⊥ }
+{
+    if place >= listed.len() {
+        return false;
+    }
+    listed[place].is(queue, consumer)
+}
+
 /// The place at which this consumer's waiter in this queue's round is listed.
 fn search(listed: &[Listed], queue: usize, consumer: Pick) -> Option<usize>
-    ensures is { result ≡ position_from (is_listing (listing queue consumer)) 0 listed.now }
-    ensures within { IfSome result (λ i. i < length listed.now) }
+    requires { NumbersRise listed.now }
+    ensures some { IfSome result (λ i. IsListedAt listed.now i (listing queue consumer)) }
+    ensures none { result ≡ None → IsIn (listing queue consumer) listed.now → ⊥ }
 {
-    listed.iter().position(|one| one.is(queue, consumer))
+    let place = place_near(listed, consumer.number);
+    if is_at(listed, place, queue, consumer) {
+        Some(place)
+    } else {
+        None
+    }
+}
+
+/// Whether this number is greater than that of each that is listed.
+fn is_greatest(listed: &[Listed], number: u64) -> bool
+    requires { NumbersRise listed.now }
+    ensures { result ≡ true → AreBelow listed.now number }
+{
+    place_near(listed, number) == listed.len()
 }
 
 /// This consumer's waiter in this queue's round, which is listed, sleeps from now on; it stands at this place of the round.
@@ -95,6 +132,7 @@ fn mark_in(
     place: usize,
 )
     requires room { length listed.old ≤ length asleep.old * 64 }
+    requires rising { NumbersRise listed.old }
     requires noted { IsIn (listing queue consumer) listed.old }
     ensures len { length asleep.new ≡ length asleep.old }
     ensures same { listed.new ≡ listed.old }
@@ -119,48 +157,74 @@ fn sweep(listed: &mut Vec<Listed>, core: &Core)
     listed.retain(|one| one.is_there(core));
 }
 
-/// Makes room for one more. Where the list is full, the waiters whose consumer is gone are taken out, and then there is room for as
-/// many again as are left, which are woken with those that sleep. Where memory is wanting, no other is gone.
-fn make_room(
+/// Takes out the waiters whose consumer is gone, if there are more than twice those that were found at the last sweep, or if this number
+/// is not greater than theirs: numbers come again where a channel is opened again, or a consume was refused memory. Those that are left are
+/// found now, and are woken with those that sleep.
+fn tidy(
     listed: &mut Vec<Listed>,
     asleep: &mut PlaceMarks,
+    found: &mut usize,
     core: &Core,
-) -> Result<(), AllocError>
+    number: u64,
+)
+    requires room { length listed.old.items ≤ length asleep.old * 64 }
+    requires rising { NumbersRise listed.old.items }
+    ensures marks { length listed.new.items ≤ length asleep.new * 64 }
+    ensures rising { NumbersRise listed.new.items }
+    ensures few { length listed.new.items ≤ 2 * found.new }
+    ensures found { AreFound (is_listed_there core.now) found.old listed.new.items found.new }
+    ensures kept { KeepsListings core.now (record { all = listed.old.items; asleep = asleep.old }) (record { all = listed.new.items; asleep = asleep.new }) }
+{
+    let others = listed.len().saturating_sub(*found);
+    if others <= *found && is_greatest(listed, number) {
+        return;
+    }
+    sweep(listed, core);
+    *found = listed.len();
+    mark_all(asleep, *found);
+}
+
+/// Room for one waiter more, and for its bit.
+fn make_room(listed: &mut Vec<Listed>, asleep: &mut PlaceMarks) -> Result<(), AllocError>
     requires { length listed.old.items ≤ length asleep.old * 64 }
     ensures room { OnOk result (vec_len listed.new < vec_capacity listed.new) }
     ensures mark { OnOk result (vec_len listed.new + 1 ≤ length asleep.new * 64) }
     ensures marks { length listed.new.items ≤ length asleep.new * 64 }
-    ensures kept { KeepsListings core.now (record { all = listed.old.items; asleep = asleep.old }) (record { all = listed.new.items; asleep = asleep.new }) }
-    ensures bounded { (length listed.new.items < vec_capacity listed.old)
-        ⊎ (length listed.new.items ≤ count_by (is_listed_there core.now) listed.new.items) }
+    ensures same { listed.new.items ≡ listed.old.items }
+    ensures bits { (i : ℕ) → bit_of asleep.new i ≡ bit_of asleep.old i }
 {
-    if listed.len() < listed.capacity() {
-        return asleep.grow(listed.len() + 1);
-    }
-    sweep(listed, core);
-    mark_all(asleep, listed.len());
     asleep.grow(listed.len() + 1)?;
-    listed.reserve(listed.len().max(1))
+    listed.reserve(1)
 }
 
-/// This consumer's waiter in this queue's round is listed from now on. Where memory is wanting it may not be.
+/// This consumer's waiter in this queue's round is listed from now on. Where memory is wanting it may not be, nor where a consumer that is
+/// there has as great a number, as none has while one is made.
 fn note_in(
     listed: &mut Vec<Listed>,
     asleep: &mut PlaceMarks,
+    found: &mut usize,
     core: &Core,
     queue: usize,
     consumer: Pick,
 ) -> Result<(), AllocError>
-    requires { length listed.old.items ≤ length asleep.old * 64 }
+    requires room { length listed.old.items ≤ length asleep.old * 64 }
+    requires rising { NumbersRise listed.old.items }
+    requires few { AreFew listed.old.items found.old }
     ensures marks { length listed.new.items ≤ length asleep.new * 64 }
+    ensures rising { NumbersRise listed.new.items }
+    ensures few { AreFew listed.new.items found.new }
+    ensures found { AreFound (is_listed_there core.now) found.old listed.new.items found.new }
     ensures noted { OnOk result (IsIn (listing queue consumer) listed.new.items) }
     ensures kept { KeepsListings core.now (record { all = listed.old.items; asleep = asleep.old }) (record { all = listed.new.items; asleep = asleep.new }) }
-    ensures bounded { AreBounded core.now (vec_capacity listed.old) listed.old.items listed.new.items }
 {
     if search(listed, queue, consumer).is_some() {
         return Ok(());
     }
-    make_room(listed, asleep, core)?;
+    tidy(listed, asleep, found, core, consumer.number);
+    if !is_greatest(listed, consumer.number) {
+        return Err(AllocError);
+    }
+    make_room(listed, asleep)?;
     listed.push_reserved(Listed::new(queue, consumer));
     Ok(())
 }
@@ -170,6 +234,8 @@ pub(crate) struct ChannelSleepers {
     listed: Vec<Listed>,
     /// A bit for each, 1 where it sleeps.
     asleep: PlaceMarks,
+    /// How many were found when the list was last swept.
+    found: usize,
 }
 
 /// Written out, so that a drop is one call.
@@ -178,19 +244,20 @@ impl Drop for ChannelSleepers {
         let ChannelSleepers {
             listed: _,
             asleep: _,
+            found: _,
         } = self;
     }
 }
 
 impl Model for ChannelSleepers {
     ghost use Rattle.std.specs.Prelude.{◌≤◌, ◌*◌, length};
-    ghost use Rattle.broker.specs.Rounds.{Listings};
+    ghost use Rattle.broker.specs.Rounds.{Listings, NumbersRise, AreFew};
 
     ghost Value = { Listings };
 
     ghost view = { λ s. record { all = s.listed.items; asleep = s.asleep } };
 
-    ghost invariant = { λ s. length s.listed.items ≤ length s.asleep * 64 };
+    ghost invariant = { λ s. (length s.listed.items ≤ length s.asleep * 64) × NumbersRise s.listed.items × AreFew s.listed.items s.found };
 }
 
 impl ChannelSleepers {
@@ -205,6 +272,7 @@ impl ChannelSleepers {
         ChannelSleepers {
             listed: Vec::new(alloc),
             asleep: <Over<Flat>>::empty(alloc),
+            found: 0,
         }
     }
 
@@ -222,7 +290,14 @@ impl ChannelSleepers {
         ensures noted { OnOk result (IsIn (listing queue consumer) self.new.all) }
         ensures kept { KeepsListings core.now self.old self.new }
     {
-        note_in(&mut self.listed, &mut self.asleep, core, queue, consumer)
+        note_in(
+            &mut self.listed,
+            &mut self.asleep,
+            &mut self.found,
+            core,
+            queue,
+            consumer,
+        )
     }
 }
 

@@ -19,6 +19,13 @@ pub(crate) struct Waiter {
     pub asleep: bool,
 }
 
+/// A consumer that is to be made, and the place of the queue in whose round it is to wait.
+#[derive(Clone, Copy, PartialEq, Eq, Debug, Drop)]
+pub(crate) struct Newcomer {
+    pub queue: usize,
+    pub consumer: Pick,
+}
+
 /// Two consumers are one.
 pub(crate) fn is_same(one: Pick, other: Pick) -> bool
     ensures { result ≡ is_consumer one other }

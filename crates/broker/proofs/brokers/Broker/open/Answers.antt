@@ -18,7 +18,8 @@ invariant_of-self c =
     either_way c.open.result c.open.ensures.ok c.open.ensures.err
     (λ acts. serves new rounds
     (serves_asleep c.brokers_stay_agreed.ensures.acts c.consumers_are_made.ensures (topology_kept old) old new (Running c.args.connection c.args.channel_max c.args.channels) [] [] rounds acts (λ p. refl) refl refl c.open.ensures.topology (holds old rounds c.self.invariant))
-    (running_still (broker_of old) (broker_of new) rounds.lists rounds.lists (opening_runs (topology_kept old) (broker_of old) (broker_of new) [] [] c.args.connection c.args.channel_max c.args.channels acts) (λ d none. none) c.self.invariant.running))
+    (running_still (broker_of old) (broker_of new) rounds.lists rounds.lists (opening_runs (topology_kept old) (broker_of old) (broker_of new) [] [] c.args.connection c.args.channel_max c.args.channels acts) (λ d none. none) c.self.invariant.running)
+    c.self.invariant.few)
     (λ same. subst (λ (k : Kept). IsServing k rounds) (sym same) c.self.invariant)
 
 pub returns-clause-later : goal.returns-clause-later

@@ -17,6 +17,7 @@ invariant_of-self c =
     serves new rounds
     (serves_asleep c.brokers_stay_agreed.ensures.acts c.consumers_are_made.ensures (topology_kept old) old new (Pause c.args.connection) [] [] rounds c.pause.ensures.acts (λ p. refl) refl refl c.pause.ensures.topology (holds old rounds c.self.invariant))
     (running_still (broker_of old) (broker_of new) rounds.lists rounds.lists (pause_runs (topology_kept old) (broker_of old) (broker_of new) [] [] c.args.connection c.pause.ensures.acts) (λ d none. none) c.self.invariant.running)
+    c.self.invariant.few
 
 pub returns-clause-later : goal.returns-clause-later
 returns-clause-later c =

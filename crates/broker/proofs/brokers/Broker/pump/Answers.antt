@@ -29,6 +29,7 @@ invariant_of-self-2 c =
     serves new rounds
     (serves_asleep c.brokers_stay_agreed.ensures.acts c.consumers_are_made.ensures (topology_kept old) old new (Deliver c.args.pick.connection) _ _ rounds acts (λ p. refl) refl refl c.deliver.ensures.topology (holds old rounds c.self.invariant))
     (running_still (broker_of old) (broker_of new) rounds.lists rounds.lists (delivery_runs (topology_kept old) (broker_of old) (broker_of new) _ _ c.args.pick.connection acts) (λ d none. none) c.self.invariant.running)
+    c.self.invariant.few
 
 pub returns-clause-addressed : goal.returns-clause-addressed
 returns-clause-addressed c = rw (← c.self.view_is) c.in_ok-step.ensures.addressed

@@ -1,7 +1,7 @@
-use Rattle.std.proofs.Common.{◌≡◌, ◌∙◌, ◌+◌, ℕ, Some, List, set, arith, sym, ap, subst}
+use Rattle.std.proofs.Common.{◌∙◌, List, set, sym, ap, subst}
 use Rattle.std.proofs.lemmas.List.{set-get_or}
 use Rattle.broker.specs.Rounds.{Listing, listing, IsAsleepIn}
-use Rattle.broker.proofs.Listed.{found_there, not_listed, asleep_more}
+use Rattle.broker.proofs.Listed.{asleep_more}
 use Rattle.broker.proofs.rounds.sleepers.mark_in.Goals as goal
 
 -- the list is as it was
@@ -14,8 +14,8 @@ returns-in-Some-clause-marked c =
     subst (λ (ls : List Listing). IsAsleepIn (record { all = ls; asleep = c.set.new.self }) l) (sym (returns-in-Some-clause-same c)) (
       c.in-Some.at,
       record {
-        within = c.in-Some.ensures.within;
-        there = λ d. found_there l 0 c.in-Some.at c.args.listed.now d (let none : c.in-Some.at ≡ 0 + c.in-Some.at = omega arith in sym c.search.ensures.is ∙ c.in-Some.is ∙ ap (λ (k : ℕ). Some k) none) c.in-Some.ensures.within;
+        within = c.in-Some.ensures.some.within;
+        there = c.in-Some.ensures.some.there;
         marked = c.set.ensures.set.there;
       },
     )
@@ -26,4 +26,4 @@ returns-in-Some-clause-stay c = λ l i.
     (asleep_more c.args.listed.now c.args.asleep.now c.set.new.self c.in-Some.at c.set.ensures.set l i)
 
 pub returns-in-None-clause-marked : goal.returns-in-None-clause-marked
-returns-in-None-clause-marked c = absurd (not_listed (listing c.args.queue c.args.consumer) 0 c.args.listed.now (sym c.search.ensures.is ∙ c.in-None.is) c.requires.noted)
+returns-in-None-clause-marked c = absurd (c.search.ensures.none c.in-None.is c.requires.noted)

@@ -1,0 +1,21 @@
+use Rattle.std.proofs.Common.{refl, sym, subst}
+use Rattle.std.specs.Prelude.{vec_capacity}
+use Rattle.broker.specs.Rounds.{Waiters, IsAwake, Wakens}
+use Rattle.broker.proofs.Outcomes.{on_both}
+use Rattle.broker.proofs.Sleeping.{awake_bits, waken_bits}
+use Rattle.broker.proofs.rounds.round.Round.reserve.Goals as goal
+
+pub returns-clause-room : goal.returns-clause-room
+returns-clause-room c = on_both c.grow.result (λ waiter mark. record { waiter = waiter; mark = mark }) c.grow.ensures.room c.grow.ensures.mark
+
+pub returns-clause-wakens : goal.returns-clause-wakens
+returns-clause-wakens c =
+    let old : Waiters = record { waiters = c.self.inside.waiters.items; marks = c.self.inside.awake; next = c.self.inside.next; found = c.self.inside.found; capacity = vec_capacity c.self.inside.waiters } in
+    let new : Waiters = record { waiters = c.grow.new.waiters.items; marks = c.grow.new.awake; next = c.self.inside.next; found = c.self.inside.found; capacity = vec_capacity c.grow.new.waiters } in
+    subst (λ (r : Waiters). Wakens r new) c.self.view_is (waken_bits old new c.grow.ensures.same c.grow.ensures.bits refl refl)
+
+pub returns-clause-none : goal.returns-clause-none
+returns-clause-none c = λ p up.
+    let old : Waiters = record { waiters = c.self.inside.waiters.items; marks = c.self.inside.awake; next = c.self.inside.next; found = c.self.inside.found; capacity = vec_capacity c.self.inside.waiters } in
+    let new : Waiters = record { waiters = c.grow.new.waiters.items; marks = c.grow.new.awake; next = c.self.inside.next; found = c.self.inside.found; capacity = vec_capacity c.grow.new.waiters } in
+    subst (λ (r : Waiters). IsAwake r p) c.self.view_is (awake_bits new old (sym c.grow.ensures.same) (λ i. sym (c.grow.ensures.bits i)) p up)
