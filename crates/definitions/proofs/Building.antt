@@ -12,7 +12,8 @@ use Rattle.definitions.specs.Causes.{HasAllJoin, HasAllWorded, HasFew, HasNamesA
 use Rattle.definitions.specs.States.{queue_of, topology_of}
 use Rattle.definitions.specs.Hashed.{AreHashed}
 use Rattle.definitions.specs.Judged.{IsSettled}
-use Rattle.definitions.proofs.Order.{below_next}
+use Rattle.json_file.proofs.Order.{below_next}
+use Rattle.definitions.proofs.Order.{IsClearOf}
 
 all_map : {A B : Type 0} (P : B → Type 0) (f : A → B) (xs : List A) → All (λ (x : A). P (f x)) xs → All P (map f xs)
 all_map P f [] a k d h = absurd (omega (arith, h))
@@ -46,4 +47,4 @@ hashed_some P es (Some vs) us m e = let q : vs ≡ us = cc in subst (λ (z : Vec
 
 -- what they set up, where no cause stands in them
 pub settled : (f : File) (t : Topology) (us : List User) → IsClearBelow 13 f → AreHashed f.users us → t ≡ topology_of f → IsSettled (record { topology = t; users = us }) f
-settled f t us c h e = record { clear = below_next f Memory (below_next f OtherHash c h.hashed) tt; topology = e; users = h.are }
+settled f t us c h e = record { clear = below_next (IsClearOf f) Memory (below_next (IsClearOf f) OtherHash c h.hashed) tt; topology = e; users = h.are }

@@ -1,5 +1,5 @@
 -- What a definitions file must keep, cause by cause. Source: RabbitMQ, "Definition Export and Import"; the limits, and what is not built, are own.
-use Rattle.std.specs.Prelude.{codes, ◌≡◌, ◌<◌, ◌≤◌, ℕ, List, true, false, Some, None, IsSome, map, length, All, ◌⊎◌}
+use Rattle.std.specs.Prelude.{codes, ◌≡◌, ◌≤◌, ℕ, List, true, false, Some, None, IsSome, map, length, All, ◌⊎◌}
 use Rattle.model.specs.Words.{Text}
 use Rattle.model.specs.Topology.{AreApart, IsIn}
 use Rattle.topology_drafts.specs.Causes.{AllJoin, AllWorded, IsSmall, NamesApart, NamesLead}
@@ -11,8 +11,8 @@ use Rattle.definitions.specs.declared.document.QueueEntry.{QueueEntry}
 use Rattle.definitions.specs.declared.document.BindingEntry.{BindingEntry}
 use Rattle.json_file.specs.declared.causes.FileCause.{FileCause}
 use Rattle.json_file.specs.declared.causes.FileCause.TheVariants.{OtherVhost, Repeated, Absent, OtherType, Unsupported}
-use Rattle.json_file.specs.declared.causes.FileCause.TheVariants.{NoOverflow, Worded, TooMany, NoExchange, OtherPermission, OtherHash, Memory}
-use Rattle.json_file.specs.Causes.{cause_number}
+use Rattle.json_file.specs.declared.causes.FileCause.TheVariants.{NoOverflow, Worded, TooMany, NoExchange, OtherPermission, OtherHash}
+use Rattle.json_file.specs.Files.{AllClearBelow, IsCauseTold}
 use Rattle.definitions.specs.File.{File}
 use Rattle.definitions.specs.States.{hash_of, kind_named, topology_of}
 
@@ -167,14 +167,8 @@ IsClear _ f = Unit {0}
 
 -- .. and of every cause below this number
 abbrev pub IsClearBelow : ℕ → File → Type 0
-IsClearBelow n f = (bad : FileCause) → cause_number bad < n → IsClear bad f
+IsClearBelow n f = AllClearBelow (λ (bad : FileCause). IsClear bad f) n
 
--- This cause stands in the file, and none below it.
-pub record IsLeast (bad : FileCause) (f : File) : Type 0 where
-  pub below : IsClearBelow (cause_number bad) f
-  pub stands : IsClear bad f → ⊥
-
--- the cause that is told is the least; want of memory owes nothing
+-- the cause that is told is the least that stands in the file; want of memory owes nothing
 abbrev pub IsTold : FileCause → File → Type 0
-IsTold Memory f = Unit {0}
-IsTold bad f = IsLeast bad f
+IsTold bad f = IsCauseTold (λ (lower : FileCause). IsClear lower f) bad

@@ -1,25 +1,17 @@
 -- What is known of a file whose entries were looked at.
 use Rattle.std.specs.Prelude.{◌≡◌, ℕ, List, Result, Ok, Err, ⊤}
 use Rattle.json_file.specs.declared.causes.FileCause.{FileCause}
-use Rattle.json_file.specs.declared.causes.FileCause.TheVariants.{NotJson, Malformed, TooMany, Memory}
+use Rattle.json_file.specs.Files.{IsUnreadFile}
 use Rattle.definitions.specs.declared.document.Document.{Document}
-use Rattle.definitions.specs.File.{File, file_of}
+use Rattle.definitions.specs.File.{File, file_at, file_of}
 use Rattle.definitions.specs.Causes.{IsClearBelow, IsTold}
 use Rattle.definitions.specs.States.{topology_of, users_of}
-use Rattle.definitions.specs.Reads.{IsDefinitionsFile, IsFirst, Stated}
-
--- the entries of a file are given, or it is refused because it has none
-abbrev pub IsFileUnread : FileCause → List ℕ → Type 0
-IsFileUnread NotJson bytes = IsFirst NotJson bytes
-IsFileUnread Malformed bytes = IsFirst Malformed bytes
-IsFileUnread TooMany bytes = IsFirst TooMany bytes
-IsFileUnread Memory bytes = Unit {0}
-IsFileUnread _ bytes = ⊥
+use Rattle.definitions.specs.Reads.{IsDefinitionsFile, Stated}
 
 -- what the bytes of a file give: its entries, or the cause for which it is refused before there are any
 abbrev pub OpensDefinitions : Result Document FileCause → List ℕ → Type 0
 OpensDefinitions (Ok d) bytes = IsDefinitionsFile bytes (file_of d)
-OpensDefinitions (Err bad) bytes = IsFileUnread bad bytes
+OpensDefinitions (Err bad) bytes = IsUnreadFile file_at bad bytes
 
 -- no cause below 13 stands in the entries, or the least is told
 abbrev pub JudgesFile : Result ⊤ FileCause → File → Type 0

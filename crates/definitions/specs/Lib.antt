@@ -5,3 +5,4 @@ pub mod Causes
 pub mod Reads
 pub mod Judged
 pub mod Hashed
+pub mod Looked

@@ -1,51 +1,28 @@
 -- What reading a definitions file answers: each cause over the whole file, and of several the one of the least number.
-use Rattle.std.specs.Prelude.{◌≡◌, ◌<◌, ◌≤◌, ℕ, List, Some, Result, Ok, Err, length}
-use Rattle.serde_json.specs.Data.{Data}
-use Rattle.json_file.specs.Members.{IsJson, IsJsonFile}
+use Rattle.std.specs.Prelude.{◌≡◌, ℕ, List, Result, Ok, Err}
 use Rattle.model.specs.Topology.{Topology}
 use Rattle.model.specs.declared.messages.User.{User}
 use Rattle.json_file.specs.declared.causes.FileCause.{FileCause}
-use Rattle.json_file.specs.declared.causes.FileCause.TheVariants.{NotJson, Malformed, TooMany, Memory}
-use Rattle.json_file.specs.Causes.{cause_number}
+use Rattle.json_file.specs.Files.{IsCauseTold, IsFileOf, IsFreeOf, IsLeastCause}
 use Rattle.definitions.specs.File.{File, file_at}
 use Rattle.definitions.specs.Causes.{IsClear}
 use Rattle.definitions.specs.States.{topology_of, users_of}
 
 -- the file is JSON and states these entries
-pub record IsDefinitionsFile (bytes : List ℕ) (f : File) : Type 0 where
-  pub value : Data
-  pub json : IsJson bytes value
-  pub states : file_at value ≡ Some f
+abbrev pub IsDefinitionsFile : List ℕ → File → Type 0
+IsDefinitionsFile bytes f = IsFileOf file_at bytes f
 
--- a file that is JSON has all required members, each of its kind
-abbrev pub IsWellShaped : List ℕ → Type 0
-IsWellShaped bytes = (d : Data) → IsJson bytes d → (f : File) × (file_at d ≡ Some f)
-
--- the file's entries are clear of this cause
-abbrev pub HasClear : FileCause → List ℕ → Type 0
-HasClear bad bytes = (f : File) → IsDefinitionsFile bytes f → IsClear bad f
-
--- the file is not too long, and does not have too many entries
-pub record IsInLimits (bytes : List ℕ) : Type 0 where
-  pub short : length bytes ≤ 16777216
-  pub few : HasClear TooMany bytes
-
--- The file is free of this cause. A file that is too long is not read, so that no other cause stands in it.
+-- The file is free of this cause.
 abbrev pub IsFree : FileCause → List ℕ → Type 0
-IsFree NotJson bytes = IsJsonFile bytes
-IsFree Malformed bytes = IsWellShaped bytes
-IsFree TooMany bytes = IsInLimits bytes
-IsFree bad bytes = HasClear bad bytes
+IsFree bad bytes = IsFreeOf file_at IsClear bytes bad
 
 -- This cause stands in the file, and none of a smaller number does.
-pub record IsFirst (bad : FileCause) (bytes : List ℕ) : Type 0 where
-  pub before : (lower : FileCause) → cause_number lower < cause_number bad → IsFree lower bytes
-  pub stands : IsFree bad bytes → ⊥
+abbrev pub IsFirst : FileCause → List ℕ → Type 0
+IsFirst bad bytes = IsLeastCause (IsFreeOf file_at IsClear bytes) bad
 
 -- a file is refused by its first cause; want of memory owes nothing
 abbrev pub IsRefused : FileCause → List ℕ → Type 0
-IsRefused Memory bytes = Unit {0}
-IsRefused bad bytes = IsFirst bad bytes
+IsRefused bad bytes = IsCauseTold (IsFreeOf file_at IsClear bytes) bad
 
 -- what a file sets up
 pub record Stated : Type 0 where

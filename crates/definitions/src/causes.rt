@@ -250,7 +250,7 @@ pub fn has_names_lead(document: &Document, draft: &Draft<'_>) -> bool
 // ---- 12: permissions
 
 /// Whether a permission is to configure nothing, and to write and read all.
-fn is_whole(permission: &PermissionEntry) -> bool
+fn permits_all(permission: &PermissionEntry) -> bool
     ensures { Decides result (PermitsAll permission.now) }
 {
     permission.configure.as_bytes() == b"^$".as_slice()
@@ -259,10 +259,10 @@ fn is_whole(permission: &PermissionEntry) -> bool
 }
 
 /// Whether these permissions are.
-fn all_whole(permissions: &[PermissionEntry]) -> bool
+fn all_permit_all(permissions: &[PermissionEntry]) -> bool
     ensures { Decides result (All PermitsAll permissions.now) }
 {
-    permissions.iter().all(|permission| is_whole(permission))
+    permissions.iter().all(|permission| permits_all(permission))
 }
 
 /// Whether a user is among the permitted ones.
@@ -313,7 +313,7 @@ fn permissions_fit(
     requires permitted { permitted.now ≡ permission_names (file_of document.now) }
     ensures { Decides result (HasPermissions (file_of document.now)) }
 {
-    let whole = all_whole(document.permissions.as_slice());
+    let whole = all_permit_all(document.permissions.as_slice());
     let apart = permitted.is_apart();
     let each = are_permitted(permitted, document.users.as_slice());
     let known = are_of_users(users, document.permissions.as_slice());

@@ -6,7 +6,7 @@ ghost use Rattle.definitions.specs.Judged.{OpensDefinitions, StatesOrTells};
 ghost use Rattle.definitions.specs.Reads.{ReadsDefinitions};
 
 use crate::document::Document;
-use crate::judging::judge;
+use crate::judging::check_entries;
 use crate::shape::document;
 use crate::stating::{Parts, users_of};
 use exchange_graph::Topology;
@@ -77,11 +77,11 @@ fn open(alloc: Global, bytes: &[u8]) -> Result<Document, FileCause>
 }
 
 /// What the entries of a file set up, or the least cause that stands in them.
-fn settle(alloc: Global, document: &Document) -> Result<Definitions, FileCause>
+fn set_up(alloc: Global, document: &Document) -> Result<Definitions, FileCause>
     ensures { StatesOrTells result (file_of document.now) }
 {
     let parts = Parts::of(alloc, document)?;
-    judge(alloc, document, &parts)?;
+    check_entries(alloc, document, &parts)?;
     let Some(users) = users_of(alloc, document.users.as_slice())? else {
         return Err(FileCause::OtherHash);
     };
@@ -97,5 +97,5 @@ pub fn read_definitions(alloc: Global, bytes: &[u8]) -> Result<Definitions, File
     ensures { ReadsDefinitions result bytes.now }
 {
     let document = open(alloc, bytes)?;
-    settle(alloc, &document)
+    set_up(alloc, &document)
 }

@@ -1,7 +1,8 @@
 //! The least cause that stands in a file, but for the users' hashes.
 
-ghost use Rattle.std.specs.Prelude.{◌≡◌, MatchResult};
-ghost use Rattle.definitions.specs.Causes.{IsClearBelow, IsTold, user_names};
+ghost use Rattle.std.specs.Prelude.{◌≡◌, ◌+◌, ◌<◌, Decides, MatchResult};
+ghost use Rattle.json_file.specs.Causes.{cause_number};
+ghost use Rattle.definitions.specs.Causes.{IsClear, IsClearBelow, IsTold};
 ghost use Rattle.definitions.specs.File.{file_of};
 ghost use Rattle.definitions.specs.Judged.{JudgesFile};
 ghost use Rattle.definitions.specs.States.{topology_of};
@@ -14,88 +15,93 @@ use crate::document::{Document, UserEntry};
 use crate::stating::Parts;
 use json_file::FileCause;
 use std::alloc::Global;
+use std::marker::Model;
 use topology_drafts::{Directory, Draft};
 
-/// The least of the first five causes that stands in a file, if one does.
-fn first_cause(
-    document: &Document,
-    users: &Directory<'_, UserEntry>,
-    draft: &Draft<'_>,
-) -> Result<(), FileCause>
-    requires users { users.now ≡ user_names (file_of document.now) }
-    requires draft { draft.now ≡ topology_of (file_of document.now) }
-    ensures { MatchResult result (λ _. IsClearBelow 8 (file_of document.now)) (λ bad. IsTold bad (file_of document.now)) }
-{
-    if !has_one_vhost(document) {
-        return Err(FileCause::OtherVhost);
-    }
-    if !has_names_apart(document, users, draft) {
-        return Err(FileCause::Repeated);
-    }
-    if !has_all_join(document, draft) {
-        return Err(FileCause::Absent);
-    }
-    if !has_types(document) {
-        return Err(FileCause::OtherType);
-    }
-    if !is_supported(document) {
-        return Err(FileCause::Unsupported);
-    }
-    Ok(())
+/// The entries of a file, with what is looked up in them.
+#[derive(Drop)]
+struct Entries<'a> {
+    alloc: Global,
+    document: &'a Document,
+    users: &'a Directory<'a, UserEntry>,
+    draft: &'a Draft<'a>,
 }
 
-/// The least of the next five causes that stands in a file, if one does.
-fn next_cause(
-    alloc: Global,
-    document: &Document,
-    users: &Directory<'_, UserEntry>,
-    draft: &Draft<'_>,
-) -> Result<(), FileCause>
-    requires users { users.now ≡ user_names (file_of document.now) }
-    requires draft { draft.now ≡ topology_of (file_of document.now) }
-    requires clear { IsClearBelow 8 (file_of document.now) }
-    ensures { JudgesFile result (file_of document.now) }
-{
-    if !has_overflows(document) {
-        return Err(FileCause::NoOverflow);
-    }
-    if !has_all_worded(document, draft) {
-        return Err(FileCause::Worded);
-    }
-    if !has_few(document, draft) {
-        return Err(FileCause::TooMany);
-    }
-    if !has_names_lead(document, draft) {
-        return Err(FileCause::NoExchange);
-    }
-    if !has_permissions(alloc, document, users) {
-        return Err(FileCause::OtherPermission);
-    }
-    Ok(())
+impl<'a> Model for Entries<'a> {
+    ghost use Rattle.definitions.specs.File.{File, file_of};
+    ghost use Rattle.definitions.specs.Looked.{AreLookedUp};
+
+    ghost Value = { File };
+
+    ghost view = { λ e. file_of e.document.now };
+
+    ghost invariant = { λ e. AreLookedUp (file_of e.document.now) e.users.now e.draft.now };
 }
 
-/// The least cause that stands in a file, if one below the users' hashes does.
-fn least_cause(
-    alloc: Global,
-    document: &Document,
-    users: &Directory<'_, UserEntry>,
-    draft: &Draft<'_>,
-) -> Result<(), FileCause>
-    requires users { users.now ≡ user_names (file_of document.now) }
-    requires draft { draft.now ≡ topology_of (file_of document.now) }
-    ensures { JudgesFile result (file_of document.now) }
-{
-    first_cause(document, users, draft)?;
-    next_cause(alloc, document, users, draft)
+impl<'a> Entries<'a> {
+    /// Whether they are clear of a cause.
+    fn is_clear(&self, cause: FileCause) -> bool
+        requires { cause_number cause < 13 }
+        ensures { Decides result (IsClear cause self.now) }
+    {
+        match cause {
+            FileCause::OtherVhost => has_one_vhost(self.document),
+            FileCause::Repeated => has_names_apart(self.document, self.users, self.draft),
+            FileCause::Absent => has_all_join(self.document, self.draft),
+            FileCause::OtherType => has_types(self.document),
+            FileCause::Unsupported => is_supported(self.document),
+            FileCause::NoOverflow => has_overflows(self.document),
+            FileCause::Worded => has_all_worded(self.document, self.draft),
+            FileCause::TooMany => has_few(self.document, self.draft),
+            FileCause::NoExchange => has_names_lead(self.document, self.draft),
+            FileCause::OtherPermission => has_permissions(self.alloc, self.document, self.users),
+            _ => true,
+        }
+    }
+
+    /// Tells a cause, where they are not clear of it.
+    fn tell(&self, cause: FileCause) -> Result<(), FileCause>
+        requires asked { cause_number cause < 13 }
+        requires below { IsClearBelow (cause_number cause) self.now }
+        ensures { MatchResult result (λ _. IsClearBelow (cause_number cause + 1) self.now) (λ bad. IsTold bad self.now) }
+    {
+        if self.is_clear(cause) {
+            Ok(())
+        } else {
+            Err(cause)
+        }
+    }
+
+    /// Tells the least cause that stands in them, if one below the users' hashes does.
+    fn tell_least(&self) -> Result<(), FileCause>
+        ensures { JudgesFile result self.now }
+    {
+        self.tell(FileCause::OtherVhost)?;
+        self.tell(FileCause::Repeated)?;
+        self.tell(FileCause::Absent)?;
+        self.tell(FileCause::OtherType)?;
+        self.tell(FileCause::Unsupported)?;
+        self.tell(FileCause::NoOverflow)?;
+        self.tell(FileCause::Worded)?;
+        self.tell(FileCause::TooMany)?;
+        self.tell(FileCause::NoExchange)?;
+        self.tell(FileCause::OtherPermission)
+    }
 }
 
 /// Tells the least cause that stands in a file, if one below the users' hashes does. What the file sets up is asked of
 /// its draft.
-pub fn judge(alloc: Global, document: &Document, parts: &Parts) -> Result<(), FileCause>
+pub fn check_entries(alloc: Global, document: &Document, parts: &Parts) -> Result<(), FileCause>
     requires { parts.now ≡ topology_of (file_of document.now) }
     ensures { JudgesFile result (file_of document.now) }
 {
     let users = Directory::of(alloc, document.users.as_slice());
     let draft = parts.draft(alloc);
-    least_cause(alloc, document, &users, &draft)
+    let entries = Entries {
+        alloc,
+        document,
+        users: &users,
+        draft: &draft,
+    };
+    entries.tell_least()
 }

@@ -5,3 +5,4 @@ pub mod Firsts
 pub mod Views
 pub mod Puts
 pub mod Found
+pub mod Loops

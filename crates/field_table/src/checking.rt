@@ -40,13 +40,9 @@ fn are_pairs(bytes: &[u8], depth: usize) -> bool
 pub(crate) fn pair_at(bytes: &[u8], depth: usize) -> Option<(&[u8], &[u8])>
     ensures { MatchOption result (HasNoPair depth bytes.now) (λ found. (v : Value) × IsFirstPair depth bytes.now found.0.now v found.1.now) }
 {
-    let Some((name, rest)) = short_text_at(bytes) else {
-        return None;
-    };
-    match value_end(rest, depth) {
-        Some(after) => Some((name, after)),
-        None => None,
-    }
+    let (name, rest) = short_text_at(bytes)?;
+    let after = value_end(rest, depth)?;
+    Some((name, after))
 }
 
 /// The bytes are the values of an array in which arrays and tables may stand `depth` levels deep.

@@ -21,10 +21,7 @@ use byteorder::{BigEndian, ByteOrder};
 pub fn octet_at(bytes: &[u8]) -> Option<(u8, &[u8])>
     ensures { option_map (λ x. (Octet x.0, x.1.now)) result ≡ argument_at an_octet bytes.now }
 {
-    if bytes.len() < 1 {
-        return None;
-    }
-    let (front, rest) = bytes.split_at(1);
+    let (front, rest) = bytes.split_at_checked(1)?;
     Some((front[0], rest))
 }
 
@@ -32,10 +29,7 @@ pub fn octet_at(bytes: &[u8]) -> Option<(u8, &[u8])>
 pub fn short_at(bytes: &[u8]) -> Option<(u16, &[u8])>
     ensures { option_map (λ x. (Short x.0, x.1.now)) result ≡ argument_at a_short bytes.now }
 {
-    if bytes.len() < 2 {
-        return None;
-    }
-    let (front, rest) = bytes.split_at(2);
+    let (front, rest) = bytes.split_at_checked(2)?;
     Some((BigEndian::read_u16(front), rest))
 }
 
@@ -43,10 +37,7 @@ pub fn short_at(bytes: &[u8]) -> Option<(u16, &[u8])>
 pub fn long_at(bytes: &[u8]) -> Option<(u32, &[u8])>
     ensures { option_map (λ x. (Long x.0, x.1.now)) result ≡ argument_at a_long bytes.now }
 {
-    if bytes.len() < 4 {
-        return None;
-    }
-    let (front, rest) = bytes.split_at(4);
+    let (front, rest) = bytes.split_at_checked(4)?;
     Some((BigEndian::read_u32(front), rest))
 }
 
@@ -54,10 +45,7 @@ pub fn long_at(bytes: &[u8]) -> Option<(u32, &[u8])>
 pub fn long_long_at(bytes: &[u8]) -> Option<(u64, &[u8])>
     ensures { option_map (λ x. (Long_long x.0, x.1.now)) result ≡ argument_at a_long_long bytes.now }
 {
-    if bytes.len() < 8 {
-        return None;
-    }
-    let (front, rest) = bytes.split_at(8);
+    let (front, rest) = bytes.split_at_checked(8)?;
     Some((BigEndian::read_u64(front), rest))
 }
 
@@ -65,15 +53,8 @@ pub fn long_long_at(bytes: &[u8]) -> Option<(u64, &[u8])>
 pub fn short_text_at(bytes: &[u8]) -> Option<(&[u8], &[u8])>
     ensures { option_map (λ x. (Short_text x.0.now, x.1.now)) result ≡ argument_at a_short_text bytes.now }
 {
-    if bytes.len() < 1 {
-        return None;
-    }
-    let len = bytes[0] as usize;
-    let (_, rest) = bytes.split_at(1);
-    if rest.len() < len {
-        return None;
-    }
-    Some(rest.split_at(len))
+    let (len, rest) = octet_at(bytes)?;
+    rest.split_at_checked(len as usize)
 }
 
 /// A text with its length in 4 bytes before it.
@@ -94,27 +75,16 @@ pub fn pairs_at(bytes: &[u8]) -> Option<(&[u8], &[u8])>
 fn sized_at(bytes: &[u8]) -> Option<(&[u8], &[u8])>
     ensures { (made : List ℕ → Argument) → option_map (λ x. (made x.0.now, x.1.now)) result ≡ read_long_text made bytes.now }
 {
-    if bytes.len() < 4 {
-        return None;
-    }
-    let (front, rest) = bytes.split_at(4);
-    let len = BigEndian::read_u32(front) as usize;
-    if rest.len() < len {
-        return None;
-    }
-    Some(rest.split_at(len))
+    let (front, rest) = bytes.split_at_checked(4)?;
+    rest.split_at_checked(BigEndian::read_u32(front) as usize)
 }
 
 /// One bit, in an octet of its own.
 pub fn one_bit_at(bytes: &[u8]) -> Option<(bool, &[u8])>
     ensures { option_map (λ x. (Bits (x.0 ∷ []), x.1.now)) result ≡ argument_at (some_bits 1) bytes.now }
 {
-    if bytes.len() < 1 {
-        return None;
-    }
-    let octet = bytes[0];
+    let (octet, rest) = octet_at(bytes)?;
     if octet < 2 {
-        let (_, rest) = bytes.split_at(1);
         return Some((octet % 2 == 1, rest));
     }
     None
@@ -124,12 +94,8 @@ pub fn one_bit_at(bytes: &[u8]) -> Option<(bool, &[u8])>
 pub fn two_bits_at(bytes: &[u8]) -> Option<(bool, bool, &[u8])>
     ensures { option_map (λ x. (Bits (x.0 ∷ x.1 ∷ []), x.2.now)) result ≡ argument_at (some_bits 2) bytes.now }
 {
-    if bytes.len() < 1 {
-        return None;
-    }
-    let octet = bytes[0];
+    let (octet, rest) = octet_at(bytes)?;
     if octet < 4 {
-        let (_, rest) = bytes.split_at(1);
         return Some((octet % 2 == 1, octet / 2 % 2 == 1, rest));
     }
     None
@@ -139,12 +105,8 @@ pub fn two_bits_at(bytes: &[u8]) -> Option<(bool, bool, &[u8])>
 pub fn four_bits_at(bytes: &[u8]) -> Option<([bool; 4], &[u8])>
     ensures { option_map (λ x. (Bits x.0, x.1.now)) result ≡ argument_at (some_bits 4) bytes.now }
 {
-    if bytes.len() < 1 {
-        return None;
-    }
-    let octet = bytes[0];
+    let (octet, rest) = octet_at(bytes)?;
     if octet < 16 {
-        let (_, rest) = bytes.split_at(1);
         let bits = [
             octet % 2 == 1,
             octet / 2 % 2 == 1,
@@ -160,12 +122,8 @@ pub fn four_bits_at(bytes: &[u8]) -> Option<([bool; 4], &[u8])>
 pub fn five_bits_at(bytes: &[u8]) -> Option<([bool; 5], &[u8])>
     ensures { option_map (λ x. (Bits x.0, x.1.now)) result ≡ argument_at (some_bits 5) bytes.now }
 {
-    if bytes.len() < 1 {
-        return None;
-    }
-    let octet = bytes[0];
+    let (octet, rest) = octet_at(bytes)?;
     if octet < 32 {
-        let (_, rest) = bytes.split_at(1);
         let bits = [
             octet % 2 == 1,
             octet / 2 % 2 == 1,

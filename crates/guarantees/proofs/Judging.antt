@@ -1,12 +1,12 @@
 -- The causes that guarantees may have, one by one.
-use Rattle.std.proofs.Common.{◌≡◌, ◌<◌, Bool, true, false, List, arith}
-use Rattle.std.specs.Prelude.{All, Decides}
+use Rattle.std.proofs.Common.{◌<◌, List, arith}
+use Rattle.std.specs.Prelude.{All}
 use Rattle.model.specs.Topology.{Topology}
 use Rattle.model.specs.Guarantee.{Guarantee}
 use Rattle.json_file.specs.declared.causes.FileCause.{FileCause}
 use Rattle.json_file.specs.declared.causes.FileCause.TheVariants.{Absent, Worded, TooMany}
 use Rattle.json_file.specs.Causes.{cause_number}
-use Rattle.guarantees.specs.Causes.{AreClear, AreFewEnough, IsGuaranteeWorded, IsLeastAgainst, NamesAreThere}
+use Rattle.guarantees.specs.Causes.{AreClear, AreFewEnough, IsGuaranteeWorded, NamesAreThere}
 
 -- what no test looks for is clear
 pub below_names : (t : Topology) (gs : List Guarantee) (lower : FileCause) → cause_number lower < 5 → AreClear lower t gs
@@ -32,8 +32,3 @@ all_clear t gs there worded few Absent = there
 all_clear t gs there worded few Worded = worded
 all_clear t gs there worded few TooMany = few
 all_clear t gs there worded few _ = tt
-
--- a cause that stands where none below it does
-pub least : (t : Topology) (gs : List Guarantee) (bad : FileCause) (b : Bool) → ((lower : FileCause) → cause_number lower < cause_number bad → AreClear lower t gs)
-    → Decides b (AreClear bad t gs) → b ≡ false → IsLeastAgainst bad t gs
-least t gs bad b below d e = record { below = below; stands = λ h. (let z : b ≡ true = d.1 h in cc) }

@@ -1,12 +1,12 @@
 -- What a guarantees file must keep, cause by cause (own).
-use Rattle.std.specs.Prelude.{◌≡◌, ◌<◌, ◌≤◌, List, [], length, All, Option, Some, None, Result, Ok, Err, ◌⊎◌, ⊤}
+use Rattle.std.specs.Prelude.{◌≡◌, ◌≤◌, List, [], length, All, Option, Some, None, Result, Ok, Err, ◌⊎◌, ⊤}
 use Rattle.model.specs.Words.{Text}
 use Rattle.model.specs.Topology.{Topology, IsIn, exchange_names, queue_names}
 use Rattle.model.specs.Guarantee.{Guarantee}
 use Rattle.topic_match.specs.Patterns.{IsPattern}
 use Rattle.json_file.specs.declared.causes.FileCause.{FileCause}
-use Rattle.json_file.specs.declared.causes.FileCause.TheVariants.{Absent, Worded, TooMany, Memory}
-use Rattle.json_file.specs.Causes.{cause_number}
+use Rattle.json_file.specs.declared.causes.FileCause.TheVariants.{Absent, Worded, TooMany}
+use Rattle.json_file.specs.Files.{IsCauseTold}
 
 -- the exchange is the default one, or is there
 abbrev pub IsExchangeOrDefault : Topology → Text → Type 0
@@ -45,15 +45,9 @@ AreClear Worded t gs = All IsGuaranteeWorded gs
 AreClear TooMany t gs = AreFewEnough gs
 AreClear _ t gs = Unit {0}
 
--- This cause stands in them, and none of a smaller number.
-pub record IsLeastAgainst (bad : FileCause) (t : Topology) (gs : List Guarantee) : Type 0 where
-  pub below : (lower : FileCause) → cause_number lower < cause_number bad → AreClear lower t gs
-  pub stands : AreClear bad t gs → ⊥
-
--- the cause that is told is the least; want of memory owes nothing
+-- the cause that is told is the least that stands in them; want of memory owes nothing
 abbrev pub AreTold : FileCause → Topology → List Guarantee → Type 0
-AreTold Memory t gs = Unit {0}
-AreTold bad t gs = IsLeastAgainst bad t gs
+AreTold bad t gs = IsCauseTold (λ (lower : FileCause). AreClear lower t gs) bad
 
 -- a guarantee is made of what is given, exactly where its patterns are patterns
 abbrev pub Makes : Option Guarantee → Guarantee → Type 0

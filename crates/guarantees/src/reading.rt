@@ -143,7 +143,7 @@ fn are_few(guarantees: &[StatedGuarantee]) -> bool
 }
 
 /// Tells the least cause that stands in the guarantees.
-fn judge(topology: &Topology, guarantees: &[StatedGuarantee]) -> Result<(), FileCause>
+fn check_guarantees(topology: &Topology, guarantees: &[StatedGuarantee]) -> Result<(), FileCause>
     ensures { JudgesGuarantees result topology.now guarantees.now }
 {
     if !all_there(topology, guarantees) {
@@ -192,7 +192,7 @@ pub fn read_guarantees(
     ensures { ReadsGuarantees result topology.now bytes.now }
 {
     let stated = open(alloc, bytes)?;
-    judge(topology, stated.as_slice())?;
+    check_guarantees(topology, stated.as_slice())?;
     let guarantees = kept(alloc, stated)?;
     Ok(guarantees)
 }

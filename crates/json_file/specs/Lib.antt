@@ -1,3 +1,4 @@
 pub mod Members
 pub mod Outcomes
 pub mod Causes
+pub mod Files

@@ -29,7 +29,8 @@ set_cases (b ∷ bs) zero (suc j) s = inr s
 set_cases (b ∷ bs) (suc i) zero s = inr s
 set_cases (b ∷ bs) (suc i) (suc j) s = elim (set_cases bs i j s) [ inl e ↦ inl (ap suc e) | inr h ↦ inr h ]
 
-set_keeps : (marks : List Bool) (i j : ℕ) → IsSet marks j → IsSet (set marks i true) j
+-- what was marked stays so
+pub set_keeps : (marks : List Bool) (i j : ℕ) → IsSet marks j → IsSet (set marks i true) j
 set_keeps [] i j s = s
 set_keeps (b ∷ bs) zero zero s = refl
 set_keeps (b ∷ bs) zero (suc j) s = s

@@ -55,29 +55,24 @@ none_known keys ps e f kind text = (
   (λ i. absurd (subst (λ (z : List Tracked). IsIn (pattern kind text) z) f i)),
 )
 
+-- a text among those of a kind that has one more
+one_with : (kind : ExchangeKind) (text t : Text) (texts : List Text) → IsIn t (texts ++ text ∷ []) → IsIn t texts ⊎ (pattern kind t ≡ pattern kind text)
+one_with kind text t texts i = elim (in-append t texts (text ∷ []) i) [
+  | inl j ↦ inl j
+  | inr j ↦ elim j [ inl e ↦ inr (ap (pattern kind) e) | inr n ↦ absurd n ]
+]
+
 -- the texts of each kind, where one has one more
 from_with : (keys : ByKind) (kind other : ExchangeKind) (text t : Text) → IsIn t (texts_by (with_text keys kind text) other) → IsIn t (texts_by keys other) ⊎ (pattern other t ≡ pattern kind text)
-from_with keys Direct Direct text t i = one (in-append t keys.direct (text ∷ []) i)
-  where
-    one : IsIn t keys.direct ⊎ IsIn t (text ∷ []) → IsIn t keys.direct ⊎ (pattern Direct t ≡ pattern Direct text)
-    one (inl j) = inl j
-    one (inr j) = elim j [ inl e ↦ inr (ap (pattern Direct) e) | inr n ↦ absurd n ]
+from_with keys Direct Direct text t i = one_with Direct text t keys.direct i
 from_with keys Direct Fanout text t i = inl i
 from_with keys Direct Topic text t i = inl i
 from_with keys Fanout Direct text t i = inl i
-from_with keys Fanout Fanout text t i = one (in-append t keys.fanout (text ∷ []) i)
-  where
-    one : IsIn t keys.fanout ⊎ IsIn t (text ∷ []) → IsIn t keys.fanout ⊎ (pattern Fanout t ≡ pattern Fanout text)
-    one (inl j) = inl j
-    one (inr j) = elim j [ inl e ↦ inr (ap (pattern Fanout) e) | inr n ↦ absurd n ]
+from_with keys Fanout Fanout text t i = one_with Fanout text t keys.fanout i
 from_with keys Fanout Topic text t i = inl i
 from_with keys Topic Direct text t i = inl i
 from_with keys Topic Fanout text t i = inl i
-from_with keys Topic Topic text t i = one (in-append t keys.topic (text ∷ []) i)
-  where
-    one : IsIn t keys.topic ⊎ IsIn t (text ∷ []) → IsIn t keys.topic ⊎ (pattern Topic t ≡ pattern Topic text)
-    one (inl j) = inl j
-    one (inr j) = elim j [ inl e ↦ inr (ap (pattern Topic) e) | inr n ↦ absurd n ]
+from_with keys Topic Topic text t i = one_with Topic text t keys.topic i
 
 still_with : (keys : ByKind) (kind other : ExchangeKind) (text t : Text) → IsIn t (texts_by keys other) → IsIn t (texts_by (with_text keys kind text) other)
 still_with keys Direct Direct text t i = in_front t keys.direct (text ∷ []) i

@@ -11,7 +11,7 @@ use Rattle.paths.specs.Reach.{AreReached, Chain, MarksBegin}
 use Rattle.state_routes.specs.Gates.{open_ways}
 use Rattle.state_routes.specs.Exits.{Exit, IsBounded, LeadFrom, exit_at, open_through}
 use Rattle.state_routes.specs.Following.{Enters, Spreads}
-use Rattle.paths.proofs.Chains.{all_marked, begun_at, chain_on, none_set}
+use Rattle.paths.proofs.Chains.{all_marked, begun_at, chain_on, none_set, set_keeps}
 use Rattle.state_routes.proofs.Leaving.{in_through, open_at, open_leads}
 use Rattle.laws.proofs.Counts.{in_front, in_back, in-append}
 
@@ -47,7 +47,7 @@ enters_new l marks new rest more h f e r = subst (λ (z : List Bool). Enters (l 
     entered : Enters (l ∷ []) marks rest (set marks l.to true) (rest ++ l.to ∷ [])
     entered = record {
       size = length-set marks l.to true;
-      kept = λ i s. kept marks l.to i s;
+      kept = λ i s. set_keeps marks l.to i s;
       all = λ k i. (elim i [ inl e ↦ subst (λ (z : Hop). IsSet (set marks l.to true) z.to) (sym e) (set_here marks l.to h) | inr n ↦ absurd n ]);
       only = λ i s. (elim (set_only marks l.to i s) [ inl p ↦ inl p | inr q ↦ inr (l, inl refl, sym q, in_back i rest (l.to ∷ []) (inl q)) ]);
       waiting = λ i w. in_front i rest (l.to ∷ []) w;
@@ -57,13 +57,6 @@ enters_new l marks new rest more h f e r = subst (λ (z : List Bool). Enters (l 
       ]);
       fewer = (let u = unset_fewer marks l.to h f in let k = length-append rest (l.to ∷ []) in omega (arith, u, k));
     }
-      where
-        kept : (bs : List Bool) (i j : ℕ) → IsSet bs j → IsSet (set bs i true) j
-        kept [] i j s = s
-        kept (b ∷ bs) zero zero s = refl
-        kept (b ∷ bs) zero (suc j) s = s
-        kept (b ∷ bs) (suc i) zero s = s
-        kept (b ∷ bs) (suc i) (suc j) s = kept bs i j s
 
 enters_then : (xs ys : List Hop) (a b c : List Bool) (r s t : List ℕ) → Enters xs a r b s → Enters ys b s c t → Enters (xs ++ ys) a r c t
 enters_then xs ys a b c r s t m n = record {

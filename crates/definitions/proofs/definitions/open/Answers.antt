@@ -1,9 +1,10 @@
 use Rattle.std.proofs.lemmas.Result.{err_from_is_err_and}
 use Rattle.serde_json.specs.View.{view}
-use Rattle.definitions.proofs.Whole.{unread}
+use Rattle.json_file.proofs.Refused.{unread}
+use Rattle.definitions.specs.File.{file_at}
 use Rattle.definitions.proofs.definitions.open.Goals as goal
 
 pub returns-in_err-document : goal.returns-in_err-document
 returns-in_err-document c =
     let p = err_from_is_err_and c.from_residual-in_err-document.result c.from_residual-in_err-document.ensures.1 in
-    rw (p.1, p.2) (unread c.args.bytes.now (view c.in_ok-value.value) c.in_err-document.field-0.0 c.in_ok-value.ensures c.in_err-document.ensures)
+    rw (p.1, p.2) (unread file_at c.args.bytes.now (view c.in_ok-value.value) c.in_err-document.field-0.0 c.in_ok-value.ensures c.in_err-document.ensures)

@@ -1,4 +1,4 @@
-use Rattle.std.proofs.Common.{◌+◌, ◌*◌, length}
+use Rattle.std.proofs.Common.{◌+◌, ◌*◌, ◌↔◌, length}
 use Rattle.field_table.specs.Reading.{HasValues, HasPairs}
 use Rattle.field_table.proofs.checking.+check.Given as goal
 
@@ -19,19 +19,13 @@ decreases-are_pairs l = 4 * l.depth + 3
 
 -- the bytes are values exactly where those that are left are
 abbrev pub invariant-are_values-values : goal.invariant-are_values-values
-invariant-are_values-values l = record {
-  onto : HasValues l.depth l.rest → HasValues l.depth l.bytes;
-  back : HasValues l.depth l.bytes → HasValues l.depth l.rest;
-}
+invariant-are_values-values l = HasValues l.depth l.rest ↔ HasValues l.depth l.bytes
 
 abbrev pub decreases-are_values-values : goal.decreases-are_values-values
 decreases-are_values-values l = length l.rest
 
 abbrev pub invariant-are_pairs-pairs : goal.invariant-are_pairs-pairs
-invariant-are_pairs-pairs l = record {
-  onto : HasPairs l.depth l.rest → HasPairs l.depth l.bytes;
-  back : HasPairs l.depth l.bytes → HasPairs l.depth l.rest;
-}
+invariant-are_pairs-pairs l = HasPairs l.depth l.rest ↔ HasPairs l.depth l.bytes
 
 abbrev pub decreases-are_pairs-pairs : goal.decreases-are_pairs-pairs
 decreases-are_pairs-pairs l = length l.rest

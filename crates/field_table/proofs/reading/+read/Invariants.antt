@@ -1,7 +1,7 @@
 use Rattle.std.proofs.Common.{◌+◌, ◌*◌, length}
-use Rattle.model.specs.Tables.{Values, Pairs}
 use Rattle.field_table.specs.Reading.{SpellsValues, SpellsPairs, HasValues, HasPairs}
 use Rattle.field_table.specs.View.{fields_view, entries_view, values_then, pairs_then}
+use Rattle.field_table.proofs.Loops.{IsReadSoFar}
 use Rattle.field_table.proofs.reading.+read.Given as goal
 
 abbrev pub decreases-field_of : goal.decreases-field_of
@@ -19,21 +19,14 @@ decreases-values_in l = 4 * l.depth + 3
 abbrev pub decreases-table_in : goal.decreases-table_in
 decreases-table_in l = 4 * l.depth + 3
 
--- what was read, before what is left, is the whole
 abbrev pub invariant-values_in-values : goal.invariant-values_in-values
-invariant-values_in-values l = record {
-  onto : (vs : Values) → SpellsValues l.depth l.rest vs → SpellsValues l.depth l.bytes (values_then (fields_view l.values.items) vs);
-  back : HasValues l.depth l.bytes → HasValues l.depth l.rest;
-}
+invariant-values_in-values l = IsReadSoFar (SpellsValues l.depth) (HasValues l.depth) (values_then (fields_view l.values.items)) l.rest l.bytes
 
 abbrev pub decreases-values_in-values : goal.decreases-values_in-values
 decreases-values_in-values l = length l.rest
 
 abbrev pub invariant-table_in-pairs : goal.invariant-table_in-pairs
-invariant-table_in-pairs l = record {
-  onto : (ps : Pairs) → SpellsPairs l.depth l.rest ps → SpellsPairs l.depth l.bytes (pairs_then (entries_view l.entries.items) ps);
-  back : HasPairs l.depth l.bytes → HasPairs l.depth l.rest;
-}
+invariant-table_in-pairs l = IsReadSoFar (SpellsPairs l.depth) (HasPairs l.depth) (pairs_then (entries_view l.entries.items)) l.rest l.bytes
 
 abbrev pub decreases-table_in-pairs : goal.decreases-table_in-pairs
 decreases-table_in-pairs l = length l.rest

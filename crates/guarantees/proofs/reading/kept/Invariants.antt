@@ -1,7 +1,4 @@
-use Rattle.std.proofs.Common.{◌≡◌, ◌++◌, length}
-use Rattle.std.specs.Prelude.{All}
 use Rattle.std.specs.Vec.Iter.{into_iter_items, into_iter_len}
-use Rattle.guarantees.specs.Causes.{ArePatterns}
 use Rattle.guarantees.proofs.Keeping.{KeptSoFar}
 use Rattle.guarantees.proofs.reading.kept.Given as goal
 

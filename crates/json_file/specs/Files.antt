@@ -1,0 +1,68 @@
+-- Files and the causes for which they are refused (own). `stated_at` is what a JSON value states, if it states anything, and
+-- `Clear` what each cause asks of that.
+use Rattle.std.specs.Prelude.{◌≡◌, ◌<◌, ◌≤◌, ℕ, List, Option, Some, None, length}
+use Rattle.serde_json.specs.Data.{Data}
+use Rattle.json_file.specs.Members.{IsJson, IsJsonFile}
+use Rattle.json_file.specs.declared.causes.FileCause.{FileCause}
+use Rattle.json_file.specs.declared.causes.FileCause.TheVariants.{NotJson, Malformed, TooMany, Memory}
+use Rattle.json_file.specs.Causes.{cause_number}
+
+-- ---- the least of several causes, over what is clear of each
+
+-- all is clear of the causes below this number
+abbrev pub AllClearBelow : (FileCause → Type 0) → ℕ → Type 0
+AllClearBelow Clear n = (bad : FileCause) → cause_number bad < n → Clear bad
+
+-- This cause stands, and none of a smaller number does.
+pub record IsLeastCause (Clear : FileCause → Type 0) (bad : FileCause) : Type 0 where
+  pub below : AllClearBelow Clear (cause_number bad)
+  pub stands : Clear bad → ⊥
+
+-- the cause that is told is the least; want of memory owes nothing
+abbrev pub IsCauseTold : (FileCause → Type 0) → FileCause → Type 0
+IsCauseTold Clear Memory = Unit {0}
+IsCauseTold Clear bad = IsLeastCause Clear bad
+
+-- ---- what a file states
+
+-- the file is JSON and states this
+pub record IsFileOf {X : Type 0} (stated_at : Data → Option X) (bytes : List ℕ) (x : X) : Type 0 where
+  pub value : Data
+  pub json : IsJson bytes value
+  pub states : stated_at value ≡ Some x
+
+-- the file is JSON and states nothing
+pub record StatesNothing {X : Type 0} (stated_at : Data → Option X) (bytes : List ℕ) : Type 0 where
+  pub value : Data
+  pub json : IsJson bytes value
+  pub states : stated_at value ≡ None
+
+-- a file gives nothing: it is too long, or no JSON, or states nothing; want of memory owes nothing
+abbrev pub IsUnreadFile : {X : Type 0} → (Data → Option X) → FileCause → List ℕ → Type 0
+IsUnreadFile stated_at NotJson bytes = (length bytes ≤ 16777216) × ((d : Data) → IsJson bytes d → ⊥)
+IsUnreadFile stated_at Malformed bytes = StatesNothing stated_at bytes
+IsUnreadFile stated_at TooMany bytes = 16777216 < length bytes
+IsUnreadFile stated_at Memory bytes = Unit {0}
+IsUnreadFile stated_at _ bytes = ⊥
+
+-- ---- the causes that stand in a file
+
+-- a file that is JSON states something
+abbrev pub IsWellShaped : {X : Type 0} → (Data → Option X) → List ℕ → Type 0
+IsWellShaped {X} stated_at bytes = (d : Data) → IsJson bytes d → (x : X) × (stated_at d ≡ Some x)
+
+-- what the file states is clear of this cause
+abbrev pub HasClear : {X : Type 0} → (Data → Option X) → (FileCause → X → Type 0) → FileCause → List ℕ → Type 0
+HasClear {X} stated_at Clear bad bytes = (x : X) → IsFileOf stated_at bytes x → Clear bad x
+
+-- the file is not too long, and does not state too much
+pub record IsInLimits {X : Type 0} (stated_at : Data → Option X) (Clear : FileCause → X → Type 0) (bytes : List ℕ) : Type 0 where
+  pub short : length bytes ≤ 16777216
+  pub few : HasClear stated_at Clear TooMany bytes
+
+-- The file is free of this cause. A file that is too long is not read, so that no other cause stands in it.
+abbrev pub IsFreeOf : {X : Type 0} → (Data → Option X) → (FileCause → X → Type 0) → List ℕ → FileCause → Type 0
+IsFreeOf stated_at Clear bytes NotJson = IsJsonFile bytes
+IsFreeOf stated_at Clear bytes Malformed = IsWellShaped stated_at bytes
+IsFreeOf stated_at Clear bytes TooMany = IsInLimits stated_at Clear bytes
+IsFreeOf stated_at Clear bytes bad = HasClear stated_at Clear bad bytes
