@@ -15,14 +15,15 @@ module _ (t : Topology) (old : Broker) (conn : Connection) (h : ℕ) where
   refused : {r : Refusal} → ◌≡◌ {A = Option Refusal} (Some r) None → ⊥
   refused e = false≢true (sym (ap is_some e))
 
+  -- on a channel that is not open each of these is refused
+  refused_unopened : (u v : Bool) → (if u then Some (Of_connection 503) else if v then Some (Of_connection 504) else Some (Of_connection 504)) ≡ None → ⊥
+  refused_unopened true v e = refused e
+  refused_unopened false true e = refused e
+  refused_unopened false false e = refused e
+
   -- a close-ok is taken only where it is awaited
   pub awaited : (ch : Option Channel) → refusal t old conn h ChannelCloseOk ch ≡ None → is_awaiting ch ≡ true
-  awaited None e = absurd (by (h == 0) (nat_lt conn.channel_max h) e)
-    where
-      by : (u v : Bool) → (if u then Some (Of_connection 503) else if v then Some (Of_connection 504) else Some (Of_connection 504)) ≡ None → ⊥
-      by true v e = refused e
-      by false true e = refused e
-      by false false e = refused e
+  awaited None e = absurd (refused_unopened (h == 0) (nat_lt conn.channel_max h) e)
   awaited (Some ch) e = by ch.is_closing (h == 0) (nat_lt conn.channel_max h) e
     where
       by : (w u v : Bool) → (if w then None else if u then Some (Of_connection 503) else if v then Some (Of_connection 504) else Some (Of_connection 503)) ≡ None → w ≡ true
@@ -38,28 +39,16 @@ module _ (t : Topology) (old : Broker) (conn : Connection) (h : ℕ) where
     where
       by : (w u v : Bool) → (if w then Some Ignored else if u then Some (Of_connection 503) else if v then Some (Of_connection 504) else Some (Of_connection 504)) ≡ None → ⊥
       by true u v e = refused e
-      by false true v e = refused e
-      by false false true e = refused e
-      by false false false e = refused e
+      by false u v e = refused_unopened u v e
 
   -- a get is taken only on a channel that is open
   pub is_open : (m : Get) (ch : Option Channel) → refusal t old conn h (BasicGet m) ch ≡ None → ch ≡ Some (channel_or_new ch)
-  is_open m None e = absurd (by (h == 0) (nat_lt conn.channel_max h) e)
-    where
-      by : (u v : Bool) → (if u then Some (Of_connection 503) else if v then Some (Of_connection 504) else Some (Of_connection 504)) ≡ None → ⊥
-      by true v e = refused e
-      by false true e = refused e
-      by false false e = refused e
+  is_open m None e = absurd (refused_unopened (h == 0) (nat_lt conn.channel_max h) e)
   is_open m (Some ch) e = refl
 
   -- so is a publish
   pub is_open_for : (m : Publish) (ch : Option Channel) → refusal t old conn h (BasicPublish m) ch ≡ None → ch ≡ Some (channel_or_new ch)
-  is_open_for m None e = absurd (by (h == 0) (nat_lt conn.channel_max h) e)
-    where
-      by : (u v : Bool) → (if u then Some (Of_connection 503) else if v then Some (Of_connection 504) else Some (Of_connection 504)) ≡ None → ⊥
-      by true v e = refused e
-      by false true e = refused e
-      by false false e = refused e
+  is_open_for m None e = absurd (refused_unopened (h == 0) (nat_lt conn.channel_max h) e)
   is_open_for m (Some ch) e = refl
 
   -- and not where close-ok is awaited
@@ -73,12 +62,7 @@ module _ (t : Topology) (old : Broker) (conn : Connection) (h : ℕ) where
 
   -- what stands against a consume on its channel, or on a new one
   pub consumes_on : (m : Consume) (ch : Option Channel) → refusal t old conn h (BasicConsume m) ch ≡ None → refusal_of_consume t (channel_or_new ch) m ≡ None
-  consumes_on m None e = absurd (by (h == 0) (nat_lt conn.channel_max h) e)
-    where
-      by : (u v : Bool) → (if u then Some (Of_connection 503) else if v then Some (Of_connection 504) else Some (Of_connection 504)) ≡ None → ⊥
-      by true v e = refused e
-      by false true e = refused e
-      by false false e = refused e
+  consumes_on m None e = absurd (refused_unopened (h == 0) (nat_lt conn.channel_max h) e)
   consumes_on m (Some ch) e = by ch.is_closing (h == 0) (nat_lt conn.channel_max h) (refusal_of_consume t ch m) e
     where
       by : (w u v : Bool) (rest : Option Refusal) → (if w then Some Ignored else if u then Some (Of_connection 503) else if v then Some (Of_connection 504) else rest) ≡ None → rest ≡ None

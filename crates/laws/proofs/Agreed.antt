@@ -28,7 +28,7 @@ use Rattle.model.specs.declared.notes.Note.{Note}
 use Rattle.laws.specs.Agreeing.{BrokersStayAgreed}
 use Rattle.model.specs.Alone.{event_connection}
 use Rattle.laws.proofs.Deeds.{Deed, changes, enters, gives, settles, purges, nothing, alters, ends, clears, renews, AreSame, Puts, acted, channel_at}
-use Rattle.laws.proofs.Counts.{count-append, count-cons, in-append, in_front, all_in, all-append, all_each}
+use Rattle.laws.proofs.Counts.{count-append, count-cons, in-append, in_front, all_in, all-append, all_each, filter_all}
 use Rattle.model.specs.declared.messages.Mark.{Mark}
 use Rattle.laws.proofs.Agreement.{Passes, number, HeldIn, Shrinks, shrinks_same, shrinks_freed, shrinks_without, shrinks_filter, left_shrinks, returned_shrinks, left_clear, returned_clear, in_freed, held_here, counted_in, find_counted, ready_not_held, same_holder, shrinks_on, AreApart, IsClear, clear_on, apart_on, count_own, at_own}
 use Rattle.laws.proofs.Given.{Keeps, Any, IsOther, keeps_same, keeps_on, keeps_arrivals, keeps_freed, keeps_purged, keeps_given, left_keeps, rejected_keeps, returned_keeps, first_is_held, in_passing}
@@ -288,14 +288,6 @@ in_kept p o (x ∷ xs) i e = go (p x) refl (in_kept p o xs) i
     go false is more (inl same) = inl same
     go false is more (inr j) = inr (more j e)
 
-all_kept : (P : Outstanding → Type 0) (p : Outstanding → Bool) (os : List Outstanding) → AllByRecursion P os → AllByRecursion P (filter p os)
-all_kept P p [] a = tt
-all_kept P p (x ∷ xs) a = go (p x) (all_kept P p xs a.1)
-  where
-    go : (v : Bool) → AllByRecursion P (filter p xs) → AllByRecursion P (cond v (x ∷ filter p xs) (filter p xs))
-    go true r = (a.0, r)
-    go false r = r
-
 good_kept : (ch : Channel) (tag : ℕ) (multiple : Bool) → IsGood ch → IsGood (record ch { outstanding = kept tag_of tag multiple ch.outstanding })
 good_kept ch tag multiple g = go (is_refused tag_of tag multiple ch.outstanding)
   where
@@ -306,7 +298,7 @@ good_kept ch tag multiple g = go (is_refused tag_of tag multiple ch.outstanding)
     go true = g
     go false = (
       AllPairs-filter (λ (a b : Outstanding). a.tag < b.tag) (λ x. not (takes tag_of tag multiple x)) ch.outstanding g.0,
-      all_kept (λ (o : Outstanding). o.tag < ch.next_tag) (λ x. not (takes tag_of tag multiple x)) ch.outstanding g.1,
+      filter_all (λ (o : Outstanding). o.tag < ch.next_tag) (λ x. not (takes tag_of tag multiple x)) ch.outstanding g.1,
       λ e. ap (filter (λ x. not (takes tag_of tag multiple x))) (g.2 e),
     )
 

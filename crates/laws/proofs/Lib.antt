@@ -1,3 +1,4 @@
+pub mod Joins
 pub mod Counts
 pub mod Keys
 pub mod Leaving
@@ -29,6 +30,7 @@ pub mod Carried
 pub mod Sizes
 pub mod Sent
 pub mod Balance
+pub mod Telling
 pub mod Parts
 pub mod Ordered
 pub mod Fresh

@@ -1,16 +1,15 @@
 -- A publish that was confirmed by ack entered each queue of its route exactly once.
 use Rattle.std.proofs.Common.{◌≡◌, ℕ, ◌+◌, ◌<◌, ◌≤◌, ◌⊎◌, List, [], ◌∷◌, ◌++◌, Bool, true, false, cond, eqb, length, refl, sym, ap, ◌∙◌, subst, arith, append_assoc, Option, Some, None, inl, inr}
-use Rattle.std.specs.Prelude.{◌==◌, count_by, ◌&&◌, ◌||◌, if◌then◌else◌, filter_map}
+use Rattle.std.specs.Prelude.{◌==◌, count_by, ◌&&◌, if◌then◌else◌, filter_map}
 use Rattle.std.specs.List.{list_any, AllByRecursion, cons_option}
 use Rattle.std.proofs.lemmas.Bool.{eq-eqb, ne_eqb, or_parts}
-use Rattle.std.proofs.lemmas.List.Folds.{list_any-append}
 use Rattle.model.specs.Words.{Text}
 use Rattle.model.specs.Topology.{Topology, queue_names, IsIn, IsThere, IsWellFormed}
 use Rattle.model.specs.Routing.{of_key, Routes, Edge, bound, default}
 use Rattle.model.specs.Guarantee.{Guarantee, Covers, Keeps, Holds}
 use Rattle.model.specs.Grammar.{IsMethod}
 use Rattle.model.specs.Broker.{Broker, is_full}
-use Rattle.model.specs.Step.{entry_note, entry_notes, confirm_notes, returned_notes, answer_of}
+use Rattle.model.specs.Step.{entry_note, entry_notes, confirm_notes, answer_of}
 use Rattle.model.specs.State.{State}
 use Rattle.model.specs.Arrivals.{IsSaid}
 use Rattle.model.specs.Run.{Happening, Run, notes_of}
@@ -25,14 +24,15 @@ use Rattle.model.specs.declared.events.Send.{Send}
 use Rattle.model.specs.declared.events.Event.{Event}
 use Rattle.model.specs.declared.methods.Method.TheVariants.{BasicPublish}
 use Rattle.model.specs.declared.notes.Note.{Note}
-use Rattle.model.specs.declared.notes.Note.TheVariants.{Published, Entered}
+use Rattle.model.specs.declared.notes.Note.TheVariants.{Published, Entered, Confirmed}
 use Rattle.model.specs.declared.notes.Way.TheVariants as way
 use Rattle.laws.specs.Promises.{AreSound, AreSaid}
-use Rattle.laws.proofs.Counts.{count-append, count-cons, count-cons_no, count_none, any_none, filter_map_none, all-append, all_each, in_from_contains, in-map}
+use Rattle.laws.proofs.Counts.{count-append, count-cons, count-cons_no, count_none, all-append, all_each, in_from_contains, in-map}
 use Rattle.laws.proofs.Targets.{same_as, count_target}
 use Rattle.laws.proofs.Deeds.{Publishes}
 use Rattle.laws.proofs.View.{Seen, seen_at, CountsNone, quiet_notes}
-use Rattle.laws.proofs.Balance.{number, content, confirm, some_full, is_returned, first_note, entry_part, answer_part, noted, returned_all, entry_all, answers_all, others_all}
+use Rattle.laws.proofs.Telling.{TellPublishes, is_confirmed, nothing_told, publish_told, told_by_answer}
+use Rattle.laws.proofs.Balance.{number, content, confirm, some_full, first_note, entry_part, answer_part, noted, answers_all, others_all}
 
 -- ---- numbers tell publishes apart
 
@@ -111,28 +111,25 @@ acked_is p gs c all None = refl
 acked_is p gs c all (Some m) = refl
 
 -- what an event counts as acked is its own publish, if it is one
+publishes_acked : (gs : List Guarantee) (c : ℕ) (all : List Note) → TellPublishes (acked_as gs c all)
+publishes_acked gs c all (Published n d h x key o) is = absurd cc
+publishes_acked gs c all _ is = refl
+
 pub nothing_acked : {t : Topology} {old new : Broker} {e : Event} {sends : List Send} {notes : List Note} (gs : List Guarantee) (c : ℕ) (all : List Note) → CountsNone t old new e sends notes → filter_map (acked_as gs c all) notes ≡ []
-nothing_acked {notes = notes} gs c all a = filter_map_none (acked_as gs c all) notes (quiet_notes (λ (note : Note). acked_as gs c all note ≡ None) (λ m r cause. refl) (λ m r. refl) (λ m r d. refl) a)
+nothing_acked gs c all a = nothing_told (acked_as gs c all) (publishes_acked gs c all) a
 
 pub publish_acked : {t : Topology} {old new : Broker} {e : Event} {sends : List Send} {notes : List Note} (p : Publishes t old new e sends notes) (gs : List Guarantee) (c : ℕ) (all : List Note)
     → filter_map (acked_as gs c all) notes ≡ cons_option (acked_if p gs (confirm p) (p.c == c) (list_any (is_ack_of (number p)) all)) []
-publish_acked p gs c all =
-    ap (filter_map (acked_as gs c all)) (noted p)
-    ∙ ap (cons_option (acked_as gs c all (first_note p))) (filter_map_none (acked_as gs c all) (entry_part p ++ answer_part p) (others_all p _ (λ r. refl) (λ r i. refl) refl (λ a. refl)))
-    ∙ ap (λ (o : Option Acked). cons_option o []) (acked_is p gs c all (confirm p))
+publish_acked p gs c all = publish_told p (acked_as gs c all) (publishes_acked gs c all) ∙ ap (λ (o : Option Acked). cons_option o []) (acked_is p gs c all (confirm p))
 
 -- it is acked where its answer is an ack
 pub acked_by_answer : {t : Topology} {old new : Broker} {e : Event} {sends : List Send} {notes : List Note} (p : Publishes t old new e sends notes)
     → list_any (is_ack_of (number p)) notes ≡ list_any (is_ack_of (number p)) (confirm_notes (number p) (confirm p) (answer_of (some_full p)))
-acked_by_answer p =
-    let n = number p in
-    let returned = returned_notes n (is_returned p) in
-    let confirms = confirm_notes n (confirm p) (answer_of (some_full p)) in
-    ap (list_any (is_ack_of n)) (noted p)
-    ∙ list_any-append (is_ack_of n) (entry_part p) (answer_part p)
-    ∙ ap (λ b. b || list_any (is_ack_of n) (answer_part p)) (any_none (is_ack_of n) (entry_part p) (entry_all p _ (λ r. refl) (λ r i. refl)))
-    ∙ list_any-append (is_ack_of n) returned confirms
-    ∙ ap (λ b. b || list_any (is_ack_of n) confirms) (any_none (is_ack_of n) returned (returned_all _ n (is_returned p) refl))
+acked_by_answer p = told_by_answer p (is_ack_of (number p)) others
+  where
+    others : (note : Note) → is_confirmed note ≡ false → is_ack_of (number p) note ≡ false
+    others (Confirmed n a) is = absurd cc
+    others _ is = refl
 
 -- ---- routes
 

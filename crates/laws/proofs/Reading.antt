@@ -1,21 +1,14 @@
--- An output is read back as the frames that it was made of, and so the acks in it are those that were sent.
-use Rattle.std.proofs.Common.{◌≡◌, Bool, true, false, ◌%◌, ℕ, ◌-◌, ◌<◌, ◌≤◌, ◌^◌, List, [], ◌∷◌, ◌++◌, length, get_or, take, drop, refl, sym, ap, ◌∙◌, arith, append_assoc, map, Option, Some, None, lit≤, ◌⊎◌, inl, inr}
-use Rattle.std.specs.Prelude.{filter_map, flat_map, ◌==◌}
-use Rattle.std.specs.List.{AllByRecursion, cons_option}
+-- An output is read back as the frames that it was made of.
+use Rattle.std.proofs.Common.{◌≡◌, ℕ, ◌<◌, ◌≤◌, ◌^◌, List, [], ◌∷◌, ◌++◌, length, get_or, take, drop, refl, sym, ap, ◌∙◌, arith, append_assoc, lit≤, ◌⊎◌, inl, inr}
+use Rattle.std.specs.Prelude.{flat_map}
+use Rattle.std.specs.List.{AllByRecursion}
 use Rattle.std.specs.Int.{w16, w32, from_be_bytes}
 use Rattle.std.proofs.lemmas.List.{take_at, drop_at}
-use Rattle.std.proofs.lemmas.List.Elements.{filter_map-append}
-use Rattle.std.proofs.lemmas.Nat.{from_be_bytes-to_be_bytes_2, from_be_bytes-to_be_bytes_4, from_be_bytes-to_be_bytes_8}
+use Rattle.std.proofs.lemmas.Nat.{from_be_bytes-to_be_bytes_2, from_be_bytes-to_be_bytes_4}
 use Rattle.model.specs.Frames.{Frame, frame_bytes, IsFrame}
-use Rattle.model.specs.Grammar.{IsMethod, method_bytes, octet}
-use Rattle.model.specs.Spelling.{pieces_of, content_frames, frames_of, method_frame, body_frame, IsSpelled, eight_bytes}
-use Rattle.model.specs.Acks.{Ack, first_bit, ack_in, acks_in, IsReading}
-use Rattle.model.specs.declared.contents.Content.{Content}
+use Rattle.model.specs.Spelling.{frames_of, IsSpelled, eight_bytes}
+use Rattle.model.specs.Acks.{IsReading}
 use Rattle.model.specs.declared.events.Send.{Send}
-use Rattle.model.specs.declared.events.Send.TheVariants as send
-use Rattle.model.specs.declared.methods.Method.{Method}
-use Rattle.model.specs.declared.methods.Method.TheVariants.{BasicAck}
-use Rattle.laws.specs.Promises.{ack_of, ack_sent}
 use Rattle.laws.proofs.Counts.{all-append}
 
 channel_at : List ℕ → ℕ
@@ -86,43 +79,7 @@ reading_apart output fs gs (inl a) (inr b) = absurd (greeting_is_no_frames fs a.
 reading_apart output fs gs (inr a) (inl b) = absurd (greeting_is_no_frames gs b.each (sym a.0 ∙ b.parts))
 reading_apart output fs gs (inr a) (inr b) = a.1 ∙ sym b.1
 
--- ---- the acks in what was sent
-
-content_acks : (max h : ℕ) (o : Option Content) → acks_in (content_frames max h o) ≡ []
-content_acks max h None = refl
-content_acks max h (Some c) = bodies (pieces_of (max - 8) (length c.body) c.body)
-  where
-    bodies : (ps : List (List ℕ)) → acks_in (map (body_frame h) ps) ≡ []
-    bodies [] = refl
-    bodies (p ∷ ps) = bodies ps
-
--- the ack that a method frame is
-method_ack : (h : ℕ) (m : Method) → IsMethod m → ack_in (method_frame h m) ≡ ack_of h m
-method_ack h (BasicAck m) fits =
-    ap (λ (n : ℕ). Some (record { channel = h; number = n; multiple = first_bit (method_bytes (BasicAck m)) 12 })) (from_be_bytes-to_be_bytes_8 m.delivery_tag fits.0)
-    ∙ ap (λ (b : Bool). Some (record { channel = h; number = m.delivery_tag; multiple = b })) (bit m.multiple)
-  where
-    bit : (b : Bool) → (octet (b ∷ []) % 2 == 1) ≡ b
-    bit true = refl
-    bit false = refl
-method_ack h _ fits = refl
-
-pub cons_append : {A : Type 0} (o : Option A) (xs : List A) → cons_option o [] ++ xs ≡ cons_option o xs
-cons_append None xs = refl
-cons_append (Some x) xs = refl
-
-send_acks : (max : ℕ) (s : Send) → IsSpelled max s → acks_in (frames_of max s) ≡ cons_option (ack_sent s) []
-send_acks max (send.Greeting c) fits = refl
-send_acks max (send.Command c h m content) fits =
-    ap (λ (o : Option Ack). cons_option o (acks_in (content_frames max h content))) (method_ack h m fits.spelled.0) ∙ ap (λ (xs : List Ack). cons_option (ack_of h m) xs) (content_acks max h content)
-
-pub sent_acks : (max : ℕ) (sends : List Send) → AllByRecursion (IsSpelled max) sends → acks_in (flat_map (frames_of max) sends) ≡ filter_map ack_sent sends
-sent_acks max [] fits = refl
-sent_acks max (s ∷ sends) fits =
-    filter_map-append ack_in (frames_of max s) (flat_map (frames_of max) sends)
-    ∙ ap (λ (xs : List Ack). xs ++ acks_in (flat_map (frames_of max) sends)) (send_acks max s fits.0)
-    ∙ cons_append (ack_sent s) (acks_in (flat_map (frames_of max) sends))
-    ∙ ap (λ (xs : List Ack). cons_option (ack_sent s) xs) (sent_acks max sends fits.1)
+-- ---- the frames of what was sent
 
 pub frames_each : (max : ℕ) (sends : List Send) → AllByRecursion (IsSpelled max) sends → AllByRecursion (IsFrame max) (flat_map (frames_of max) sends)
 frames_each max [] fits = tt

@@ -10,13 +10,14 @@ use Rattle.model.specs.declared.topologies.Mode.TheVariants.{Never}
 use Rattle.laws.specs.Tracing.{TracedAreSafe}
 
 -- a key that was fixed is read as it is
-same_reading : (h f : Option Text) (key : Text) → reading_after h (of_key (key_after f key)) ≡ reading_after (fixed_after h f) (of_key key)
+pub same_reading : (h f : Option Text) (key : Text) → reading_after h (of_key (key_after f key)) ≡ reading_after (fixed_after h f) (of_key key)
 same_reading None None key = refl
 same_reading None (Some k) key = refl
 same_reading (Some j) None key = refl
 same_reading (Some j) (Some k) key = refl
 
-refixed : (a h f : Option Text) → fixed_after a (fixed_after h f) ≡ fixed_after (fixed_after a h) f
+-- what was fixed first stays fixed
+pub refixed : (a h f : Option Text) → fixed_after a (fixed_after h f) ≡ fixed_after (fixed_after a h) f
 refixed None h f = refl
 refixed (Some k) h f = refl
 

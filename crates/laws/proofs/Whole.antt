@@ -1,7 +1,7 @@
 -- Certified delivery: whatever arrives, the headline holds of what is seen.
 use Rattle.std.proofs.Common.{◌≡◌, ◌<◌, ◌≤◌, ◌+◌, ℕ, List, [], ◌∷◌, ◌++◌, refl, sym, ap, subst, ◌∙◌, ◌⊎◌, inl, inr, append-nil, arith}
-use Rattle.std.specs.Prelude.{filter_map, flat_map, map, ◌==◌, drop, slice_get, slice_index_or, Some}
-use Rattle.std.specs.List.{AllByRecursion}
+use Rattle.std.specs.Prelude.{filter_map, flat_map, map, ◌==◌, drop, slice_get, slice_index_or, Option, Some}
+use Rattle.std.specs.List.{AllByRecursion, cons_option}
 use Rattle.std.proofs.lemmas.Grind.{flat_map-append}
 use Rattle.std.proofs.lemmas.List.Elements.{filter-append, filter_map-append}
 use Rattle.std.proofs.lemmas.Option.{same_Some, slice_get_within}
@@ -12,8 +12,8 @@ use Rattle.model.specs.Run.{Happening, sends_of, put_out, empty_state}
 use Rattle.model.specs.History.{Occurrence, events_of}
 use Rattle.model.specs.Spelling.{frames_of, send_bytes, spelling, receiver, sends_to, eight_bytes}
 use Rattle.model.specs.Arrivals.{World, new_world, Turns, Pumps, Shows, Shown, Seen, shown}
-use Rattle.model.specs.Acks.{Ack, acks_in, HasAcksOf, acked, ack_for}
-use Rattle.model.specs.Nacks.{Nack, nacks_in, nacks_of, HasNacks}
+use Rattle.model.specs.Acks.{ack_in, IsReading, HasAcksOf, acked, ack_for}
+use Rattle.model.specs.Nacks.{nack_in, nacks_of, HasNacks}
 use Rattle.model.specs.Headline.{IsSound, KeepsEvents, KeepsPromises}
 use Rattle.model.specs.declared.events.Send.{Send}
 use Rattle.model.specs.declared.events.Send.TheVariants as send
@@ -25,7 +25,8 @@ use Rattle.laws.specs.Delivery.{TurnsConfirm, HeadlineHolds}
 use Rattle.laws.specs.Reloading.{KeepsOn}
 use Rattle.laws.proofs.Histories.{ToldOver, Lasting, histories_keep, lasting, decided_each, sourced_over, gives_in_order, acks_over, nacks_over, over_plays}
 use Rattle.laws.proofs.Counts.{all-append, all_each, filter_all}
-use Rattle.laws.proofs.Reading.{sent_acks, frames_each}
+use Rattle.laws.proofs.Reading.{frames_each}
+use Rattle.laws.proofs.Telling.{IsRead, sends_read, told_to-append}
 use Rattle.laws.proofs.Plays.{IsPut, IsTold, Told, said_each, sound_each, told_turns, told_pumps}
 use Rattle.laws.proofs.Speaking.{IsCommandSend, AreCommandSends}
 use Rattle.laws.proofs.Spoken.{sent_to, is_spoken, own_sends, puts_sends, settled_silent}
@@ -34,8 +35,8 @@ use Rattle.laws.proofs.Replies.{IsAnswerAtMost}
 use Rattle.laws.proofs.View.{goes, acted_commands}
 use Rattle.laws.proofs.Keeping.{stay_kept, safe_over}
 use Rattle.laws.proofs.Never.{run_keeps}
-use Rattle.laws.proofs.Acks.{run_acks}
-use Rattle.laws.proofs.Nacks.{run_nacks, sent_nacks}
+use Rattle.laws.proofs.Acks.{run_acks, acks_are_read}
+use Rattle.laws.proofs.Nacks.{run_nacks, nacks_are_read}
 
 -- ---- the output of one connection, as frames
 
@@ -116,47 +117,39 @@ frames_fit : (c : ℕ) (hs : List Happening) → AllByRecursion IsTold hs → Al
 frames_fit c [] a = tt
 frames_fit c (h ∷ hs) a = all-append (IsFrame 131072) (frames_at c h) (frames_put c hs) (frames_fit_at c h a.0.put) (frames_fit c hs a.1)
 
-frames_acks : (c : ℕ) (hs : List Happening) → AllByRecursion IsTold hs → acks_in (frames_put c hs) ≡ filter_map ack_sent (sends_to c (sends_of hs))
-frames_acks c [] a = refl
-frames_acks c (h ∷ hs) a =
-    filter_map-append _ (frames_at c h) (frames_put c hs)
-    ∙ ap (λ (z : List Ack). z ++ acks_in (frames_put c hs)) (sent_acks h.frame_max (sends_to c h.sends) (filter_all _ (λ x. receiver x == c) h.sends a.0.put.spelled))
-    ∙ ap (λ (z : List Ack). filter_map ack_sent (sends_to c h.sends) ++ z) (frames_acks c hs a.1)
-    ∙ sym (filter_map-append ack_sent (sends_to c h.sends) (sends_to c (sends_of hs)))
-    ∙ ap (λ (z : List Send). filter_map ack_sent z) (sym (filter-append (λ x. receiver x == c) h.sends (sends_of hs)))
+-- what an output is read as, and what those of a kind are that are read in it
+record HasRead {K : Type 0} (read : Frame → Option K) (due : List K) (output : List ℕ) : Type 0 where
+  frames : List Frame
+  reading : IsReading output frames
+  those : filter_map read frames ≡ due
+
+module _ {K : Type 0} (read : Frame → Option K) (kind : Send → Option K) (is : IsRead read kind) where
+  frames_read : (c : ℕ) (hs : List Happening) → AllByRecursion IsTold hs → filter_map read (frames_put c hs) ≡ filter_map kind (sends_to c (sends_of hs))
+  frames_read c [] a = refl
+  frames_read c (h ∷ hs) a =
+      filter_map-append _ (frames_at c h) (frames_put c hs)
+      ∙ ap (λ (z : List K). z ++ filter_map read (frames_put c hs)) (sends_read read kind is h.frame_max (sends_to c h.sends) (filter_all _ (λ x. receiver x == c) h.sends a.0.put.spelled))
+      ∙ ap (λ (z : List K). filter_map kind (sends_to c h.sends) ++ z) (frames_read c hs a.1)
+      ∙ sym (told_to-append kind c h.sends (sends_of hs))
+
+  -- those of a kind that are due are read in what was put out
+  has_read : (c : ℕ) (hs : List Happening) (due : List K) → AllByRecursion IsTold hs → filter_map kind (sends_to c (sends_of hs)) ≡ due → AreCommandSends (sent_to c hs) ⊎ (sent_to c hs ≡ send.Greeting c ∷ []) → HasRead read due (put_out c hs)
+  has_read c hs due a own (inl commands) = record {
+    frames = frames_put c hs;
+    reading = inl (record { parts = put_out_is c hs commands; each = frames_fit c hs a });
+    those = frames_read c hs a ∙ own;
+  }
+  has_read c hs due a own (inr greeting) = record {
+    frames = [];
+    reading = inr (greeting_put_out c hs greeting, refl);
+    those = ap (λ (o : Option K). cons_option o []) (sym (is.greeting c)) ∙ sym (ap (λ (z : List Send). filter_map kind z) greeting) ∙ own;
+  }
 
 has_acks : (c : ℕ) (hs : List Happening) → AllByRecursion IsTold hs → filter_map ack_sent (sends_to c (sends_of hs)) ≡ map ack_for (acked c hs) → AreCommandSends (sent_to c hs) ⊎ (sent_to c hs ≡ send.Greeting c ∷ []) → HasAcksOf (acked c hs) (put_out c hs)
-has_acks c hs a own (inl commands) = record {
-  frames = frames_put c hs;
-  reading = inl (record { parts = put_out_is c hs commands; each = frames_fit c hs a });
-  acks = frames_acks c hs a ∙ own;
-}
-has_acks c hs a own (inr greeting) = record {
-  frames = [];
-  reading = inr (greeting_put_out c hs greeting, refl);
-  acks = sym (ap (λ (z : List Send). filter_map ack_sent z) greeting) ∙ own;
-}
-
-frames_nacks : (c : ℕ) (hs : List Happening) → AllByRecursion IsTold hs → nacks_in (frames_put c hs) ≡ filter_map nack_sent (sends_to c (sends_of hs))
-frames_nacks c [] a = refl
-frames_nacks c (h ∷ hs) a =
-    filter_map-append _ (frames_at c h) (frames_put c hs)
-    ∙ ap (λ (z : List Nack). z ++ nacks_in (frames_put c hs)) (sent_nacks h.frame_max (sends_to c h.sends) (filter_all _ (λ x. receiver x == c) h.sends a.0.put.spelled))
-    ∙ ap (λ (z : List Nack). filter_map nack_sent (sends_to c h.sends) ++ z) (frames_nacks c hs a.1)
-    ∙ sym (filter_map-append nack_sent (sends_to c h.sends) (sends_to c (sends_of hs)))
-    ∙ ap (λ (z : List Send). filter_map nack_sent z) (sym (filter-append (λ x. receiver x == c) h.sends (sends_of hs)))
+has_acks c hs a own spoken = let r = has_read ack_in ack_sent acks_are_read c hs _ a own spoken in record { frames = r.frames; reading = r.reading; acks = r.those }
 
 has_nacks : (c : ℕ) (hs : List Happening) → AllByRecursion IsTold hs → filter_map nack_sent (sends_to c (sends_of hs)) ≡ nacks_of c hs → AreCommandSends (sent_to c hs) ⊎ (sent_to c hs ≡ send.Greeting c ∷ []) → HasNacks (nacks_of c hs) (put_out c hs)
-has_nacks c hs a own (inl commands) = record {
-  frames = frames_put c hs;
-  reading = inl (record { parts = put_out_is c hs commands; each = frames_fit c hs a });
-  nacks = frames_nacks c hs a ∙ own;
-}
-has_nacks c hs a own (inr greeting) = record {
-  frames = [];
-  reading = inr (greeting_put_out c hs greeting, refl);
-  nacks = sym (ap (λ (z : List Send). filter_map nack_sent z) greeting) ∙ own;
-}
+has_nacks c hs a own spoken = let r = has_read nack_in nack_sent nacks_are_read c hs _ a own spoken in record { frames = r.frames; reading = r.reading; nacks = r.those }
 
 -- ---- what one turn puts out
 

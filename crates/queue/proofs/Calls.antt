@@ -1,5 +1,5 @@
 -- The calls of a queue in blocks.
-use Rattle.std.proofs.Common.{◌≡◌, ℕ, ◌+◌, ◌<◌, ◌≤◌, List, [], get_or, map, filter, sym, ap, ◌∙◌, subst, arith, Bool, true, not, Option, Some, None, find, is_some}
+use Rattle.std.proofs.Common.{◌≡◌, ℕ, ◌+◌, ◌-◌, ◌<◌, ◌≤◌, List, [], get_or, map, filter, sym, ap, ◌∙◌, subst, arith, Bool, true, not, Option, Some, None, find, is_some}
 use Rattle.std.proofs.lemmas.Bool.{false≢true}
 use Rattle.std.proofs.Math.ListN.{set}
 use Rattle.model.specs.Broker.{is_ready, body_bytes}
@@ -46,6 +46,16 @@ take_there ps now ready live bytes ready' live' bytes' size i c f e s r l b =
     go : (o : Option Entry) → find is_ready (joined ps) ≡ o → is_some o ≡ true → size ≡ size_of body_bytes o → IsCounted (without_first is_ready (joined ps)) ready' live' bytes'
     go None e h s = absurd (false≢true h)
     go (Some x) e h s = take_counted (joined ps) ready live bytes ready' live' bytes' x c e r l (omega (arith, s, b))
+
+-- so the counts go down by it
+pub take_now : (ps now : List (List Entry)) (ready live bytes size i : ℕ) → IsCounted (joined ps) ready live bytes → FirstIn is_ready ps i
+    → now ≡ set ps i (without_first is_ready (get_or ps i [])) → size ≡ size_of body_bytes (find is_ready (get_or ps i [])) → IsCounted (joined now) (ready - 1) (live - 1) (bytes - size)
+take_now ps now ready live bytes size i c f e s =
+    let least = ready_there ps ready live bytes i c f in
+    let r = least.0 in
+    let l = least.1.0 in
+    let b = least.1.1 in
+    take_there ps now ready live bytes (ready - 1) (live - 1) (bytes - size) size i c f e s (omega (arith, r)) (omega (arith, l)) (omega (arith, s, b))
 
 -- nothing is held under this tag in any block
 pub free_there : (ps : List (List Entry)) (i : ℕ) (holder : Holder) → find (is_held_as holder) (joined ps) ≡ None → find (is_held_as holder) (get_or ps i []) ≡ None
@@ -104,6 +114,13 @@ remove_there ps now ready live bytes live' i holder c h e l =
     go : (o : Option Entry) → find (is_held_as holder) (joined ps) ≡ o → is_some o ≡ true → IsCounted (filter (λ x. not (is_held_as holder x)) (joined ps)) ready live' bytes
     go None e h = absurd (false≢true h)
     go (Some x) e h = remove_counted (joined ps) ready live bytes live' x holder c e l
+
+-- so the count of all goes down by one
+pub remove_now : (ps now : List (List Entry)) (ready live bytes i : ℕ) (holder : Holder) → IsCounted (joined ps) ready live bytes
+    → some_pass (is_held_as holder) (get_or ps i []) ≡ true → now ≡ set ps i (filter (λ e. not (is_held_as holder e)) (get_or ps i [])) → IsCounted (joined now) ready (live - 1) bytes
+remove_now ps now ready live bytes i holder c h e =
+    let o = (held_there ps ready live bytes i holder c h).0 in
+    remove_there ps now ready live bytes (live - 1) i holder c h e (omega (arith, o))
 
 -- ---- nothing is found
 

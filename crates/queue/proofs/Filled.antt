@@ -6,7 +6,6 @@ use Rattle.std.proofs.lemmas.Bool.Decides.{eqb_tells, leb_tells}
 use Rattle.std.proofs.Math.ListN.{set}
 use Rattle.std.proofs.lemmas.List.{get_or-set_same, get_or-set_other, length-set, length-append}
 use Rattle.model.specs.Reloading.{stood_now}
-use Rattle.model.specs.declared.messages.Entry.{Entry}
 use Rattle.queue.specs.Blocks.{Stretch, parts, joined, is_in_use, stood_block, no_stretch, block_at, slots_of, AreFilled, AreFilledBut, IsFilled, IsHeld, IsBounded}
 use Rattle.queue.specs.Blocks.{NeedBoth, NeedBothAt, IsSpent, IsNotSpent, AreNeeded, AreJoined}
 use Rattle.queue.proofs.Signed.{at_default}

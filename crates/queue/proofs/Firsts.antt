@@ -37,11 +37,15 @@ placed {X = X} p k (x ∷ xs) j e = go (p x) refl (placed p (k + 1) xs j) e
     go true h r q = (0, (let s = some_is k j q in omega arith, here p x xs h))
     go false h r q = next h (r q)
 
-pub first_at : {X : Type 0} (p : X → Bool) (xs : List X) (j : ℕ) → Some j ≡ position_from p 0 xs → IsFirstAt p xs j
+first_at : {X : Type 0} (p : X → Bool) (xs : List X) (j : ℕ) → Some j ≡ position_from p 0 xs → IsFirstAt p xs j
 first_at {X = X} p xs j e = go (placed p 0 xs j (sym e))
   where
     go : ((i : ℕ) × ((j ≡ 0 + i) × IsFirstAt p xs i)) → IsFirstAt p xs j
     go (i, (q, f)) = subst (IsFirstAt p xs) (omega arith) f
+
+-- so it is for a list that is the same
+pub first_in : {X : Type 0} (p : X → Bool) {xs ys : List X} {j : ℕ} → ys ≡ xs → Some j ≡ position_from p 0 ys → IsFirstAt p xs j
+first_in {X} p {xs} {ys} {j} same e = first_at p xs j (subst (λ (zs : List X). ◌≡◌ {A = Option ℕ} (Some j) (position_from p 0 zs)) same e)
 
 -- None passes.
 pub record IsNowhere {X : Type 0} (p : X → Bool) (xs : List X) : Type 0 where
@@ -49,7 +53,7 @@ pub record IsNowhere {X : Type 0} (p : X → Bool) (xs : List X) : Type 0 where
   pub changed : (f : X → X) → change_first p f xs ≡ xs
   pub left : without_first p xs ≡ xs
 
-pub nowhere : {X : Type 0} (p : X → Bool) (k : ℕ) (xs : List X) → ◌≡◌ {A = Option ℕ} None (position_from p k xs) → IsNowhere p xs
+nowhere : {X : Type 0} (p : X → Bool) (k : ℕ) (xs : List X) → ◌≡◌ {A = Option ℕ} None (position_from p k xs) → IsNowhere p xs
 nowhere p k [] e = record { found = refl; changed = λ f. refl; left = refl }
 nowhere {X = X} p k (x ∷ xs) e = go (p x) refl (nowhere p (k + 1) xs) e
   where
@@ -63,6 +67,10 @@ nowhere {X = X} p k (x ∷ xs) e = go (p x) refl (nowhere p (k + 1) xs) e
     go : (b : Bool) → p x ≡ b → (◌≡◌ {A = Option ℕ} None (position_from p (k + 1) xs) → IsNowhere p xs) → ◌≡◌ {A = Option ℕ} None (cond b (Some k) (position_from p (k + 1) xs)) → IsNowhere p (x ∷ xs)
     go true h r q = absurd (cc)
     go false h r q = on h (r q)
+
+-- so it is for a list that is the same
+pub nowhere_in : {X : Type 0} (p : X → Bool) {xs ys : List X} → ys ≡ xs → ◌≡◌ {A = Option ℕ} None (position_from p 0 ys) → IsNowhere p xs
+nowhere_in {X} p {xs} same e = nowhere p 0 xs (subst (λ (zs : List X). ◌≡◌ {A = Option ℕ} None (position_from p 0 zs)) same e)
 
 -- without it, those that don't pass are the same
 pub rest_filtered : {X : Type 0} (p : X → Bool) (xs : List X) → filter (λ x. not (p x)) (without_first p xs) ≡ filter (λ x. not (p x)) xs

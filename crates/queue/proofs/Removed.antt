@@ -1,5 +1,5 @@
 -- A block goes, and what stood in it stands in the one before it.
-use Rattle.std.proofs.Common.{◌≡◌, ℕ, zero, suc, ◌+◌, ◌<◌, ◌≤◌, List, [], ◌∷◌, ◌++◌, length, get_or, map, refl, sym, ap, ◌∙◌, subst, arith, append_assoc, Bool}
+use Rattle.std.proofs.Common.{◌≡◌, ℕ, zero, suc, ◌+◌, ◌<◌, ◌≤◌, List, [], ◌∷◌, ◌++◌, length, get_or, refl, sym, ap, ◌∙◌, subst, arith, append_assoc, Bool}
 use Rattle.std.specs.List.{remove}
 use Rattle.std.proofs.Math.ListN.{set}
 use Rattle.std.proofs.lemmas.List.{length-set}
@@ -10,7 +10,7 @@ use Rattle.model.specs.declared.messages.Holder.{Holder}
 use Rattle.queue.specs.Slots.{tally}
 use Rattle.queue.specs.Blocks.{Stretch, parts, joined, no_stretch, block_at, room_after, last_room, AreJoined, AreApart}
 use Rattle.queue.proofs.Joined.{tally-both}
-use Rattle.queue.proofs.Signed.{parts-at, at_default}
+use Rattle.queue.proofs.Signed.{parts-at}
 use Rattle.queue.proofs.Filled.{at_block, there, elsewhere}
 
 -- the block at this place, once the next is gone

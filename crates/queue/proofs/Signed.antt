@@ -1,5 +1,5 @@
 -- Blocks, the bits that say which of them have a ready message, and the room of the last.
-use Rattle.std.proofs.Common.{◌≡◌, ℕ, zero, suc, ◌+◌, ◌<◌, ◌≤◌, List, [], ◌∷◌, ◌++◌, length, get_or, map, filter, refl, sym, ap, ◌∙◌, subst, arith, Bool, true, false, cond, Some, find, is_some, inl, inr}
+use Rattle.std.proofs.Common.{◌≡◌, ℕ, zero, suc, ◌+◌, ◌-◌, ◌<◌, ◌≤◌, List, [], ◌∷◌, ◌++◌, length, get_or, map, filter, refl, sym, ap, ◌∙◌, subst, arith, Bool, true, false, cond, Some, find, is_some, inl, inr}
 use Rattle.std.specs.Prelude.{nat_lt, ◌==◌, ◌||◌}
 use Rattle.std.proofs.lemmas.Bool.{false≢true, ltb-false}
 use Rattle.std.proofs.lemmas.Bool.Decides.{eqb_tells, leb_tells}
@@ -118,6 +118,10 @@ room_somewhere (b ∷ bs) h = omega arith
 pub some_there : (n : ℕ) → (n == 0) ≡ false → 0 < n
 some_there zero h = absurd (false≢true (sym h))
 some_there (suc n) h = omega arith
+
+-- where there are some the last has a place
+pub last_place : (n len k : ℕ) → n ≡ k → (n == 0) ≡ false → len ≡ n → (len - 1) + 1 ≡ k
+last_place n len k same filled is = let some = some_there n filled in omega arith
 
 -- it has a last one
 pub some_block : (bs : List Stretch) → (length bs == 0) ≡ false → 0 < length bs

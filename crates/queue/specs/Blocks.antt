@@ -1,5 +1,5 @@
 -- Blocks of messages, one after another (own).
-use Rattle.std.specs.Prelude.{◌≡◌, ℕ, ◌<◌, ◌≤◌, ◌+◌, ◌*◌, ◌||◌, ◌⊎◌, List, [], ◌∷◌, ◌++◌, length, map, filter, not, slice_set, vec_len, vec_capacity}
+use Rattle.std.specs.Prelude.{◌≡◌, ℕ, ◌<◌, ◌≤◌, ◌+◌, ◌*◌, ◌||◌, ◌⊎◌, List, [], ◌∷◌, ◌++◌, length, map, filter, not, slice_set}
 use Rattle.std.specs.Prelude.{Bool, cond, nat_lt, Option, Some, None, find, is_some, get_or}
 use Rattle.std.specs.Global.{Vec}
 use Rattle.model.specs.Broker.{is_ready, body_bytes}

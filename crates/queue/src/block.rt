@@ -5,8 +5,8 @@ ghost use Rattle.queue.specs.Slots.{SameBits};
 
 use crate::signs::Signs;
 use crate::slots::{
-    Slot, append, close_many_gaps, entry_at, free_at, hold_at, move_in, place_held, place_of,
-    stand_in, take_at,
+    Slot, append, close_many_gaps, entry_at, free_at, hold_at, move_in, place_held,
+    place_of_arrival, stand_in, take_at,
 };
 use model::{Entry, Holder, Mark, Message};
 use std::alloc::{AllocError, Global};
@@ -303,7 +303,7 @@ impl Block {
     pub(crate) fn slot_held(&self, holder: &Holder, arrival: u64) -> Option<usize>
         ensures { is_some result ≡ is_some (find (is_held_as holder.now) self.now.entries) }
     {
-        place_held(&self.slots, holder, place_of(&self.slots, arrival))
+        place_held(&self.slots, holder, place_of_arrival(&self.slots, arrival))
     }
 
     /// The message that is held under this tag. It is found at once if it stands in the slot `near`, and so it is below.

@@ -72,26 +72,11 @@ fn slot_held_at(blocks: &[Block], place: usize, holder: &Holder, arrival: u64) -
     blocks[place].slot_held(holder, arrival)
 }
 
-/// The number from which on the arrivals of this block are.
-fn first_at(blocks: &[Block], place: usize) -> u64
-    requires { place < length blocks.now }
-{
-    blocks[place].first()
-}
-
 /// The place of the last block of which the arrivals may have this number.
-fn place_of(blocks: &[Block], arrival: u64) -> usize {
-    let mut low = 0;
-    let mut high = blocks.len();
-    while low < high {
-        let middle = low + (high - low) / 2;
-        if first_at(blocks, middle) <= arrival {
-            low = middle + 1;
-        } else {
-            high = middle;
-        }
-    }
-    low.saturating_sub(1)
+fn block_of_arrival(blocks: &[Block], arrival: u64) -> usize {
+    blocks
+        .partition_point(|block| block.first() <= arrival)
+        .saturating_sub(1)
 }
 
 /// Where a held message stands.
@@ -121,7 +106,7 @@ pub(crate) fn spot_held(blocks: &[Block], holder: &Holder, arrival: u64) -> Opti
     ensures some { IfSome result (λ s. some_pass (is_held_as holder.now) (part_at blocks.now s.block) ≡ true) }
     ensures none { IfNone result ((k : ℕ) → find (is_held_as holder.now) (part_at blocks.now k) ≡ None) }
 {
-    let block = place_of(blocks, arrival);
+    let block = block_of_arrival(blocks, arrival);
     if let Some(slot) = slot_held_at(blocks, block, holder, arrival) {
         return Some(Spot { block, slot });
     }

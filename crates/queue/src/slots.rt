@@ -74,18 +74,8 @@ fn arrival_at(slots: &[Slot], place: usize) -> u64
 }
 
 /// The place of the first arrival with this number or a later one.
-pub(crate) fn place_of(slots: &[Slot], arrival: u64) -> usize {
-    let mut low = 0;
-    let mut high = slots.len();
-    while low < high {
-        let middle = low + (high - low) / 2;
-        if arrival_at(slots, middle) < arrival {
-            low = middle + 1;
-        } else {
-            high = middle;
-        }
-    }
-    low
+pub(crate) fn place_of_arrival(slots: &[Slot], arrival: u64) -> usize {
+    slots.partition_point(|slot| slot.arrival < arrival)
 }
 
 /// The first place of an entry that is held so.

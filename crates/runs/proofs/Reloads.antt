@@ -1,7 +1,7 @@
 -- What was offered, as a reload between two worlds: it was put in force, or something stood against it.
-use Rattle.std.proofs.Common.{List, [], ◌∷◌, refl, inl, inr}
+use Rattle.std.proofs.Common.{◌≡◌, ℕ, List, [], ◌∷◌, refl, inl, inr}
 use Rattle.model.specs.State.{Config}
-use Rattle.model.specs.History.{Of_reload, Reload}
+use Rattle.model.specs.History.{Of_reload, Reload, IsDecided}
 use Rattle.model.specs.Reloading.{IsObstacle}
 use Rattle.model.specs.Arrivals.{World, Same, Reloads}
 use Rattle.model.specs.declared.notes.Note.{Note}
@@ -13,30 +13,23 @@ use Rattle.runs.specs.Reloaded.{IsPutInForce}
 abbrev pub reload_of : World → Config → World → List Note → Reload
 reload_of a offered b notes = record { config = a.config; offered = offered; before = a.state; notes = notes; after = b.state; in_force = b.config }
 
-pub put_reloads : (a b : World) (offered : Config) → IsPutInForce a offered b → Reloads a offered (Of_reload (reload_of a offered b (Reloaded ∷ [])) ∷ []) b
-put_reloads a b offered p = record {
-  r = reload_of a offered b (Reloaded ∷ []);
+-- what was decided on it is a reload, where nothing was given and no wire has changed
+decided_reloads : (a b : World) (offered : Config) (notes : List Note) → IsDecided (reload_of a offered b notes) → b.given ≡ a.given → ((c : ℕ) → b.wire c ≡ a.wire c) → Reloads a offered (Of_reload (reload_of a offered b notes) ∷ []) b
+decided_reloads a b offered notes decided given wires = record {
+  r = reload_of a offered b notes;
   all = refl;
   under = refl;
   offers = refl;
   before = refl;
   after = refl;
   in_force = refl;
-  decided = inl (record { nothing = p.nothing; noted = refl; in_force = p.config; broker = p.broker; session = p.session });
-  given = p.given;
-  wires = p.wires;
+  decided = decided;
+  given = given;
+  wires = wires;
 }
 
+pub put_reloads : (a b : World) (offered : Config) → IsPutInForce a offered b → Reloads a offered (Of_reload (reload_of a offered b (Reloaded ∷ [])) ∷ []) b
+put_reloads a b offered p = decided_reloads a b offered _ (inl (record { nothing = p.nothing; noted = refl; in_force = p.config; broker = p.broker; session = p.session })) p.given p.wires
+
 pub refused_reloads : (a b : World) (offered : Config) (o : Obstacle) → IsObstacle a.config.topology offered a.state.broker o → Same a b → Reloads a offered (Of_reload (reload_of a offered b (ReloadRefused o ∷ [])) ∷ []) b
-refused_reloads a b offered o stands same = record {
-  r = reload_of a offered b (ReloadRefused o ∷ []);
-  all = refl;
-  under = refl;
-  offers = refl;
-  before = refl;
-  after = refl;
-  in_force = refl;
-  decided = inr (record { obstacle = o; stands = stands; noted = refl; in_force = same.config; after = same.state });
-  given = same.given;
-  wires = same.wires;
-}
+refused_reloads a b offered o stands same = decided_reloads a b offered _ (inr (record { obstacle = o; stands = stands; noted = refl; in_force = same.config; after = same.state })) same.given same.wires

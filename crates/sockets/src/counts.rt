@@ -29,10 +29,22 @@ pub struct Totals {
 }
 
 /// The place in a name.
-pub(crate) fn place_of(name: u64) -> usize
+pub(crate) fn place_in(name: u64) -> usize
     ensures { result ≡ name % 4096 }
 {
     (name % PLACES) as usize
+}
+
+/// This count, where it is of the socket of this name.
+fn count_of(count: Option<Count>, name: u64) -> Option<Count>
+    ensures same { totals_of name result ≡ totals_of name count }
+    ensures name { IfSome result (λ c. c.name ≡ name) }
+{
+    let own = count?;
+    if own.name != name {
+        return None;
+    }
+    Some(own)
 }
 
 /// This count with so many bytes more that were got: none where it is of another socket, or no longer fits.
@@ -40,16 +52,9 @@ fn with_more_got(count: Option<Count>, name: u64, n: usize) -> Option<Count>
     ensures totals { (t : Told) → totals_of name result ≡ Some t → with_got n (totals_of name count) ≡ Some t }
     ensures name { IfSome result (λ c. c.name ≡ name) }
 {
-    let Count {
-        name: own,
-        got,
-        taken,
-    } = count?;
-    if own != name {
-        return None;
-    }
-    let got = got.checked_add(n as u64)?;
-    Some(Count { name, got, taken })
+    let count = count_of(count, name)?;
+    let got = count.got.checked_add(n as u64)?;
+    Some(Count { got, ..count })
 }
 
 /// This count with so many bytes more that were taken: none where it is of another socket, or no longer fits.
@@ -57,23 +62,16 @@ fn with_more_taken(count: Option<Count>, name: u64, n: usize) -> Option<Count>
     ensures totals { (t : Told) → totals_of name result ≡ Some t → with_taken n (totals_of name count) ≡ Some t }
     ensures name { IfSome result (λ c. c.name ≡ name) }
 {
-    let Count {
-        name: own,
-        got,
-        taken,
-    } = count?;
-    if own != name {
-        return None;
-    }
-    let taken = taken.checked_add(n as u64)?;
-    Some(Count { name, got, taken })
+    let count = count_of(count, name)?;
+    let taken = count.taken.checked_add(n as u64)?;
+    Some(Count { taken, ..count })
 }
 
 /// Counts a socket that came, from nothing on.
 fn count_new(counts: &mut Vec<Option<Count>>, name: u64)
     ensures { Counts counts.old.items (Accepted name) counts.new.items }
 {
-    let place = place_of(name);
+    let place = place_in(name);
     if place < counts.len() {
         counts[place] = Some(Count {
             name,
@@ -87,7 +85,7 @@ fn count_new(counts: &mut Vec<Option<Count>>, name: u64)
 fn count_got(counts: &mut Vec<Option<Count>>, socket: u64, n: usize)
     ensures { (room : ℕ) (bytes : List ℕ) → length bytes ≡ n → Counts counts.old.items (Got socket room bytes) counts.new.items }
 {
-    let place = place_of(socket);
+    let place = place_in(socket);
     if place < counts.len() {
         counts[place] = with_more_got(counts[place], socket, n);
     }
@@ -97,7 +95,7 @@ fn count_got(counts: &mut Vec<Option<Count>>, socket: u64, n: usize)
 fn count_taken(counts: &mut Vec<Option<Count>>, socket: u64, n: usize)
     ensures { (offered bytes : List ℕ) → length bytes ≡ n → Counts counts.old.items (Took socket offered bytes) counts.new.items }
 {
-    let place = place_of(socket);
+    let place = place_in(socket);
     if place < counts.len() {
         counts[place] = with_more_taken(counts[place], socket, n);
     }
@@ -143,14 +141,11 @@ pub(crate) fn count_write(counts: &mut Vec<Option<Count>>, socket: u64, answer: 
 pub(crate) fn totals_at(counts: &Vec<Option<Count>>, name: u64) -> Option<Totals>
     ensures { seen result ≡ totals_in counts.now.items name }
 {
-    let place = place_of(name);
+    let place = place_in(name);
     if place >= counts.len() {
         return None;
     }
-    let count = counts[place]?;
-    if count.name != name {
-        return None;
-    }
+    let count = count_of(counts[place], name)?;
     Some(Totals {
         got: count.got,
         taken: count.taken,

@@ -9,7 +9,7 @@ ghost use Rattle.sockets.specs.Counts.{fails};
 
 use crate::answers::{is_later, read_answer, write_answer};
 use crate::counts::{
-    Count, PLACES, Totals, count_accept, count_read, count_write, place_of, totals_at,
+    Count, PLACES, Totals, count_accept, count_read, count_write, place_in, totals_at,
 };
 use crate::turns::{Rounds, Voice};
 use crate::watch::Watch;
@@ -93,7 +93,7 @@ fn still_full(event: &Event, full: Option<u64>) -> Option<u64> {
 
 /// The socket of this name, where it is still there.
 fn named(accepted: &mut Slab<Accepted>, name: u64) -> Option<&mut Accepted> {
-    match accepted.get_mut(place_of(name)) {
+    match accepted.get_mut(place_in(name)) {
         Some(found) if found.name == name => Some(found),
         _ => None,
     }
@@ -350,7 +350,7 @@ impl Wire for Sockets {
 
     fn close(&mut self, socket: u64) {
         if named(&mut self.accepted, socket).is_some() {
-            self.accepted.try_remove(place_of(socket));
+            self.accepted.try_remove(place_in(socket));
         }
     }
 

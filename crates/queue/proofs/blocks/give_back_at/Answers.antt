@@ -1,6 +1,4 @@
-use Rattle.std.proofs.Common.{◌≡◌, length, ap, arith, rules, List, vec_len}
-use Rattle.model.specs.declared.messages.Entry.{Entry}
-use Rattle.queue.proofs.Filled.{filled_spent}
+use Rattle.std.proofs.Common.{◌≡◌, length, arith, rules, vec_len}
 use Rattle.queue.proofs.Signed.{parts-kept, room_inside}
 use Rattle.queue.proofs.blocks.give_back_at.Goals as goal
 

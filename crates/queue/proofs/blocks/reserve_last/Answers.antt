@@ -1,6 +1,6 @@
-use Rattle.std.proofs.Common.{◌≡◌, ◌≤◌, ◌<◌, ◌+◌, ◌-◌, ℕ, true, false, rules, arith, length, sym, subst, vec_len}
-use Rattle.std.specs.Prelude.{◌==◌, IfOk, OnErr}
-use Rattle.queue.proofs.Signed.{parts-kept, room_is, room_at_last, some_there}
+use Rattle.std.proofs.Common.{◌≡◌, ◌≤◌, ◌<◌, ◌-◌, ℕ, true, rules, arith, length, sym, subst, vec_len}
+use Rattle.std.specs.Prelude.{IfOk, OnErr}
+use Rattle.queue.proofs.Signed.{parts-kept, room_is, room_at_last, last_place}
 use Rattle.queue.proofs.Filled.{filled_last}
 use Rattle.queue.proofs.blocks.reserve_last.Goals as goal
 
@@ -9,11 +9,7 @@ returns-clause-parts c = parts-kept c.args.blocks.now.items (c.len-last.result -
 
 pub returns-clause-kept : goal.returns-clause-kept
 returns-clause-kept c =
-    let l : vec_len c.args.blocks.now ≡ length c.args.blocks.now.items = search rules in
-    let filled : (vec_len c.args.blocks.now == 0) ≡ false = cc (c.is_empty.ensures, c.if-is_empty.false) in
-    let some = some_there (vec_len c.args.blocks.now) filled in
-    let n = c.len-last.ensures in
-    let last : (c.len-last.result - 1) + 1 ≡ length c.args.blocks.now.items = omega (arith, some) in
+    let last = last_place (vec_len c.args.blocks.now) c.len-last.result (length c.args.blocks.now.items) (search rules) (cc (c.is_empty.ensures, c.if-is_empty.false)) c.len-last.ensures in
     let a = room_at_last c.args.blocks.now.items (c.len-last.result - 1) c.reserve.new.self last in
     let b = room_is c.args.blocks.now.items (c.len-last.result - 1) c.index_mut.result.now last (search rules) in
     let k = c.reserve.ensures.kept in
@@ -21,27 +17,15 @@ returns-clause-kept c =
 
 pub returns-clause-room : goal.returns-clause-room
 returns-clause-room c =
-    let l : vec_len c.args.blocks.now ≡ length c.args.blocks.now.items = search rules in
-    let filled : (vec_len c.args.blocks.now == 0) ≡ false = cc (c.is_empty.ensures, c.if-is_empty.false) in
-    let some = some_there (vec_len c.args.blocks.now) filled in
-    let n = c.len-last.ensures in
-    let last : (c.len-last.result - 1) + 1 ≡ length c.args.blocks.now.items = omega (arith, some) in
+    let last = last_place (vec_len c.args.blocks.now) c.len-last.result (length c.args.blocks.now.items) (search rules) (cc (c.is_empty.ensures, c.if-is_empty.false)) c.len-last.ensures in
     subst (λ (r : ℕ). IfOk c.reserve.result (λ fits. fits ≡ true → c.args.more ≤ r)) (sym (room_at_last c.args.blocks.now.items (c.len-last.result - 1) c.reserve.new.self last)) c.reserve.ensures.room
 
 pub returns-clause-full : goal.returns-clause-full
 returns-clause-full c =
-    let l : vec_len c.args.blocks.now ≡ length c.args.blocks.now.items = search rules in
-    let filled : (vec_len c.args.blocks.now == 0) ≡ false = cc (c.is_empty.ensures, c.if-is_empty.false) in
-    let some = some_there (vec_len c.args.blocks.now) filled in
-    let n = c.len-last.ensures in
-    let last : (c.len-last.result - 1) + 1 ≡ length c.args.blocks.now.items = omega (arith, some) in
+    let last = last_place (vec_len c.args.blocks.now) c.len-last.result (length c.args.blocks.now.items) (search rules) (cc (c.is_empty.ensures, c.if-is_empty.false)) c.len-last.ensures in
     subst (λ (r : ℕ). OnErr c.reserve.result (r < c.args.more)) (sym (room_is c.args.blocks.now.items (c.len-last.result - 1) c.index_mut.result.now last (search rules))) c.reserve.ensures.full
 
 pub returns-clause-filled : goal.returns-clause-filled
 returns-clause-filled c most u m f =
-    let l : vec_len c.args.blocks.now ≡ length c.args.blocks.now.items = search rules in
-    let filled : (vec_len c.args.blocks.now == 0) ≡ false = cc (c.is_empty.ensures, c.if-is_empty.false) in
-    let some = some_there (vec_len c.args.blocks.now) filled in
-    let n = c.len-last.ensures in
-    let last : (c.len-last.result - 1) + 1 ≡ length c.args.blocks.now.items = omega (arith, some) in
+    let last = last_place (vec_len c.args.blocks.now) c.len-last.result (length c.args.blocks.now.items) (search rules) (cc (c.is_empty.ensures, c.if-is_empty.false)) c.len-last.ensures in
     filled_last most c.args.blocks.now.items (c.len-last.result - 1) c.index_mut.result.now c.reserve.new.self last (search rules) (c.reserve.ensures.slots most u m) f

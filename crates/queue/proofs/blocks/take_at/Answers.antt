@@ -1,4 +1,4 @@
-use Rattle.std.proofs.Common.{◌∙◌, rules, subst, sym, ap, is_some, find, List, true, ◌≡◌}
+use Rattle.std.proofs.Common.{rules, subst, sym, List, true, ◌≡◌}
 use Rattle.model.specs.Broker.{is_ready}
 use Rattle.model.specs.Entries.{without_first}
 use Rattle.model.specs.declared.messages.Entry.{Entry}

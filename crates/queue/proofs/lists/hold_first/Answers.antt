@@ -1,27 +1,26 @@
-use Rattle.std.proofs.Common.{◌≡◌, ◌∙◌, arith, ap, sym, subst, is_some, List, Option, Some, None, ℕ, set, length, vec_len, rules}
-use Rattle.std.specs.List.{position_from}
+use Rattle.std.proofs.Common.{◌≡◌, ◌∙◌, arith, ap, sym, is_some, set, length, vec_len, rules}
 use Rattle.model.specs.Broker.{is_ready}
 use Rattle.model.specs.declared.messages.Entry.{Entry}
 use Rattle.model.specs.Entries.{held_as}
-use Rattle.queue.proofs.Firsts.{first_at, nowhere}
+use Rattle.queue.proofs.Firsts.{first_in, nowhere_in}
 use Rattle.queue.proofs.lists.hold_first.Goals as goal
 
 pub index_mut-requires : goal.index_mut-requires
 index_mut-requires c =
-    let w = (first_at is_ready c.args.entries.now.items c.in-Some.place (subst (λ (es : List Entry). ◌≡◌ {A = Option ℕ} (Some c.in-Some.place) (position_from is_ready 0 es)) c.deref.ensures.value c.in-Some.ensures)).within in
+    let w = (first_in is_ready c.deref.ensures.value c.in-Some.ensures).within in
     let l : vec_len c.args.entries.now ≡ length c.args.entries.now.items = search rules in
     omega arith
 
 pub returns-in-Some-clause-told : goal.returns-in-Some-clause-told
-returns-in-Some-clause-told c = sym (ap is_some ((first_at is_ready c.args.entries.now.items c.in-Some.place (subst (λ (es : List Entry). ◌≡◌ {A = Option ℕ} (Some c.in-Some.place) (position_from is_ready 0 es)) c.deref.ensures.value c.in-Some.ensures)).found c.index_mut.result.now))
+returns-in-Some-clause-told c = sym (ap is_some ((first_in is_ready c.deref.ensures.value c.in-Some.ensures).found c.index_mut.result.now))
 
 pub returns-in-Some-clause-entries : goal.returns-in-Some-clause-entries
 returns-in-Some-clause-entries c =
     ap (λ (e : Entry). set c.args.entries.now.items c.in-Some.place e) (c.hold.ensures ∙ ap (held_as c.args.holder) c.index_mut.ensures.value)
-    ∙ sym ((first_at is_ready c.args.entries.now.items c.in-Some.place (subst (λ (es : List Entry). ◌≡◌ {A = Option ℕ} (Some c.in-Some.place) (position_from is_ready 0 es)) c.deref.ensures.value c.in-Some.ensures)).changed (held_as c.args.holder) c.index_mut.result.now)
+    ∙ sym ((first_in is_ready c.deref.ensures.value c.in-Some.ensures).changed (held_as c.args.holder) c.index_mut.result.now)
 
 pub returns-in-None-clause-told : goal.returns-in-None-clause-told
-returns-in-None-clause-told c = sym (ap is_some (nowhere is_ready 0 c.args.entries.now.items (subst (λ (es : List Entry). ◌≡◌ {A = Option ℕ} None (position_from is_ready 0 es)) c.deref.ensures.value c.in-None.ensures)).found)
+returns-in-None-clause-told c = sym (ap is_some (nowhere_in is_ready c.deref.ensures.value c.in-None.ensures).found)
 
 pub returns-in-None-clause-entries : goal.returns-in-None-clause-entries
-returns-in-None-clause-entries c = sym ((nowhere is_ready 0 c.args.entries.now.items (subst (λ (es : List Entry). ◌≡◌ {A = Option ℕ} None (position_from is_ready 0 es)) c.deref.ensures.value c.in-None.ensures)).changed (held_as c.args.holder))
+returns-in-None-clause-entries c = sym ((nowhere_in is_ready c.deref.ensures.value c.in-None.ensures).changed (held_as c.args.holder))

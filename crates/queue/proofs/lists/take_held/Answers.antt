@@ -1,26 +1,24 @@
-use Rattle.std.proofs.Common.{◌≡◌, ◌∙◌, ◌+◌, ◌++◌, arith, ap, sym, subst, List, Option, Some, None, ℕ, take, drop, length, vec_len, rules, suc}
-use Rattle.std.specs.List.{position_from}
-use Rattle.model.specs.declared.messages.Entry.{Entry}
+use Rattle.std.proofs.Common.{◌≡◌, ◌∙◌, ◌+◌, ◌++◌, arith, ap, sym, Some, ℕ, take, drop, length, vec_len, rules, suc}
 use Rattle.model.specs.Entries.{is_held_as}
-use Rattle.queue.proofs.Firsts.{first_at, nowhere}
+use Rattle.queue.proofs.Firsts.{first_in, nowhere_in}
 use Rattle.queue.proofs.lists.take_held.Goals as goal
 
 pub take_at-requires : goal.take_at-requires
 take_at-requires c =
-    let w = (first_at (is_held_as c.args.holder.now) c.args.entries.now.items c.in-Some.place (subst (λ (es : List Entry). ◌≡◌ {A = Option ℕ} (Some c.in-Some.place) (position_from (is_held_as c.args.holder.now) 0 es)) c.deref.ensures.value c.in-Some.ensures)).within in
+    let w = (first_in (is_held_as c.args.holder.now) c.deref.ensures.value c.in-Some.ensures).within in
     let l : vec_len c.args.entries.now ≡ length c.args.entries.now.items = search rules in
     omega arith
 
 pub returns-in-Some-clause-taken : goal.returns-in-Some-clause-taken
-returns-in-Some-clause-taken c = ap Some c.take_at.ensures.entry ∙ sym ((first_at (is_held_as c.args.holder.now) c.args.entries.now.items c.in-Some.place (subst (λ (es : List Entry). ◌≡◌ {A = Option ℕ} (Some c.in-Some.place) (position_from (is_held_as c.args.holder.now) 0 es)) c.deref.ensures.value c.in-Some.ensures)).found c.take_at.result)
+returns-in-Some-clause-taken c = ap Some c.take_at.ensures.entry ∙ sym ((first_in (is_held_as c.args.holder.now) c.deref.ensures.value c.in-Some.ensures).found c.take_at.result)
 
 pub returns-in-Some-clause-entries : goal.returns-in-Some-clause-entries
 returns-in-Some-clause-entries c =
     let next : c.in-Some.place + 1 ≡ suc c.in-Some.place = omega arith in
-    c.take_at.ensures.entries ∙ ap (λ (n : ℕ). take c.in-Some.place c.args.entries.now.items ++ drop n c.args.entries.now.items) next ∙ sym (first_at (is_held_as c.args.holder.now) c.args.entries.now.items c.in-Some.place (subst (λ (es : List Entry). ◌≡◌ {A = Option ℕ} (Some c.in-Some.place) (position_from (is_held_as c.args.holder.now) 0 es)) c.deref.ensures.value c.in-Some.ensures)).left
+    c.take_at.ensures.entries ∙ ap (λ (n : ℕ). take c.in-Some.place c.args.entries.now.items ++ drop n c.args.entries.now.items) next ∙ sym (first_in (is_held_as c.args.holder.now) c.deref.ensures.value c.in-Some.ensures).left
 
 pub returns-in-None-clause-taken : goal.returns-in-None-clause-taken
-returns-in-None-clause-taken c = sym (nowhere (is_held_as c.args.holder.now) 0 c.args.entries.now.items (subst (λ (es : List Entry). ◌≡◌ {A = Option ℕ} None (position_from (is_held_as c.args.holder.now) 0 es)) c.deref.ensures.value c.in-None.ensures)).found
+returns-in-None-clause-taken c = sym (nowhere_in (is_held_as c.args.holder.now) c.deref.ensures.value c.in-None.ensures).found
 
 pub returns-in-None-clause-entries : goal.returns-in-None-clause-entries
-returns-in-None-clause-entries c = sym (nowhere (is_held_as c.args.holder.now) 0 c.args.entries.now.items (subst (λ (es : List Entry). ◌≡◌ {A = Option ℕ} None (position_from (is_held_as c.args.holder.now) 0 es)) c.deref.ensures.value c.in-None.ensures)).left
+returns-in-None-clause-entries c = sym (nowhere_in (is_held_as c.args.holder.now) c.deref.ensures.value c.in-None.ensures).left

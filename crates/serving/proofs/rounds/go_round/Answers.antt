@@ -6,35 +6,24 @@ use Rattle.serving.proofs.Fits.{serves_fit, pumps_fit}
 use Rattle.serving.proofs.rounds.go_round.Goals as goal
 
 pub read_all-has_heard-requires : goal.read_all-has_heard-requires
-read_all-has_heard-requires g c =
-    let world = g.M.Machine.world in
-    let told = g.W.Wire.told in
-    let old = served (world c.args.machine.now) c.args.peers.now.slots (told c.args.wire.now) in
-    let met = served (world c.accept_one-has_met.new.machine) c.accept_one-has_met.new.peers.slots (told c.accept_one-has_met.new.wire) in
-    record { fit = serves_fit old met _ _ c.accept_one-has_met.ensures.serves c.requires.fit; quiet = c.accept_one-has_met.ensures.quiet; room = c.requires.room }
+read_all-has_heard-requires g c = record {
+  fit = serves_fit _ _ _ _ c.accept_one-has_met.ensures.serves c.requires.fit;
+  quiet = c.accept_one-has_met.ensures.quiet;
+  room = c.requires.room;
+}
 
 pub pump_all-has_pumped-requires : goal.pump_all-has_pumped-requires
-pump_all-has_pumped-requires g c =
-    let world = g.M.Machine.world in
-    let told = g.W.Wire.told in
-    let old = served (world c.args.machine.now) c.args.peers.now.slots (told c.args.wire.now) in
-    let met = served (world c.accept_one-has_met.new.machine) c.accept_one-has_met.new.peers.slots (told c.accept_one-has_met.new.wire) in
-    let heard = served (world c.read_all-has_heard.new.machine) c.read_all-has_heard.new.peers.slots (told c.read_all-has_heard.new.wire) in
-    record {
-      fit = serves_fit met heard _ _ c.read_all-has_heard.ensures.serves (serves_fit old met _ _ c.accept_one-has_met.ensures.serves c.requires.fit);
-      quiet = c.read_all-has_heard.ensures.quiet;
-    }
+pump_all-has_pumped-requires g c = record {
+  fit = serves_fit _ _ _ _ c.read_all-has_heard.ensures.serves (serves_fit _ _ _ _ c.accept_one-has_met.ensures.serves c.requires.fit);
+  quiet = c.read_all-has_heard.ensures.quiet;
+}
 
 pub settle_all-has_settled-requires : goal.settle_all-has_settled-requires
 settle_all-has_settled-requires g c =
-    let world = g.M.Machine.world in
-    let told = g.W.Wire.told in
-    let old = served (world c.args.machine.now) c.args.peers.now.slots (told c.args.wire.now) in
-    let met = served (world c.accept_one-has_met.new.machine) c.accept_one-has_met.new.peers.slots (told c.accept_one-has_met.new.wire) in
-    let heard = served (world c.read_all-has_heard.new.machine) c.read_all-has_heard.new.peers.slots (told c.read_all-has_heard.new.wire) in
-    let pumped = served (world c.pump_all-has_pumped.new.machine) heard.peers heard.told in
+    let peers = c.read_all-has_heard.new.peers.slots in
+    let pumps = c.pump_all-has_pumped.ensures.pumps peers (g.W.Wire.told c.read_all-has_heard.new.wire) in
     record {
-      fit = pumps_fit _ heard pumped _ (c.pump_all-has_pumped.ensures.pumps heard.peers heard.told) (serves_fit met heard _ _ c.read_all-has_heard.ensures.serves (serves_fit old met _ _ c.accept_one-has_met.ensures.serves c.requires.fit));
+      fit = pumps_fit _ _ _ _ pumps (serves_fit _ _ _ _ c.read_all-has_heard.ensures.serves (serves_fit _ _ _ _ c.accept_one-has_met.ensures.serves c.requires.fit));
       quiet = c.pump_all-has_pumped.ensures.quiet;
     }
 

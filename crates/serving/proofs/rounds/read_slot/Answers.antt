@@ -1,25 +1,19 @@
-use Rattle.std.proofs.Common.{◌∙◌, ◌+◌, sym, subst, refl, drop, List, Bool}
+use Rattle.std.proofs.Common.{◌∙◌, sym, subst, refl, List, Bool}
 use Rattle.serving.specs.Story.{At}
 use Rattle.serving.specs.Quiet.{AreQuiet}
-use Rattle.serving.proofs.Apart.{absent_behind, reads_as}
+use Rattle.serving.proofs.Apart.{reads_behind}
 use Rattle.serving.proofs.Quieting.{quiet_idle, quiet_apart, still_marked}
 use Rattle.serving.proofs.rounds.read_slot.Goals as goal
 
 pub returns-clause-due : goal.returns-clause-due
 returns-clause-due g c =
     let world = g.M.Machine.world in
-    let ps = c.args.peers.now.slots in
-    let at : At ps c.args.slot c.in-Some.peer = sym c.get.ensures ∙ sym c.copied.ensures ∙ c.in-Some.is in
-    reads_as c.in-Some.peer.connection (world c.args.machine.now) (world c.read_one.new.machine) c.read_one.ensures.others (drop (c.args.slot + 1) ps)
-    (absent_behind (world c.args.machine.now) ps c.args.slot c.in-Some.peer c.requires.fit at)
+    reads_behind (world c.args.machine.now) (world c.read_one.new.machine) c.args.peers.now.slots c.args.slot c.in-Some.peer c.read_one.ensures.others c.requires.fit (sym c.get.ensures ∙ sym c.copied.ensures ∙ c.in-Some.is)
 
 pub returns-then-not-read_one-clause-due : goal.returns-then-not-read_one-clause-due
 returns-then-not-read_one-clause-due g c =
     let world = g.M.Machine.world in
-    let ps = c.args.peers.now.slots in
-    let at : At ps c.args.slot c.in-Some.peer = sym c.get.ensures ∙ sym c.copied.ensures ∙ c.in-Some.is in
-    reads_as c.in-Some.peer.connection (world c.args.machine.now) (world c.read_one.new.machine) c.read_one.ensures.others (drop (c.args.slot + 1) ps)
-    (absent_behind (world c.args.machine.now) ps c.args.slot c.in-Some.peer c.requires.fit at)
+    reads_behind (world c.args.machine.now) (world c.read_one.new.machine) c.args.peers.now.slots c.args.slot c.in-Some.peer c.read_one.ensures.others c.requires.fit (sym c.get.ensures ∙ sym c.copied.ensures ∙ c.in-Some.is)
 
 pub returns-then-not-read_one-clause-quiet : goal.returns-then-not-read_one-clause-quiet
 returns-then-not-read_one-clause-quiet g c =

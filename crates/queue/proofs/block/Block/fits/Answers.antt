@@ -1,4 +1,4 @@
-use Rattle.std.proofs.Common.{◌≡◌, ◌≤◌, ◌∙◌, ap, sym, arith, rules, length, vec_len, vec_capacity}
+use Rattle.std.proofs.Common.{◌≡◌, ◌≤◌, ap, arith, rules, length, vec_len, vec_capacity}
 use Rattle.std.proofs.lemmas.Bool.{leb-true}
 use Rattle.queue.specs.Blocks.{Stretch}
 use Rattle.queue.proofs.Slotted.{live_most, contents-length}

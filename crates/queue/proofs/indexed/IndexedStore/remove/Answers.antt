@@ -1,15 +1,13 @@
 use Rattle.std.proofs.Common.{◌≡◌, ◌∙◌, ◌-◌, [], refl, sym, ap, subst, arith, rules, length, List, Option, true, None, find, filter, not, get_or, vec_len}
-use Rattle.model.specs.Broker.{is_ready}
 use Rattle.model.specs.Entries.{is_held_as}
 use Rattle.model.specs.declared.messages.Entry.{Entry}
 use Rattle.queue.specs.Line.{Line}
-use Rattle.queue.specs.Slots.{num, BitTurned}
 use Rattle.queue.specs.Blocks.{Stretch, parts, joined, some_pass, AreBlocksSigned, IsCounted}
 use Rattle.queue.proofs.Filled.{bounded}
 use Rattle.queue.proofs.Joined.{first_within, joined_found, part_once}
-use Rattle.queue.proofs.Signed.{signed_now, parts-length}
+use Rattle.queue.proofs.Signed.{parts-length}
 use Rattle.queue.proofs.Slotted.{same_places}
-use Rattle.queue.proofs.Calls.{NoneIn, nothing_found, nothing_left_out, held_first, held_there, left_out_is, remove_there}
+use Rattle.queue.proofs.Calls.{NoneIn, nothing_found, nothing_left_out, held_first, held_there, left_out_is, remove_now}
 use Rattle.queue.proofs.indexed.IndexedStore.remove.Goals as goal
 
 pub overflow_sub-self : goal.overflow_sub-self
@@ -32,15 +30,13 @@ remove_at-entry-requires-clause-once c = part_once (is_held_as c.args.holder.now
 pub settle-requires-clause-apart : goal.settle-requires-clause-apart
 settle-requires-clause-apart c =
     let t = subst (λ (bs : List Stretch). some_pass (is_held_as c.args.holder.now) (get_or (parts bs) c.in-Some.field-0.block []) ≡ true) c.deref.ensures.value c.in-Some.ensures.some in
-    let least = held_there (parts c.self.inside.blocks.items) c.self.inside.ready_count c.self.inside.live c.self.inside.ready_bytes c.in-Some.field-0.block c.args.holder.now c.self.invariant.2 t in
-    let counted = remove_there (parts c.self.inside.blocks.items) (parts c.remove_at-entry.new.blocks.items) _ _ _ (c.self.inside.live - 1) c.in-Some.field-0.block c.args.holder.now c.self.invariant.2 t c.remove_at-entry.ensures.parts (let o = least.0 in omega (arith, o)) in
-    counted.apart
+    (remove_now (parts c.self.inside.blocks.items) (parts c.remove_at-entry.new.blocks.items) _ _ _ c.in-Some.field-0.block c.args.holder.now c.self.invariant.2 t c.remove_at-entry.ensures.parts).apart
 
 pub invariant_of-self : goal.invariant_of-self
 invariant_of-self c =
     let t = subst (λ (bs : List Stretch). some_pass (is_held_as c.args.holder.now) (get_or (parts bs) c.in-Some.field-0.block []) ≡ true) c.deref.ensures.value c.in-Some.ensures.some in
     let least = held_there (parts c.self.inside.blocks.items) c.self.inside.ready_count c.self.inside.live c.self.inside.ready_bytes c.in-Some.field-0.block c.args.holder.now c.self.invariant.2 t in
-    let counted = remove_there (parts c.self.inside.blocks.items) (parts c.remove_at-entry.new.blocks.items) _ _ _ (c.self.inside.live - 1) c.in-Some.field-0.block c.args.holder.now c.self.invariant.2 t c.remove_at-entry.ensures.parts (let o = least.0 in omega (arith, o)) in
+    let counted = remove_now (parts c.self.inside.blocks.items) (parts c.remove_at-entry.new.blocks.items) _ _ _ c.in-Some.field-0.block c.args.holder.now c.self.invariant.2 t c.remove_at-entry.ensures.parts in
     let same : joined (parts c.give_back_spare.new.blocks.items) ≡ joined (parts c.remove_at-entry.new.blocks.items) = ap (λ (ps : List (List Entry)). joined ps) c.give_back_spare.ensures.parts ∙ c.settle.ensures.entries in (
       subst (λ (ps : List (List Entry)). AreBlocksSigned ps c.settle.new.signs) (sym c.give_back_spare.ensures.parts) c.settle.ensures.signed,
       same_places _ _ _ _ _ _ c.settle.ensures.places c.give_back_spare.ensures.len c.give_back_spare.ensures.capacity refl,

@@ -3,13 +3,12 @@ use Rattle.model.specs.Broker.{is_ready, body_bytes}
 use Rattle.model.specs.Entries.{without_first}
 use Rattle.model.specs.declared.messages.Entry.{Entry}
 use Rattle.queue.specs.Line.{Line}
-use Rattle.queue.specs.Slots.{num, BitTurned}
-use Rattle.queue.specs.Blocks.{Stretch, parts, joined, some_pass, size_of, AreBlocksSigned, IsCounted}
+use Rattle.queue.specs.Blocks.{Stretch, parts, joined, size_of, AreBlocksSigned, IsCounted}
 use Rattle.queue.proofs.Filled.{bounded}
 use Rattle.queue.proofs.Joined.{FirstIn, first_within, joined_found, joined_without, joined_none, none_without_in}
-use Rattle.queue.proofs.Signed.{first_signed, none_signed, signed_now, parts-length}
+use Rattle.queue.proofs.Signed.{first_signed, none_signed, parts-length}
 use Rattle.queue.proofs.Slotted.{same_places}
-use Rattle.queue.proofs.Calls.{ready_there, take_there}
+use Rattle.queue.proofs.Calls.{ready_there, take_now}
 use Rattle.queue.proofs.indexed.IndexedStore.take_first.Goals as goal
 
 pub overflow_sub-self : goal.overflow_sub-self
@@ -38,10 +37,7 @@ settle-requires-clause-apart c =
     let first : FirstIn is_ready (parts c.self.inside.blocks.items) c.in-Some.place = first_signed (parts c.self.inside.blocks.items) c.self.inside.signs c.in-Some.place c.self.invariant.0 c.in-Some.ensures.some in
     let size : c.ready_bytes_at.result ≡ size_of body_bytes (find is_ready (get_or (parts c.self.inside.blocks.items) c.in-Some.place []))
     = c.ready_bytes_at.ensures ∙ ap (λ (bs : List Stretch). size_of body_bytes (find is_ready (get_or (parts bs) c.in-Some.place []))) c.deref.ensures.value in
-    let least = ready_there (parts c.self.inside.blocks.items) c.self.inside.ready_count c.self.inside.live c.self.inside.ready_bytes c.in-Some.place c.self.invariant.2 first in
-    let counted = take_there (parts c.self.inside.blocks.items) (parts c.take_at-entry.new.blocks.items) _ _ _ (c.self.inside.ready_count - 1) (c.self.inside.live - 1) (c.self.inside.ready_bytes - c.ready_bytes_at.result) c.ready_bytes_at.result c.in-Some.place c.self.invariant.2 first
-    c.take_at-entry.ensures.parts size (let r = least.0 in omega (arith, r)) (let l = least.1.0 in omega (arith, l)) (let b = least.1.1 in omega (arith, size, b)) in
-    counted.apart
+    (take_now (parts c.self.inside.blocks.items) (parts c.take_at-entry.new.blocks.items) _ _ _ c.ready_bytes_at.result c.in-Some.place c.self.invariant.2 first c.take_at-entry.ensures.parts size).apart
 
 pub invariant_of-self : goal.invariant_of-self
 invariant_of-self c =
@@ -49,8 +45,7 @@ invariant_of-self c =
     let size : c.ready_bytes_at.result ≡ size_of body_bytes (find is_ready (get_or (parts c.self.inside.blocks.items) c.in-Some.place []))
     = c.ready_bytes_at.ensures ∙ ap (λ (bs : List Stretch). size_of body_bytes (find is_ready (get_or (parts bs) c.in-Some.place []))) c.deref.ensures.value in
     let least = ready_there (parts c.self.inside.blocks.items) c.self.inside.ready_count c.self.inside.live c.self.inside.ready_bytes c.in-Some.place c.self.invariant.2 first in
-    let counted = take_there (parts c.self.inside.blocks.items) (parts c.take_at-entry.new.blocks.items) _ _ _ (c.self.inside.ready_count - 1) (c.self.inside.live - 1) (c.self.inside.ready_bytes - c.ready_bytes_at.result) c.ready_bytes_at.result c.in-Some.place c.self.invariant.2 first
-    c.take_at-entry.ensures.parts size (let r = least.0 in omega (arith, r)) (let l = least.1.0 in omega (arith, l)) (let b = least.1.1 in omega (arith, size, b)) in
+    let counted = take_now (parts c.self.inside.blocks.items) (parts c.take_at-entry.new.blocks.items) _ _ _ c.ready_bytes_at.result c.in-Some.place c.self.invariant.2 first c.take_at-entry.ensures.parts size in
     let same : joined (parts c.give_back_spare.new.blocks.items) ≡ joined (parts c.take_at-entry.new.blocks.items) = ap (λ (ps : List (List Entry)). joined ps) c.give_back_spare.ensures.parts ∙ c.settle.ensures.entries in (
       subst (λ (ps : List (List Entry)). AreBlocksSigned ps c.settle.new.signs) (sym c.give_back_spare.ensures.parts) c.settle.ensures.signed,
       same_places _ _ _ _ _ _ c.settle.ensures.places c.give_back_spare.ensures.len c.give_back_spare.ensures.capacity refl,
