@@ -7,6 +7,9 @@ use Rattle.model.specs.Step as step
 use Rattle.model.specs.Step.{Performs, refusal_of}
 use Rattle.model.specs.declared.contents.Content.{Content}
 use Rattle.model.specs.declared.methods.Method.{Method}
+use Rattle.model.specs.declared.methods.Method.TheVariants.{BasicNack, BasicReject}
+use Rattle.model.specs.declared.methods.Nack.{Nack}
+use Rattle.model.specs.declared.methods.Reject.{Reject}
 use Rattle.commands.specs.Judged.{HasChannel, refusal_of_number}
 use Rattle.commands.specs.declared.refusals.Refusal.{Refusal}
 use Rattle.commands.specs.declared.refusals.Refusal.TheVariants as refusal_is
@@ -42,7 +45,7 @@ performed_answers against t old c h ch m content new r d e comes = subst (λ (x 
     go (Err Memory) p = p
 
 -- what a command came to on an open channel it came to there
-pub done_open : (c h : ℕ) (s s' : Store) (ch ch' : Open) (m : Method) (content : Option Content) (r : Result Step Stop) (d : Result Done Stop) → d ≡ done_of r
+done_open : (c h : ℕ) (s s' : Store) (ch ch' : Open) (m : Method) (content : Option Content) (r : Result Step Stop) (d : Result Done Stop) → d ≡ done_of r
     → Commands c h s ch m content r s' ch' → AnswersOpen c h s ch m content d s' ch'
 done_open c h s s' ch ch' m content r d e comes old new turns =
     performed_answers (refusal_of s.topology (state_of s old) (seen s ch) m) s.topology (state_of s old) c h (seen s ch) m content (state_of s' new) r d e (comes old new turns)
@@ -53,6 +56,16 @@ pub open_here : (max c h : ℕ) (s s' : Store) (ch ch' : Open) (m : Method) (con
 open_here max c h s s' ch ch' m content d runs apart passed answers old new conn same turns =
     subst (λ (r : Option step.Refusal). Answers r s.topology (state_of s old) c h (Some (seen s ch)) m content d (state_of s' new))
     (sym (number_passed s.topology (state_of s old) conn max h m (Some (seen s ch)) runs apart same passed)) (answers old new turns)
+
+-- so it came to that where nothing stands against it before its method is looked at
+pub done_here : (max c h : ℕ) (s s' : Store) (ch ch' : Open) (m : Method) (content : Option Content) (r : Result Step Stop) (d : Result Done Stop) → d ≡ done_of r
+    → ch.is_closing ≡ false → h ≢ 0 → refusal_of_number max h m ≡ None → Commands c h s ch m content r s' ch' → AnswersHere max c h s ch m content d s' ch'
+done_here max c h s s' ch ch' m content r d e runs apart passed comes = open_here max c h s s' ch ch' m content d runs apart passed (done_open c h s s' ch ch' m content r d e comes)
+
+-- a rejection of one message comes to what a nack of it comes to
+pub as_nack : (c h : ℕ) (s s' : Store) (ch ch' : Open) (m : Reject) (n : Nack) (content : Option Content) (r : Result Step Stop) → n ≡ record { delivery_tag = m.delivery_tag; multiple = false; requeue = m.requeue }
+    → Commands c h s ch (BasicNack n) content r s' ch' → Commands c h s ch (BasicReject m) content r s' ch'
+as_nack c h s s' ch ch' m n content r e comes = subst (λ (x : Nack). Commands c h s ch (BasicNack x) content r s' ch') e comes
 
 pub performed_addressed : (c : ℕ) (X : Type 0) (r : Result Step Stop) (d : Result Done Stop) → d ≡ done_of r → X → IfOk r (λ s. X → AreAddressed c s.sends.items) → IsAddressedBy c d
 performed_addressed c X r d e x own = subst (IsAddressedBy c) (sym e) (go r own)

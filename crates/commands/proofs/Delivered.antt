@@ -16,7 +16,7 @@ use Rattle.model.specs.declared.messages.Taker.TheVariants as taker
 use Rattle.model.specs.declared.events.Send.{Send}
 use Rattle.model.specs.declared.notes.Note.{Note}
 use Rattle.exchange_graph.specs.Marks.{queue_name}
-use Rattle.channels.specs.Open.{Open, IsTaker, open_in, consumer_in}
+use Rattle.channels.specs.Open.{Open, IsTaker, HasNoTaker, open_in, consumer_in}
 use Rattle.depot.specs.Store.{Store, entries_named}
 use Rattle.channels.specs.declared.consumers.Consumer.{Consumer}
 use Rattle.channels.specs.RunningConnections.{Running, running_in, limits_of, connection_at, channel_in, channel_at}
@@ -123,6 +123,12 @@ picked_there b p (made, at, numbered) = ap is_some (ap (λ (h : ℕ). b.channel 
 -- and it is this one, where this stands at its number
 its_channel : (b : Broker) (p : Pick) (ch : Channel) → b.channel p.connection p.channel ≡ Some ch → (pick : IsPick b p) → pick.0.channel ≡ ch
 its_channel b p ch there (made, at, numbered) = same_Some made.channel ch (sym made.taker.there ∙ ap (λ (h : ℕ). b.channel p.connection h) at ∙ there)
+
+-- it may take one there
+pub takes_there : (s : Store) (side : Side) (p : Pick) (ch : Open) → side.channel p.connection p.channel ≡ Some (seen s ch) → HasNoTaker ch p.number → IsPick (state_of s side) p → ⊥
+takes_there s side p ch there none (made, at, numbered) =
+    let own : made.channel ≡ seen s ch = its_channel (state_of s side) p (seen s ch) there (made, at, numbered) in
+    false≢true (sym (none (queue_names s.topology.queues) made.consumer (subst (λ (x : Channel). IsIn made.consumer x.consumers) own made.taker.its) numbered) ∙ ap (λ (x : Channel). may_take x made.consumer) (sym own) ∙ made.taker.may)
 
 -- its queue has the message that is to be given out
 pub ready_on : (s : Store) (side : Side) (p : Pick) (ch : Open) (k : Consumer) → side.channel p.connection p.channel ≡ Some (seen s ch) → IsTaker ch p.number k → (pick : IsPick (state_of s side) p)

@@ -19,7 +19,7 @@ use Rattle.channels.proofs.Setting.{set_same, found_channel, found_written}
 use Rattle.channels.specs.Lends.{LentArePut}
 use Rattle.channels.specs.Placed.{IsPlaced}
 use Rattle.commands.specs.State.{Kept, ArePlaced, broker_of, names_of, topology_kept}
-use Rattle.commands.specs.Commands.{Side, Turns, CanCommand, Answers, AnswersHere, AnswersOn, CanDeliverHere, DeliversHere, UnlessPerformed, seen}
+use Rattle.commands.specs.Commands.{Side, Turns, CanCommand, Answers, AnswersHere, AnswersOn, DeliversHere, UnlessPerformed, seen}
 use Rattle.commands.specs.Picked.{IsPick}
 use Rattle.commands.specs.declared.picks.Pick.{Pick}
 use Rattle.commands.specs.declared.commands.Done.{Done}
@@ -126,12 +126,7 @@ lent_same old new c h l was ch lent stored same =
     running_same old new c l (with_channel_in l h ch) lent.found lent.written
     (ap (with_channel_in l h) same ∙ ap (λ (xs : List (Option Open)). record l { channels = xs }) (set_there l.channels h was lent.there)) stored
 
--- a delivery that can be made in what is kept can be made on its channel
-pub can_deliver : (old now : Kept) (p : Pick) (ch : Open) → old ≡ now → channel_of old.connections p.connection p.channel ≡ Some ch → IsPick (broker_of now) p → CanDeliverHere p old.store ch
-can_deliver old now p ch same is pick =
-    record { side = side_of old; there = ap (option_map (open_in (names_of old))) is; pick = subst (λ (k : Kept). IsPick (broker_of k) p) (sym same) pick }
-
--- and one that was made on a channel that was lent was made in what is kept
+-- a delivery that was made on a channel that was lent was made in what is kept
 pub delivered_on : LentArePut → (old now new : Kept) (p : Pick) (was ch : Open) (sends : List Send) (notes : List Note) → old ≡ now → channel_of old.connections p.connection p.channel ≡ Some was
     → new.connections ≡ with_channel old.connections p.connection p.channel ch → topology_kept new ≡ topology_kept old → IsPick (broker_of now) p → DeliversHere p old.store was sends notes new.store ch
     → IsDelivery (broker_of now) p.connection sends notes (broker_of new)

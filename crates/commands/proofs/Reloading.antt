@@ -66,6 +66,11 @@ seen_of f y (x ∷ xs) (inr i) = let more = seen_of f y xs i in record { one = m
 
 -- ---- where queues in use stand
 
+-- what is asked of what is seen is so of what stands inside
+pub can_reload : (old now : Kept) (t : Topology) → old ≡ now → IsAgreed (broker_of now) → NoneIsStranded (topology_kept now) t (broker_of now) → IsAgreed (broker_of old) × NoneIsStranded (topology_kept old) t (broker_of old)
+can_reload old now t same agreed none =
+    (subst (λ (k : Kept). IsAgreed (broker_of k)) (sym same) agreed, subst (λ (k : Kept). NoneIsStranded (topology_kept k) t (broker_of k)) (sym same) none)
+
 -- The queue at this place stands at its place in the new file, under its name.
 pub record Stands (old new : List Text) (places : List ℕ) (p : ℕ) : Type 0 where
   pub within : place_now places p < length new

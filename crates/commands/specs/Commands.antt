@@ -92,12 +92,6 @@ abbrev pub GivesHere : ℕ → ℕ → Store → Open → Bool → ℕ → Taker
 GivesHere c h s ch no_ack place by s' ch' = (old new : Side) → Turns c h (seen s ch) (seen s' ch') old new
     → Is (after_delivery (state_of s old) c h (seen s ch) no_ack (queue_name s.topology place) by) (state_of s' new)
 
--- Some state of these queues and this channel has a delivery to this consumer that can be made.
-pub record CanDeliverHere (p : Pick) (s : Store) (ch : Open) : Type 0 where
-  pub side : Side
-  pub there : side.channel p.connection p.channel ≡ Some (seen s ch)
-  pub pick : IsPick (state_of s side) p
-
 -- where one can be made to this consumer, it is made, and this is sent and noted
 abbrev pub DeliversHere : Pick → Store → Open → List Send → List Note → Store → Open → Type 0
 DeliversHere p s ch sends notes s' ch' = (old new : Side) → Turns p.connection p.channel (seen s ch) (seen s' ch') old new

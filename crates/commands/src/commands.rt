@@ -29,7 +29,7 @@ use crate::commands::getting::get;
 use crate::commands::limiting::limit;
 use crate::commands::publishing::{publish, select};
 use crate::commands::purging::purge;
-use crate::commands::settlements::{ack, nack, recover, reject};
+use crate::commands::settlements::{ack, nack, nack_of, recover};
 use crate::refusals::{Refusal, Stop, check_number, refusal_of_other};
 use channels::Channel;
 use depot::Depot;
@@ -106,7 +106,9 @@ pub(crate) fn on_channel<'a>(
         }
         Method::BasicGet(asked) => performed(get(alloc, id, channel, depot, asked)),
         Method::BasicAck(settled) => performed(ack(alloc, id, channel, depot, settled)),
-        Method::BasicReject(settled) => performed(reject(alloc, id, channel, depot, settled)),
+        Method::BasicReject(settled) => {
+            performed(nack(alloc, id, channel, depot, &nack_of(settled)))
+        }
         Method::BasicNack(settled) => performed(nack(alloc, id, channel, depot, settled)),
         Method::BasicRecover { requeue } => {
             performed(recover(alloc, id, channel, depot, *requeue))

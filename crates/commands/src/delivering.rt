@@ -1,11 +1,11 @@
 //! A message that goes to a consumer, on the consumer's channel. Source: AMQP 0-9-1, basic.deliver.
 
-ghost use Rattle.std.specs.Prelude.{◌≡◌, Some, IfOk, OnErr};
+ghost use Rattle.std.specs.Prelude.{◌≡◌, [], Some, IfOk, OnErr};
 ghost use Rattle.model.specs.Naming.{AreNamed};
 ghost use Rattle.model.specs.Sending.{AreCarried};
 ghost use Rattle.channels.specs.Placed.{IsPlaced};
 ghost use Rattle.replies.specs.Sent.{AreAddressed};
-ghost use Rattle.commands.specs.Commands.{Side, CanCommand, CanDeliverHere, DeliversHere, seen, state_of};
+ghost use Rattle.commands.specs.Commands.{Side, CanCommand, DeliversHere, seen, state_of};
 
 use crate::giving::give_out;
 use crate::picks::Pick;
@@ -15,31 +15,32 @@ use model::{ChannelId, Taker};
 use replies::{Step, deliver};
 use std::alloc::{AllocError, Global};
 
-/// The delivery to the consumer of these numbers, which can be made, is made on its channel: the first ready message of its queue
-/// goes to it, and leaves the queue where it needs no acknowledgement. All that takes memory is made before the first change.
+/// The delivery to the consumer of these numbers is made on its channel, where one can be made: the first ready message of its queue
+/// goes to it, and leaves the queue where it needs no acknowledgement. Where none can be made nothing is sent, and nothing changes. All
+/// that takes memory is made before the first change.
 pub(crate) fn deliver_on(
     alloc: Global,
     pick: Pick,
     channel: &mut Channel,
     depot: &mut Depot,
 ) -> Result<Step, AllocError>
-    requires can { CanCommand pick.connection pick.channel depot.old channel.old }
-    requires picked { CanDeliverHere pick depot.old channel.old }
+    requires { CanCommand pick.connection pick.channel depot.old channel.old }
     ensures ok { IfOk result (λ s. DeliversHere pick depot.old channel.old s.sends.items s.notes.items depot.new channel.new) }
     ensures addressed { IfOk result (λ s. (side : Side) → side.channel pick.connection pick.channel ≡ Some (seen depot.old channel.old)
         → AreCarried (state_of depot.old side) → AreNamed depot.old.topology (state_of depot.old side) → AreAddressed pick.connection s.sends.items) }
+    ensures none { IfOk result (λ s. s.sends.items ≡ [] → (depot.new ≡ depot.old) × (channel.new ≡ channel.old)) }
     ensures topology { depot.new.topology ≡ depot.old.topology }
     ensures placed { IsPlaced depot.old.topology channel.new }
     ensures err { OnErr result ((depot.new ≡ depot.old) × (channel.new ≡ channel.old)) }
 {
     let Some(consumer) = channel.taker(pick.number) else {
-        unreachable!();
+        return Ok(Step::nothing(alloc));
     };
     let place = consumer.queue;
     let no_ack = consumer.no_ack;
     depot.is_named(place);
     let Some(entry) = depot.first_ready(place) else {
-        unreachable!();
+        return Ok(Step::nothing(alloc));
     };
     let tag = channel.next_tag();
     let send = deliver(pick.connection, pick.channel, tag, &consumer.tag, entry)?;

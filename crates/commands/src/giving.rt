@@ -1,11 +1,9 @@
 //! Messages that are given out, to gets and to consumers.
 
-ghost use Rattle.std.specs.Prelude.{◌≡◌, ◌<◌, ◌++◌, ℕ, Some, true, false, IsSome, OnOk, OnErr, length};
+ghost use Rattle.std.specs.Prelude.{◌≡◌, ◌<◌, ◌++◌, Some, true, IsSome, OnOk, OnErr, length};
 ghost use Rattle.model.specs.Prefetch.{has_tag_left};
-ghost use Rattle.model.specs.Deliveries.{first_ready, delivery_notes, left_note};
+ghost use Rattle.model.specs.Deliveries.{first_ready, delivery_notes};
 ghost use Rattle.model.specs.declared.messages.Entry.{Entry};
-ghost use Rattle.model.specs.declared.messages.Taker.{Taker as By};
-ghost use Rattle.model.specs.declared.notes.Cause.TheVariants.{Auto};
 ghost use Rattle.exchange_graph.specs.Marks.{queue_name};
 ghost use Rattle.depot.specs.Store.{queue_at};
 ghost use Rattle.channels.specs.Placed.{IsPlaced};
@@ -15,65 +13,6 @@ use channels::Channel;
 use depot::{Depot, Giving};
 use model::{ChannelId, Holder, Note, Taker};
 use std::alloc::AllocError;
-
-/// The first ready message of the queue at this place leaves it, under the channel's next delivery tag, and that is noted.
-fn take_out(
-    channel: &mut Channel,
-    depot: &mut Depot,
-    place: usize,
-    notes: &mut Vec<Note>,
-) -> Result<(), AllocError>
-    requires placed { IsPlaced depot.old.topology channel.old }
-    requires within { place < length depot.old.topology.queues }
-    requires left { has_tag_left channel.old.given.next_tag ≡ true }
-    ensures gives { OnOk result ((c h : ℕ) (by : By) → GivesHere c h depot.old channel.old true place by depot.new channel.new) }
-    ensures notes { OnOk result (notes.new.items
-        ≡ notes.old.items ++ left_note Auto (queue_name depot.old.topology place) (first_ready (queue_at depot.old place))) }
-    ensures topology { depot.new.topology ≡ depot.old.topology }
-    ensures placed { IsPlaced depot.old.topology channel.new }
-    ensures err { OnErr result ((depot.new ≡ depot.old) × (channel.new ≡ channel.old)) }
-{
-    depot.is_named(place);
-    let name = depot.topology().queue(place).name.clone()?;
-    notes.reserve_exact(1)?;
-    depot.take(place, Giving::Out(name), notes);
-    channel.give_settled();
-    Ok(())
-}
-
-/// The first ready message of the queue at this place is held under the channel's next delivery tag.
-fn hand_out(
-    id: ChannelId,
-    channel: &mut Channel,
-    depot: &mut Depot,
-    place: usize,
-    by: Taker,
-    notes: &mut Vec<Note>,
-) -> Result<(), AllocError>
-    requires can { CanCommand id.connection id.number depot.old channel.old }
-    requires within { place < length depot.old.topology.queues }
-    requires left { has_tag_left channel.old.given.next_tag ≡ true }
-    requires ready { IsSome (first_ready (queue_at depot.old place)) }
-    ensures gives { OnOk result (GivesHere id.connection id.number depot.old channel.old false place by depot.new channel.new) }
-    ensures notes { notes.new.items ≡ notes.old.items }
-    ensures topology { depot.new.topology ≡ depot.old.topology }
-    ensures placed { IsPlaced depot.old.topology channel.new }
-    ensures err { OnErr result ((depot.new ≡ depot.old) × (channel.new ≡ channel.old)) }
-{
-    depot.is_named(place);
-    channel.reserve(1)?;
-    let holder = Holder {
-        connection: id.connection,
-        channel: id.number,
-        tag: channel.next_tag(),
-        by,
-    };
-    let Some(arrival) = depot.take(place, Giving::Held(holder), notes) else {
-        return Ok(());
-    };
-    channel.give(place, arrival, by);
-    Ok(())
-}
 
 /// The first ready message of the queue at this place is given out under the channel's next delivery tag. It leaves the queue where
 /// it needs no acknowledgement, and that is noted; else it is held there. All that takes memory is made before the first change.
@@ -97,9 +36,24 @@ pub(crate) fn give_out(
     ensures placed { IsPlaced depot.old.topology channel.new }
     ensures err { OnErr result ((depot.new ≡ depot.old) × (channel.new ≡ channel.old)) }
 {
+    depot.is_named(place);
     if no_ack {
-        take_out(channel, depot, place, notes)
-    } else {
-        hand_out(id, channel, depot, place, by, notes)
+        let name = depot.topology().queue(place).name.clone()?;
+        notes.reserve_exact(1)?;
+        depot.take(place, Giving::Out(name), notes);
+        channel.give_settled();
+        return Ok(());
     }
+    channel.reserve(1)?;
+    let holder = Holder {
+        connection: id.connection,
+        channel: id.number,
+        tag: channel.next_tag(),
+        by,
+    };
+    let Some(arrival) = depot.take(place, Giving::Held(holder), notes) else {
+        return Ok(());
+    };
+    channel.give(place, arrival, by);
+    Ok(())
 }

@@ -1,16 +1,16 @@
 //! What was given out on a channel is acknowledged, rejected or recovered. Source: AMQP 0-9-1, basic.ack, basic.reject and
 //! basic.recover; RabbitMQ, basic.nack and "Dead Letter Exchanges".
 
-ghost use Rattle.std.specs.Prelude.{◌≡◌, [], true, IfOk, OnOk, OnErr, List, Option};
-ghost use Rattle.model.specs.Deliveries.{Rejects, Returns};
+ghost use Rattle.std.specs.Prelude.{◌≡◌, [], true, false, IfOk, OnOk, OnErr, List, Option};
+ghost use Rattle.model.specs.Deliveries.{Returns};
 ghost use Rattle.model.specs.Step as said;
 ghost use Rattle.model.specs.declared.contents.Content.{Content};
 ghost use Rattle.model.specs.declared.events.Send.{Send as Sent};
-ghost use Rattle.model.specs.declared.methods.Method.TheVariants.{BasicAck, BasicNack, BasicReject, BasicRecover};
+ghost use Rattle.model.specs.declared.methods.Method.TheVariants.{BasicAck, BasicNack, BasicRecover};
 ghost use Rattle.channels.specs.Placed.{IsPlaced};
 ghost use Rattle.commands.specs.Judged.{refused_by};
 ghost use Rattle.replies.specs.Sent.{AreAddressed};
-ghost use Rattle.commands.specs.Commands.{CanCommand, Commands, ComesTo, SettlesHere, WantsNone, seen};
+ghost use Rattle.commands.specs.Commands.{CanCommand, Commands, SettlesHere, WantsNone, seen};
 
 use crate::refusals::{Refusal, Stop, check_recover, check_settling};
 use channels::Channel;
@@ -65,32 +65,9 @@ fn requeue(
     Ok(())
 }
 
-/// What this tag settles leaves its queues, in the order of tags, and dies there if the queue has a dead-letter exchange. It is no
-/// longer outstanding. All that takes memory is made before the first change.
-fn discard(
-    alloc: Global,
-    id: ChannelId,
-    channel: &mut Channel,
-    depot: &mut Depot,
-    tag: u64,
-    multiple: bool,
-) -> Result<Step, Stop>
-    requires { CanCommand id.connection id.number depot.old channel.old }
-    ensures comes { ComesTo (said.refusal_of_settling (seen depot.old channel.old) tag multiple)
-        (λ s. SettlesHere Rejects id.connection id.number depot.old channel.old tag multiple [] s.sends.items s.notes.items depot.new channel.new) result }
-    ensures addressed { IfOk result (λ s. AreAddressed id.connection s.sends.items) }
-    ensures topology { depot.new.topology ≡ depot.old.topology }
-    ensures placed { IsPlaced depot.old.topology channel.new }
-    ensures err { OnErr result ((depot.new ≡ depot.old) × (channel.new ≡ channel.old)) }
-{
-    let span = check_settling(channel, tag, multiple)?;
-    let mut step = Step::nothing(alloc);
-    depot.reject(alloc, id, channel.at(span), &mut step.notes)?;
-    channel.forget_span(span);
-    Ok(step)
-}
-
-/// What this tag settles was not taken: it is ready again if it is to be requeued, which takes no memory, or leaves its queues.
+/// What this tag settles was not taken: it is ready again if it is to be requeued, which takes no memory. Else it leaves its queues,
+/// in the order of tags, and dies there if the queue has a dead-letter exchange; all that takes memory is made before the first
+/// change. It is no longer outstanding.
 pub(crate) fn nack(
     alloc: Global,
     id: ChannelId,
@@ -107,36 +84,26 @@ pub(crate) fn nack(
     ensures err { OnErr result ((depot.new ≡ depot.old) × (channel.new ≡ channel.old)) }
     ensures quiet { nack.now.requeue ≡ true → WantsNone result }
 {
-    if !nack.requeue {
-        return discard(alloc, id, channel, depot, nack.delivery_tag, nack.multiple);
+    if nack.requeue {
+        requeue(id, channel, depot, nack.delivery_tag, nack.multiple)?;
+        return Ok(Step::nothing(alloc));
     }
-    requeue(id, channel, depot, nack.delivery_tag, nack.multiple)?;
-    Ok(Step::nothing(alloc))
+    let span = check_settling(channel, nack.delivery_tag, nack.multiple)?;
+    let mut step = Step::nothing(alloc);
+    depot.reject(alloc, id, channel.at(span), &mut step.notes)?;
+    channel.forget_span(span);
+    Ok(step)
 }
 
-/// The same of one message.
-pub(crate) fn reject(
-    alloc: Global,
-    id: ChannelId,
-    channel: &mut Channel,
-    depot: &mut Depot,
-    reject: &Reject,
-) -> Result<Step, Stop>
-    requires { CanCommand id.connection id.number depot.old channel.old }
-    ensures commands { (content : Option Content)
-        → Commands id.connection id.number depot.old channel.old (BasicReject reject.now) content result depot.new channel.new }
-    ensures addressed { IfOk result (λ s. AreAddressed id.connection s.sends.items) }
-    ensures topology { depot.new.topology ≡ depot.old.topology }
-    ensures placed { IsPlaced depot.old.topology channel.new }
-    ensures err { OnErr result ((depot.new ≡ depot.old) × (channel.new ≡ channel.old)) }
-    ensures quiet { reject.now.requeue ≡ true → WantsNone result }
+/// A rejection of one message, as a nack.
+pub(crate) fn nack_of(reject: &Reject) -> Nack
+    ensures { result ≡ record { delivery_tag = reject.now.delivery_tag; multiple = false; requeue = reject.now.requeue } }
 {
-    let one = Nack {
+    Nack {
         delivery_tag: reject.delivery_tag,
         multiple: false,
         requeue: reject.requeue,
-    };
-    nack(alloc, id, channel, depot, &one)
+    }
 }
 
 /// All that is outstanding on the channel is ready again, and that is answered. Without requeue it is not implemented.

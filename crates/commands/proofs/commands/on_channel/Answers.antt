@@ -7,7 +7,7 @@ use Rattle.model.specs.declared.methods.Method.TheVariants.{ChannelFlow, Exchang
 use Rattle.model.specs.declared.methods.Method.TheVariants.{BasicAck, BasicReject, BasicNack, BasicRecover, BasicGet, BasicConsume, BasicCancel, BasicQos, BasicPublish, ConfirmSelect}
 use Rattle.commands.specs.declared.refusals.Stop.TheVariants.{Refused}
 use Rattle.commands.specs.Commands.{Answers, Asks, HasSpelling, seen, state_of}
-use Rattle.commands.proofs.Answering.{has_open, open_here, done_open, performed_addressed, left_answers, left_addressed, left_kept}
+use Rattle.commands.proofs.Answering.{has_open, open_here, done_here, as_nack, performed_addressed, left_answers, left_addressed, left_kept}
 use Rattle.commands.proofs.Judging.{closing_is, zero_is}
 use Rattle.commands.proofs.commands.on_channel.Goals as goal
 
@@ -29,13 +29,13 @@ returns-then-id-eq0-clause-answers c = λ old new conn same turns.
 
 pub returns-in-ChannelFlow-clause-answers : goal.returns-in-ChannelFlow-clause-answers
 returns-in-ChannelFlow-clause-answers c =
-    open_here c.args.channel_max c.args.id.connection c.args.id.number c.args.depot.now c.args.depot.now c.args.channel.now c.args.channel.now c.args.method.now c.args.content.now c.performed.result (sym c.is_closing.ensures ∙ c.if-is_closing.false) c.if-id-eq0.false (sym c.in_ok-check_number.ensures)
-    (rw c.in-ChannelFlow.is (done_open _ _ c.args.depot.now c.args.depot.now c.args.channel.now c.args.channel.now (ChannelFlow c.in-ChannelFlow.active) c.args.content.now c.flow.result _ c.performed.ensures (c.flow.ensures.commands c.args.depot.now c.args.channel.now c.args.content.now)))
+    done_here c.args.channel_max c.args.id.connection c.args.id.number c.args.depot.now c.args.depot.now c.args.channel.now c.args.channel.now c.args.method.now c.args.content.now c.flow.result _ c.performed.ensures (sym c.is_closing.ensures ∙ c.if-is_closing.false) c.if-id-eq0.false (sym c.in_ok-check_number.ensures)
+    (rw c.in-ChannelFlow.is (c.flow.ensures.commands c.args.depot.now c.args.channel.now c.args.content.now))
 
 pub returns-in-ExchangeDeclare-clause-answers : goal.returns-in-ExchangeDeclare-clause-answers
 returns-in-ExchangeDeclare-clause-answers c =
-    open_here c.args.channel_max c.args.id.connection c.args.id.number c.args.depot.now c.args.depot.now c.args.channel.now c.args.channel.now c.args.method.now c.args.content.now c.performed-in-ExchangeDeclare.result (sym c.is_closing.ensures ∙ c.if-is_closing.false) c.if-id-eq0.false (sym c.in_ok-check_number.ensures)
-    (rw c.in-ExchangeDeclare.is (done_open _ _ c.args.depot.now c.args.depot.now c.args.channel.now c.args.channel.now (ExchangeDeclare c.in-ExchangeDeclare.declare) c.args.content.now c.find_exchange.result _ c.performed-in-ExchangeDeclare.ensures (c.find_exchange.ensures.commands c.args.channel.now c.args.content.now)))
+    done_here c.args.channel_max c.args.id.connection c.args.id.number c.args.depot.now c.args.depot.now c.args.channel.now c.args.channel.now c.args.method.now c.args.content.now c.find_exchange.result _ c.performed-in-ExchangeDeclare.ensures (sym c.is_closing.ensures ∙ c.if-is_closing.false) c.if-id-eq0.false (sym c.in_ok-check_number.ensures)
+    (rw c.in-ExchangeDeclare.is (c.find_exchange.ensures.commands c.args.channel.now c.args.content.now))
 
 pub returns-in-QueueDeclare-clause-answers : goal.returns-in-QueueDeclare-clause-answers
 returns-in-QueueDeclare-clause-answers c =
@@ -55,29 +55,29 @@ returns-in-QueueDeclare-clause-kept c = left_kept ((c.args.depot.now ≡ c.args.
 
 pub returns-in-QueuePurge-clause-answers : goal.returns-in-QueuePurge-clause-answers
 returns-in-QueuePurge-clause-answers c =
-    open_here c.args.channel_max c.args.id.connection c.args.id.number c.args.depot.now c.purge.new.depot c.args.channel.now c.args.channel.now c.args.method.now c.args.content.now c.performed-in-QueuePurge.result (sym c.is_closing.ensures ∙ c.if-is_closing.false) c.if-id-eq0.false (sym c.in_ok-check_number.ensures)
-    (rw c.in-QueuePurge.is (done_open _ _ c.args.depot.now c.purge.new.depot c.args.channel.now c.args.channel.now (QueuePurge c.in-QueuePurge.purged) c.args.content.now c.purge.result _ c.performed-in-QueuePurge.ensures (c.purge.ensures.commands c.args.channel.now c.args.content.now)))
+    done_here c.args.channel_max c.args.id.connection c.args.id.number c.args.depot.now c.purge.new.depot c.args.channel.now c.args.channel.now c.args.method.now c.args.content.now c.purge.result _ c.performed-in-QueuePurge.ensures (sym c.is_closing.ensures ∙ c.if-is_closing.false) c.if-id-eq0.false (sym c.in_ok-check_number.ensures)
+    (rw c.in-QueuePurge.is (c.purge.ensures.commands c.args.channel.now c.args.content.now))
 
 pub returns-in-BasicQos-clause-answers : goal.returns-in-BasicQos-clause-answers
 returns-in-BasicQos-clause-answers c =
-    open_here c.args.channel_max c.args.id.connection c.args.id.number c.args.depot.now c.args.depot.now c.args.channel.now c.limit.new.channel c.args.method.now c.args.content.now c.performed-in-BasicQos.result (sym c.is_closing.ensures ∙ c.if-is_closing.false) c.if-id-eq0.false (sym c.in_ok-check_number.ensures)
-    (rw c.in-BasicQos.is (done_open _ _ c.args.depot.now c.args.depot.now c.args.channel.now c.limit.new.channel (BasicQos c.in-BasicQos.qos) c.args.content.now c.limit.result _ c.performed-in-BasicQos.ensures (c.limit.ensures.commands c.args.depot.now c.args.content.now)))
+    done_here c.args.channel_max c.args.id.connection c.args.id.number c.args.depot.now c.args.depot.now c.args.channel.now c.limit.new.channel c.args.method.now c.args.content.now c.limit.result _ c.performed-in-BasicQos.ensures (sym c.is_closing.ensures ∙ c.if-is_closing.false) c.if-id-eq0.false (sym c.in_ok-check_number.ensures)
+    (rw c.in-BasicQos.is (c.limit.ensures.commands c.args.depot.now c.args.content.now))
 
 pub returns-in-BasicQos-clause-placed : goal.returns-in-BasicQos-clause-placed
 returns-in-BasicQos-clause-placed c = c.limit.ensures.placed c.args.depot.now.topology c.requires.placed
 
 pub returns-in-BasicConsume-clause-answers : goal.returns-in-BasicConsume-clause-answers
 returns-in-BasicConsume-clause-answers c =
-    open_here c.args.channel_max c.args.id.connection c.args.id.number c.args.depot.now c.args.depot.now c.args.channel.now c.consume.new.channel c.args.method.now c.args.content.now c.performed-in-BasicConsume.result (sym c.is_closing.ensures ∙ c.if-is_closing.false) c.if-id-eq0.false (sym c.in_ok-check_number.ensures)
-    (rw c.in-BasicConsume.is (done_open _ _ c.args.depot.now c.args.depot.now c.args.channel.now c.consume.new.channel (BasicConsume c.in-BasicConsume.asked) c.args.content.now c.consume.result _ c.performed-in-BasicConsume.ensures (c.consume.ensures.commands c.args.content.now)))
+    done_here c.args.channel_max c.args.id.connection c.args.id.number c.args.depot.now c.args.depot.now c.args.channel.now c.consume.new.channel c.args.method.now c.args.content.now c.consume.result _ c.performed-in-BasicConsume.ensures (sym c.is_closing.ensures ∙ c.if-is_closing.false) c.if-id-eq0.false (sym c.in_ok-check_number.ensures)
+    (rw c.in-BasicConsume.is (c.consume.ensures.commands c.args.content.now))
 
 pub returns-in-BasicConsume-clause-addressed : goal.returns-in-BasicConsume-clause-addressed
 returns-in-BasicConsume-clause-addressed c = λ said. performed_addressed c.args.id.connection _ c.consume.result c.performed-in-BasicConsume.result c.performed-in-BasicConsume.ensures (subst (λ (m : Method). IsMethod m) c.in-BasicConsume.is said.0) c.consume.ensures.addressed
 
 pub returns-in-BasicCancel-clause-answers : goal.returns-in-BasicCancel-clause-answers
 returns-in-BasicCancel-clause-answers c =
-    open_here c.args.channel_max c.args.id.connection c.args.id.number c.args.depot.now c.args.depot.now c.args.channel.now c.cancel.new.channel c.args.method.now c.args.content.now c.performed-in-BasicCancel.result (sym c.is_closing.ensures ∙ c.if-is_closing.false) c.if-id-eq0.false (sym c.in_ok-check_number.ensures)
-    (rw c.in-BasicCancel.is (done_open _ _ c.args.depot.now c.args.depot.now c.args.channel.now c.cancel.new.channel (BasicCancel c.in-BasicCancel.asked) c.args.content.now c.cancel.result _ c.performed-in-BasicCancel.ensures (c.cancel.ensures.commands c.args.depot.now c.args.content.now)))
+    done_here c.args.channel_max c.args.id.connection c.args.id.number c.args.depot.now c.args.depot.now c.args.channel.now c.cancel.new.channel c.args.method.now c.args.content.now c.cancel.result _ c.performed-in-BasicCancel.ensures (sym c.is_closing.ensures ∙ c.if-is_closing.false) c.if-id-eq0.false (sym c.in_ok-check_number.ensures)
+    (rw c.in-BasicCancel.is (c.cancel.ensures.commands c.args.depot.now c.args.content.now))
 
 pub returns-in-BasicCancel-clause-addressed : goal.returns-in-BasicCancel-clause-addressed
 returns-in-BasicCancel-clause-addressed c = λ said. performed_addressed c.args.id.connection _ c.cancel.result c.performed-in-BasicCancel.result c.performed-in-BasicCancel.ensures (subst (λ (m : Method). IsMethod m) c.in-BasicCancel.is said.0) c.cancel.ensures.addressed
@@ -87,41 +87,41 @@ returns-in-BasicCancel-clause-placed c = c.cancel.ensures.placed c.args.depot.no
 
 pub returns-in-BasicPublish-clause-answers : goal.returns-in-BasicPublish-clause-answers
 returns-in-BasicPublish-clause-answers c =
-    open_here c.args.channel_max c.args.id.connection c.args.id.number c.args.depot.now c.publish.new.depot c.args.channel.now c.publish.new.channel c.args.method.now c.args.content.now c.performed-in-BasicPublish.result (sym c.is_closing.ensures ∙ c.if-is_closing.false) c.if-id-eq0.false (sym c.in_ok-check_number.ensures)
-    (rw c.in-BasicPublish.is (done_open _ _ c.args.depot.now c.publish.new.depot c.args.channel.now c.publish.new.channel (BasicPublish c.in-BasicPublish.published) c.args.content.now c.publish.result _ c.performed-in-BasicPublish.ensures c.publish.ensures.commands))
+    done_here c.args.channel_max c.args.id.connection c.args.id.number c.args.depot.now c.publish.new.depot c.args.channel.now c.publish.new.channel c.args.method.now c.args.content.now c.publish.result _ c.performed-in-BasicPublish.ensures (sym c.is_closing.ensures ∙ c.if-is_closing.false) c.if-id-eq0.false (sym c.in_ok-check_number.ensures)
+    (rw c.in-BasicPublish.is c.publish.ensures.commands)
 
 pub returns-in-BasicGet-clause-answers : goal.returns-in-BasicGet-clause-answers
 returns-in-BasicGet-clause-answers c =
-    open_here c.args.channel_max c.args.id.connection c.args.id.number c.args.depot.now c.get.new.depot c.args.channel.now c.get.new.channel c.args.method.now c.args.content.now c.performed-in-BasicGet.result (sym c.is_closing.ensures ∙ c.if-is_closing.false) c.if-id-eq0.false (sym c.in_ok-check_number.ensures)
-    (rw c.in-BasicGet.is (done_open _ _ c.args.depot.now c.get.new.depot c.args.channel.now c.get.new.channel (BasicGet c.in-BasicGet.asked) c.args.content.now c.get.result _ c.performed-in-BasicGet.ensures (c.get.ensures.commands c.args.content.now)))
+    done_here c.args.channel_max c.args.id.connection c.args.id.number c.args.depot.now c.get.new.depot c.args.channel.now c.get.new.channel c.args.method.now c.args.content.now c.get.result _ c.performed-in-BasicGet.ensures (sym c.is_closing.ensures ∙ c.if-is_closing.false) c.if-id-eq0.false (sym c.in_ok-check_number.ensures)
+    (rw c.in-BasicGet.is (c.get.ensures.commands c.args.content.now))
 
 pub returns-in-BasicGet-clause-addressed : goal.returns-in-BasicGet-clause-addressed
 returns-in-BasicGet-clause-addressed c = λ said. performed_addressed c.args.id.connection _ c.get.result c.performed-in-BasicGet.result c.performed-in-BasicGet.ensures (subst (λ (m : Method). HasSpelling c.args.depot.now m) c.in-BasicGet.is said) c.get.ensures.addressed
 
 pub returns-in-BasicAck-clause-answers : goal.returns-in-BasicAck-clause-answers
 returns-in-BasicAck-clause-answers c =
-    open_here c.args.channel_max c.args.id.connection c.args.id.number c.args.depot.now c.ack.new.depot c.args.channel.now c.ack.new.channel c.args.method.now c.args.content.now c.performed-in-BasicAck.result (sym c.is_closing.ensures ∙ c.if-is_closing.false) c.if-id-eq0.false (sym c.in_ok-check_number.ensures)
-    (rw c.in-BasicAck.is (done_open _ _ c.args.depot.now c.ack.new.depot c.args.channel.now c.ack.new.channel (BasicAck c.in-BasicAck.settled) c.args.content.now c.ack.result _ c.performed-in-BasicAck.ensures (c.ack.ensures.commands c.args.content.now)))
+    done_here c.args.channel_max c.args.id.connection c.args.id.number c.args.depot.now c.ack.new.depot c.args.channel.now c.ack.new.channel c.args.method.now c.args.content.now c.ack.result _ c.performed-in-BasicAck.ensures (sym c.is_closing.ensures ∙ c.if-is_closing.false) c.if-id-eq0.false (sym c.in_ok-check_number.ensures)
+    (rw c.in-BasicAck.is (c.ack.ensures.commands c.args.content.now))
 
 pub returns-in-BasicReject-clause-answers : goal.returns-in-BasicReject-clause-answers
 returns-in-BasicReject-clause-answers c =
-    open_here c.args.channel_max c.args.id.connection c.args.id.number c.args.depot.now c.reject.new.depot c.args.channel.now c.reject.new.channel c.args.method.now c.args.content.now c.performed-in-BasicReject.result (sym c.is_closing.ensures ∙ c.if-is_closing.false) c.if-id-eq0.false (sym c.in_ok-check_number.ensures)
-    (rw c.in-BasicReject.is (done_open _ _ c.args.depot.now c.reject.new.depot c.args.channel.now c.reject.new.channel (BasicReject c.in-BasicReject.settled) c.args.content.now c.reject.result _ c.performed-in-BasicReject.ensures (c.reject.ensures.commands c.args.content.now)))
+    done_here c.args.channel_max c.args.id.connection c.args.id.number c.args.depot.now c.nack.new.depot c.args.channel.now c.nack.new.channel c.args.method.now c.args.content.now c.nack.result _ c.performed-in-BasicReject.ensures (sym c.is_closing.ensures ∙ c.if-is_closing.false) c.if-id-eq0.false (sym c.in_ok-check_number.ensures)
+    (rw c.in-BasicReject.is (as_nack c.args.id.connection c.args.id.number c.args.depot.now c.nack.new.depot c.args.channel.now c.nack.new.channel c.in-BasicReject.settled c.nack_of.result c.args.content.now c.nack.result c.nack_of.ensures (c.nack.ensures.commands c.args.content.now)))
 
 pub returns-in-BasicNack-clause-answers : goal.returns-in-BasicNack-clause-answers
 returns-in-BasicNack-clause-answers c =
-    open_here c.args.channel_max c.args.id.connection c.args.id.number c.args.depot.now c.nack.new.depot c.args.channel.now c.nack.new.channel c.args.method.now c.args.content.now c.performed-in-BasicNack.result (sym c.is_closing.ensures ∙ c.if-is_closing.false) c.if-id-eq0.false (sym c.in_ok-check_number.ensures)
-    (rw c.in-BasicNack.is (done_open _ _ c.args.depot.now c.nack.new.depot c.args.channel.now c.nack.new.channel (BasicNack c.in-BasicNack.settled) c.args.content.now c.nack.result _ c.performed-in-BasicNack.ensures (c.nack.ensures.commands c.args.content.now)))
+    done_here c.args.channel_max c.args.id.connection c.args.id.number c.args.depot.now c.nack-in-BasicNack.new.depot c.args.channel.now c.nack-in-BasicNack.new.channel c.args.method.now c.args.content.now c.nack-in-BasicNack.result _ c.performed-in-BasicNack.ensures (sym c.is_closing.ensures ∙ c.if-is_closing.false) c.if-id-eq0.false (sym c.in_ok-check_number.ensures)
+    (rw c.in-BasicNack.is (c.nack-in-BasicNack.ensures.commands c.args.content.now))
 
 pub returns-in-BasicRecover-clause-answers : goal.returns-in-BasicRecover-clause-answers
 returns-in-BasicRecover-clause-answers c =
-    open_here c.args.channel_max c.args.id.connection c.args.id.number c.args.depot.now c.recover.new.depot c.args.channel.now c.recover.new.channel c.args.method.now c.args.content.now c.performed-in-BasicRecover.result (sym c.is_closing.ensures ∙ c.if-is_closing.false) c.if-id-eq0.false (sym c.in_ok-check_number.ensures)
-    (rw c.in-BasicRecover.is (done_open _ _ c.args.depot.now c.recover.new.depot c.args.channel.now c.recover.new.channel (BasicRecover c.in-BasicRecover.requeue) c.args.content.now c.recover.result _ c.performed-in-BasicRecover.ensures (c.recover.ensures.commands c.args.content.now)))
+    done_here c.args.channel_max c.args.id.connection c.args.id.number c.args.depot.now c.recover.new.depot c.args.channel.now c.recover.new.channel c.args.method.now c.args.content.now c.recover.result _ c.performed-in-BasicRecover.ensures (sym c.is_closing.ensures ∙ c.if-is_closing.false) c.if-id-eq0.false (sym c.in_ok-check_number.ensures)
+    (rw c.in-BasicRecover.is (c.recover.ensures.commands c.args.content.now))
 
 pub returns-in-ConfirmSelect-clause-answers : goal.returns-in-ConfirmSelect-clause-answers
 returns-in-ConfirmSelect-clause-answers c =
-    open_here c.args.channel_max c.args.id.connection c.args.id.number c.args.depot.now c.args.depot.now c.args.channel.now c.select.new.channel c.args.method.now c.args.content.now c.performed-in-ConfirmSelect.result (sym c.is_closing.ensures ∙ c.if-is_closing.false) c.if-id-eq0.false (sym c.in_ok-check_number.ensures)
-    (rw c.in-ConfirmSelect.is (done_open _ _ c.args.depot.now c.args.depot.now c.args.channel.now c.select.new.channel (ConfirmSelect c.in-ConfirmSelect.no_wait) c.args.content.now c.select.result _ c.performed-in-ConfirmSelect.ensures (c.select.ensures.commands c.args.depot.now c.args.content.now)))
+    done_here c.args.channel_max c.args.id.connection c.args.id.number c.args.depot.now c.args.depot.now c.args.channel.now c.select.new.channel c.args.method.now c.args.content.now c.select.result _ c.performed-in-ConfirmSelect.ensures (sym c.is_closing.ensures ∙ c.if-is_closing.false) c.if-id-eq0.false (sym c.in_ok-check_number.ensures)
+    (rw c.in-ConfirmSelect.is (c.select.ensures.commands c.args.depot.now c.args.content.now))
 
 pub returns-in-ConfirmSelect-clause-placed : goal.returns-in-ConfirmSelect-clause-placed
 returns-in-ConfirmSelect-clause-placed c = c.select.ensures.placed c.args.depot.now.topology c.requires.placed

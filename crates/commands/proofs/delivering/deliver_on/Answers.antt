@@ -10,24 +10,29 @@ use Rattle.exchange_graph.specs.Marks.{queue_name}
 use Rattle.depot.specs.Store.{entries_named, queue_at}
 use Rattle.commands.proofs.Placing.{takes_within}
 use Rattle.commands.proofs.Getting.{first_carried}
-use Rattle.commands.proofs.Delivered.{ready_on, delivered, takes_short}
+use Rattle.commands.proofs.Delivered.{ready_on, takes_there, delivered, takes_short}
 use Rattle.commands.proofs.delivering.deliver_on.Goals as goal
 
 pub is_named-requires : goal.is_named-requires
-is_named-requires c = takes_within c.args.depot.now.topology c.in-Some.consumer.now c.args.channel.now.given.consumers c.requires.can.placed.consumers c.in-Some.ensures.seat
+is_named-requires c = takes_within c.args.depot.now.topology c.in-Some.consumer.now c.args.channel.now.given.consumers c.requires.placed.consumers c.in-Some.ensures.seat
 
 pub first_ready-requires : goal.first_ready-requires
-first_ready-requires c = takes_within c.args.depot.now.topology c.in-Some.consumer.now c.args.channel.now.given.consumers c.requires.can.placed.consumers c.in-Some.ensures.seat
+first_ready-requires c = takes_within c.args.depot.now.topology c.in-Some.consumer.now c.args.channel.now.given.consumers c.requires.placed.consumers c.in-Some.ensures.seat
 
-pub unreachable-requires-in_default-first_ready : goal.unreachable-requires-in_default-first_ready
-unreachable-requires-in_default-first_ready c =
+-- no message goes to a consumer that may take none
+pub returns-in_default-clause-ok : goal.returns-in_default-clause-ok
+returns-in_default-clause-ok c = λ old new turns pick. absurd (takes_there c.args.depot.now old c.args.pick c.args.channel.now turns.was c.in_default.ensures pick)
+
+-- nor from a queue in which none is ready
+pub returns-in_default-first_ready-clause-ok : goal.returns-in_default-first_ready-clause-ok
+returns-in_default-first_ready-clause-ok c = λ old new turns pick.
     let s = c.args.depot.now in
     let same : first_ready (entries_named s (queue_name s.topology c.in-Some.consumer.now.queue)) ≡ option_map (λ e. e.now) c.first_ready.result = ap first_ready c.is_named.ensures.entries_are ∙ sym c.first_ready.ensures in
-    let ready = ready_on s c.requires.picked.side c.args.pick c.args.channel.now c.in-Some.consumer.now c.requires.picked.there c.in-Some.ensures c.requires.picked.pick in
-    false≢true (ap is_some (sym (ap (option_map (λ e. e.now)) c.in_default-first_ready.is)) ∙ ap is_some (sym same ∙ ready))
+    let ready = ready_on s old c.args.pick c.args.channel.now c.in-Some.consumer.now turns.was c.in-Some.ensures pick in
+    absurd (false≢true (ap is_some (sym (ap (option_map (λ e. e.now)) c.in_default-first_ready.is)) ∙ ap is_some (sym same ∙ ready)))
 
 pub give_out-requires-clause-within : goal.give_out-requires-clause-within
-give_out-requires-clause-within c = takes_within c.args.depot.now.topology c.in-Some.consumer.now c.args.channel.now.given.consumers c.requires.can.placed.consumers c.in-Some.ensures.seat
+give_out-requires-clause-within c = takes_within c.args.depot.now.topology c.in-Some.consumer.now c.args.channel.now.given.consumers c.requires.placed.consumers c.in-Some.ensures.seat
 
 pub returns-clause-ok : goal.returns-clause-ok
 returns-clause-ok c =

@@ -1,23 +1,21 @@
 use Rattle.std.proofs.Common.{◌≡◌, ◌∙◌, ℕ, List, map, sym, ap, subst}
 use Rattle.model.specs.Topology.{Topology, queue_names}
-use Rattle.model.specs.Agreement.{IsAgreed}
-use Rattle.model.specs.Reloading.{NoneIsStranded, stood_now}
+use Rattle.model.specs.Reloading.{stood_now}
 use Rattle.depot.specs.Store.{Store, entries_named}
 use Rattle.depot.specs.Moving.{GoneAreEmpty}
 use Rattle.channels.specs.ConnectionsMoving.{connections_moved}
-use Rattle.commands.specs.State.{Kept, broker_of, topology_kept}
-use Rattle.commands.proofs.Reloading.{gone_empty, placed_moved, all_stood}
+use Rattle.commands.specs.State.{Kept, topology_kept}
+use Rattle.commands.proofs.Reloading.{can_reload, gone_empty, placed_moved, all_stood}
 use Rattle.commands.proofs.cores.Core.reload.Goals as goal
 
 pub take_over-requires-clause-gone : goal.take_over-requires-clause-gone
 take_over-requires-clause-gone c =
     let old : Kept = record { store = c.self.inside.depot; connections = c.self.inside.connections } in
     let t = c.args.topology in
-    let agreed : IsAgreed (broker_of old) = subst (λ (k : Kept). IsAgreed (broker_of k)) (sym c.self.view_is) c.requires.agreed in
-    let none : NoneIsStranded (topology_kept old) t (broker_of old) = subst (λ (k : Kept). NoneIsStranded (topology_kept k) t (broker_of k)) (sym c.self.view_is) c.requires.kept in
+    let can = can_reload old c.args.self.now t c.self.view_is c.requires.agreed c.requires.kept in
     let fresh : c.replace-old.new.dest.topology ≡ t = ap (λ (s : Store). s.topology) (c.replace-old.ensures.after ∙ c.in_ok-depot.ensures) in
     subst (λ (s : Store). GoneAreEmpty s (queue_names c.replace-old.new.dest.topology.queues)) (sym c.replace-old.ensures.value)
-    (subst (λ (x : Topology). GoneAreEmpty old.store (queue_names x.queues)) (sym fresh) (gone_empty old t c.in_ok-places.places.items c.self.invariant agreed none c.in_ok-places.ensures))
+    (subst (λ (x : Topology). GoneAreEmpty old.store (queue_names x.queues)) (sym fresh) (gone_empty old t c.in_ok-places.places.items c.self.invariant can.0 can.1 c.in_ok-places.ensures))
 
 pub invariant_of-self : goal.invariant_of-self
 invariant_of-self c =
@@ -25,11 +23,10 @@ invariant_of-self c =
     let new : Kept = record { store = c.take_over.new.self; connections = c.renumber.new.self } in
     let t = c.args.topology in
     let places = c.in_ok-places.places.items in
-    let agreed : IsAgreed (broker_of old) = subst (λ (k : Kept). IsAgreed (broker_of k)) (sym c.self.view_is) c.requires.agreed in
-    let none : NoneIsStranded (topology_kept old) t (broker_of old) = subst (λ (k : Kept). NoneIsStranded (topology_kept k) t (broker_of k)) (sym c.self.view_is) c.requires.kept in
+    let can = can_reload old c.args.self.now t c.self.view_is c.requires.agreed c.requires.kept in
     let topology : topology_kept new ≡ t = c.take_over.ensures.topology ∙ ap (λ (s : Store). s.topology) (c.replace-old.ensures.after ∙ c.in_ok-depot.ensures) in
     let made : new.connections ≡ connections_moved places old.connections = c.renumber.ensures ∙ ap (λ (ps : List ℕ). connections_moved ps old.connections) c.deref-2.ensures.value in
-    placed_moved old t places c.self.invariant agreed none c.in_ok-places.ensures new topology made
+    placed_moved old t places c.self.invariant can.0 can.1 c.in_ok-places.ensures new topology made
 
 pub returns-clause-stood : goal.returns-clause-stood
 returns-clause-stood c =
@@ -37,10 +34,9 @@ returns-clause-stood c =
     let new : Kept = record { store = c.take_over.new.self; connections = c.renumber.new.self } in
     let t = c.args.topology in
     let places = c.in_ok-places.places.items in
-    let agreed : IsAgreed (broker_of old) = subst (λ (k : Kept). IsAgreed (broker_of k)) (sym c.self.view_is) c.requires.agreed in
-    let none : NoneIsStranded (topology_kept old) t (broker_of old) = subst (λ (k : Kept). NoneIsStranded (topology_kept k) t (broker_of k)) (sym c.self.view_is) c.requires.kept in
+    let can = can_reload old c.args.self.now t c.self.view_is c.requires.agreed c.requires.kept in
     let topology : topology_kept new ≡ t = c.take_over.ensures.topology ∙ ap (λ (s : Store). s.topology) (c.replace-old.ensures.after ∙ c.in_ok-depot.ensures) in
     let made : new.connections ≡ connections_moved places old.connections = c.renumber.ensures ∙ ap (λ (ps : List ℕ). connections_moved ps old.connections) c.deref-2.ensures.value in
     let published : new.store.published ≡ old.store.published = c.take_over.ensures.published ∙ ap (λ (s : Store). s.published) c.replace-old.ensures.value in
-    rw (← c.self.view_is) (all_stood old t places c.self.invariant agreed none c.in_ok-places.ensures c.moves_are_unseen.ensures new topology made published
+    rw (← c.self.view_is) (all_stood old t places c.self.invariant can.0 can.1 c.in_ok-places.ensures c.moves_are_unseen.ensures new topology made published
     (λ q. c.take_over.ensures.entries q ∙ ap (λ (s : Store). map stood_now (entries_named s q)) c.replace-old.ensures.value))

@@ -1,0 +1,33 @@
+use Rattle.std.proofs.Common.{sym, []}
+use Rattle.model.specs.Topology.{queue_names}
+use Rattle.model.specs.Placed.{waiting}
+use Rattle.model.specs.Deliveries.{Rejects}
+use Rattle.commands.proofs.Settling.{all_within, all_rise, settles, stays_placed}
+use Rattle.commands.proofs.commands.settlements.nack.Goals as goal
+
+pub reject-requires-clause-within : goal.reject-requires-clause-within
+reject-requires-clause-within c =
+    all_within c.args.id.connection c.args.id.number c.args.nack.now.delivery_tag c.args.nack.now.multiple c.in_ok-span.span c.args.depot.now c.args.channel.now (waiting c.at.result.now) c.requires c.in_ok-span.ensures.span c.at.ensures
+
+pub reject-requires-clause-ordered : goal.reject-requires-clause-ordered
+reject-requires-clause-ordered c =
+    all_rise c.args.id.connection c.args.id.number c.args.nack.now.delivery_tag c.args.nack.now.multiple c.in_ok-span.span c.args.depot.now c.args.channel.now (waiting c.at.result.now) c.requires c.in_ok-span.ensures.span c.at.ensures
+
+pub reject-requires-clause-apart : goal.reject-requires-clause-apart
+reject-requires-clause-apart c = c.requires.agreed.apart
+
+pub returns-clause-commands : goal.returns-clause-commands
+returns-clause-commands c = λ content old new turns. (
+  sym (c.in_ok-span.ensures.refusal (queue_names c.args.depot.now.topology.queues)),
+  rw c.if-nack.false (settles Rejects c.args.id.connection c.args.id.number c.args.nack.now.delivery_tag c.forget_span.new.self.given.room c.args.nack.now.multiple c.in_ok-span.span c.args.depot.now c.reject.new.self c.args.channel.now c.forget_span.new.self
+      (waiting c.at.result.now) [] c.nothing-step.result.sends.items c.nothing-step.result.notes.items c.reject.new.notes.items
+      c.in_ok-span.ensures.span c.at.ensures c.nothing-step.ensures.sends c.nothing-step.ensures.notes c.in_ok-reject.ensures.ok c.forget_span.ensures.settled old new turns),
+)
+
+pub returns-clause-topology : goal.returns-clause-topology
+returns-clause-topology c = c.in_ok-reject.ensures.ok.topology
+
+pub returns-clause-placed : goal.returns-clause-placed
+returns-clause-placed c =
+    stays_placed c.args.id.connection c.args.id.number c.args.nack.now.delivery_tag c.forget_span.new.self.given.room c.args.nack.now.multiple c.in_ok-span.span c.args.depot.now c.args.channel.now c.forget_span.new.self c.requires
+    c.in_ok-span.ensures.span c.forget_span.ensures.settled
