@@ -1,4 +1,5 @@
 pub mod Beginning
+pub mod Causing
 pub mod FilesKept
 pub mod Judged
 pub mod Kept
