@@ -226,7 +226,7 @@ impl Engine {
         };
         let connection = pick.connection;
         let Some(place) = connection_place(&self.connections, &self.places, connection) else {
-            unreachable!();
+            return Ok(None);
         };
         let notes = pump_connection(
             alloc,
