@@ -28,7 +28,7 @@ help:
 	@echo "  make install   puts the proved program into $(PREFIX)/bin, with its manual page and completions"
 	@echo "  make package   makes a Debian package of the proved program, and prints its SHA-256"
 	@echo "  make manual    makes the manual page and the completions anew, of the program's help"
-	@echo "  make test      proves every crate, tries the must-fail edits, runs the tests and the program    about an hour"
+	@echo "  make test      proves every crate, tries the must-fail edits, runs the tests and the program    one to two hours"
 	@echo "without rt, with Python 3 alone:"
 	@echo "  make prose     tells how long sentences are, page by page, and looks for dead links"
 	@echo "  make tools     runs the tests of tools/ and checks the names in docs/PROMISE.md               a minute"
