@@ -1,6 +1,6 @@
 //! Why a topology is not built.
 
-use std::alloc::{AllocError, AllocFailed};
+use std::alloc::AllocError;
 
 /// What stands against a topology. Of several the first of these is told.
 #[derive(Clone, Copy, PartialEq, Eq, Debug, Drop)]
@@ -29,17 +29,6 @@ impl From<AllocError> for BadTopology {
     ghost from_gives = { λ _ r. r ≡ Memory };
 
     fn from(_: AllocError) -> BadTopology {
-        BadTopology::Memory
-    }
-}
-
-impl<T: Drop> From<AllocFailed<T>> for BadTopology {
-    ghost use Rattle.std.specs.Prelude.{◌≡◌};
-    ghost use Rattle.topology_drafts.specs.declared.bad.BadTopology.TheVariants.{Memory};
-
-    ghost from_gives = { λ _ r. r ≡ Memory };
-
-    fn from(_: AllocFailed<T>) -> BadTopology {
         BadTopology::Memory
     }
 }
