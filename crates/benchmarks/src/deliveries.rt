@@ -58,6 +58,21 @@ impl RunningDeliveries {
         }
     }
 
+    /// Makes a delivery that is never acknowledged.
+    pub fn hold_one(&mut self) {
+        self.engine.deliver(1);
+        self.engine.take_output(self.consumer);
+        self.acks.of_next(1);
+    }
+
+    /// Publishes so many messages, makes as many deliveries, and has them acknowledged, a hundred at a time.
+    pub fn pass(&mut self, messages: u64) {
+        for _ in 0..messages / WINDOW {
+            self.publish(WINDOW);
+            self.deliver_all(WINDOW);
+        }
+    }
+
     /// Whether no memory was refused.
     pub fn is_whole(&self) -> bool {
         self.engine.is_whole() && self.client.is_whole() && self.acks.is_whole()
@@ -68,10 +83,7 @@ impl Part for RunningDeliveries {
     fn prepare(&mut self, _: u64) {}
 
     fn run(&mut self, _: u64) {
-        for _ in 0..PART / WINDOW {
-            self.publish(WINDOW);
-            self.deliver_all(WINDOW);
-        }
+        self.pass(PART);
     }
 }
 

@@ -1,6 +1,7 @@
 //! Benchmarks: what publishes, deliveries, drains, acks, losses, purges, rejects, openings and reloads cost the engine, how long an
 //! event of a large queue takes at most, what waiting messages and open connections take, and how long matchers, routes, large
-//! definitions files and certificates take. What is printed is to be read; nothing tests it.
+//! definitions files and certificates take. What is printed is to be read; nothing tests it, but for `growth`: that nothing grows while
+//! messages and consumers come and go.
 #![tactic(auto)]
 
 mod acks;
@@ -9,6 +10,7 @@ mod definitions_files;
 mod deliveries;
 mod drains;
 mod events;
+mod growth;
 mod matchers;
 mod memory;
 mod openings;
@@ -23,7 +25,7 @@ use std::{env, io};
 
 /// How the program is called.
 const USAGE: &str =
-    "benchmarks openings|strangers|memory|deliveries|drains|events|acks|removals|rejects|reloads|publishes [NAME]|matchers|routes|files|certificates|all: prints what connections, messages, reloads, matchers, routes, large definitions files and certificates cost";
+    "benchmarks openings|strangers|memory|deliveries|drains|events|acks|removals|rejects|reloads|growth|publishes [NAME]|matchers|routes|files|certificates|all: prints what connections, messages, reloads, matchers, routes, large definitions files and certificates cost, and whether anything grows";
 
 /// Measures all. Memory comes early, since what is measured later takes what was given back.
 fn measure_all(rt: &HostRuntime) -> io::Result<()> {
@@ -37,6 +39,7 @@ fn measure_all(rt: &HostRuntime) -> io::Result<()> {
     acks::measure_all(rt)?;
     removals::measure_all(rt)?;
     rejects::measure_all(rt)?;
+    growth::measure_all(rt)?;
     publishes::measure_all(rt)?;
     matchers::measure_all(rt)?;
     routes::measure_all(rt)?;
@@ -57,6 +60,7 @@ fn measure(rt: &HostRuntime, word: &str) -> io::Result<()> {
         "removals" => removals::measure_all(rt),
         "rejects" => rejects::measure_all(rt),
         "reloads" => reloads::measure_all(rt),
+        "growth" => growth::measure_all(rt),
         "publishes" => publishes::measure_all(rt),
         "matchers" => matchers::measure_all(rt),
         "routes" => routes::measure_all(rt),

@@ -37,6 +37,24 @@ pub fn put_consume(out: &mut Written, queue: &[u8]) {
     out.put(END.as_slice());
 }
 
+/// Appends basic.consume of this queue under this tag, and the cancel of that tag.
+pub fn put_consume_and_cancel(out: &mut Written, queue: &[u8], tag: &[u8]) {
+    put_head(
+        out,
+        queue.len().saturating_add(tag.len()).saturating_add(13),
+    );
+    out.put(&[0, 60, 0, 20, 0, 0]);
+    put_short(out, queue);
+    put_short(out, tag);
+    out.put(&[0, 0, 0, 0, 0]);
+    out.put(END.as_slice());
+    put_head(out, tag.len().saturating_add(6));
+    out.put(&[0, 60, 0, 30]);
+    put_short(out, tag);
+    out.put(&[0]);
+    out.put(END.as_slice());
+}
+
 /// Appends basic.ack of this delivery tag alone.
 pub fn put_ack(out: &mut Written, tag: u64) {
     put_head(out, 13);

@@ -71,6 +71,11 @@ pub fn drain_of(messages: u64) -> DeliveryLoad {
     one("drain", 0, messages)
 }
 
+/// The load of messages that come and go beside so many that wait all the time.
+pub fn beside(waiting: u64) -> DeliveryLoad {
+    one("beside", 0, waiting)
+}
+
 /// The load at this place, none past the last.
 pub fn load_at(place: u32) -> Option<DeliveryLoad> {
     let load = match place {
