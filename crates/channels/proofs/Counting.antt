@@ -1,5 +1,5 @@
 -- Counts of what consumers hold, at each change.
-use Rattle.std.proofs.Common.{◌≡◌, ℕ, zero, suc, ◌+◌, ◌<◌, List, [], ◌∷◌, ◌++◌, length, get_or, map, filter, find, count_by, refl, sym, ap, ◌∙◌, arith, Bool, true, false, cond, not, Some}
+use Rattle.std.proofs.Common.{◌≡◌, ℕ, zero, suc, ◌+◌, ◌<◌, List, [], ◌∷◌, ◌++◌, length, get_or, map, filter, find, count_by, refl, sym, ap, ◌∙◌, arith, Bool, true, false, cond, not, Option, Some, None}
 use Rattle.std.specs.Prelude.{◌||◌, ◌==◌}
 use Rattle.std.specs.List.{All, list_any}
 use Rattle.std.proofs.lemmas.List.Sums.{count_by-le-length, length-filter, sum_by-cons}
@@ -151,27 +151,27 @@ pub any_named : (p : Consumer → Bool) (seats : List CountedConsumer) → list_
 any_named p [] = refl
 any_named p (s ∷ ss) = ap (λ (b : Bool). p s.consumer || b) (any_named p ss)
 
+-- what is told of the consumer of a number is told by its kept count as by what is outstanding
+told_kept : {A : Type 0} (of_seat : Option CountedConsumer → A) (of_consumer : Option Consumer → A) (number : ℕ) (seats : List CountedConsumer) (os : List Delivery) → of_seat None ≡ of_consumer None
+    → ((s : CountedConsumer) → s.held ≡ count_to taker_of s.consumer.number os → of_seat (Some s) ≡ of_consumer (Some s.consumer)) → counts_of seats ≡ counts (consumers_of seats) os
+    → of_seat (find (is_numbered number) seats) ≡ of_consumer (find (λ (c : Consumer). c.number == number) (consumers_of seats))
+told_kept of_seat of_consumer number [] os none some h = none
+told_kept of_seat of_consumer number (s ∷ ss) os none some h = go (s.consumer.number == number) (told_kept of_seat of_consumer number ss os none some (tail_is _ _ _ _ h))
+  where
+    go : (b : Bool) → of_seat (find (is_numbered number) ss) ≡ of_consumer (find (λ (c : Consumer). c.number == number) (consumers_of ss))
+        → of_seat (cond b (Some s) (find (is_numbered number) ss)) ≡ of_consumer (cond b (Some s.consumer) (find (λ (c : Consumer). c.number == number) (consumers_of ss)))
+    go true e = some s (head_is _ _ _ _ h)
+    go false e = e
+
 -- by its kept counts a consumer may take what it may by what is outstanding
 pub may_kept : (limit given number : ℕ) (seats : List CountedConsumer) (os : List Delivery) → counts_of seats ≡ counts (consumers_of seats) os → given ≡ count_given taker_of os
     → may_held limit given (find (is_numbered number) seats) ≡ may_of limit os (find (λ (c : Consumer). c.number == number) (consumers_of seats))
-may_kept limit given number [] os h g = refl
-may_kept limit given number (s ∷ ss) os h g = go (s.consumer.number == number) (may_kept limit given number ss os (tail_is _ _ _ _ h) g)
-  where
-    go : (b : Bool) → may_held limit given (find (is_numbered number) ss) ≡ may_of limit os (find (λ (c : Consumer). c.number == number) (consumers_of ss))
-        → may_held limit given (cond b (Some s) (find (is_numbered number) ss)) ≡ may_of limit os (cond b (Some s.consumer) (find (λ (c : Consumer). c.number == number) (consumers_of ss)))
-    go true e = rw (head_is _ _ _ _ h, g) refl
-    go false e = e
+may_kept limit given number seats os h g = told_kept (may_held limit given) (may_of limit os) number seats os refl (λ s e. rw (e, g) refl) h
 
 -- so it is told where it may
 pub taker_kept : (limit given number : ℕ) (seats : List CountedConsumer) (os : List Delivery) → counts_of seats ≡ counts (consumers_of seats) os → given ≡ count_given taker_of os
     → taker_held limit given (find (is_numbered number) seats) ≡ taker_among limit os (find (λ (c : Consumer). c.number == number) (consumers_of seats))
-taker_kept limit given number [] os h g = refl
-taker_kept limit given number (s ∷ ss) os h g = go (s.consumer.number == number) (taker_kept limit given number ss os (tail_is _ _ _ _ h) g)
-  where
-    go : (b : Bool) → taker_held limit given (find (is_numbered number) ss) ≡ taker_among limit os (find (λ (c : Consumer). c.number == number) (consumers_of ss))
-        → taker_held limit given (cond b (Some s) (find (is_numbered number) ss)) ≡ taker_among limit os (cond b (Some s.consumer) (find (λ (c : Consumer). c.number == number) (consumers_of ss)))
-    go true e = rw (head_is _ _ _ _ h, g) refl
-    go false e = e
+taker_kept limit given number seats os h g = told_kept (taker_held limit given) (taker_among limit os) number seats os refl (λ s e. rw (e, g) refl) h
 
 -- no count is above what is outstanding
 pub counts_small : (n : ℕ) (consumers : List Consumer) (os : List Delivery) → length os < n → All (λ k. k < n) (counts consumers os)

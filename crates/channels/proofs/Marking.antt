@@ -12,13 +12,14 @@ use Rattle.std.proofs.lemmas.List.Kept.{AllPairs-filter}
 use Rattle.model.specs.Settling.{takes, is_refused, kept, Rises}
 use Rattle.channels.specs.Outstanding.{tag_of, given_tag, marked, IsTagAt, AreInOrder, AreKept}
 use Rattle.model.specs.Placed.{is_waiting, waiting}
+use Rattle.model.specs.declared.messages.Taker.TheVariants.{Get}
 use Rattle.model.specs.declared.deliveries.Delivery.{Delivery}
 use Rattle.channels.proofs.Settlement.{at_given, waits_is, waits_by, taken_by}
 
 -- ---- a marked place
 
 -- it is no longer one that waits
-pub marked_gone : (os : List Delivery) (i : ℕ) (o : Delivery) → i < length os → waiting (set os i (marked o)) ≡ waiting (take i os) ++ waiting (drop (i + 1) os)
+marked_gone : (os : List Delivery) (i : ℕ) (o : Delivery) → i < length os → waiting (set os i (marked o)) ≡ waiting (take i os) ++ waiting (drop (i + 1) os)
 marked_gone os i o lt =
     let e : suc i ≡ i + 1 = omega arith in
     ap waiting (set_split os i (marked o) lt) ∙ filter-append is_waiting (take i os) (marked o ∷ drop (suc i) os) ∙ ap (λ (n : ℕ). waiting (take i os) ++ waiting (drop n os)) e
@@ -40,7 +41,7 @@ marked_rises os i tag o at e rises j k d lt within =
     let r = rises j k d lt (omega arith) in
     omega arith
 
-pub drop_marked : (xs : List Delivery) (start i : ℕ) (o : Delivery) → drop start (set xs (start + i) (marked o)) ≡ set (drop start xs) i (marked o)
+drop_marked : (xs : List Delivery) (start i : ℕ) (o : Delivery) → drop start (set xs (start + i) (marked o)) ≡ set (drop start xs) i (marked o)
 drop_marked xs start i o = drop-set-add start xs i (marked o)
 
 -- ---- closed up
@@ -66,7 +67,7 @@ behind_order os n last order = record {
 pub passed_order : (xs : List Delivery) (start n last : ℕ) → AreInOrder last (drop start xs) → AreInOrder last (drop (start + n) xs)
 passed_order xs start n last order = subst (AreInOrder last) (drop_drop start n (start + n) xs refl) (behind_order (drop start xs) n last order)
 
-pub marked_order : (os : List Delivery) (i tag last : ℕ) (o : Delivery) → IsTagAt os i tag → o.tag ≡ tag → AreInOrder last os → AreInOrder last (set os i (marked o))
+marked_order : (os : List Delivery) (i tag last : ℕ) (o : Delivery) → IsTagAt os i tag → o.tag ≡ tag → AreInOrder last os → AreInOrder last (set os i (marked o))
 marked_order os i tag last o at e order = record {
   rises = marked_rises os i tag o at e order.rises;
   most = λ k d within.
@@ -75,6 +76,17 @@ marked_order os i tag last o at e order = record {
       let m = order.most k d (omega arith) in
       omega arith;
 }
+
+-- behind the start, once the one that waits at this place is marked
+pub marked_behind : (xs new : List Delivery) (start i tag : ℕ) → ((d : Delivery) → new ≡ set xs (start + i) (marked (get_or xs (start + i) d))) → IsTagAt (drop start xs) i tag
+    → (waiting (drop start new) ≡ waiting (take i (drop start xs)) ++ waiting (drop (i + 1) (drop start xs))) × ((last : ℕ) → AreInOrder last (drop start xs) → AreInOrder last (drop start new))
+marked_behind xs new start i tag is at =
+    let live : List Delivery = drop start xs in
+    let none : Delivery = record { tag = 0; queue = 0; arrival = 0; by = Get } in
+    let o : Delivery = get_or xs (start + i) none in
+    let tagged : o.tag ≡ tag = ap tag_of (sym (get_or-drop start xs i none)) ∙ at.there none in
+    let moved : drop start new ≡ set live i (marked o) = ap (λ (ys : List Delivery). drop start ys) (is none) ∙ drop_marked xs start i o in
+    (ap waiting moved ∙ marked_gone live i o at.within, λ last order. subst (AreInOrder last) (sym moved) (marked_order live i tag last o at tagged order))
 
 again : (os : List Delivery) → waiting (waiting os) ≡ waiting os
 again [] = refl

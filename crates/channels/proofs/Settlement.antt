@@ -2,6 +2,7 @@
 use Rattle.std.proofs.Common.{◌≡◌, ℕ, zero, suc, ◌+◌, ◌-◌, ◌<◌, ◌≤◌, List, [], ◌∷◌, ◌++◌, length, length-drop, get_or, take, drop, refl, sym, ap, ◌∙◌, arith, Bool, true, false, cond, not, Option, Some, None, leb, eqb, eq-eqb, inl, inr}
 use Rattle.std.specs.Prelude.{filter, ◌⊎◌, ◌==◌, ◌&&◌, ◌||◌, nat_le, if◌then◌else◌}
 use Rattle.std.specs.List.{list_any}
+use Rattle.std.specs.List.Sorted.{IsNonDecreasingBy}
 use Rattle.std.proofs.lemmas.Bool.Decides.{eqb_tells, leb_tells}
 use Rattle.std.proofs.lemmas.List.Kept.{AllPairs-filter}
 use Rattle.std.proofs.lemmas.List.Elements.{filter-append, filter_passes}
@@ -214,14 +215,9 @@ absent_by os i tag r below above here = any_in (has_tag tag_of tag) os ∙ none_
     each k d lt true w = not_equal _ _ (λ e. stray k d lt w e (eqb_tells k i))
     each k d lt false w = refl
 
-pub up_to : (os : List Delivery) (m tag : ℕ) → Rises given_tag os → m < length os → ((d : Delivery) → given_tag (get_or os m d) < tag) → (k : ℕ) (d : Delivery) → k < m + 1 → given_tag (get_or os k d) < tag
-up_to os m tag r lt h k d le = elim (eqb_tells k m) [
-  | inl p ↦ let e = ap (λ (z : ℕ). given_tag (get_or os z d)) p.1 in let b = h d in omega arith
-  | inr p ↦ let ne = p.1 in let a = r k m d (omega arith) lt in let b = h d in omega arith
-]
-
-pub from_on : (os : List Delivery) (m tag : ℕ) → Rises given_tag os → ((d : Delivery) → tag ≤ given_tag (get_or os m d)) → (k : ℕ) (d : Delivery) → m ≤ k → k < length os → tag ≤ given_tag (get_or os k d)
-from_on os m tag r h k d ge lt = elim (eqb_tells k m) [
-  | inl p ↦ let e = ap (λ (z : ℕ). given_tag (get_or os z d)) p.1 in let b = h d in omega arith
-  | inr p ↦ let ne = p.1 in let a = r m k d (omega arith) lt in let b = h d in omega arith
+-- no tag is less than one before it
+pub never_less : (os : List Delivery) → Rises given_tag os → IsNonDecreasingBy given_tag os
+never_less os r i j d le lt = elim (eqb_tells i j) [
+  | inl p ↦ let e = ap (λ (z : ℕ). given_tag (get_or os z d)) p.1 in omega arith
+  | inr p ↦ let ne = p.1 in let a = r i j d (omega arith) lt in omega arith
 ]

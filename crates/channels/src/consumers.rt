@@ -80,28 +80,6 @@ pub(crate) fn is_in_use(seats: &[CountedConsumer], tag: &[u8]) -> bool
     seats.iter().any(|s| s.consumer.tag.as_bytes() == tag)
 }
 
-/// The number of the consumer at this place.
-fn number_at(seats: &[CountedConsumer], place: usize) -> u64
-    requires { place < length seats.now }
-{
-    seats[place].consumer.number
-}
-
-/// The place of the first consumer with this number or a greater one, where numbers rise.
-fn place_near(seats: &[CountedConsumer], number: u64) -> usize {
-    let mut low = 0;
-    let mut high = seats.len();
-    while low < high {
-        let middle = low + (high - low) / 2;
-        if number_at(seats, middle) < number {
-            low = middle + 1;
-        } else {
-            high = middle;
-        }
-    }
-    low
-}
-
 /// Whether the consumer at this place has this number.
 fn is_at(seats: &[CountedConsumer], place: usize, number: u64) -> bool
     ensures { result ≡ true → IsSeatAt seats.now number place }
@@ -118,11 +96,11 @@ fn search(seats: &[CountedConsumer], number: u64) -> Option<usize>
 }
 
 /// The place of the consumer of this number. It is found by halving, since numbers rise; none is told after a look at each.
-fn place_of(seats: &[CountedConsumer], number: u64) -> Option<usize>
+fn place_of_consumer(seats: &[CountedConsumer], number: u64) -> Option<usize>
     ensures some { IfSome result (λ place. IsSeatAt seats.now number place) }
     ensures none { result ≡ None → find (is_numbered number) seats.now ≡ None }
 {
-    let place = place_near(seats, number);
+    let place = seats.partition_point(|s| s.consumer.number < number);
     if is_at(seats, place, number) {
         return Some(place);
     }
@@ -134,7 +112,7 @@ fn seat_of(seats: &[CountedConsumer], number: u64) -> Option<&CountedConsumer>
     requires { NumbersRise (consumers_of seats.now) }
     ensures { option_map (λ s. s.now) result ≡ find (is_numbered number) seats.now }
 {
-    match place_of(seats, number) {
+    match place_of_consumer(seats, number) {
         Some(place) => Some(&seats[place]),
         None => None,
     }
@@ -159,7 +137,7 @@ pub(crate) fn count_from(seats: &[CountedConsumer], queue: usize) -> usize
 }
 
 /// Takes out the consumers of this tag.
-pub(crate) fn take_out(seats: &mut Vec<CountedConsumer>, tag: &[u8])
+pub(crate) fn remove_tagged(seats: &mut Vec<CountedConsumer>, tag: &[u8])
     ensures seats { seats.new.items ≡ filter (λ s. not (has_name tag.now s)) seats.old.items }
     ensures len { vec_len seats.new ≤ vec_len seats.old }
     ensures capacity { vec_capacity seats.new ≡ vec_capacity seats.old }
@@ -223,7 +201,7 @@ fn count_one_in(seats: &mut [CountedConsumer], number: u64)
     requires rise { NumbersRise (consumers_of seats.old) }
     ensures { seats.new ≡ map (counted_in (taker.Consumer number)) seats.old }
 {
-    if let Some(place) = place_of(seats, number) {
+    if let Some(place) = place_of_consumer(seats, number) {
         seats[place].held += 1;
     }
 }
@@ -247,7 +225,7 @@ fn count_number_out(seats: &mut [CountedConsumer], number: u64)
     requires { NumbersRise (consumers_of seats.old) }
     ensures { seats.new ≡ map (uncounted (taker.Consumer number)) seats.old }
 {
-    if let Some(place) = place_of(seats, number) {
+    if let Some(place) = place_of_consumer(seats, number) {
         seats[place].held = seats[place].held.saturating_sub(1);
     }
 }

@@ -4,7 +4,7 @@ ghost use Rattle.std.specs.Prelude.{◌≡◌};
 
 use crate::consumers::{
     Consumer, CountedConsumer, consumer_of, count_from, count_in, count_out, given_to_all,
-    is_in_use, may_one, one_if_consumed, renumber, take_out, taker_of,
+    is_in_use, may_one, one_if_consumed, remove_tagged, renumber, taker_of,
 };
 use model::{Delivery, Taker};
 use std::alloc::{AllocError, Global};
@@ -138,7 +138,7 @@ impl Seats {
         ensures room { self.old.room ≤ self.new.room }
         ensures counted { (given : List Given) → SeatsAreCounted self.old given → SeatsAreCounted self.new given }
     {
-        take_out(&mut self.seats, tag);
+        remove_tagged(&mut self.seats, tag);
     }
 
     /// Each queue that stood at a place of the table stands now at the place that it has there. It takes no memory.

@@ -18,32 +18,14 @@ fn given_tag(one: &Delivery) -> u64
     if one.tag == 0 { one.arrival } else { one.tag }
 }
 
-/// The tag under which the one at this place was given out.
-fn tag_at(given: &[Delivery], place: usize) -> u64
-    requires { place < length given.now }
-    ensures { (d : Delivery) → given_tag (get_or given.now place d) ≡ result }
-{
-    given_tag(&given[place])
-}
-
-/// How many tags are lower, where tags rise.
+/// How many tags are lower, where tags rise. It is found by halving.
 fn lower(given: &[Delivery], tag: u64) -> usize
     requires { Rises given_tag given.now }
     ensures within { result ≤ length given.now }
     ensures below { (k : ℕ) (d : Delivery) → k < result → given_tag (get_or given.now k d) < tag }
     ensures above { (k : ℕ) (d : Delivery) → result ≤ k → k < length given.now → tag ≤ given_tag (get_or given.now k d) }
 {
-    let mut low = 0;
-    let mut high = given.len();
-    while low < high {
-        let middle = low + (high - low) / 2;
-        if tag_at(given, middle) < tag {
-            low = middle + 1;
-        } else {
-            high = middle;
-        }
-    }
-    low
+    given.partition_point(|one| given_tag(one) < tag)
 }
 
 /// Whether this tag waits at this place.
@@ -68,7 +50,7 @@ fn search(given: &[Delivery], tag: u64) -> Option<usize>
 }
 
 /// The same: it is looked for near this place first.
-fn place_of(given: &[Delivery], tag: u64, near: usize) -> Option<usize>
+fn place_of_tag(given: &[Delivery], tag: u64, near: usize) -> Option<usize>
     requires { Rises given_tag given.now }
     ensures there { IfSome result (λ i. IsTagAt given.now i tag) }
     ensures none { IfNone result (list_any (has_tag tag_of tag) (waiting given.now) ≡ false) }
@@ -91,7 +73,7 @@ pub(crate) fn span_of(given: &[Delivery], tag: u64, multiple: bool) -> Option<Sp
             place: 0,
         });
     }
-    match place_of(given, tag, 0) {
+    match place_of_tag(given, tag, 0) {
         Some(place) => Some(Span {
             tag,
             multiple,
@@ -114,7 +96,7 @@ fn run_of(given: &[Delivery], span: Span) -> Option<(usize, usize)>
     if span.multiple && span.tag == 0 {
         return Some((0, given.len()));
     }
-    match place_of(given, span.tag, span.place) {
+    match place_of_tag(given, span.tag, span.place) {
         None => None,
         Some(i) => {
             if span.multiple {

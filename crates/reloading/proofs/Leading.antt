@@ -7,7 +7,7 @@ use Rattle.model.specs.Topology.{Topology, IsIn, IsWellFormed, AreApart, queue_n
 use Rattle.model.specs.Routing.{Reading, of_key, RoutesBy, reading_after, fixed_after, key_after, Comes, routed, dead, Dies, Later}
 use Rattle.model.specs.declared.topologies.DeclaredQueue.{DeclaredQueue}
 use Rattle.laws.proofs.Counts.{in_from_contains}
-use Rattle.laws.proofs.Safe.{comes_fixed}
+use Rattle.laws.proofs.Safe.{comes_fixed, refixed, same_reading}
 use Rattle.exchange_graph.specs.Marks.{queue_name}
 use Rattle.exchange_graph.specs.Dying.{IsDeadLetter, LeavesFor}
 use Rattle.exchange_graph.specs.declared.dying.DeadLetter.{DeadLetter}
@@ -16,21 +16,11 @@ use Rattle.reloading.proofs.First.{in_get}
 
 -- ---- the key
 
-same_reading : (h f : Option Text) (key : Text) → reading_after (fixed_after h f) (of_key key) ≡ reading_after h (of_key (key_after f key))
-same_reading None None key = refl
-same_reading None (Some k) key = refl
-same_reading (Some j) None key = refl
-same_reading (Some j) (Some k) key = refl
-
-refixed : (a h f : Option Text) → fixed_after a (fixed_after h f) ≡ fixed_after (fixed_after a h) f
-refixed None h f = refl
-refixed (Some k) h f = refl
-
 -- where a message comes under its own key that a queue fixed otherwise, it comes that is sent under the fixed one
 comes_own : (t : Topology) (f : Option Text) (key : Text) (h k : Option Text) {x q : Text} → k ≡ fixed_after h f → Comes t (of_key key) k x q → Comes t (of_key (key_after f key)) h x q
-comes_own t f key h k {x = x} {q = q} e (routed ro) = routed (subst (λ (r : Reading). RoutesBy t r x q) (ap (λ (o : Option Text). reading_after o (of_key key)) e ∙ same_reading h f key) ro)
+comes_own t f key h k {x = x} {q = q} e (routed ro) = routed (subst (λ (r : Reading). RoutesBy t r x q) (ap (λ (o : Option Text). reading_after o (of_key key)) e ∙ sym (same_reading h f key)) ro)
 comes_own t f key h k {x = x} {q = q} e (dead {p = p} last ro d c) =
-    dead last (subst (λ (r : Reading). RoutesBy t r x p) (ap (λ (o : Option Text). reading_after o (of_key key)) e ∙ same_reading h f key) ro) d
+    dead last (subst (λ (r : Reading). RoutesBy t r x p) (ap (λ (o : Option Text). reading_after o (of_key key)) e ∙ sym (same_reading h f key)) ro) d
     (comes_own t f key (fixed_after last.dead_letter_key h) (fixed_after last.dead_letter_key k) (ap (fixed_after last.dead_letter_key) e ∙ refixed last.dead_letter_key h f) c)
 
 -- ---- the queue of a name

@@ -1,19 +1,18 @@
-use Rattle.std.proofs.Common.{arith}
-use Rattle.channels.proofs.Settlement.{up_to, from_on}
+use Rattle.std.proofs.Common.{ltb, ltb-true, ltb-false, arith, rules}
+use Rattle.std.proofs.lemmas.List.Sorted.{IsPartitionPoint-from_clause, IsPartitionedBy-ltb}
+use Rattle.model.specs.declared.deliveries.Delivery.{Delivery}
+use Rattle.channels.specs.Outstanding.{given_tag}
+use Rattle.channels.proofs.Settlement.{never_less}
 use Rattle.channels.proofs.tags.lower.Goals as goal
 
-pub loop-low-preserved-then-tag_at-tag : goal.loop-low-preserved-then-tag_at-tag
-loop-low-preserved-then-tag_at-tag c = record {
-  order = omega arith;
-  within = let w = c.loop-low.invariant.within in omega arith;
-  below = up_to _ _ _ c.requires (let w = c.loop-low.invariant.within in omega arith) (λ d. let e = c.tag_at.ensures d in omega arith);
-  above = c.loop-low.invariant.above;
-}
+pub returns-clause-below : goal.returns-clause-below
+returns-clause-below c =
+    let parted = IsPartitionedBy-ltb given_tag c.args.given.now c.args.tag (never_less c.args.given.now c.requires) in
+    let point = IsPartitionPoint-from_clause (λ (o : Delivery). ltb (given_tag o) c.args.tag) _ _ c.partition_point.ensures.partitioned parted (λ a r q k. search rules) in
+    λ k d lt. ltb-true _ _ (point.0 k d (omega arith) lt)
 
-pub loop-low-preserved : goal.loop-low-preserved
-loop-low-preserved c = record {
-  order = omega arith;
-  within = let w = c.loop-low.invariant.within in omega arith;
-  below = c.loop-low.invariant.below;
-  above = from_on _ _ _ c.requires (λ d. let e = c.tag_at.ensures d in omega arith);
-}
+pub returns-clause-above : goal.returns-clause-above
+returns-clause-above c =
+    let parted = IsPartitionedBy-ltb given_tag c.args.given.now c.args.tag (never_less c.args.given.now c.requires) in
+    let point = IsPartitionPoint-from_clause (λ (o : Delivery). ltb (given_tag o) c.args.tag) _ _ c.partition_point.ensures.partitioned parted (λ a r q k. search rules) in
+    λ k d le lt. ltb-false _ _ (point.1 k d le lt)

@@ -1,7 +1,7 @@
 use Rattle.std.proofs.Common.{not, rules}
 use Rattle.std.proofs.lemmas.Fn.{filter_same}
 use Rattle.channels.specs.Seats.{has_name}
-use Rattle.channels.proofs.consumers.take_out.Goals as goal
+use Rattle.channels.proofs.consumers.remove_tagged.Goals as goal
 
 pub returns-clause-seats : goal.returns-clause-seats
 returns-clause-seats c = filter_same _ (λ x. not (has_name c.args.tag.now x)) _ (λ x b f' r. search rules) _ _ c.retain.ensures.filtered
