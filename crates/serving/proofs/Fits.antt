@@ -11,8 +11,9 @@ use Rattle.model.specs.declared.events.Arrival.{Arrival}
 use Rattle.model.specs.declared.events.Arrival.TheVariants as arrival
 use Rattle.serving.specs.Wire.{Ask}
 use Rattle.serving.specs.Coming.{Attempt, whole, FallsShort, Attempts}
-use Rattle.serving.specs.Story.{Served, At, Filled, Deed, Met, Turned_away, Met_no_one, Heard, Heard_partly, Heard_nothing, Heard_end, Gave, Gave_partly, Gave_nothing, Gave_up, Pumped, Pumped_nothing, Pump_refused, Let_go, Paused, Reload_decided, Reload_undecided, attempts, Table, DoesDeed, Story, Serves, PumpsUp}
+use Rattle.serving.specs.Story.{Served, At, Filled, Deed, Met, Turned_away, Met_no_one, Heard, Heard_partly, Heard_nothing, Heard_end, Gave, Gave_partly, Gave_nothing, Gave_up, Pumped, Pumped_nothing, Pump_refused, Let_go, Paused, Reload_decided, Reload_undecided, attempts, Table, DoesDeed, Story, Serves}
 use Rattle.serving.specs.Fit.{IsFit}
+use Rattle.serving.specs.Quiet.{AreSeated, AreQuiet}
 use Rattle.serving.specs.declared.peers.Peer.{Peer}
 use Rattle.runs.specs.Wants.{Lacks}
 
@@ -161,8 +162,9 @@ fit_story L (d ∷ ds) a b os (mid, first, rest, e, does, s) f = fit_story L ds 
 pub serves_fit : {L : Lacks} (a b : Served) (xs : List Ask) (p : Bool) → Serves L a xs p b → IsFit a.world a.peers → IsFit b.world b.peers
 serves_fit {L = L} a b xs p s f = fit_story L s.deeds a b s.occurrences s.story f
 
-pub pumps_fit : {L : Lacks} (n : ℕ) (a b : Served) (p : Bool) → PumpsUp L n a p b → IsFit a.world a.peers → IsFit b.world b.peers
-pumps_fit {L = L} n a b p s f = fit_story L s.deeds a b s.occurrences s.story f
+-- what was seated stays so, where the marks are still of what is quiet
+pub seated_on : {L : Lacks} (a b : Served) (xs : List Ask) (p : Bool) (ms ns : List Bool) → Serves L a xs p b → AreSeated a.world a.peers ms → AreQuiet b.world b.peers ns → AreSeated b.world b.peers ns
+seated_on a b xs p ms ns s k quiet = record { fit = serves_fit a b xs p s k.fit; quiet = quiet }
 
 -- where no number is given, each slot has a connection of its own that was opened
 pub fit_on : (a b : World) (ps : List (Option Peer)) → b.given ≡ a.given → IsFit a ps → IsFit b ps

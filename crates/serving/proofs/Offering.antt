@@ -65,10 +65,15 @@ pub kept_reloaded : (a b : World) (peers : Slab Peer) (marks : List Bool) (buffe
 kept_reloaded a b peers marks buffer offered r p k =
     let ps = peers.slots in
     let same = given_stays a b offered r p in
+    let was = k.settled in
     record {
-      fit = fit_within a b ps ps (omega (arith, same)) (λ j q at. at) k.fit;
-      ended = λ i q at. gone_stays a b q.connection (stays a b offered r p q.connection) ∙ k.ended i q at;
-      quiet = still_quiet a b ps ps marks marks k.quiet (λ j q at m. (at, m, stays a b offered r p q.connection));
-      most = k.most;
+      settled = record {
+        seated = record {
+          fit = fit_within a b ps ps (omega (arith, same)) (λ j q at. at) was.seated.fit;
+          quiet = still_quiet a b ps ps marks marks was.seated.quiet (λ j q at m. (at, m, stays a b offered r p q.connection));
+        };
+        ended = λ i q at. gone_stays a b q.connection (stays a b offered r p q.connection) ∙ was.ended i q at;
+        most = was.most;
+      };
       room = k.room;
     }

@@ -15,6 +15,7 @@ use Rattle.serving.specs.Coming.{Attempt, Brings, Attempts}
 use Rattle.serving.specs.Story.{Served, served, Deed, calls, is_done, is_unasked, DoesDeed, Story, Serves}
 use Rattle.serving.specs.Rounds.{RestsUnless}
 use Rattle.runs.specs.Wants.{Lacks}
+use Rattle.serving.specs.declared.peers.Peer.{Peer}
 
 -- ---- what a wire tells
 
@@ -102,6 +103,11 @@ story-append L [] es a b c os ps s t =
     subst (λ (z : List Occurrence). Story L a es (z ++ ps) c) (sym s.0) (subst (λ (z : Served). Story L z es ps c) s.1 t)
 story-append L (d ∷ ds) es a b c os ps (mid, first, rest, e, does, s) t =
     (mid, first, rest ++ ps, ap (λ (z : List Occurrence). z ++ ps) e ∙ append_assoc first rest ps, does, story-append L ds es mid b c rest ps s t)
+
+-- the same, of slots that are so
+pub serves_at : {L : Lacks} (old : Served) (asked : List Ask) (acted : Bool) (w : World) (ps qs : List (Option Peer)) (told : Told) → qs ≡ ps
+    → Serves L old asked acted (served w ps told) → Serves L old asked acted (served w qs told)
+serves_at {L} old asked acted w ps qs told e s = subst (λ (zs : List (Option Peer)). Serves L old asked acted (served w zs told)) (sym e) s
 
 pub serves_then : {L : Lacks} (a b c : Served) (xs ys : List Ask) (p q : Bool) → Serves L a xs p b → Serves L b ys q c → Serves L a (xs ++ ys) (p || q) c
 serves_then {L = L} a b c xs ys p q s t = record {

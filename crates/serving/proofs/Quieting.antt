@@ -6,13 +6,13 @@ use Rattle.std.specs.Prelude.{nat_le, nat_lt, ◌&&◌, if◌then◌else◌}
 use Rattle.model.specs.Arrivals.{World, Same, is_over, is_gone, is_paused, has_output}
 use Rattle.serving.specs.Wire.{To_write}
 use Rattle.serving.specs.Story.{At, Filled}
-use Rattle.serving.specs.Fit.{ApartFrom, IsFit}
-use Rattle.serving.specs.Quiet.{IsQuiet, IsMarkedAt, AreQuiet, IsOther, Wakes}
+use Rattle.serving.specs.Fit.{ApartFrom, IsFit, StaysOrFrees}
+use Rattle.serving.specs.Quiet.{IsQuiet, IsMarkedAt, AreQuiet, AreSeated, IsOther, Wakes}
 use Rattle.serving.specs.Rounds.{HasEnded, write_of}
 use Rattle.serving.specs.declared.peers.Peer.{Peer}
 use Rattle.serving.proofs.Turning.{awake_stands}
 use Rattle.serving.proofs.Apart.{StaysFor, others_stay, same_stays, output_stays, awake_stays, gone_stays}
-use Rattle.serving.proofs.Fits.{freed_at}
+use Rattle.serving.proofs.Fits.{freed_at, fit_on}
 
 -- ---- marks
 
@@ -92,10 +92,6 @@ same_then a b c s t = record { config = t.config ∙ s.config; state = t.state �
 
 -- ---- the slots
 
--- slots that stay, but that one may be freed
-abbrev pub StaysOrFrees : List (Option Peer) → ℕ → List (Option Peer) → Type 0
-StaysOrFrees ps i qs = (qs ≡ ps) ⊎ (qs ≡ slice_set ps i None)
-
 pub at_before : (ps qs : List (Option Peer)) (i : ℕ) → StaysOrFrees ps i qs → (j : ℕ) (q : Peer) → At qs j q → At ps j q
 at_before ps qs i (inl e) j q at = subst (λ (z : List (Option Peer)). At z j q) e at
 at_before ps qs i (inr e) j q at = freed_at ps i j q (subst (λ (z : List (Option Peer)). At z j q) e at)
@@ -109,6 +105,9 @@ pub quiet_idle : (a b : World) (ps qs : List (Option Peer)) (i : ℕ) (ms ns : L
 quiet_idle a b ps qs i ms ns same slots marks quiet = still_quiet a b ps qs ms ns quiet (λ j q at m. (at_before ps qs i slots j q at, sym (marks j) ∙ m, same_stays a b same q.connection))
 
 -- something happened for the connection of one slot, which is not marked now
+pub seated_idle : (a b : World) (ps : List (Option Peer)) (ms : List Bool) → Same a b → AreSeated a ps ms → AreSeated b ps ms
+seated_idle a b ps ms same k = record { fit = fit_on a b ps same.given k.fit; quiet = quiet_idle a b ps ps 0 ms ms same (inl refl) (λ j. refl) k.quiet }
+
 pub quiet_apart : (a b : World) (ps qs : List (Option Peer)) (i : ℕ) (p : Peer) (ms ns : List Bool) → IsFit a ps → At ps i p → ApartFrom p.connection a b → StaysOrFrees ps i qs
     → ((j : ℕ) → IsMarkedAt ns j → (j ≢ i) × IsMarkedAt ms j) → AreQuiet a ps ms → AreQuiet b qs ns
 quiet_apart a b ps qs i p ms ns fit here apart slots marks quiet = still_quiet a b ps qs ms ns quiet (λ j q at m.

@@ -1,5 +1,5 @@
 -- Which connection has which slot, and what one connection's arrivals leave as it was.
-use Rattle.std.specs.Prelude.{◌≡◌, ◌≢◌, ◌≤◌, ◌<◌, ℕ, List, Option}
+use Rattle.std.specs.Prelude.{◌≡◌, ◌≢◌, ◌⊎◌, ◌≤◌, ◌<◌, ℕ, List, Option, None, slice_set}
 use Rattle.model.specs.Arrivals.{World}
 use Rattle.serving.specs.Story.{At}
 use Rattle.serving.specs.declared.peers.Peer.{Peer}
@@ -18,3 +18,7 @@ pub record IsFit (w : World) (peers : List (Option Peer)) : Type 0 where
 pub record ApartFrom (c : ℕ) (old new : World) : Type 0 where
   pub wires : (d : ℕ) → d ≢ c → new.wire d ≡ old.wire d
   pub sessions : (d : ℕ) → d ≢ c → new.state.session d ≡ old.state.session d
+
+-- the slots stay, but that this one may be freed
+abbrev pub StaysOrFrees : List (Option Peer) → ℕ → List (Option Peer) → Type 0
+StaysOrFrees ps i qs = (qs ≡ ps) ⊎ (qs ≡ slice_set ps i None)

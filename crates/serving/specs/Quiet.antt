@@ -44,11 +44,18 @@ IsOther c ps i = (p : Peer) → At ps i p → p.connection ≢ c
 abbrev pub Wakes : ℕ → List (Option Peer) → List Bool → List Bool → Type 0
 Wakes c ps old new = (i : ℕ) → IsMarkedAt new i ↔ IsMarkedAt old i × IsOther c ps i
 
--- What a server keeps: each slot has a connection of its own, none that is over with no output left,
--- each that is marked is quiet, there is a slot for all that may stand, and the buffer has its room.
-pub record IsServerKept (w : World) (peers : Slab Peer) (marks : List Bool) (buffer : List ℕ) : Type 0 where
-  pub fit : IsFit w peers.slots
+-- The slots within a round: each has a connection of its own, and each that is marked is quiet.
+pub record AreSeated (w : World) (ps : List (Option Peer)) (marks : List Bool) : Type 0 where
+  pub fit : IsFit w ps
+  pub quiet : AreQuiet w ps marks
+
+-- The slots between two rounds: none has a connection that is over with no output left either, and there is a slot for all that may stand.
+pub record AreSettled (w : World) (peers : Slab Peer) (marks : List Bool) : Type 0 where
+  pub seated : AreSeated w peers.slots marks
   pub ended : (i : ℕ) → HasEnded w peers.slots i
-  pub quiet : AreQuiet w peers.slots marks
   pub most : most_peers ≤ peers.capacity
+
+-- What a server keeps between its rounds: the slots are settled, and the buffer has its room.
+pub record IsServerKept (w : World) (peers : Slab Peer) (marks : List Bool) (buffer : List ℕ) : Type 0 where
+  pub settled : AreSettled w peers marks
   pub room : length buffer ≡ read_room

@@ -1,48 +1,33 @@
-use Rattle.std.proofs.Common.{◌∙◌, false, sym}
+use Rattle.std.proofs.Common.{◌≤◌, ◌∙◌, ℕ, false, sym, subst}
 use Rattle.std.specs.Prelude.{◌||◌}
 use Rattle.serving.specs.Story.{served}
+use Rattle.serving.specs.Fit.{most_peers}
 use Rattle.serving.proofs.Onward.{or_false, serves_not}
-use Rattle.serving.proofs.Fits.{serves_fit, pumps_fit}
+use Rattle.serving.proofs.Fits.{seated_on}
 use Rattle.serving.proofs.rounds.go_round.Goals as goal
 
 pub read_all-has_heard-requires : goal.read_all-has_heard-requires
 read_all-has_heard-requires g c = record {
-  fit = serves_fit _ _ _ _ c.accept_one-has_met.ensures.serves c.requires.fit;
-  quiet = c.accept_one-has_met.ensures.quiet;
+  seated = seated_on _ _ _ _ _ _ c.accept_one-has_met.ensures.serves c.requires.settled.seated c.accept_one-has_met.ensures.quiet;
   room = c.requires.room;
 }
-
-pub pump_all-has_pumped-requires : goal.pump_all-has_pumped-requires
-pump_all-has_pumped-requires g c = record {
-  fit = serves_fit _ _ _ _ c.read_all-has_heard.ensures.serves (serves_fit _ _ _ _ c.accept_one-has_met.ensures.serves c.requires.fit);
-  quiet = c.read_all-has_heard.ensures.quiet;
-}
-
-pub settle_all-has_settled-requires : goal.settle_all-has_settled-requires
-settle_all-has_settled-requires g c =
-    let peers = c.read_all-has_heard.new.peers.slots in
-    let pumps = c.pump_all-has_pumped.ensures.pumps peers (g.W.Wire.told c.read_all-has_heard.new.wire) in
-    record {
-      fit = pumps_fit _ _ _ _ pumps (serves_fit _ _ _ _ c.read_all-has_heard.ensures.serves (serves_fit _ _ _ _ c.accept_one-has_met.ensures.serves c.requires.fit));
-      quiet = c.pump_all-has_pumped.ensures.quiet;
-    }
 
 pub returns : goal.returns
 returns g c =
     let world = g.M.Machine.world in
     let told = g.W.Wire.told in
-    let old = served (world c.args.machine.now) c.args.peers.now.slots (told c.args.wire.now) in
     let met = served (world c.accept_one-has_met.new.machine) c.accept_one-has_met.new.peers.slots (told c.accept_one-has_met.new.wire) in
     let heard = served (world c.read_all-has_heard.new.machine) c.read_all-has_heard.new.peers.slots (told c.read_all-has_heard.new.wire) in
     let pumped = served (world c.pump_all-has_pumped.new.machine) heard.peers heard.told in
     let settled = served (world c.settle_all-has_settled.new.machine) c.settle_all-has_settled.new.peers.slots (told c.settle_all-has_settled.new.wire) in
     let pumps = c.pump_all-has_pumped.ensures.pumps heard.peers heard.told in
+    let capacity = c.settle_all-has_settled.ensures.capacity ∙ c.read_all-has_heard.ensures.capacity ∙ c.accept_one-has_met.ensures.capacity in
     record {
-      fit = serves_fit pumped settled _ _ c.settle_all-has_settled.ensures.serves
-          (pumps_fit _ heard pumped _ pumps (serves_fit met heard _ _ c.read_all-has_heard.ensures.serves (serves_fit old met _ _ c.accept_one-has_met.ensures.serves c.requires.fit)));
-      ended = c.settle_all-has_settled.ensures.ended;
-      quiet = c.settle_all-has_settled.ensures.quiet;
-      capacity = c.settle_all-has_settled.ensures.capacity ∙ c.read_all-has_heard.ensures.capacity ∙ c.accept_one-has_met.ensures.capacity;
+      settled = record {
+        seated = c.settle_all-has_settled.ensures.seated;
+        ended = c.settle_all-has_settled.ensures.ended;
+        most = subst (λ (n : ℕ). most_peers ≤ n) (sym capacity) c.requires.settled.most;
+      };
       round = record {
         met = met;
         heard = heard;

@@ -5,12 +5,11 @@ use Rattle.serving.proofs.Pumping.{pumped_not, pumped_more, pumped_last, pumped_
 use Rattle.serving.proofs.rounds.pump_all.Goals as goal
 
 pub loop-init : goal.loop-init
-loop-init g c = record { fit = c.requires.fit; quiet = c.requires.quiet; so_far = λ ps told. pumped_not most_pumps (served (g.M.Machine.world c.args.machine.now) ps told) }
+loop-init g c = record { seated = c.requires; so_far = λ ps told. pumped_not most_pumps (served (g.M.Machine.world c.args.machine.now) ps told) }
 
 pub loop-preserved : goal.loop-preserved
 loop-preserved g c = record {
-  fit = c.pump_once.ensures.fit;
-  quiet = c.pump_once.ensures.quiet;
+  seated = c.pump_once.ensures.seated;
   so_far = λ ps told.
       let world = g.M.Machine.world in
       let here = served (world c.loop.machine) ps told in

@@ -5,7 +5,7 @@ use Rattle.serving.specs.Story.{Serves, served}
 use Rattle.serving.specs.Rounds.{read_of, reads_due}
 use Rattle.serving.proofs.Onward.{serves_then}
 use Rattle.serving.proofs.Apart.{later_on, due_on}
-use Rattle.serving.proofs.Fits.{serves_fit}
+use Rattle.serving.proofs.Fits.{seated_on}
 use Rattle.serving.proofs.Seating.{left_behind, none_due}
 use Rattle.serving.proofs.rounds.read_all.Goals as goal
 
@@ -34,8 +34,7 @@ loop-slot-preserved g c =
     let next = served (world c.read_slot-done.new.machine) c.read_slot-done.new.peers.slots (told c.read_slot-done.new.wire) in
     let one = c.read_slot-done.ensures in
     record {
-      fit = serves_fit here next _ _ one.serves inv.fit;
-      quiet = one.quiet;
+      seated = seated_on here next _ _ _ _ one.serves inv.seated one.quiet;
       capacity = one.capacity ∙ inv.capacity;
       left = left_behind here.peers next.peers i c.loop-slot.left c.count_at-left.result c.count_at-left.ensures.count one.later inv.left;
       later = one.later ∙ later_on start.peers here.peers i inv.later;

@@ -5,7 +5,7 @@ use Rattle.serving.specs.Story.{Serves, served}
 use Rattle.serving.specs.Rounds.{HasEnded, write_of, writes_due}
 use Rattle.serving.proofs.Onward.{serves_not, serves_then}
 use Rattle.serving.proofs.Apart.{later_on, due_on}
-use Rattle.serving.proofs.Fits.{serves_fit, slot_within}
+use Rattle.serving.proofs.Fits.{seated_on, slot_within}
 use Rattle.serving.proofs.Loudness.{passes_by, all_passed, passed_ended}
 use Rattle.serving.proofs.rounds.settle_all.Goals as goal
 
@@ -16,9 +16,8 @@ loop-slot-init g c =
     let start = served (world c.args.machine.now) c.args.peers.now.slots (told c.args.wire.now) in
     let next = c.next_loud-slot.ensures in
     record {
-      fit = c.requires.fit;
+      seated = c.requires;
       length = refl;
-      quiet = c.requires.quiet;
       capacity = refl;
       loud = next.loud;
       ended = passed_ended start.world start.peers c.args.quiet.now 0 c.next_loud-slot.result c.requires.quiet (λ k lt. absurd (omega (arith, lt))) next.before;
@@ -45,9 +44,8 @@ loop-slot-preserved g c =
     let later = one.later ∙ later_on start.peers here.peers i inv.so_far.2.later in
     let due = due_on (write_of here.world) (write_of settled.world) refl start.peers here.peers i inv.so_far.0 (writes_due start) inv.so_far.2.later one.due inv.so_far.2.so_far in
     record {
-      fit = serves_fit here settled _ _ one.serves inv.fit;
+      seated = seated_on here settled _ _ _ _ one.serves inv.seated one.quiet;
       length = one.length ∙ inv.length;
-      quiet = one.quiet;
       capacity = one.capacity ∙ inv.capacity;
       loud = next.loud;
       ended = passed_ended settled.world settled.peers marks (i + 1) c.next_loud-slot-in-loop-slot.result one.quiet before next.before;

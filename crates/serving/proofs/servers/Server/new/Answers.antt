@@ -11,9 +11,10 @@ invariant_of-result g c =
     let ps = c.in_ok-peers.peers.slots in
     let none : ps ≡ [] = c.in_ok-peers.ensures.empty in
     record {
-      fit = subst (λ (qs : List (Option Peer)). IsFit w qs) (sym none) (fit_none w);
-      ended = none_ended w ps none;
-      quiet = none_quiet w ps c.in_ok-quiet.quiet none;
-      most = c.in_ok-peers.ensures.capacity;
+      settled = record {
+        seated = record { fit = subst (λ (qs : List (Option Peer)). IsFit w qs) (sym none) (fit_none w); quiet = none_quiet w ps c.in_ok-quiet.quiet none };
+        ended = none_ended w ps none;
+        most = c.in_ok-peers.ensures.capacity;
+      };
       room = sym c.in_ok-buffer.buffer.ok.0 ∙ c.in_ok-buffer.ensures.len;
     }
