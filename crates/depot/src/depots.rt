@@ -345,8 +345,8 @@ impl Depot {
     }
 
     /// The ready messages of the queue at this place leave it by a purge, in the order in which they arrived, and the notes tell
-    /// of each. What is held stays. Tells how many they are. Where memory is wanting, nothing has changed but that there may be
-    /// more room.
+    /// of each. What is held stays. Tells how many they are. Memory is wanting only where there is such a message. Then nothing
+    /// has changed but that there may be more room.
     pub fn purge(
         &mut self,
         alloc: Global,
@@ -358,6 +358,7 @@ impl Depot {
             IsPurgedBy self.old (queue_name self.old.topology place) notes.old.items notes.new.items count self.new) }
         ensures store { OnErr result (self.new ≡ self.old) }
         ensures notes { OnErr result (notes.new.items ≡ notes.old.items) }
+        ensures wanted { OnErr result (0 < ready_count (queue_at self.old place)) }
     {
         let topology = self.router.topology();
         topology.is_well_formed();

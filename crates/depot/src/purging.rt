@@ -1,8 +1,9 @@
 //! The ready messages of a queue are taken out.
 
-ghost use Rattle.std.specs.Prelude.{◌≡◌, ◌+◌, ◌≤◌, ◌++◌, length, filter, not, replicate, IfOk, OnErr, vec_len, vec_capacity};
+ghost use Rattle.std.specs.Prelude.{◌≡◌, ◌+◌, ◌<◌, ◌≤◌, ◌++◌, length, filter, not, replicate, IfOk, OnErr, vec_len, vec_capacity};
 ghost use Rattle.model.specs.Broker.{is_ready};
 ghost use Rattle.model.specs.Deliveries.{ready_in, purge_notes};
+ghost use Rattle.queue.specs.Line.{ready_count};
 ghost use Rattle.depot.specs.Purging.{purged};
 
 use crate::queues::Queue;
@@ -12,7 +13,8 @@ use std::alloc::{AllocError, Global};
 
 /// So many copies of a name, which share its bytes.
 fn copies(alloc: Global, name: &Text, count: usize) -> Result<Vec<Text>, AllocError>
-    ensures { IfOk result (λ names. names.items ≡ replicate count name.now) }
+    ensures names { IfOk result (λ names. names.items ≡ replicate count name.now) }
+    ensures wanted { OnErr result (0 < count) }
 {
     let mut names = Vec::new(alloc);
     names.reserve_exact(count)?;
@@ -40,7 +42,7 @@ fn note_purged(names: Vec<Text>, numbers: &[u64], notes: &mut Vec<Note>)
 }
 
 /// The ready messages of this queue, which has this name, leave it, and that is noted of each. Tells how many they are. All that
-/// takes memory is made before the first leaves.
+/// takes memory is made before the first leaves. Memory is wanting only where there is one.
 pub(crate) fn purge_in(
     alloc: Global,
     queue: &mut Queue,
@@ -52,6 +54,7 @@ pub(crate) fn purge_in(
     ensures entries { IfOk result (λ count. queue.new.entries ≡ filter (λ e. not (is_ready e)) queue.old.entries) }
     ensures queue { OnErr result (queue.new.entries ≡ queue.old.entries) }
     ensures notes { OnErr result (notes.new.items ≡ notes.old.items) }
+    ensures wanted { OnErr result (0 < ready_count queue.old.entries) }
 {
     let count = queue.ready();
     let names = copies(alloc, name, count)?;

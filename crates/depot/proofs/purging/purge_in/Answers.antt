@@ -12,7 +12,7 @@ returns-clause-noted c =
     let name = c.args.name.now in
     let gone : List Entry = filter is_ready c.args.queue.now.entries in
     let count : c.ready-count.result ≡ length gone = search rules in
-    let names : c.in_ok-names.names.items ≡ replicate (length gone) name = c.in_ok-names.ensures ∙ ap (λ (n : ℕ). replicate n name) count in
+    let names : c.in_ok-names.names.items ≡ replicate (length gone) name = c.in_ok-names.ensures.names ∙ ap (λ (n : ℕ). replicate n name) count in
     let numbers : c.purge.new.numbers.items ≡ map number_of gone =
     c.purge.ensures.numbers ∙ ap (λ (ns : List ℕ). ns ++ map number_of gone) (c.in_ok-reserve_exact.ensures.items ∙ c.new-numbers.ensures.items) in
     c.note_purged.ensures

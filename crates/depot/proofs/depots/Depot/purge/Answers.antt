@@ -1,17 +1,17 @@
-use Rattle.std.proofs.Common.{◌≡◌, ◌<◌, ◌++◌, ◌∙◌, List, ap, sym, subst, refl, length, get_or, set, filter, not, IfOk, arith}
+use Rattle.std.proofs.Common.{◌≡◌, ◌<◌, ◌++◌, ◌∙◌, List, ap, sym, subst, refl, length, get_or, set, filter, not, IfOk, OnErr, arith}
 use Rattle.model.specs.Topology.{Topology, IsWellFormed}
 use Rattle.model.specs.Words.{Text}
 use Rattle.model.specs.Broker.{is_ready}
 use Rattle.model.specs.Deliveries.{ready_in, purge_notes}
 use Rattle.model.specs.declared.messages.Entry.{Entry}
 use Rattle.exchange_graph.specs.Marks.{queue_name}
-use Rattle.queue.specs.Line.{Line}
+use Rattle.queue.specs.Line.{Line, ready_count}
 use Rattle.depot.specs.Store.{Store, IsStoreWhole, queue_at, entries_of}
 use Rattle.depot.specs.Settled.{store_of}
 use Rattle.depot.specs.Turns.{no_line}
 use Rattle.depot.specs.Purging.{IsPurgedBy}
 use Rattle.depot.proofs.Changes.{entries_of-length, changed_write}
-use Rattle.depot.proofs.Lending.{lent_entries}
+use Rattle.depot.proofs.Lending.{lent_entries, lent_queue}
 use Rattle.depot.proofs.Planned.{name_there}
 use Rattle.depot.proofs.Purged.{purged_by, if_ok, on_err, same_store}
 use Rattle.depot.proofs.depots.Depot.purge.Goals as goal
@@ -46,3 +46,8 @@ returns-clause-ok c =
 
 pub returns-clause-store : goal.returns-clause-store
 returns-clause-store c = on_err c.purge_in.result (λ same. same_store c.self.inside.router c.self.inside.queues c.self.inside.published c.args.place _ c.queue_mut.result.now c.purge_in.new.queue c.self.view_is c.queue_mut.ensures.value same) c.purge_in.ensures.queue
+
+pub returns-clause-wanted : goal.returns-clause-wanted
+returns-clause-wanted c =
+    let is = lent_queue c.self.inside.router c.self.inside.queues c.self.inside.published c.args.place _ c.queue_mut.result.now c.self.view_is c.self.invariant c.requires c.queue_mut.ensures.value in
+    subst (λ (es : List Entry). OnErr c.purge_in.result (0 < ready_count es)) is c.purge_in.ensures.wanted
