@@ -1,58 +1,11 @@
 //! The words of a command line.
 
-ghost use Rattle.std.specs.Prelude.{
-  ◌≡◌,
-  map,
-  codes,
-  false,
-  true,
-  IfOk,
-  MatchResult,
-  Some,
-  option_map,
-  option_and_then,
-};
-ghost use Rattle.clap.specs.Words.{
-  app_of,
-  first_of,
-  found_of,
-  new_app,
-  rows_of,
-  rule_of,
-  subcommand_rows_of,
-  with_rule,
-  with_subcommand,
-};
+ghost use Rattle.std.specs.Prelude.{◌≡◌, map, codes, false, true, IfOk, MatchResult, Some, option_map, option_and_then};
+ghost use Rattle.clap.specs.Words.{app_of, first_of, found_of, new_app, rows_of, rule_of, subcommand_rows_of, with_rule, with_subcommand};
 ghost use Rattle.clap.specs.declared.Command.TheViews.{out-Command as fields_of};
-ghost use Rattle.command_line.specs.CommandLine.{
-  Asks,
-  AreWordsRefused,
-  IsCommand,
-  check,
-  check_of,
-  judging,
-  needed,
-  needed_option,
-  number_option,
-  option,
-  over_guarantees,
-  replay,
-  replay_of,
-  replay_over,
-  route,
-  route_of,
-  running,
-  serve,
-  serve_at,
-  serve_for,
-  serve_of,
-  verify,
-  verify_of,
-  wanted_by,
-  wanted_of,
-  warren,
-  with_subcommands,
-};
+ghost use Rattle.command_line.specs.CommandLine.{Asks, AreWordsRefused, IsCommand, check, check_of, judging, needed, needed_option, number_option};
+ghost use Rattle.command_line.specs.CommandLine.{option, over_guarantees, replay, replay_of, replay_over, route, route_of, running, serve, serve_at};
+ghost use Rattle.command_line.specs.CommandLine.{serve_for, serve_of, verify, verify_of, wanted_by, wanted_of, warren, with_subcommands};
 
 use crate::asked::Asked;
 use clap::builder::ValueParser;
@@ -129,39 +82,13 @@ fn with_argument<'a>(command: Command<'a>, argument: Arg<'a>) -> Result<Command<
     command.arg(argument)
 }
 
-/// The command with one more text that has to be given, with what help says of it.
-fn with_needed<'a>(
-    alloc: Global,
-    command: Command<'a>,
-    id: &'a str,
-    help: &'a str,
-) -> Result<Command<'a>, AllocError>
-    requires { (fields_of command).has_globals ≡ false }
-    ensures { IfOk result (λ c. IsCommand c (with_rule (app_of command.entry) (needed id.entry.now))) }
-{
-    with_argument(command, needed(alloc, id, help))
-}
-
-/// The command with one more file that may be named, with what help says of it.
-fn with_option<'a>(
-    alloc: Global,
-    command: Command<'a>,
-    id: &'a str,
-    help: &'a str,
-) -> Result<Command<'a>, AllocError>
-    requires { (fields_of command).has_globals ≡ false }
-    ensures { IfOk result (λ c. IsCommand c (with_rule (app_of command.entry) (option id.entry.now))) }
-{
-    with_argument(command, option(alloc, id, help))
-}
-
 /// The command with the certificates file that has to be given.
 fn with_certificates<'a>(alloc: Global, command: Command<'a>) -> Result<Command<'a>, AllocError>
     requires { (fields_of command).has_globals ≡ false }
     ensures { IfOk result (λ c. IsCommand c (with_rule (app_of command.entry) (needed (codes "CERTS")))) }
 {
     let help = "The certificates file, a certificate for each guarantee in the same order";
-    with_needed(alloc, command, "CERTS", help)
+    with_argument(command, needed(alloc, "CERTS", help))
 }
 
 /// A command that looks at a definitions file and a guarantees file, with what help says of it.
@@ -173,8 +100,8 @@ fn over_guarantees<'a>(
     ensures { IfOk result (λ c. IsCommand c (over_guarantees name.entry.now)) }
 {
     let command = bare(alloc, name, about);
-    let command = with_needed(alloc, command, "DEFS", "The definitions file")?;
-    with_needed(alloc, command, "GUARANTEES", "The guarantees file")
+    let command = with_argument(command, needed(alloc, "DEFS", "The definitions file"))?;
+    with_argument(command, needed(alloc, "GUARANTEES", "The guarantees file"))
 }
 
 /// `check DEFS GUARANTEES [--out FILE]`.
@@ -184,7 +111,7 @@ fn check_command<'a>(alloc: Global) -> Result<Command<'a>, AllocError>
     let about = "Tells of each guarantee whether it holds, or a key that breaks it";
     let command = over_guarantees(alloc, "check", about)?;
     let out = "The file to write the certificates to, where every guarantee holds";
-    with_option(alloc, command, "out", out)
+    with_argument(command, option(alloc, "out", out))
 }
 
 /// `verify DEFS GUARANTEES CERTS`.
@@ -231,9 +158,9 @@ fn replay_over<'a>(alloc: Global) -> Result<Command<'a>, AllocError>
     ensures { IfOk result (λ c. IsCommand c replay_over) }
 {
     let command = bare(alloc, "replay", "Runs a script and prints what it puts out");
-    let command = with_needed(alloc, command, "SCRIPT", "The script file")?;
+    let command = with_argument(command, needed(alloc, "SCRIPT", "The script file"))?;
     let definitions = "The definitions file to run over, in place of the built-in topology";
-    with_option(alloc, command, "definitions", definitions)
+    with_argument(command, option(alloc, "definitions", definitions))
 }
 
 /// `replay SCRIPT [--definitions FILE] [--guarantees FILE] [--certificates FILE]`.
@@ -242,9 +169,9 @@ fn replay_command<'a>(alloc: Global) -> Result<Command<'a>, AllocError>
 {
     let command = replay_over(alloc)?;
     let guarantees = "The guarantees file to run under; without it there are none";
-    let command = with_option(alloc, command, "guarantees", guarantees)?;
+    let command = with_argument(command, option(alloc, "guarantees", guarantees))?;
     let certificates = "The certificates file of the guarantees; without it there are none";
-    with_option(alloc, command, "certificates", certificates)
+    with_argument(command, option(alloc, "certificates", certificates))
 }
 
 /// `route DEFS EXCHANGE KEY`.
@@ -253,15 +180,11 @@ fn route_command<'a>(alloc: Global) -> Result<Command<'a>, AllocError>
 {
     let about = "Prints the queues to which a key leads from an exchange";
     let command = bare(alloc, "route", about);
-    let command = with_needed(alloc, command, "DEFS", "The definitions file")?;
+    let command = with_argument(command, needed(alloc, "DEFS", "The definitions file"))?;
     let exchange = "The exchange that a message is sent to; \"\" is the default exchange";
-    let command = with_needed(alloc, command, "EXCHANGE", exchange)?;
-    with_needed(
-        alloc,
-        command,
-        "KEY",
-        "The routing key that it is sent under",
-    )
+    let command = with_argument(command, needed(alloc, "EXCHANGE", exchange))?;
+    let key = "The routing key that it is sent under";
+    with_argument(command, needed(alloc, "KEY", key))
 }
 
 /// The program before its subcommands.

@@ -29,65 +29,55 @@ taken number opened after found new line rest a said n o =
 
 -- ---- at most 1,024 are opened
 
-opening_at : (opened : ℕ) (v : Bool) → nat_lt opened 1024 ≡ v → opened ≤ 1024 → opened_after opened (option_map (λ (x : ScriptArrival). Some x) (cond v (Some Open) None)) ≤ 1024
+-- at most 1,024 are opened with what is said
+abbrev IsFew : ℕ → Option ScriptArrival → Type 0
+IsFew opened said = opened_after opened (option_map (λ (x : ScriptArrival). Some x) said) ≤ 1024
+
+-- where a part is not read, nothing is said
+then_few : {A : Type 0} (opened : ℕ) (say : A → Option ScriptArrival) (part : Option A) → ((a : A) → IsFew opened (say a)) → opened ≤ 1024 → IsFew opened (option_and_then say part)
+then_few opened say None f h = h
+then_few opened say (Some a) f h = f a
+
+made_few : {A : Type 0} (opened : ℕ) (make : A → ScriptArrival) (part : Option A) → ((a : A) → IsFew opened (Some (make a))) → opened ≤ 1024 → IsFew opened (option_map make part)
+made_few opened make None f h = h
+made_few opened make (Some a) f h = f a
+
+opening_at : (opened : ℕ) (v : Bool) → nat_lt opened 1024 ≡ v → opened ≤ 1024 → IsFew opened (cond v (Some Open) None)
 opening_at opened false e h = h
 opening_at opened true e h = grind (arith, nat_tests)
 
-ready_at : (opened n : ℕ) (v : Bool) → (nat_le 1 n && nat_le n 255 && nat_lt opened 1024) ≡ v → opened ≤ 1024
-    → opened_after opened (option_map (λ (x : ScriptArrival). Some x) (cond v (Some (Ready n)) None)) ≤ 1024
+ready_at : (opened n : ℕ) (v : Bool) → (nat_le 1 n && nat_le n 255 && nat_lt opened 1024) ≡ v → opened ≤ 1024 → IsFew opened (cond v (Some (Ready n)) None)
 ready_at opened n false e h = h
 ready_at opened n true e h = grind (arith, nat_tests)
 
-ready_few : (opened : ℕ) (n : Option ℕ) → opened ≤ 1024
-    → opened_after opened (option_map (λ (x : ScriptArrival). Some x) (option_and_then (λ k. cond (nat_le 1 k && nat_le k 255 && nat_lt opened 1024) (Some (Ready k)) None) n)) ≤ 1024
-ready_few opened None h = h
-ready_few opened (Some n) h = ready_at opened n (nat_le 1 n && nat_le n 255 && nat_lt opened 1024) refl h
+ready_few : (opened : ℕ) (n : Option ℕ) → opened ≤ 1024 → IsFew opened (option_and_then (λ k. cond (nat_le 1 k && nat_le k 255 && nat_lt opened 1024) (Some (Ready k)) None) n)
+ready_few opened n h = then_few opened (λ (k : ℕ). cond (nat_le 1 k && nat_le k 255 && nat_lt opened 1024) (Some (Ready k)) None) n
+    (λ k. ready_at opened k (nat_le 1 k && nat_le k 255 && nat_lt opened 1024) refl h) h
 
-in_few : (opened : ℕ) (c : Option ℕ) (p : Option Text) → opened ≤ 1024
-    → opened_after opened (option_map (λ (x : ScriptArrival). Some x) (option_and_then (λ (n : ℕ). option_map (λ (bytes : Text). In n bytes) p) c)) ≤ 1024
-in_few opened None p h = h
-in_few opened (Some n) None h = h
-in_few opened (Some n) (Some bytes) h = h
+in_few : (opened : ℕ) (f : Text × Text) → opened ≤ 1024 → IsFew opened (bytes_in opened f)
+in_few opened f h = then_few opened (λ (n : ℕ). option_map (λ (bytes : Text). In n bytes) (piece f.1)) (connection opened f.0)
+    (λ n. made_few opened (λ (bytes : Text). In n bytes) (piece f.1) (λ bytes. h) h) h
 
-cut_few : (opened : ℕ) (f : Option (Text × Text)) → opened ≤ 1024 → opened_after opened (option_map (λ (x : ScriptArrival). Some x) (option_and_then (bytes_in opened) f)) ≤ 1024
-cut_few opened None h = h
-cut_few opened (Some f) h = in_few opened (connection opened f.0) (piece f.1) h
-
-sent_few : (opened : ℕ) (c n : Option ℕ) → opened ≤ 1024
-    → opened_after opened (option_map (λ (x : ScriptArrival). Some x) (option_and_then (λ (k : ℕ). option_map (λ (count : ℕ). Sent k count) n) c)) ≤ 1024
-sent_few opened None n h = h
-sent_few opened (Some k) None h = h
-sent_few opened (Some k) (Some count) h = h
-
-cut_sent_few : (opened : ℕ) (f : Option (Text × Text)) → opened ≤ 1024 → opened_after opened (option_map (λ (x : ScriptArrival). Some x) (option_and_then (sent opened) f)) ≤ 1024
-cut_sent_few opened None h = h
-cut_sent_few opened (Some f) h = sent_few opened (connection opened f.0) (number f.1) h
-
-lost_few : (opened : ℕ) (c : Option ℕ) → opened ≤ 1024 → opened_after opened (option_map (λ (x : ScriptArrival). Some x) (option_map (λ (n : ℕ). Lose n) c)) ≤ 1024
-lost_few opened None h = h
-lost_few opened (Some n) h = h
-
-reload_few : (opened : ℕ) (names : Option FileNames) → opened ≤ 1024 → opened_after opened (option_map (λ (x : ScriptArrival). Some x) (option_map (λ (n : FileNames). Reload n) names)) ≤ 1024
-reload_few opened None h = h
-reload_few opened (Some names) h = h
+sent_few : (opened : ℕ) (f : Text × Text) → opened ≤ 1024 → IsFew opened (sent opened f)
+sent_few opened f h = then_few opened (λ (k : ℕ). option_map (λ (count : ℕ). Sent k count) (number f.1)) (connection opened f.0)
+    (λ k. made_few opened (λ (count : ℕ). Sent k count) (number f.1) (λ count. h) h) h
 
 word_at : (opened : ℕ) (f : Text × Text) (v w y z u : Bool) → opened ≤ 1024
-    → opened_after opened (option_map (λ (x : ScriptArrival). Some x) (cond v (ready opened f.1) (cond w (option_and_then (bytes_in opened) (cut f.1)) (cond y (option_and_then (sent opened) (cut f.1)) (cond z (lost opened f.1) (cond u (reload f.1) None)))))) ≤ 1024
+    → IsFew opened (cond v (ready opened f.1) (cond w (option_and_then (bytes_in opened) (cut f.1)) (cond y (option_and_then (sent opened) (cut f.1)) (cond z (lost opened f.1) (cond u (reload f.1) None)))))
 word_at opened f true w y z u h = ready_few opened (number f.1) h
-word_at opened f false true y z u h = cut_few opened (cut f.1) h
-word_at opened f false false true z u h = cut_sent_few opened (cut f.1) h
-word_at opened f false false false true u h = lost_few opened (connection opened f.1) h
-word_at opened f false false false false true h = reload_few opened (three_names f.1) h
+word_at opened f false true y z u h = then_few opened (bytes_in opened) (cut f.1) (λ p. in_few opened p h) h
+word_at opened f false false true z u h = then_few opened (sent opened) (cut f.1) (λ p. sent_few opened p h) h
+word_at opened f false false false true u h = made_few opened (λ (n : ℕ). Lose n) (connection opened f.1) (λ n. h) h
+word_at opened f false false false false true h = made_few opened (λ (names : FileNames). Reload names) (three_names f.1) (λ names. h) h
 word_at opened f false false false false false h = h
 
-word_few : (opened : ℕ) (f : Option (Text × Text)) → opened ≤ 1024 → opened_after opened (option_map (λ (x : ScriptArrival). Some x) (option_and_then (by_word opened) f)) ≤ 1024
-word_few opened None h = h
-word_few opened (Some f) h = word_at opened f (bytes_eq f.0 (codes "ready")) (bytes_eq f.0 (codes "in")) (bytes_eq f.0 (codes "sent")) (bytes_eq f.0 (codes "lose")) (bytes_eq f.0 (codes "reload")) h
+word_few : (opened : ℕ) (f : Text × Text) → opened ≤ 1024 → IsFew opened (by_word opened f)
+word_few opened f h = word_at opened f (bytes_eq f.0 (codes "ready")) (bytes_eq f.0 (codes "in")) (bytes_eq f.0 (codes "sent")) (bytes_eq f.0 (codes "lose")) (bytes_eq f.0 (codes "reload")) h
 
-arrival_at : (opened : ℕ) (l : Text) (v w : Bool) → opened ≤ 1024 → opened_after opened (option_map (λ (x : ScriptArrival). Some x) (cond v (opening opened) (cond w (Some Pump) (option_and_then (by_word opened) (cut l))))) ≤ 1024
+arrival_at : (opened : ℕ) (l : Text) (v w : Bool) → opened ≤ 1024 → IsFew opened (cond v (opening opened) (cond w (Some Pump) (option_and_then (by_word opened) (cut l))))
 arrival_at opened l true w h = opening_at opened (nat_lt opened 1024) refl h
 arrival_at opened l false true h = h
-arrival_at opened l false false h = word_few opened (cut l) h
+arrival_at opened l false false h = then_few opened (by_word opened) (cut l) (λ f. word_few opened f h) h
 
 line_at : (opened b : ℕ) (bs : Text) (v : Bool) → opened ≤ 1024 → opened_after opened (cond v (Some None) (option_map (λ (x : ScriptArrival). Some x) (arrival_of opened (b ∷ bs)))) ≤ 1024
 line_at opened b bs true h = h

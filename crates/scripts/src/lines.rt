@@ -2,26 +2,8 @@
 
 ghost use Rattle.std.specs.Prelude.{◌≡◌, ◌∷◌, ◌<◌, ◌≤◌, ◌==◌, length, IfSome, option_copied, option_map, position, if◌then◌else◌, Some, None};
 ghost use Rattle.std.specs.Str.{is_utf8};
-ghost use Rattle.scripts.specs.Script.{
-  cut,
-  with_digit,
-  digits_after,
-  number,
-  piece,
-  file_name,
-  opening,
-  ready,
-  connection,
-  bytes_in,
-  sent,
-  lost,
-  names_of,
-  three_names,
-  reload,
-  by_word,
-  arrival_of,
-  line_of,
-};
+ghost use Rattle.scripts.specs.Script.{cut, with_digit, digits_after, number, piece, file_name, opening, ready, connection, bytes_in, sent, lost};
+ghost use Rattle.scripts.specs.Script.{names_of, three_names, reload, by_word, arrival_of, line_of};
 ghost use Rattle.scripts.specs.Lines.{TellsIfThere};
 
 use crate::reloads::ReloadFiles;

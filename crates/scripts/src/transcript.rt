@@ -1,22 +1,8 @@
 //! Printed transcripts.
 
 ghost use Rattle.std.specs.Prelude.{◌≡◌, ◌++◌, ◌∷◌, [], codes, decimal, IfOk, string_bytes, OnErr, OnOk};
-ghost use Rattle.scripts.specs.Transcript.{
-  hex_word,
-  name_word,
-  confirm_word,
-  answer_word,
-  way_word,
-  cause_word,
-  line,
-  obstacle_line,
-  note_line,
-  over_line,
-  shown_lines,
-  shown_from,
-  note_lines,
-  transcript_text,
-};
+ghost use Rattle.scripts.specs.Transcript.{hex_word, name_word, confirm_word, answer_word, way_word, cause_word, line, obstacle_line, note_line};
+ghost use Rattle.scripts.specs.Transcript.{over_line, shown_lines, shown_from, note_lines, transcript_text};
 
 use model::{Answer, Cause, Note, Obstacle, Way};
 use runs::{Shown, Transcript};
