@@ -11,5 +11,6 @@ mod Opening
 pub mod Outcomes
 pub mod Setting
 pub mod Putting
+pub mod Places
 pub mod ConnectionsMoving
 pub mod Taking

@@ -38,10 +38,10 @@ opened_next names old new ch n e is before =
     ∙ ap (λ (k : Channel). None ∷ replicate n (Some new_channel) ++ Some k ∷ []) is
     ∙ ap (λ (cs : List (Option Channel)). None ∷ cs) (replicate_more n (Some new_channel))
 
--- there are no more of them than there are numbers
-pub opened_few : (channels : List (Option Open)) (n : ℕ) → n < 2 ^ 16 → map (option_map (open_in [])) channels ≡ None ∷ replicate n (Some new_channel) → length channels ≤ 2 ^ 16
-opened_few channels n lt e =
+-- so many places there are
+pub opened_len : (channels : List (Option Open)) (n : ℕ) → map (option_map (open_in [])) channels ≡ None ∷ replicate n (Some new_channel) → length channels ≡ n + 1
+opened_len channels n e =
     let same = ap length e in
     let seen = length-map channels (option_map (open_in [])) in
     let count = length-replicate n (Some new_channel) in
-    omega (arith, lt, same, seen, count)
+    omega (arith, same, seen, count)

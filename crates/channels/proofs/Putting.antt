@@ -8,7 +8,7 @@ use Rattle.channels.proofs.Setting.{set_is, set_same}
 use Rattle.channels.specs.RunningConnections.{Running, running_in, channel_at, channel_of, connection_at, connection_of, with_channel_in, with_channel_at, with_channel, PutsChannel}
 
 -- what is written at a key is found there
-found_here : {K X : Type 0} (test : K → Bool) (es : List (K × X)) (w x : X) → lookup test es ≡ Some x → lookup test (set_value test es w) ≡ Some w
+pub found_here : {K X : Type 0} (test : K → Bool) (es : List (K × X)) (w x : X) → lookup test es ≡ Some x → lookup test (set_value test es w) ≡ Some w
 found_here test [] w x e = absurd (none-some x e)
 found_here {K} {X} test (y ∷ ys) w x e = go (test y.0) refl e (found_here test ys w x)
   where

@@ -1,5 +1,5 @@
 -- The connections that run, each with its open channels, as they are kept.
-use Rattle.std.specs.Prelude.{◌≡◌, ◌==◌, false, ℕ, List, [], Bool, Option, Some, None, nat_eq, slice_index_or, slice_set, option_map}
+use Rattle.std.specs.Prelude.{◌≡◌, ◌≤◌, ◌==◌, false, ℕ, List, length, [], Bool, Option, Some, None, nat_eq, slice_index_or, slice_set, option_map}
 use Rattle.std.specs.Map.{lookup, set_value}
 use Rattle.model.specs.Words.{Text}
 use Rattle.model.specs.Step.{channels_up_to}
@@ -82,6 +82,10 @@ pub record PutsIn (old : Running) (h : ℕ) (ch : Option Open) (new : Running) :
 abbrev pub outstanding_on : Option Open → List Delivery
 outstanding_on None = []
 outstanding_on (Some ch) = ch.given.outstanding
+
+-- the connection of this number, if it runs, has places for channels of numbers below n alone
+abbrev pub HasPlacesBelow : List (ℕ × Running) → ℕ → ℕ → Type 0
+HasPlacesBelow connections c n = (l : Running) → running_in connections c ≡ Some l → length l.channels ≤ n
 
 -- This stands at the channel h of the connection c now, and everything else stays.
 pub record PutsChannel (old : List (ℕ × Running)) (c h : ℕ) (ch : Option Open) (new : List (ℕ × Running)) : Type 0 where

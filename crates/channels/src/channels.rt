@@ -41,7 +41,7 @@ impl Model for Channel {
 impl Channel {
     /// A channel with nothing on it: publishes are not confirmed. It takes no memory.
     pub fn new(alloc: Global) -> Channel
-        ensures { result ≡ record { confirm = None; is_closing = false; given = nothing_given result.given.room result.given.seats } }
+        ensures { result ≡ record { confirm = None; is_closing = false; given = nothing_given 0 0 } }
     {
         Channel {
             confirm: None,
@@ -53,7 +53,7 @@ impl Channel {
     /// What is left of a channel once a close was sent on it: everything but a close and close-ok is ignored. It takes no
     /// memory.
     pub fn closing(alloc: Global) -> Channel
-        ensures { result ≡ record { confirm = None; is_closing = true; given = nothing_given result.given.room result.given.seats } }
+        ensures { result ≡ record { confirm = None; is_closing = true; given = nothing_given 0 0 } }
     {
         Channel {
             confirm: None,

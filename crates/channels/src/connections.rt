@@ -35,6 +35,7 @@ impl RunningConnections {
       ◌≡◌,
       ◌+◌,
       ◌*◌,
+      ◌<◌,
       ◌≤◌,
       length,
       [],
@@ -56,6 +57,7 @@ impl RunningConnections {
     ghost use Rattle.channels.specs.Counting.{CountsConsumers, HasTaker, is_consumed};
     ghost use Rattle.channels.specs.ConnectionsMoving.{connections_moved};
     ghost use Rattle.channels.specs.RunningConnections.{running_in, connection_of, channel_of, outstanding_on, PutsChannel, OpensConnection, HoldsConnections};
+    ghost use Rattle.channels.specs.RunningConnections.{HasPlacesBelow};
 
     /// No connection runs. It takes no memory.
     pub fn new(alloc: Global) -> RunningConnections
@@ -137,8 +139,8 @@ impl RunningConnections {
         self.connections.values();
     }
 
-    /// The connection runs from now on, with channels 1 to `channels` open and new. Gives what ran under its number before, if
-    /// anything did.
+    /// The connection runs from now on, with channels 1 to `channels` open and new, and no place for more. Gives what ran under
+    /// its number before, if anything did.
     pub fn open(
         &mut self,
         alloc: Global,
@@ -148,6 +150,7 @@ impl RunningConnections {
     ) -> Result<Option<RunningConnection>, AllocError>
         ensures ok { OnOk result (OpensConnection self.old connection channel_max channels self.new) }
         ensures before { IfOk result (λ running. running ≡ running_in self.old connection) }
+        ensures few { OnOk result (HasPlacesBelow self.new connection (channels + 1)) }
         ensures err { OnErr result (self.new ≡ self.old) }
     {
         let running = RunningConnection::new(alloc, channel_max, channels)?;
@@ -174,8 +177,8 @@ impl RunningConnections {
         }
     }
 
-    /// This stands at this channel from now on, where none may have been open yet. Where memory is wanting, nothing has
-    /// changed.
+    /// This stands at this channel from now on, where none may have been open yet. Places are made up to its number. Memory is
+    /// wanting only where it has none yet. Then nothing has changed.
     pub fn open_channel(
         &mut self,
         connection: u64,
@@ -185,6 +188,8 @@ impl RunningConnections {
         requires { IsSome (running_in self.old connection) }
         ensures ok { OnOk result (PutsChannel self.old connection number (Some channel) self.new) }
         ensures err { OnErr result (self.new ≡ self.old) }
+        ensures full { OnErr result (HasPlacesBelow self.old connection number) }
+        ensures few { (n : ℕ) → HasPlacesBelow self.old connection n → number < n → HasPlacesBelow self.new connection n }
     {
         match self.connections.get_mut(&connection) {
             Some(running) => running.open_channel(number, channel),

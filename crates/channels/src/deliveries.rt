@@ -57,7 +57,7 @@ impl Deliveries {
 
     /// Nothing was given out, there is no consumer and no limit. It takes no memory.
     pub fn new(alloc: Global) -> Deliveries
-        ensures { result ≡ nothing_given result.room result.seats }
+        ensures { result ≡ nothing_given 0 0 }
     {
         Deliveries {
             pending: Unsettled::new(alloc),

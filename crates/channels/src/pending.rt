@@ -42,6 +42,7 @@ impl Unsettled {
     pub(crate) fn new(alloc: Global) -> Unsettled
         ensures outstanding { result.outstanding ≡ [] }
         ensures last { result.last ≡ 0 }
+        ensures room { result.room ≡ 0 }
     {
         Unsettled {
             items: Vec::new(alloc),

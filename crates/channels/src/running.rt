@@ -30,7 +30,7 @@ impl Model for RunningConnection {
 }
 
 impl RunningConnection {
-    ghost use Rattle.std.specs.Prelude.{◌≡◌, ◌≤◌, ◌+◌, ◌*◌, ◌^◌, ℕ, List, length, min, None, Some, false};
+    ghost use Rattle.std.specs.Prelude.{◌≡◌, ◌<◌, ◌≤◌, ◌+◌, ◌*◌, ◌^◌, ℕ, List, length, min, None, Some, false};
     ghost use Rattle.std.specs.Prelude.{IsSome, IfSome, IfOk, OnOk, OnErr, option_map, option_copied};
     ghost use Rattle.std.specs.Option.{option_copied_mut};
     ghost use Rattle.std.specs.Borrow.{sem};
@@ -53,6 +53,7 @@ impl RunningConnection {
         ensures max { IfOk result (λ l. l.channel_max ≡ channel_max) }
         ensures paused { IfOk result (λ l. l.is_paused ≡ false) }
         ensures channels { IfOk result (λ l. (names : List Name) (h : ℕ) → option_map (open_in names) (channel_in l h) ≡ channels_up_to channels h) }
+        ensures places { IfOk result (λ l. length l.channels ≡ channels + 1) }
     {
         Ok(RunningConnection {
             channel_max,
@@ -151,11 +152,13 @@ impl RunningConnection {
         count_consumers(&self.channels, queue)
     }
 
-    /// This stands at the channel of this number from now on, where none may have been open yet. Where memory is wanting,
-    /// nothing has changed.
+    /// This stands at the channel of this number from now on, where none may have been open yet. Places are made up to its
+    /// number. Memory is wanting only where it has none yet. Then nothing has changed.
     pub(crate) fn open_channel(&mut self, number: u16, channel: Channel) -> Result<(), AllocError>
         ensures ok { OnOk result (PutsIn self.old number (Some channel) self.new) }
         ensures err { OnErr result (self.new ≡ self.old) }
+        ensures full { OnErr result (length self.old.channels ≤ number) }
+        ensures few { (n : ℕ) → length self.old.channels ≤ n → number < n → length self.new.channels ≤ n }
     {
         open_at(&mut self.channels, number, channel)
     }

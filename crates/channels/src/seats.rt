@@ -48,6 +48,7 @@ impl Seats {
     /// No consumer, and nothing counted. It takes no memory.
     pub(crate) fn new(alloc: Global) -> Seats
         ensures consumers { result.consumers ≡ [] }
+        ensures room { result.room ≡ 0 }
         ensures counted { SeatsAreCounted result [] }
     {
         Seats {

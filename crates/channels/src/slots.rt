@@ -3,6 +3,7 @@
 ghost use Rattle.std.specs.Prelude.{
   ◌≡◌,
   ◌+◌,
+  ◌<◌,
   ◌≤◌,
   ◌^◌,
   ◌∷◌,
@@ -23,7 +24,9 @@ ghost use Rattle.std.specs.Prelude.{
   min,
   sum_by,
   option_map,
+  vec_capacity,
   vec_len,
+  ℕ,
 };
 ghost use Rattle.channels.specs.Moving.{open_moved};
 ghost use Rattle.channels.specs.ConnectionsMoving.{channels_moved};
@@ -56,6 +59,7 @@ pub(crate) fn open_channels(alloc: Global, count: u16) -> Result<Vec<Option<Chan
 fn grow(channels: &mut Vec<Option<Channel>>, more: usize) -> Result<(), AllocError>
     ensures ok { OnOk result (channels.new.items ≡ channels.old.items ++ replicate more None) }
     ensures err { OnErr result (channels.new.items ≡ channels.old.items) }
+    ensures full { OnErr result (vec_capacity channels.old < vec_len channels.old + more) }
 {
     channels.reserve(more)?;
     for _ in 0..more {
@@ -64,8 +68,8 @@ fn grow(channels: &mut Vec<Option<Channel>>, more: usize) -> Result<(), AllocErr
     Ok(())
 }
 
-/// This stands at the channel of this number from now on, where none may have been open yet. Where memory is wanting, nothing
-/// has changed.
+/// This stands at the channel of this number from now on, where none may have been open yet. Places are made up to its number.
+/// Memory is wanting only where it has none yet. Then nothing has changed.
 pub(crate) fn open_at(
     channels: &mut Vec<Option<Channel>>,
     number: u16,
@@ -73,7 +77,8 @@ pub(crate) fn open_at(
 ) -> Result<(), AllocError>
     ensures ok { OnOk result (IsChannelSet channels.old.items number (Some channel) channels.new.items) }
     ensures err { OnErr result (channels.new.items ≡ channels.old.items) }
-    ensures few { vec_len channels.old ≤ 2 ^ 16 → vec_len channels.new ≤ 2 ^ 16 }
+    ensures full { OnErr result (vec_len channels.old ≤ number) }
+    ensures few { (n : ℕ) → vec_len channels.old ≤ n → number < n → vec_len channels.new ≤ n }
 {
     let at = number as usize;
     let more = (at + 1).saturating_sub(channels.len());

@@ -1,5 +1,5 @@
 use Rattle.std.proofs.Common.{[], arith}
-use Rattle.channels.proofs.Opening.{opened_at, opened_few}
+use Rattle.channels.proofs.Opening.{opened_at, opened_len}
 use Rattle.channels.proofs.running.RunningConnection.new.Goals as goal
 
 pub returns-clause-channels : goal.returns-clause-channels
@@ -8,6 +8,10 @@ returns-clause-channels c = λ names h. opened_at names c.in_ok-open_channels.fi
 pub invariant_of-result : goal.invariant_of-result
 invariant_of-result c =
     let channels = c.in_ok-open_channels.field-0 in
-    let few = opened_few channels.items c.args.channels c.ranges.channels.fits (c.in_ok-open_channels.ensures []) in
+    let places = opened_len channels.items c.args.channels (c.in_ok-open_channels.ensures []) in
+    let fits = c.ranges.channels.fits in
     let len = channels.ok.0 in
-    omega (arith, few, len)
+    omega (arith, places, fits, len)
+
+pub returns-clause-places : goal.returns-clause-places
+returns-clause-places c = opened_len c.in_ok-open_channels.field-0.items c.args.channels (c.in_ok-open_channels.ensures [])
