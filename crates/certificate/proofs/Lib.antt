@@ -4,7 +4,6 @@ pub mod Marking
 pub mod Judging
 pub mod Walking
 pub mod Listed
-pub mod Whole
 pub mod Spelling
 pub mod Joining
 pub mod Drafting

@@ -1,19 +1,11 @@
 //! What a certificates file states.
 
-ghost use Rattle.std.specs.Prelude.{◌≡◌};
+ghost use Rattle.std.specs.Prelude.{◌≡◌, option_and_then};
+ghost use Rattle.serde_json.specs.Find.{as_array};
 ghost use Rattle.serde_json.specs.View.{items_view, view};
 ghost use Rattle.json_file.specs.Members.{each};
 ghost use Rattle.json_file.specs.Outcomes.{GivesItems};
-ghost use Rattle.certificate.specs.Stated.{
-  certificates_stated,
-  excepting_at,
-  excepting_of,
-  form_at,
-  sliced_at,
-  state_in,
-  states_at,
-  whole_at,
-};
+ghost use Rattle.certificate.specs.Stated.{certificates_stated, excepting_at, excepting_of, form_at, sliced_at, state_in, states_at, whole_at};
 ghost use Rattle.certificate.specs.Reads.{GivesForm, GivesStates, ReadsCertificateFile};
 
 use crate::certificates::Certificate;
@@ -22,15 +14,22 @@ use json_file::{FileCause, FromValue, elements, entries, has_only, parse, text};
 use serde_json::Value;
 use std::alloc::Global;
 
-/// The state that a value is.
-#[tactic(auto, unfolding(crate::specs::Stated::state_in))]
-fn state(alloc: Global, value: &Value) -> Result<Vec<u64>, FileCause>
-    ensures { GivesItems result (state_in (view value.now)) }
+/// The entries of a value, which is an array.
+fn array<E: FromValue>(alloc: Global, value: &Value) -> Result<Vec<E>, FileCause>
+    ensures { GivesItems result (option_and_then (each E.states) (as_array (view value.now))) }
 {
     match value.as_array() {
         Some(array) => elements(alloc, array.as_slice()),
         None => Err(FileCause::Malformed),
     }
+}
+
+/// The state that a value is.
+#[tactic(auto, unfolding(crate::specs::Stated::state_in))]
+fn state(alloc: Global, value: &Value) -> Result<Vec<u64>, FileCause>
+    ensures { GivesItems result (state_in (view value.now)) }
+{
+    array(alloc, value)
 }
 
 /// The states that these values are.
@@ -142,10 +141,7 @@ impl FromValue for Certificate {
 fn stated(alloc: Global, value: &Value) -> Result<Vec<Certificate>, FileCause>
     ensures { GivesItems result (certificates_stated (view value.now)) }
 {
-    match value.as_array() {
-        Some(array) => elements(alloc, array.as_slice()),
-        None => Err(FileCause::Malformed),
-    }
+    array(alloc, value)
 }
 
 impl Certificate {

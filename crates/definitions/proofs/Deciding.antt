@@ -1,6 +1,10 @@
 -- What is decided of the entries of a file.
-use Rattle.std.proofs.Common.{◌≡◌, ℕ, ◌<◌, length, get_or, List, Bool, true, false, ◌&&◌, refl, sym, subst}
-use Rattle.std.specs.Prelude.{All, Decides}
+use Rattle.std.proofs.Common.{◌≡◌, ◌<◌, ℕ, length, List, Bool, true, false, ◌&&◌, refl, subst}
+use Rattle.std.specs.Prelude.{All, Decides, MatchBool}
+use Rattle.std.specs.List.{AllWithin, HoldsAt}
+use Rattle.std.proofs.lemmas.Bool.{MatchBool-at_true}
+use Rattle.std.proofs.lemmas.List.Elements.{All-from_all_within}
+use Rattle.std.proofs.lemmas.Iterator.Search.{true_from_All}
 use Rattle.model.specs.Words.{Text}
 use Rattle.model.specs.Topology.{AreApart}
 use Rattle.definitions.specs.File.{File}
@@ -26,6 +30,7 @@ permissions_known f us ps a p b c u q da dp db dc =
     (λ r. r.known)
     second dc'
 
--- one element without P is enough
-pub not_all : {A : Type 0} (P : A → Type 0) (xs : List A) (i : ℕ) (x : A) (b : Bool) → i < length xs → x ≡ get_or xs i x → Decides b (P x) → b ≡ false → Decides false (All P xs)
-not_all {A} P xs i x b h e d n = (λ t. absurd (cc), λ a. (let p : P x = subst P (sym e) (a i x h) in let z = d.1 p in absurd (cc)))
+-- what `all` answered of a test that decides P
+pub decides_all : {X : Type 0} (P : X → Type 0) (r : Bool) (xs : List X) → MatchBool r (AllWithin P xs 0 (length xs)) ((k : ℕ) × (k < length xs) × HoldsAt (λ x. P x → ⊥) xs k)
+    → Decides r (All P xs)
+decides_all P r xs m = (λ e. All-from_all_within P xs (MatchBool-at_true _ _ e m), λ all. true_from_All P (λ x. P x → ⊥) r xs (λ x p not. not p) m all)

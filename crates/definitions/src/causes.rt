@@ -2,28 +2,9 @@
 
 ghost use Rattle.std.specs.Prelude.{codes, ◌≡◌, ◌⊎◌, All, Decides, List, ℕ, Some, None};
 ghost use Rattle.definitions.specs.States.{kind_named, topology_of};
-ghost use Rattle.definitions.specs.Causes.{
-  HasAllJoin,
-  HasAllWorded,
-  HasFew,
-  HasNamesApart,
-  HasNamesLead,
-  HasOneVhost,
-  HasOverflows,
-  HasPermissions,
-  HasTypes,
-  IsOfUser,
-  IsPermitted,
-  IsPlainBinding,
-  IsPlainExchange,
-  IsPlainQueue,
-  IsShortName,
-  IsSupported,
-  PermitsAll,
-  SaysOverflow,
-  permission_names,
-  user_names,
-};
+ghost use Rattle.definitions.specs.Causes.{HasAllJoin, HasAllWorded, HasFew, HasNamesApart, HasNamesLead, HasOneVhost, HasOverflows, HasPermissions};
+ghost use Rattle.definitions.specs.Causes.{HasTypes, IsOfUser, IsPermitted, IsPlainBinding, IsPlainExchange, IsPlainQueue, IsShortName, IsSupported};
+ghost use Rattle.definitions.specs.Causes.{PermitsAll, SaysOverflow, permission_names, user_names};
 ghost use Rattle.definitions.specs.File.{file_of};
 
 use crate::document::{
@@ -276,12 +257,7 @@ fn is_permitted(permitted: &Directory<'_, PermissionEntry>, user: &UserEntry) ->
 fn are_permitted(permitted: &Directory<'_, PermissionEntry>, users: &[UserEntry]) -> bool
     ensures { Decides result (All (IsPermitted permitted.now) users.now) }
 {
-    for user in users {
-        if !is_permitted(permitted, user) {
-            return false;
-        }
-    }
-    true
+    users.iter().all(|user| is_permitted(permitted, user))
 }
 
 /// Whether a permission is of a user.
@@ -295,12 +271,9 @@ fn is_of_user(users: &Directory<'_, UserEntry>, permission: &PermissionEntry) ->
 fn are_of_users(users: &Directory<'_, UserEntry>, permissions: &[PermissionEntry]) -> bool
     ensures { Decides result (All (IsOfUser users.now) permissions.now) }
 {
-    for permission in permissions {
-        if !is_of_user(users, permission) {
-            return false;
-        }
-    }
-    true
+    permissions
+        .iter()
+        .all(|permission| is_of_user(users, permission))
 }
 
 /// Whether each of the users is permitted once, and nobody else is.

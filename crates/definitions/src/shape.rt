@@ -4,12 +4,7 @@ ghost use Rattle.std.specs.Prelude.{◌≡◌};
 ghost use Rattle.serde_json.specs.View.{view};
 ghost use Rattle.json_file.specs.Outcomes.{GivesValue};
 ghost use Rattle.definitions.specs.File.{GivesFile, file_at};
-ghost use Rattle.definitions.specs.Shape.{
-  binding_listed_at,
-  exchange_arguments_at,
-  plain_at,
-  queue_arguments_at,
-};
+ghost use Rattle.definitions.specs.Shape.{binding_listed_at, exchange_arguments_at, plain_at, queue_arguments_at};
 
 use crate::document::{
     BindingEntry, Document, ExchangeArguments, ExchangeEntry, PermissionEntry, QueueArguments,

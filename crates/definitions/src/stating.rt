@@ -3,16 +3,7 @@
 ghost use Rattle.std.specs.Prelude.{◌≡◌, All, IfOk, IsSome, MatchOption, map};
 ghost use Rattle.topology_drafts.specs.Causes.{IsBuildable};
 ghost use Rattle.definitions.specs.File.{file_of};
-ghost use Rattle.definitions.specs.States.{
-  binding_of,
-  exchange_of,
-  hash_of,
-  of_36,
-  destination_of,
-  queue_of,
-  topology_of,
-  user_of,
-};
+ghost use Rattle.definitions.specs.States.{hash_of, of_36, destination_of, topology_of, user_of};
 ghost use Rattle.definitions.specs.Hashed.{AreHashed};
 
 use crate::causes::kind_named;
@@ -35,51 +26,54 @@ fn copy(text: &Option<Text>) -> Result<Option<Text>, AllocError>
     }
 }
 
-/// An exchange.
-fn exchange_of(entry: &ExchangeEntry) -> Result<Exchange, AllocError>
-    ensures { IfOk result (λ x. x ≡ exchange_of entry.now) }
-{
-    Ok(Exchange {
-        name: entry.name.clone()?,
-        kind: kind_named(entry.kind.as_bytes()).unwrap_or(ExchangeKind::Direct),
-        internal: entry.internal,
-        alternate: copy(&entry.arguments.alternate)?,
-    })
+/// An entry that sets up a part of a topology.
+trait Entry {
+    ghost use Rattle.std.specs.Prelude.{◌≡◌, IfOk};
+
+    /// An exchange, a queue or a binding.
+    type Part: Drop;
+
+    // what an entry sets up
+    ghost sets_up: { Self → Self.Part };
+
+    /// The part that the entry sets up.
+    fn part(&self) -> Result<Self::Part, AllocError>
+        ensures { IfOk result (λ made. made ≡ sets_up self.now) };
 }
 
-/// The exchanges.
-fn exchanges_of(alloc: Global, entries: &[ExchangeEntry]) -> Result<Vec<Exchange>, AllocError>
-    ensures { IfOk result (λ made. made.items ≡ map exchange_of entries.now) }
-{
-    let mut made = Vec::new(alloc);
-    for entry in entries {
-        made.push(exchange_of(entry)?)?;
+impl Entry for ExchangeEntry {
+    ghost use Rattle.definitions.specs.States.{exchange_of};
+
+    type Part = Exchange;
+
+    ghost sets_up = { exchange_of };
+
+    fn part(&self) -> Result<Exchange, AllocError> {
+        Ok(Exchange {
+            name: self.name.clone()?,
+            kind: kind_named(self.kind.as_bytes()).unwrap_or(ExchangeKind::Direct),
+            internal: self.internal,
+            alternate: copy(&self.arguments.alternate)?,
+        })
     }
-    Ok(made)
 }
 
-/// A queue.
-fn queue_of(entry: &QueueEntry) -> Result<DeclaredQueue, AllocError>
-    ensures { IfOk result (λ q. q ≡ queue_of entry.now) }
-{
-    Ok(DeclaredQueue {
-        name: entry.name.clone()?,
-        limit: entry.arguments.max_length,
-        byte_limit: entry.arguments.max_bytes,
-        dead_letter_exchange: copy(&entry.arguments.dead_letter_exchange)?,
-        dead_letter_key: copy(&entry.arguments.dead_letter_key)?,
-    })
-}
+impl Entry for QueueEntry {
+    ghost use Rattle.definitions.specs.States.{queue_of};
 
-/// The queues.
-fn queues_of(alloc: Global, entries: &[QueueEntry]) -> Result<Vec<DeclaredQueue>, AllocError>
-    ensures { IfOk result (λ made. made.items ≡ map queue_of entries.now) }
-{
-    let mut made = Vec::new(alloc);
-    for entry in entries {
-        made.push(queue_of(entry)?)?;
+    type Part = DeclaredQueue;
+
+    ghost sets_up = { queue_of };
+
+    fn part(&self) -> Result<DeclaredQueue, AllocError> {
+        Ok(DeclaredQueue {
+            name: self.name.clone()?,
+            limit: self.arguments.max_length,
+            byte_limit: self.arguments.max_bytes,
+            dead_letter_exchange: copy(&self.arguments.dead_letter_exchange)?,
+            dead_letter_key: copy(&self.arguments.dead_letter_key)?,
+        })
     }
-    Ok(made)
 }
 
 /// Where a binding leads. One of an unknown destination type is taken to lead back to its source.
@@ -95,24 +89,29 @@ fn destination_of(entry: &BindingEntry) -> Result<Place, AllocError>
     }
 }
 
-/// A binding.
-fn binding_of(entry: &BindingEntry) -> Result<Binding, AllocError>
-    ensures { IfOk result (λ b. b ≡ binding_of entry.now) }
-{
-    Ok(Binding {
-        source: entry.source.clone()?,
-        to: destination_of(entry)?,
-        key: entry.key.clone()?,
-    })
+impl Entry for BindingEntry {
+    ghost use Rattle.definitions.specs.States.{binding_of};
+
+    type Part = Binding;
+
+    ghost sets_up = { binding_of };
+
+    fn part(&self) -> Result<Binding, AllocError> {
+        Ok(Binding {
+            source: self.source.clone()?,
+            to: destination_of(self)?,
+            key: self.key.clone()?,
+        })
+    }
 }
 
-/// The bindings.
-fn bindings_of(alloc: Global, entries: &[BindingEntry]) -> Result<Vec<Binding>, AllocError>
-    ensures { IfOk result (λ made. made.items ≡ map binding_of entries.now) }
+/// The parts that these entries set up, in their order.
+fn parts_of<E: Entry>(alloc: Global, entries: &[E]) -> Result<Vec<E::Part>, AllocError>
+    ensures { IfOk result (λ made. made.items ≡ map E.sets_up entries.now) }
 {
     let mut made = Vec::new(alloc);
     for entry in entries {
-        made.push(binding_of(entry)?)?;
+        made.push(entry.part()?)?;
     }
     Ok(made)
 }
@@ -148,9 +147,9 @@ impl Parts {
     pub fn of(alloc: Global, document: &Document) -> Result<Parts, AllocError>
         ensures { IfOk result (λ p. p ≡ topology_of (file_of document.now)) }
     {
-        let exchanges = exchanges_of(alloc, document.exchanges.as_slice())?;
-        let queues = queues_of(alloc, document.queues.as_slice())?;
-        let bindings = bindings_of(alloc, document.bindings.as_slice())?;
+        let exchanges = parts_of(alloc, document.exchanges.as_slice())?;
+        let queues = parts_of(alloc, document.queues.as_slice())?;
+        let bindings = parts_of(alloc, document.bindings.as_slice())?;
         Ok(Parts {
             exchanges,
             queues,
