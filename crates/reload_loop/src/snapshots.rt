@@ -2,17 +2,7 @@
 
 ghost use Rattle.std.specs.Prelude.{◌≡◌, Decides, MatchResult, true};
 ghost use Rattle.server.specs.Files.{AreKept, IsFileRead, IsUnread};
-ghost use Rattle.reload_loop.specs.Snapshots.{
-  AllRead,
-  AreHeld,
-  AreSame,
-  IsReadFrom,
-  IsSameText,
-  IsSlotOf,
-  known_in,
-  known_of,
-  names_of,
-};
+ghost use Rattle.reload_loop.specs.Snapshots.{AllRead, AreHeld, AreSame, IsReadFrom, IsSameText, IsSlotOf, known_in, known_of, names_of};
 
 use model::limits;
 use server::{Files, NotWritten, Unread};

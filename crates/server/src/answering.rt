@@ -7,18 +7,7 @@ ghost use Rattle.command_line.specs.CommandLine.{AsksFor, Check, Route, Verify, 
 ghost use Rattle.server.specs.Files.{AreKept};
 ghost use Rattle.server.specs.Stated.{FailsToState, file_named};
 ghost use Rattle.server.specs.Streams.{GetsNothing, change};
-ghost use Rattle.server.specs.Program.{
-  AnswersBut,
-  RunsAs,
-  Fails,
-  IsNotAnswered,
-  IsRouted,
-  IsVerified,
-  IsWhyTold,
-  ListsFile,
-  PutsBoth,
-  ShowsError,
-};
+ghost use Rattle.server.specs.Program.{AnswersBut, RunsAs, Fails, IsNotAnswered, IsRouted, IsVerified, IsWhyTold, ListsFile, PutsBoth, ShowsError};
 
 use crate::file_refusals::RefusedFile;
 use crate::filing::{draft_for, write_out};

@@ -6,19 +6,8 @@ ghost use Rattle.server.specs.Files.{AreKept};
 ghost use Rattle.server.specs.Stated.{file_named};
 ghost use Rattle.serving.specs.Story.{served};
 ghost use Rattle.server.specs.Program.{IsStarted};
-ghost use Rattle.server.specs.Clients.{
-  Begins,
-  CanCome,
-  EndsUnserved,
-  FailsToStart,
-  IsTaken,
-  IsTold,
-  IsTurns,
-  IsUntold,
-  NobodyComes,
-  ServeEnds,
-  listening_line,
-};
+ghost use Rattle.server.specs.Clients.{Begins, CanCome, EndsUnserved, FailsToStart, IsTaken, IsTold, IsTurns, IsUntold, NobodyComes, ServeEnds};
+ghost use Rattle.server.specs.Clients.{listening_line};
 ghost use Rattle.server.specs.Streams.{change};
 
 use crate::refusals::{CommandRefusal, Told, refuse_memory, tell};

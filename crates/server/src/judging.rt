@@ -3,17 +3,7 @@
 ghost use Rattle.std.specs.Prelude.{◌≡◌, ◌++◌, ◌∷◌, [], codes, decimal, IfOk, OnOk, string_bytes};
 ghost use Rattle.certificate.specs.Drafts.{Adds};
 ghost use Rattle.scripts.specs.Transcript.{line, name_word};
-ghost use Rattle.server.specs.Verdicts.{
-  certificates_in,
-  undecided_word,
-  is_no,
-  is_undecided,
-  Judges,
-  path_text,
-  path_words,
-  status_by,
-  verdict_line,
-};
+ghost use Rattle.server.specs.Verdicts.{certificates_in, undecided_word, is_no, is_undecided, Judges, path_text, path_words, status_by, verdict_line};
 
 use certificate::Draft;
 use exchange_graph::Topology;

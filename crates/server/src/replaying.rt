@@ -6,25 +6,8 @@ ghost use Rattle.command_line.specs.CommandLine.{Replay};
 ghost use Rattle.engine.specs.InForce.{in_force};
 ghost use Rattle.server.specs.Files.{AreKept};
 ghost use Rattle.server.specs.Outcomes.{fault_number};
-ghost use Rattle.server.specs.Program.{
-  AreSetUp,
-  FailsOver,
-  FailsToReload,
-  IsInForce,
-  IsInForceBy,
-  IsRefusalOf,
-  IsReplayed,
-  IsSetUp,
-  IsWhyNotSetUp,
-  IsWhyOfFile,
-  IsWhyTold,
-  IsWhyUnadmitted,
-  IsUnplayed,
-  OverNamed,
-  PrintsFile,
-  PrintsRun,
-  ReadsScript,
-};
+ghost use Rattle.server.specs.Program.{AreSetUp, FailsOver, FailsToReload, IsInForce, IsInForceBy, IsRefusalOf, IsReplayed, IsSetUp, IsWhyNotSetUp};
+ghost use Rattle.server.specs.Program.{IsWhyOfFile, IsWhyTold, IsWhyUnadmitted, IsUnplayed, OverNamed, PrintsFile, PrintsRun, ReadsScript};
 ghost use Rattle.scripts.specs.Script.{script};
 ghost use Rattle.server.specs.Streams.{GetsNothing, change};
 

@@ -1,19 +1,6 @@
 //! Routes, as they are printed.
 
-ghost use Rattle.std.specs.Prelude.{
-  ◌≡◌,
-  ◌<◌,
-  ◌++◌,
-  ◌∷◌,
-  [],
-  length,
-  All,
-  Decides,
-  IfOk,
-  OnOk,
-  option_map,
-  slice_index_or,
-};
+ghost use Rattle.std.specs.Prelude.{◌≡◌, ◌<◌, ◌++◌, ◌∷◌, [], length, All, Decides, IfOk, OnOk, option_map, slice_index_or};
 ghost use Rattle.std.specs.List.{list_any};
 ghost use Rattle.std.specs.Str.{bytes_eq};
 ghost use Rattle.model.specs.Topology.{IsIn, exchange_names, queue_names};

@@ -2,23 +2,8 @@
 
 ghost use Rattle.std.specs.Prelude.{◌≡◌, MatchResult};
 ghost use Rattle.server.specs.Files.{AreKept};
-ghost use Rattle.server.specs.Stated.{
-  HoldsCertificates,
-  CertifiesAt,
-  FailsToCertify,
-  FailsToPromise,
-  FailsToSetUp,
-  FailsToState,
-  IsWhyUncertified,
-  IsWhyUnpromised,
-  IsWhyUnstated,
-  Promises,
-  PromisesAt,
-  SetsUp,
-  States,
-  StatesAt,
-  file_named,
-};
+ghost use Rattle.server.specs.Stated.{HoldsCertificates, CertifiesAt, FailsToCertify, FailsToPromise, FailsToSetUp, FailsToState, IsWhyUncertified};
+ghost use Rattle.server.specs.Stated.{IsWhyUnpromised, IsWhyUnstated, Promises, PromisesAt, SetsUp, States, StatesAt, file_named};
 
 use crate::builtin::builtin;
 use crate::file_refusals::{FileRefusal, RefusedFile};

@@ -3,16 +3,7 @@
 ghost use Rattle.std.specs.Prelude.{◌≡◌, ◌++◌, ◌∷◌, [], codes, decimal, IfOk, OnOk, string_bytes};
 ghost use Rattle.std.specs.List.{list_any};
 ghost use Rattle.scripts.specs.Transcript.{line};
-ghost use Rattle.server.specs.Outcomes.{
-  AreOutcomes,
-  is_fault,
-  letter_word,
-  outcome_line,
-  outcome_lines,
-  status_of_outcomes,
-  TellsOutcome,
-  Verifies,
-};
+ghost use Rattle.server.specs.Outcomes.{AreOutcomes, is_fault, letter_word, outcome_line, outcome_lines, status_of_outcomes, TellsOutcome, Verifies};
 ghost use Rattle.server.specs.Verdicts.{EachWith};
 
 use crate::judging::Output;
