@@ -1,17 +1,21 @@
--- A waiter is made, and those of consumers that are gone may go: those who are there are gone round as before.
-use Rattle.std.proofs.Common.{◌≡◌, ◌∙◌, ◌<◌, ◌≤◌, ◌+◌, ◌++◌, ℕ, zero, suc, List, [], ◌∷◌, Bool, true, false, cond, length, take, drop, filter, min, inl, inr, refl, sym, ap, subst, arith}
-use Rattle.std.specs.Prelude.{count_by, ◌&&◌}
-use Rattle.std.proofs.lemmas.List.{drop_min, take_min, length-append}
+-- A waiter is made, and those of consumers that are gone go: those who are there are gone round as before.
+use Rattle.std.proofs.Common.{◌≡◌, ◌∙◌, ◌<◌, ◌≤◌, ◌+◌, ◌⊎◌, ◌++◌, ℕ, zero, suc, List, [], ◌∷◌, Bool, true, false, cond, length, take, drop, filter, min, inl, inr, refl, sym, ap, subst, arith}
+use Rattle.std.specs.Prelude.{count_by, not, ◌==◌, ◌&&◌, ◌||◌}
+use Rattle.std.proofs.lemmas.Bool.{false≢true}
+use Rattle.std.proofs.lemmas.List.{drop_min, take_min}
 use Rattle.std.proofs.lemmas.List.Elements.{filter-append}
+use Rattle.std.proofs.lemmas.List.Sums.{count_by-le-length}
 use Rattle.laws.proofs.Counts.{count-append, count-cons, count-cons_yes}
+use Rattle.model.specs.Topology.{IsIn}
 use Rattle.commands.specs.State.{Kept}
 use Rattle.commands.specs.declared.picks.Pick.{Pick}
 use Rattle.broker.specs.declared.rounds.waiters.Waiter.{Waiter}
 use Rattle.broker.specs.Lines.{turned, standing, AreDistinct}
-use Rattle.broker.specs.Rounds.{Waiters, picks, order, is_consumer, has_its_consumer, is_of, KeepsThose, KeepsLine, LetsIn, AreFound}
+use Rattle.broker.specs.Rounds.{picks, is_consumer, is_of, remains, AreFound}
 use Rattle.broker.proofs.Among.{one_consumer, same_consumer}
-use Rattle.broker.proofs.Picks.{picks_length, picks_swept, picks_end}
-use Rattle.broker.proofs.Standing.{fewer, one_more, distinct_turned, filter_twice, filter_end}
+use Rattle.broker.proofs.Lining.{in_either}
+use Rattle.broker.proofs.Picks.{of_waiter, picks_length, picks_swept}
+use Rattle.broker.proofs.Standing.{fewer, one_more, from_turned, in_turned}
 use Rattle.broker.proofs.Waking.{both, and}
 
 -- ---- a sweep
@@ -42,48 +46,103 @@ module _ {X : Type 0} (test : X → Bool) where
   pub turned_filter : (n : ℕ) (xs : List X) → turned (count_by test (take n xs)) (filter test xs) ≡ filter test (turned n xs)
   turned_filter n xs = cc (take_filter n xs, drop_filter n xs, filter-append test (drop n xs) (take n xs))
 
--- of the consumers of waiters as many are there
-count_picks : (kept : Kept) (queue : ℕ) (n : ℕ) (waiters : List Waiter) → count_by (has_its_consumer kept queue) (take n waiters) ≡ count_by (is_of kept queue) (take n (picks waiters))
-count_picks kept queue zero waiters = refl
-count_picks kept queue (suc n) [] = refl
-count_picks kept queue (suc n) (s ∷ waiters) =
-    count-cons (has_its_consumer kept queue) s (take n waiters) ∙ ap (λ (k : ℕ). cond (is_of kept queue s.pick) 1 0 + k) (count_picks kept queue n waiters) ∙ sym (count-cons (is_of kept queue) s.pick (take n (picks waiters)))
-
--- those who are there are gone round as before
-pub order_swept : (kept : Kept) (queue : ℕ) (old new : List Waiter) (next before now : ℕ) → new ≡ filter (has_its_consumer kept queue) old → before ≡ min next (length old) → now ≡ count_by (has_its_consumer kept queue) (take before old)
-    → turned now (picks new) ≡ filter (is_of kept queue) (turned next (picks old))
-order_swept kept queue old new next before now is first count =
-    ap (λ (n : ℕ). turned n (picks new)) (count ∙ count_picks kept queue before old) ∙ ap (turned (count_by (is_of kept queue) (take before (picks old)))) (ap picks is ∙ picks_swept kept queue old)
-    ∙ turned_filter (is_of kept queue) before (picks old) ∙ ap (filter (is_of kept queue)) from_end
+-- where all pass, all stay
+pub filter_all : {X : Type 0} (test : X → Bool) (xs : List X) → ((x : X) → IsIn x xs → test x ≡ true) → filter test xs ≡ xs
+filter_all test [] all = refl
+filter_all test (x ∷ xs) all = go (test x) (all x (inl refl)) (filter_all test xs (λ y i. all y (inr i)))
   where
-    from_end : turned before (picks old) ≡ turned next (picks old)
-    from_end = subst (λ (n : ℕ). turned n (picks old) ≡ turned next (picks old)) (sym (first ∙ ap (min next) (sym (picks_length old)))) (cc (drop_min next (picks old), take_min next (picks old)))
+    go : (v : Bool) → v ≡ true → filter test xs ≡ xs → cond v (x ∷ filter test xs) (filter test xs) ≡ x ∷ xs
+    go true e more = ap (λ (ys : List _). x ∷ ys) more
+    go false e more = absurd (false≢true e)
 
-pub those_swept : (kept : Kept) (queue : ℕ) (old new : List Waiter) (next before now : ℕ) → new ≡ filter (has_its_consumer kept queue) old → before ≡ min next (length old) → now ≡ count_by (has_its_consumer kept queue) (take before old)
-    → KeepsThose kept queue (turned next (picks old)) (turned now (picks new))
-those_swept kept queue old new next before now is first count test there = ap (filter test) (order_swept kept queue old new next before now is first count) ∙ filter_twice test (is_of kept queue) (turned next (picks old)) there
+-- and where as many pass as there are, all do
+pub all_counted : {X : Type 0} (test : X → Bool) (xs : List X) → count_by test xs ≡ length xs → (x : X) → IsIn x xs → test x ≡ true
+all_counted test [] same x i = absurd i
+all_counted test (y ∷ xs) same x i = go (test y) refl i (λ less j. all_counted test xs less x j)
+  where
+    count : count_by test (y ∷ xs) ≡ cond (test y) 1 0 + count_by test xs
+    count = count-cons test y xs
 
--- ---- one more at the end
+    most : count_by test xs ≤ length xs
+    most = count_by-le-length test xs
 
-pub others_end : (waiters : List Waiter) (s : Waiter) (next : ℕ) (test : Pick → Bool) → test s.pick ≡ false → filter test (turned next (picks (waiters ++ s ∷ []))) ≡ filter test (turned next (picks waiters))
-others_end waiters s next test none = ap (λ (ps : List Pick). filter test (turned next ps)) (picks_end waiters s) ∙ filter_end test s.pick next (picks waiters) none
+    go : (v : Bool) → test y ≡ v → IsIn x (y ∷ xs) → (count_by test xs ≡ length xs → IsIn x xs → test x ≡ true) → test x ≡ true
+    go true e (inl s) rest = ap test s ∙ e
+    go true e (inr j) rest = let one : cond (test y) 1 0 + count_by test xs ≡ 1 + count_by test xs = ap (λ (w : Bool). cond w 1 0 + count_by test xs) e in rest (omega (arith, same, count, one)) j
+    go false e j rest = let none : cond (test y) 1 0 + count_by test xs ≡ 0 + count_by test xs = ap (λ (w : Bool). cond w 1 0 + count_by test xs) e in absurd (omega (arith, same, count, none, most))
+
+-- ---- a sweep of waiters, by a test of their consumers
+
+module _ (test : Pick → Bool) where
+  -- of the consumers of waiters as many pass
+  count_picks : (n : ℕ) (waiters : List Waiter) → count_by (of_waiter test) (take n waiters) ≡ count_by test (take n (picks waiters))
+  count_picks zero waiters = refl
+  count_picks (suc n) [] = refl
+  count_picks (suc n) (s ∷ waiters) =
+      count-cons (of_waiter test) s (take n waiters) ∙ ap (λ (k : ℕ). cond (test s.pick) 1 0 + k) (count_picks n waiters) ∙ sym (count-cons test s.pick (take n (picks waiters)))
+
+  -- those who pass are gone round as before
+  pub order_swept : (old new : List Waiter) (next before now : ℕ) → new ≡ filter (of_waiter test) old → before ≡ min next (length old) → now ≡ count_by (of_waiter test) (take before old)
+      → turned now (picks new) ≡ filter test (turned next (picks old))
+  order_swept old new next before now is first count =
+      ap (λ (n : ℕ). turned n (picks new)) (count ∙ count_picks before old) ∙ ap (turned (count_by test (take before (picks old)))) (ap picks is ∙ picks_swept test old)
+      ∙ turned_filter test before (picks old) ∙ ap (filter test) from_end
+    where
+      from_end : turned before (picks old) ≡ turned next (picks old)
+      from_end = subst (λ (n : ℕ). turned n (picks old) ≡ turned next (picks old)) (sym (first ∙ ap (min next) (sym (picks_length old)))) (cc (drop_min next (picks old), take_min next (picks old)))
+
+  -- where all pass, all are gone round as before
+  pub order_all : (waiters : List Waiter) (next : ℕ) → count_by (of_waiter test) waiters ≡ length waiters → turned next (picks waiters) ≡ filter test (turned next (picks waiters))
+  order_all waiters next same = sym (filter_all test (turned next (picks waiters)) (λ p i. all p (from_turned p (picks waiters) next i)))
+    where
+      all : (p : Pick) → IsIn p (picks waiters) → test p ≡ true
+      all p i = go waiters (λ s j. all_counted (of_waiter test) waiters same s j) i
+        where
+          go : (ws : List Waiter) → ((s : Waiter) → IsIn s ws → test s.pick ≡ true) → IsIn p (picks ws) → test p ≡ true
+          go [] each j = absurd j
+          go (s ∷ ws) each (inl e) = ap test e ∙ each s (inl refl)
+          go (s ∷ ws) each (inr j) = go ws (λ t k. each t (inr k)) j
+
+-- ---- who remains
+
+-- whoever is there and takes from the queue
+pub of_remains : (kept : Kept) (queue c : ℕ) (p : Pick) → is_of kept queue p ≡ true → remains kept queue c p ≡ true
+of_remains kept queue c p its = go (p.connection == c) (is_of kept queue p) its
+  where
+    go : (u v : Bool) → v ≡ true → (not u || v) ≡ true
+    go true true e = refl
+    go true false e = absurd (false≢true e)
+    go false v e = refl
+
+-- and of this connection nobody else
+pub remains_of : (kept : Kept) (queue c : ℕ) (p : Pick) → remains kept queue c p ≡ true → (p.connection == c) ≡ true → is_of kept queue p ≡ true
+remains_of kept queue c p its here = subst (λ (u : Bool). (not u || is_of kept queue p) ≡ true) here its
+
+-- ---- one more
 
 -- where no two are one, and those who were there are gone round as before, this one comes in
-pub lets_in : (kept : Kept) (queue : ℕ) (p : Pick) (old new : Waiters) → AreDistinct (picks new.waiters) → KeepsLine kept queue old new → LetsIn kept queue p old new
-lets_in kept queue p old new apart keeps before after of wait more q its =
-    let here : standing (is_consumer q) (filter after (order new)) ≤ standing (is_consumer q) (filter left (order old)) + 1 =
-    subst (λ (ps : List Pick). standing (is_consumer q) (filter after (order new)) ≤ standing (is_consumer q) ps + 1) (keeps left (λ x t. (of x (parts x t).0, wait x (parts x t).1)))
-    (one_more (is_consumer q) q (one_consumer q) (same_consumer q) p after left (order new) (λ x a. elim (more x a) [ inl b ↦ inl (and (after x) (before x) a b) | inr e ↦ inr e ]) (distinct_turned new.next (picks new.waiters) apart) its) in
-    let there : standing (is_consumer q) (filter left (order old)) ≤ standing (is_consumer q) (filter before (order old)) =
-    fewer (is_consumer q) q (one_consumer q) (same_consumer q) left before (order old) (λ x i t. (parts x t).1) (λ b. and (after q) (before q) its b) in
+pub lets_in : (p : Pick) (was now : List Pick) (before after : Pick → Bool) → AreDistinct now → filter (λ (x : Pick). after x && before x) now ≡ filter (λ (x : Pick). after x && before x) was
+    → ((q : Pick) → after q ≡ true → (before q ≡ true) ⊎ (q ≡ p)) → (q : Pick) → after q ≡ true → standing (is_consumer q) (filter after now) ≤ standing (is_consumer q) (filter before was) + 1
+lets_in p was now before after apart keeps more q its =
+    let here : standing (is_consumer q) (filter after now) ≤ standing (is_consumer q) (filter left was) + 1 =
+    subst (λ (ps : List Pick). standing (is_consumer q) (filter after now) ≤ standing (is_consumer q) ps + 1) keeps
+    (one_more (is_consumer q) q (one_consumer q) (same_consumer q) p after left now (λ x a. elim (more x a) [ inl b ↦ inl (and (after x) (before x) a b) | inr e ↦ inr e ]) apart its) in
+    let there : standing (is_consumer q) (filter left was) ≤ standing (is_consumer q) (filter before was) =
+    fewer (is_consumer q) q (one_consumer q) (same_consumer q) left before was (λ x i t. (both (after x) (before x) t).1) (λ b. and (after q) (before q) its b) in
     omega (arith, here, there)
   where
     -- who was there before and is there after
     left : Pick → Bool
     left x = after x && before x
 
-    parts : (x : Pick) → left x ≡ true → (after x ≡ true) × (before x ≡ true)
-    parts x t = both (after x) (before x) t
+-- whoever stands in a line behind which one came stood there, or is this one
+pub came_last : (p q : Pick) (next : ℕ) (ps : List Pick) → IsIn q (turned next (ps ++ p ∷ [])) → IsIn q (turned next ps) ⊎ (q ≡ p)
+came_last p q next ps i = go (in_either q ps (p ∷ []) (from_turned q (ps ++ p ∷ []) next i))
+  where
+    go : IsIn q ps ⊎ IsIn q (p ∷ []) → IsIn q (turned next ps) ⊎ (q ≡ p)
+    go (inl j) = inl (in_turned q ps next j)
+    go (inr (inl s)) = inr s
+    go (inr (inr none)) = absurd none
 
 -- ---- how many there are
 

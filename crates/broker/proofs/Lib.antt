@@ -13,10 +13,10 @@ mod Picks
 mod Present
 mod Reloading
 mod Rising
-mod Sizing
 mod Sleepers
 mod Sleeping
 mod Standing
+mod Staying
 mod Stepped
 mod Takers
 mod Turning

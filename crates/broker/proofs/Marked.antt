@@ -59,12 +59,12 @@ marked_set rounds marks queue r here m = record {
   where
     go : (place : ℕ) (p : Pick) → IsAwake (round_at (set rounds queue r) place) p → (v : Bool) → (place == queue) ≡ v → bit_of marks place ≡ 1
     go place p up true f = ap (bit_of marks) (eqb-true place queue f) ∙ here
-    go place p up false f = m.awake place p (subst (λ (x : Waiters). IsAwake x p) (get_or-set_other rounds queue place r (record { waiters = []; marks = []; next = 0; found = 0; capacity = 0 }) (apart place queue f)) up)
+    go place p up false f = m.awake place p (subst (λ (x : Waiters). IsAwake x p) (get_or-set_other rounds queue place r (record { waiters = []; marks = []; next = 0; capacity = 0 }) (apart place queue f)) up)
 
 -- the round of one queue changes, and no other
 module _ (rounds : List Waiters) (queue : ℕ) (r : Waiters) (lt : queue < length rounds) where
   abbrev no_waiters : Waiters
-  no_waiters = record { waiters = []; marks = []; next = 0; found = 0; capacity = 0 }
+  no_waiters = record { waiters = []; marks = []; next = 0; capacity = 0 }
 
   pub set_here : (place : ℕ) → (place == queue) ≡ true → round_at (set rounds queue r) place ≡ r
   set_here place f = ap (round_at (set rounds queue r)) (eqb-true place queue f) ∙ get_or-set_same rounds queue r no_waiters lt
@@ -105,7 +105,7 @@ module _ (rounds : List Waiters) (queue : ℕ) (r : Waiters) (lt : queue < lengt
     where
       go : (v : Bool) → (place == queue) ≡ v → Wakens (round_at rounds place) (round_at (set rounds queue r) place)
       go true f = subst (λ (x : Waiters). Wakens x (round_at (set rounds queue r) place)) (sym (was_here place f)) (subst (Wakens (round_at rounds queue)) (sym (set_here place f)) w)
-      go false f = subst (Wakens (round_at rounds place)) (sym (set_there place f)) (record { awake = λ p up. up; asleep = λ p i. inl i; same = refl; next = refl; found = refl })
+      go false f = subst (Wakens (round_at rounds place)) (sym (set_there place f)) (record { awake = λ p up. up; asleep = λ p i. inl i; same = refl; next = refl })
 
 -- in the round of one queue nobody is awake who was not
 pub marked_still : (rounds : List Waiters) (marks : List ℕ) (queue : ℕ) (r : Waiters) → queue < length rounds → ((p : Pick) → IsAwake r p → IsAwake (round_at rounds queue) p) → QueuesAreMarked rounds marks → QueuesAreMarked (set rounds queue r) marks

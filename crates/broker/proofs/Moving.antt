@@ -11,8 +11,8 @@ use Rattle.marks.specs.Places.{bit_of}
 use Rattle.channels.specs.Moving.{place_now}
 use Rattle.commands.specs.declared.picks.Pick.{Pick}
 use Rattle.broker.specs.declared.rounds.waiters.Waiter.{Waiter}
-use Rattle.broker.specs.Rounds.{Waiters, Lists, Listing, Listings, round_of, round_at, awake_waiter, asleep_waiter, listings_on, IsAwake, QueuesAreMarked}
-use Rattle.broker.specs.Moving.{all_awake, StandsIn, AllRoused, IsMoved, ArePlacesApart, listing_moved, channels_moved, all_moved, ListsAreMoved}
+use Rattle.broker.specs.Rounds.{Waiters, Lists, Listing, Listings, round_of, round_at, awake_waiter, asleep_waiter, listings_on, order, IsAwake, QueuesAreMarked}
+use Rattle.broker.specs.Moving.{all_awake, StandsIn, AllRoused, IsMoved, IsOfEither, ArePlacesApart, listing_moved, channels_moved, all_moved, ListsAreMoved}
 use Rattle.broker.proofs.Among.{place_in}
 use Rattle.broker.proofs.Sleeping.{apart}
 
@@ -52,13 +52,26 @@ marked_moved rounds old new place r lt len stay here m = record {
 }
   where
     none : Waiters
-    none = record { waiters = []; marks = []; next = 0; found = 0; capacity = 0 }
+    none = record { waiters = []; marks = []; next = 0; capacity = 0 }
 
     go : (q : ℕ) (p : Pick) → IsAwake (round_at (set rounds place r) q) p → (v : Bool) → (q == place) ≡ v → bit_of new q ≡ 1
     go q p up true f =
         let same = eqb-true q place f in
         ap (bit_of new) same ∙ here p (subst (λ (x : Waiters). IsAwake x p) (ap (round_at (set rounds place r)) same ∙ get_or-set_same rounds place r none lt) up)
     go q p up false f = stay q (m.awake q p (subst (λ (x : Waiters). IsAwake x p) (get_or-set_other rounds place q r none (apart q place f)) up))
+
+-- it goes on there as it did, and all others do
+pub either_set : (rounds : List Waiters) (place : ℕ) (r other : Waiters) → place < length rounds → order r ≡ order other → (i : ℕ) → IsOfEither place i (round_at rounds i) other (round_at (set rounds place r) i)
+either_set rounds place r other lt same i = go (i == place) refl
+  where
+    none : Waiters
+    none = record { waiters = []; marks = []; next = 0; capacity = 0 }
+
+    go : (v : Bool) → (i == place) ≡ v → IsOfEither place i (round_at rounds i) other (round_at (set rounds place r) i)
+    go true f =
+        let here = eqb-true i place f in
+        inr (here, ap order (ap (round_at (set rounds place r)) here ∙ get_or-set_same rounds place r none lt) ∙ same)
+    go false f = inl (ap order (get_or-set_other rounds place i r none (apart i place f)))
 
 -- one round more stands at its new place
 pub one_moved : (places : List ℕ) (olds mid new : List Waiters) (from : ℕ) → from < length places → ArePlacesApart places (length mid)

@@ -1,39 +1,29 @@
 -- Whoever could be told and is not is nearer to its turn.
-use Rattle.std.proofs.Common.{◌≡◌, ◌∙◌, ◌<◌, ◌≤◌, ◌+◌, ◌*◌, ◌⊎◌, ◌++◌, ℕ, suc, List, [], ◌∷◌, Bool, true, false, Option, Some, if◌then◌else◌, cond, length, filter, take, drop, inl, inr, refl, sym, ap, subst, arith}
+use Rattle.std.proofs.Common.{◌≡◌, ◌∙◌, ◌<◌, ◌≤◌, ◌+◌, ◌*◌, ◌⊎◌, ◌++◌, ℕ, suc, List, [], ◌∷◌, Bool, true, false, Option, Some, if◌then◌else◌, length, take, drop, inl, inr, refl, sym, ap, subst, arith}
 use Rattle.std.specs.Prelude.{◌==◌}
 use Rattle.std.proofs.lemmas.Bool.{eqb-true, false≢true}
 use Rattle.std.proofs.lemmas.List.{take-append-drop}
-use Rattle.std.proofs.lemmas.List.Elements.{filter-append}
 use Rattle.std.proofs.Math.Nat.{mul-le-mul_right}
 use Rattle.model.specs.Topology.{IsIn}
 use Rattle.model.specs.Broker.{Broker}
-use Rattle.exchange_graph.specs.Marks.{queue_name}
 use Rattle.commands.specs.State.{Kept, broker_of, topology_kept}
 use Rattle.commands.specs.Picked.{IsPickFrom}
 use Rattle.commands.specs.declared.picks.Pick.{Pick}
 use Rattle.broker.specs.declared.rounds.waiters.Waiter.{Waiter}
 use Rattle.broker.specs.Lines.{turned, ahead, standing, IsPassed}
-use Rattle.broker.specs.Rounds.{Waiters, Rounds, Lists, round_at, picks, order, line_of, takes_from, awake_waiter, asleep_waiter, is_consumer, IsInRound, GoesLast, PicksFirst}
+use Rattle.broker.specs.Rounds.{Waiters, Rounds, Lists, round_at, picks, order, awake_waiter, asleep_waiter, is_consumer, IsInRound, GoesLast, PicksFirst}
 use Rattle.broker.specs.Turns.{WithTurn, with_turn}
 use Rattle.broker.specs.Waiting.{line_at, standing_at, before, IsToldInTurn}
-use Rattle.broker.proofs.Among.{one_consumer, same_consumer, stays}
-use Rattle.broker.proofs.Lining.{in_either, in_place, filter_in, ahead_nearer, ahead_last}
+use Rattle.broker.proofs.Among.{one_consumer, same_consumer}
+use Rattle.broker.proofs.Lining.{in_either, in_place, ahead_nearer, ahead_last}
 use Rattle.broker.proofs.Picks.{picks_length, picks_at}
 use Rattle.broker.proofs.Present.{has_picked}
 use Rattle.broker.proofs.Joined.{Holds}
 use Rattle.broker.proofs.Sleeping.{apart}
-use Rattle.broker.proofs.Standing.{in_left, in_right}
-use Rattle.broker.proofs.Takers.{has_takes, line_is}
+use Rattle.broker.proofs.Standing.{in_left, in_turned}
+use Rattle.broker.proofs.Takers.{order_at}
 
 -- ---- who stands in a line
-
--- whoever is in a list is in it from any place on
-pub in_turned : {X : Type 0} (y : X) (xs : List X) (next : ℕ) → IsIn y xs → IsIn y (turned next xs)
-in_turned y xs next i = go (in_either y (take next xs) (drop next xs) (subst (IsIn y) (sym (take-append-drop next xs)) i))
-  where
-    go : IsIn y (take next xs) ⊎ IsIn y (drop next xs) → IsIn y (turned next xs)
-    go (inl j) = in_right y (drop next xs) (take next xs) j
-    go (inr j) = in_left y (drop next xs) (take next xs) j
 
 in_picks : (s : Waiter) (waiters : List Waiter) → IsIn s waiters → IsIn s.pick (picks waiters)
 in_picks s [] i = absurd i
@@ -103,25 +93,15 @@ less_on m x y lt = omega (arith, lt)
 
 -- ---- whoever is not told
 
--- a consumer that is told from the queue at this place, of those who take from it
-module _ (kept : Kept) (lists : Lists) (place : ℕ) (r s : Waiters) (q : Pick) (test : Pick → Bool) (goes : GoesLast kept lists place r s q) (own : test q ≡ true) where
-  line_was : filter test (order r) ≡ filter test goes.front ++ q ∷ filter test goes.back
-  line_was = ap (filter test) goes.was ∙ filter-append test goes.front (q ∷ goes.back) ∙ ap (λ (v : Bool). filter test goes.front ++ cond v (q ∷ filter test goes.back) (filter test goes.back)) own
+-- where another is told from its queue
+nearer_here : (kept : Kept) (lists : Lists) (place : ℕ) (r s : Waiters) (q p : Pick) → GoesLast kept lists place r s q → IsInRound (broker_of kept) lists place r p → IsPickFrom kept place p → (p ≡ q → ⊥)
+    → standing (is_consumer p) (order s) < standing (is_consumer p) (order r)
+nearer_here kept lists place r s q p goes joined pick far =
+    subst (λ (ps : List Pick). standing (is_consumer p) ps < standing (is_consumer p) (order r)) (sym goes.now)
+    (subst (λ (ps : List Pick). standing (is_consumer p) (goes.back ++ goes.front ++ q ∷ []) < standing (is_consumer p) ps) (sym goes.was)
+    (told_last p q goes.front goes.back (λ i. goes.passed p i joined pick) far (subst (IsIn p) goes.was (in_order (broker_of kept) lists place r p joined))))
 
-  line_now : filter test (order s) ≡ filter test goes.back ++ filter test goes.front ++ q ∷ []
-  line_now =
-      ap (filter test) goes.now ∙ filter-append test (goes.back ++ goes.front) (q ∷ []) ∙ ap (λ (ps : List Pick). ps ++ filter test (q ∷ [])) (filter-append test goes.back goes.front)
-      ∙ ap (λ (v : Bool). (filter test goes.back ++ filter test goes.front) ++ cond v (q ∷ []) []) own
-
-  pub nearer_here : (p : Pick) → IsInRound (broker_of kept) lists place r p → IsPickFrom kept place p → test p ≡ true → (p ≡ q → ⊥)
-      → standing (is_consumer p) (filter test (order s)) < standing (is_consumer p) (filter test (order r))
-  nearer_here p joined pick its far =
-      subst (λ (ps : List Pick). standing (is_consumer p) ps < standing (is_consumer p) (filter test (order r))) (sym line_now)
-      (subst (λ (ps : List Pick). standing (is_consumer p) (filter test goes.back ++ filter test goes.front ++ q ∷ []) < standing (is_consumer p) ps) (sym line_was)
-      (told_last p q (filter test goes.front) (filter test goes.back) (λ i. goes.passed p (filter_in test p goes.front i) joined pick) far
-      (subst (IsIn p) line_was (stays test p (order r) (in_order (broker_of kept) lists place r p joined) its))))
-
-module _ (kept : Kept) (old new : Rounds) (x : Option Pick) (q : Pick) (held : Holds kept old) (len : length new.rounds ≡ length old.rounds) (t : PicksFirst kept old new q) where
+module _ (kept : Kept) (old new : Rounds) (x : Option Pick) (q : Pick) (held : Holds kept old) (t : PicksFirst kept old new q) where
   abbrev pub was : WithTurn
   was = with_turn kept old x
 
@@ -131,22 +111,15 @@ module _ (kept : Kept) (old new : Rounds) (x : Option Pick) (q : Pick) (held : H
   abbrev n : ℕ
   n = length (topology_kept kept).queues
 
-  line_in : (r : Rounds) (y : Option Pick) (place : ℕ) → length r.rounds ≡ n → place < n → line_at (with_turn kept r y) place ≡ line_of (broker_of kept) (queue_name (topology_kept kept) place) (round_at r.rounds place)
-  line_in r y place long lt = line_is kept r.rounds place long lt
-
   -- from the queue from which one was told
   of_this : (p : Pick) → IsPickFrom kept t.queue p → (p ≡ q → ⊥) → standing_at now t.queue p * n + ahead n new.next t.queue < standing_at was t.queue p * n + ahead n old.next t.queue
   of_this p pick far =
       let lt = pick.within in
-      let long = len ∙ held.rounds_for in
-      let test = takes_from (broker_of kept) (queue_name (topology_kept kept) t.queue) in
-      let its = has_takes (topology_kept kept) (broker_of kept) t.queue p (has_picked kept t.queue p pick) in
-      let own = has_takes (topology_kept kept) (broker_of kept) t.queue q (has_picked kept t.queue q t.could) in
-      let less = nearer_here kept old.lists t.queue (round_at old.rounds t.queue) (round_at new.rounds t.queue) q test t.told.round own p (held.joined t.queue p (has_picked kept t.queue p pick)) pick its far in
+      let less = nearer_here kept old.lists t.queue (round_at old.rounds t.queue) (round_at new.rounds t.queue) q p t.told.round (held.joined t.queue p (has_picked kept t.queue p pick)) pick far in
       let last = subst (λ (k : ℕ). ahead n k t.queue < n) (sym t.next) (ahead_last n t.queue lt) in
       less_each (standing_at now t.queue p) (standing_at was t.queue p) n (ahead n new.next t.queue) (ahead n old.next t.queue)
-      (subst (λ (ps : List Pick). standing (is_consumer p) ps < standing_at was t.queue p) (sym (line_in new (Some q) t.queue long lt))
-      (subst (λ (ps : List Pick). standing (is_consumer p) (line_of (broker_of kept) (queue_name (topology_kept kept) t.queue) (round_at new.rounds t.queue)) < standing (is_consumer p) ps) (sym (line_in old x t.queue held.rounds_for lt)) less))
+      (subst (λ (ps : List Pick). standing (is_consumer p) ps < standing_at was t.queue p) (sym (order_at new.rounds t.queue))
+      (subst (λ (ps : List Pick). standing (is_consumer p) (order (round_at new.rounds t.queue)) < standing (is_consumer p) ps) (sym (order_at old.rounds t.queue)) less))
       last
 
   -- and from each other
@@ -155,8 +128,7 @@ module _ (kept : Kept) (old new : Rounds) (x : Option Pick) (q : Pick) (held : H
       let long = held.rounds_for in
       let lt = pick.within in
       let within = t.within in
-      let same : line_at now place ≡ line_at was place =
-      line_in new (Some q) place (len ∙ long) lt ∙ ap (filter (takes_from (broker_of kept) (queue_name (topology_kept kept) place))) (t.told.others place far) ∙ sym (line_in old x place long lt) in
+      let same : line_at now place ≡ line_at was place = order_at new.rounds place ∙ t.told.others place far ∙ sym (order_at old.rounds place) in
       let passed : IsPassed n old.next t.queue place → ⊥ =
       λ p'. t.passed place p (subst (λ (k : ℕ). IsPassed k old.next t.queue place) (sym long) p') (held.joined place p (has_picked kept place p pick)) pick in
       let less = ahead_nearer n old.next t.queue place (omega (arith, within, long)) lt far passed in

@@ -7,12 +7,11 @@ use Rattle.commands.specs.Picked.{IsPickFrom}
 use Rattle.commands.specs.declared.picks.Pick.{Pick}
 use Rattle.broker.specs.declared.rounds.waiters.Waiter.{Waiter}
 use Rattle.broker.specs.Lines.{turned, IsPassed, AreDistinct}
-use Rattle.broker.specs.Rounds.{Waiters, Rounds, Lists, round_at, picks, order, awake_waiter, IsInRound, NoneAwake, NoneAwakePassed, NoneBetween, NonePassed, GoesLast, SameOrders, PicksFrom, KeepsWaiters, KeepsLine, KeepLines, GoesOn, StaysAt, Wakens, AllWaken, IsBounded, AllAreBounded}
+use Rattle.broker.specs.Rounds.{Waiters, Rounds, Lists, round_at, picks, order, awake_waiter, IsInRound, NoneAwake, NoneAwakePassed, NoneBetween, NonePassed, GoesLast, SameOrders, PicksFrom, KeepsWaiters, KeepsLine, KeepLines, AddsOne, AddsItsOwn, AllAddTheirOwn, GoesOn, StaysAt, Wakens, AllWaken, is_of}
 use Rattle.broker.proofs.Lining.{GoneRound, gone_round, passed_on, passed_round, passed_least, distinct_place}
 use Rattle.broker.proofs.Marked.{set_here, set_there, was_here}
 use Rattle.broker.proofs.Picks.{picks_length, picks_at}
 use Rattle.broker.proofs.Takers.{picked_of}
-use Rattle.broker.proofs.Sizing.{sizes_woken}
 use Rattle.broker.proofs.Sleeping.{cannot_pick}
 
 -- ---- one round
@@ -121,29 +120,30 @@ pub goes_on : (old new : Rounds) → AllWaken old.rounds new.rounds → length n
 goes_on old new w len next = record {
   len = len;
   same = λ at. order_woken (round_at old.rounds at) (round_at new.rounds at) (w at);
-  sizes = sizes_woken old.rounds new.rounds w;
   next = next;
 }
 
 pub goes_then : (old mid new : Rounds) → GoesOn old mid → GoesOn mid new → GoesOn old new
-goes_then old mid new f g = record { len = g.len ∙ f.len; same = λ at. g.same at ∙ f.same at; sizes = λ at. g.sizes at ∙ f.sizes at; next = g.next ∙ f.next }
+goes_then old mid new f g = record { len = g.len ∙ f.len; same = λ at. g.same at ∙ f.same at; next = g.next ∙ f.next }
 
--- one round changes, in which those who are there are gone round as before
-pub lines_set : (kept : Kept) (rounds : List Waiters) (queue : ℕ) (r : Waiters) → queue < length rounds → KeepsLine kept queue (round_at rounds queue) r → KeepLines kept rounds (set rounds queue r)
-lines_set kept rounds queue r lt keeps place = go (place == queue) refl
+-- one round changes, and what holds of it and of each that doesn't change holds of each
+each_set : (P : ℕ → Waiters → Waiters → Type 0) (rounds : List Waiters) (queue : ℕ) (r : Waiters) → queue < length rounds → P queue (round_at rounds queue) r → ((place : ℕ) (x : Waiters) → P place x x)
+    → (place : ℕ) → P place (round_at rounds place) (round_at (set rounds queue r) place)
+each_set P rounds queue r lt here same place = go (place == queue) refl
   where
-    go : (v : Bool) → (place == queue) ≡ v → KeepsLine kept place (round_at rounds place) (round_at (set rounds queue r) place)
+    go : (v : Bool) → (place == queue) ≡ v → P place (round_at rounds place) (round_at (set rounds queue r) place)
     go true f =
-        subst (λ (n : ℕ). KeepsLine kept n (round_at rounds place) (round_at (set rounds queue r) place)) (sym (eqb-true place queue f))
-        (subst (λ (x : Waiters). KeepsLine kept queue x (round_at (set rounds queue r) place)) (sym (was_here rounds queue r lt place f)) (subst (λ (x : Waiters). KeepsLine kept queue (round_at rounds queue) x) (sym (set_here rounds queue r lt place f)) keeps))
-    go false f = λ test stand. ap (λ (x : Waiters). filter test (order x)) (set_there rounds queue r lt place f)
+        subst (λ (n : ℕ). P n (round_at rounds place) (round_at (set rounds queue r) place)) (sym (eqb-true place queue f))
+        (subst (λ (x : Waiters). P queue x (round_at (set rounds queue r) place)) (sym (was_here rounds queue r lt place f)) (subst (λ (x : Waiters). P queue (round_at rounds queue) x) (sym (set_here rounds queue r lt place f)) here))
+    go false f = subst (λ (x : Waiters). P place (round_at rounds place) x) (sym (set_there rounds queue r lt place f)) (same place (round_at rounds place))
 
--- one round changes, which keeps few waiters
-pub bounded_set : (kept : Kept) (rounds : List Waiters) (queue : ℕ) (r : Waiters) → queue < length rounds → IsBounded kept queue (round_at rounds queue) r → AllAreBounded kept rounds (set rounds queue r)
-bounded_set kept rounds queue r lt bounded place = go (place == queue) refl
-  where
-    go : (v : Bool) → (place == queue) ≡ v → IsBounded kept place (round_at rounds place) (round_at (set rounds queue r) place)
-    go true f =
-        subst (λ (n : ℕ). IsBounded kept n (round_at rounds place) (round_at (set rounds queue r) place)) (sym (eqb-true place queue f))
-        (subst (λ (x : Waiters). IsBounded kept queue x (round_at (set rounds queue r) place)) (sym (was_here rounds queue r lt place f)) (subst (λ (x : Waiters). IsBounded kept queue (round_at rounds queue) x) (sym (set_here rounds queue r lt place f)) bounded))
-    go false f = subst (λ (x : Waiters). IsBounded kept place (round_at rounds place) x) (sym (set_there rounds queue r lt place f)) (record { few = λ few. few; found = inl refl })
+-- those who were there are gone round as before
+pub lines_set : (rounds : List Waiters) (queue : ℕ) (r : Waiters) → queue < length rounds → KeepsLine (round_at rounds queue) r → KeepLines rounds (set rounds queue r)
+lines_set rounds queue r lt keeps = each_set (λ (place : ℕ) (x y : Waiters). KeepsLine x y) rounds queue r lt keeps (λ place x test stand. refl)
+
+-- and one comes in
+pub adds_set : (kept : Kept) (rounds : List Waiters) (queue : ℕ) (r : Waiters) (p : Pick) → queue < length rounds → AddsOne p (round_at rounds queue) r → is_of kept queue p ≡ true → AllAddTheirOwn kept rounds (set rounds queue r)
+adds_set kept rounds queue r p lt adds its =
+    each_set (λ (place : ℕ) (x y : Waiters). AddsItsOwn kept place x y) rounds queue r lt
+    (record { came = λ q i. elim (adds.came q i) [ inl was ↦ inl was | inr same ↦ inr (subst (λ (z : Pick). is_of kept queue z ≡ true) (sym same) its) ]; once = λ apart. adds.once })
+    (λ place x. record { came = λ q i. inl i; once = λ apart. apart })

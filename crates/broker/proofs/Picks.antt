@@ -1,13 +1,12 @@
 -- The consumers of waiters, in their order.
 use Rattle.std.proofs.Common.{◌≡◌, ◌∙◌, ◌<◌, ℕ, zero, suc, List, [], ◌∷◌, Bool, true, false, cond, length, get_or, set, filter, refl, sym, ap, subst, inl, inr, ◌++◌, arith}
 use Rattle.model.specs.Topology.{IsIn}
-use Rattle.commands.specs.State.{Kept}
 use Rattle.commands.specs.declared.picks.Pick.{Pick}
 use Rattle.broker.specs.declared.rounds.waiters.Waiter.{Waiter}
 use Rattle.broker.specs.Lines.{AreDistinct}
-use Rattle.broker.specs.Rounds.{picks, has_its_consumer, is_of}
+use Rattle.broker.specs.Rounds.{picks}
 use Rattle.broker.specs.Moving.{all_awake}
-use Rattle.broker.proofs.Lining.{filter_in, filter_distinct, distinct_end}
+use Rattle.broker.proofs.Lining.{filter_distinct, distinct_end}
 
 pub picks_length : (waiters : List Waiter) → length (picks waiters) ≡ length waiters
 picks_length [] = refl
@@ -28,21 +27,22 @@ pub picks_awake : (waiters : List Waiter) → picks (all_awake waiters) ≡ pick
 picks_awake [] = refl
 picks_awake (s ∷ waiters) = ap (λ (ps : List Pick). s.pick ∷ ps) (picks_awake waiters)
 
--- of those that are left after a sweep
-pub picks_swept : (kept : Kept) (queue : ℕ) (waiters : List Waiter) → picks (filter (has_its_consumer kept queue) waiters) ≡ filter (is_of kept queue) (picks waiters)
-picks_swept kept queue [] = refl
-picks_swept kept queue (s ∷ waiters) = go (is_of kept queue s.pick) (picks_swept kept queue waiters)
+-- the test of a waiter's consumer
+abbrev pub of_waiter : (Pick → Bool) → Waiter → Bool
+of_waiter test s = test s.pick
+
+-- of those whose consumers pass a test
+pub picks_swept : (test : Pick → Bool) (waiters : List Waiter) → picks (filter (of_waiter test) waiters) ≡ filter test (picks waiters)
+picks_swept test [] = refl
+picks_swept test (s ∷ waiters) = go (test s.pick) (picks_swept test waiters)
   where
-    go : (v : Bool) → picks (filter (has_its_consumer kept queue) waiters) ≡ filter (is_of kept queue) (picks waiters)
-        → picks (cond v (s ∷ filter (has_its_consumer kept queue) waiters) (filter (has_its_consumer kept queue) waiters)) ≡ cond v (s.pick ∷ filter (is_of kept queue) (picks waiters)) (filter (is_of kept queue) (picks waiters))
+    go : (v : Bool) → picks (filter (of_waiter test) waiters) ≡ filter test (picks waiters)
+        → picks (cond v (s ∷ filter (of_waiter test) waiters) (filter (of_waiter test) waiters)) ≡ cond v (s.pick ∷ filter test (picks waiters)) (filter test (picks waiters))
     go true e = ap (λ (ps : List Pick). s.pick ∷ ps) e
     go false e = e
 
-pub fewer_swept : (kept : Kept) (queue : ℕ) (old new : List Waiter) → new ≡ filter (has_its_consumer kept queue) old → (p : Pick) → IsIn p (picks new) → IsIn p (picks old)
-fewer_swept kept queue old new is p i = filter_in (is_of kept queue) p (picks old) (subst (IsIn p) (ap picks is ∙ picks_swept kept queue old) i)
-
-pub apart_swept : (kept : Kept) (queue : ℕ) (old new : List Waiter) → new ≡ filter (has_its_consumer kept queue) old → AreDistinct (picks old) → AreDistinct (picks new)
-apart_swept kept queue old new is apart = subst (λ (ps : List Pick). AreDistinct ps) (sym (ap picks is ∙ picks_swept kept queue old)) (filter_distinct (is_of kept queue) (picks old) apart)
+pub apart_swept : (test : Pick → Bool) (old new : List Waiter) → new ≡ filter (of_waiter test) old → AreDistinct (picks old) → AreDistinct (picks new)
+apart_swept test old new is apart = subst (λ (ps : List Pick). AreDistinct ps) (sym (ap picks is ∙ picks_swept test old)) (filter_distinct test (picks old) apart)
 
 -- a waiter more at the end, of a consumer that had none
 pub picks_end : (waiters : List Waiter) (s : Waiter) → picks (waiters ++ s ∷ []) ≡ picks waiters ++ s.pick ∷ []

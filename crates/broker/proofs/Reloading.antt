@@ -1,7 +1,8 @@
 -- Another topology is in force: what every broker keeps.
-use Rattle.std.proofs.Common.{◌≡◌, ◌∙◌, ◌<◌, ℕ, List, [], Bool, Option, None, length, filter, get_or, inl, inr, refl, sym, ap, subst, arith}
+use Rattle.std.proofs.Common.{◌≡◌, ◌∙◌, ◌<◌, ◌+◌, ℕ, zero, suc, List, [], true, Option, None, length, get_or, inl, inr, refl, sym, ap, subst, arith}
 use Rattle.std.specs.Prelude.{count_by}
-use Rattle.std.proofs.Math.Path.{fun_ext}
+use Rattle.std.proofs.lemmas.Bool.Decides.{leb_tells}
+use Rattle.std.proofs.lemmas.List.{get_or_past}
 use Rattle.model.specs.Words.{Text}
 use Rattle.model.specs.Topology.{IsIn, AreApart}
 use Rattle.model.specs.Broker as seen
@@ -25,14 +26,14 @@ use Rattle.commands.proofs.Placing.{takes_within}
 use Rattle.commands.proofs.Reloading.{in_mapped, seen_of, one_place}
 use Rattle.commands.proofs.Stepping.{seen_there}
 use Rattle.exchange_graph.specs.Marks.{queue_name}
-use Rattle.broker.specs.Rounds.{Rounds, Lists, Waiters, round_at, order, has_taker, takes_from, IsAwake, IsInRound, listing, HasConsumer, AllAreInRounds, AllAreNoted, IsNoted, IsServing, AllAreEmpty}
-use Rattle.broker.specs.Moving.{StandsIn, IsMoved, ArePlacesApart, RoundsAreMoved, SizesCome, ListsAreMoved}
-use Rattle.broker.specs.Sizes.{SizesMove}
+use Rattle.broker.specs.declared.rounds.waiters.Waiter.{Waiter}
+use Rattle.broker.specs.Lines.{turned, AreDistinct}
+use Rattle.broker.specs.Rounds.{Rounds, Lists, Waiters, round_at, picks, order, is_of, IsAwake, IsInRound, listing, HasConsumer, AllAreInRounds, AllAreNoted, AreItsConsumers, AllAreConsumers, IsNoted, IsServing, AllAreEmpty}
+use Rattle.broker.specs.Moving.{StandsIn, IsMoved, ArePlacesApart, RoundsAreMoved, LinesCome, ListsAreMoved}
 use Rattle.broker.specs.Turns.{with_turn}
-use Rattle.broker.specs.Waiting.{line_at, LinesMove}
-use Rattle.broker.proofs.Joined.{Holds, serves, running_still}
-use Rattle.broker.proofs.Sizing.{few_came, size_is}
-use Rattle.broker.proofs.Takers.{line_is}
+use Rattle.broker.specs.Waiting.{LinesMove}
+use Rattle.broker.proofs.Joined.{serves, running_still}
+use Rattle.broker.proofs.Takers.{has_of, of_has, order_at}
 
 -- ---- what is held and what is outstanding
 
@@ -94,6 +95,24 @@ stands : (b : Broker) (lists : Lists) (queue : ℕ) (r : Waiters) (p : Pick) →
 stands b lists queue r p (inl up) = inl up
 stands b lists queue r p (inr s) = inr s.asleep
 
+-- a round that isn't there
+abbrev no_round : Waiters
+no_round = record { waiters = []; marks = []; next = 0; capacity = 0 }
+
+-- nobody stands in a round without waiters
+order_none : (r : Waiters) → r.waiters ≡ [] → order r ≡ []
+order_none r none = ap (λ (ws : List Waiter). turned r.next (picks ws)) none ∙ turned_none r.next
+  where
+    turned_none : (n : ℕ) → turned {X = Pick} n [] ≡ []
+    turned_none zero = refl
+    turned_none (suc n) = refl
+
+own_none : (kept : Kept) (r : Waiters) (place : ℕ) → order r ≡ [] → AreItsConsumers kept place (order r)
+own_none kept r place none = record { there = λ p i. absurd (subst (IsIn p) none i); once = subst (λ (ps : List Pick). AreDistinct ps) (sym none) tt }
+
+pub own_empty : (kept : Kept) (rounds : List Waiters) → AllAreEmpty rounds → AllAreConsumers kept rounds
+own_empty kept rounds none place = own_none kept (round_at rounds place) place (order_none (round_at rounds place) (none place))
+
 module _ (old new : Kept) (places : List ℕ) (after : IsStoreWhole new.store) (placed : ArePlaced old) (moved : AreMoved (names_of old) (names_of new) places)
     (stood : Is (with_all_stood (broker_of old)) (broker_of new)) where
   was_at : (place : ℕ) (p : Pick) → HasConsumer (topology_kept new) (broker_of new) place p → Was old places place p
@@ -136,17 +155,49 @@ module _ (old new : Kept) (places : List ℕ) (after : IsStoreWhole new.store) (
       let was = was_at place p has in
       subst (λ (n : ℕ). IsNoted left.lists (listing n p)) was.now (lists.noted (listing was.from p) (noted was.from p was.has))
 
-  pub serves_moved : (before empty left : Rounds) → IsServing old before → RoundsAreMoved places before.rounds left.rounds → SizesCome before.rounds empty.rounds left.rounds → AllAreEmpty empty.rounds → ListsAreMoved places before.lists left.lists
+  -- whoever took from a queue that is there still takes from it at its new place
+  of_moved : (from place : ℕ) (p : Pick) → from < length places → place_now places from ≡ place → place < length (topology_kept new).queues → is_of old from p ≡ true → is_of new place p ≡ true
+  of_moved from place p lt now within its =
+      let more = names-length (topology_kept new).queues in
+      let len = moved.len in
+      let here : get_or places from 0 ≡ place = same_default places from 0 from lt ∙ now in
+      let has = of_has old from p its in
+      let named : queue_name (topology_kept new) place ≡ queue_name (topology_kept old) from =
+      elim (moved.each from (omega (arith, lt, len))) [
+        | stays inside is ↦ ap (λ (n : ℕ). get_or (names_of new) n []) (sym here) ∙ is
+        | goes gone behind ↦ absurd (omega (arith, behind, here, within, more))
+      ] in
+      has_of new place p
+      (record { consumer = has.consumer; was = (has.was.0, stood.channels p.connection p.channel ∙ has.was.1, has.was.2); numbered = has.numbered; within = within; named = named ∙ has.named })
+
+  -- so each line has its consumers, each once
+  own_moved : (before empty left : Rounds) → AllAreConsumers old before.rounds → LinesCome places before.rounds empty.rounds left.rounds → AllAreEmpty empty.rounds → length left.rounds ≡ length (topology_kept new).queues → AllAreConsumers new left.rounds
+  own_moved before empty left own came none len place = elim (came place) [
+    | inl same ↦ own_none new (round_at left.rounds place) place (same ∙ order_none (round_at empty.rounds place) (none place))
+    | inr its ↦
+        let was = own its.from in
+        record {
+          there = λ p i.
+              let from = its.from in
+              of_moved from place p its.within its.there (inside place p i) (was.there p (subst (IsIn p) its.same i));
+          once = subst (λ (ps : List Pick). AreDistinct ps) (sym its.same) was.once;
+        }
+  ]
+    where
+      -- a round in which somebody stands is there
+      inside : (at : ℕ) (p : Pick) → IsIn p (order (round_at left.rounds at)) → at < length (topology_kept new).queues
+      inside at p i = elim (leb_tells (at + 1) (length left.rounds)) [
+        | inl a ↦ let lt = a.1 in omega (arith, lt, len)
+        | inr a ↦ let past = a.1 in absurd (subst (IsIn p) (ap order (get_or_past left.rounds at no_round (omega (arith, past)))) i)
+      ]
+
+  pub serves_moved : (before empty left : Rounds) → IsServing old before → RoundsAreMoved places before.rounds left.rounds → LinesCome places before.rounds empty.rounds left.rounds → AllAreEmpty empty.rounds → ListsAreMoved places before.lists left.lists
       → length left.rounds ≡ length (topology_kept new).queues → IsServing new left
   serves_moved before empty left serving rounds came none lists len =
       serves new left
       (record { agreed = agreed_stood (broker_of old) (broker_of new) stood serving.agreed; rounds_for = len; joined = joined_moved before left serving.joined rounds len; noted = noted_moved before left serving.noted lists })
       (running_still (broker_of old) (broker_of new) before.lists left.lists (λ d none. sym (stood.connections d) ∙ none) lists.made serving.running)
-      (few_came before.rounds empty.rounds left.rounds came none serving.few)
-
-  -- whoever takes from a queue takes from it still
-  takes_still : (q : Text) → takes_from (broker_of new) q ≡ takes_from (broker_of old) q
-  takes_still q = fun_ext (λ p. ap (has_taker q p.number) (stood.channels p.connection p.channel))
+      (own_moved before empty left serving.own came none len)
 
   -- the round of each queue that is there still stands at its new place
   round_moved : (before left : Rounds) → RoundsAreMoved places before.rounds left.rounds → length left.rounds ≡ length (topology_kept new).queues
@@ -165,26 +216,9 @@ module _ (old new : Kept) (places : List ℕ) (after : IsStoreWhole new.store) (
       subst (λ (n : ℕ). IsMoved (round_at before.rounds from) (round_at left.rounds n)) now (rounds from (omega (arith, lt, long, size)) (omega (arith, now, within, len)))
 
   -- so each has its line
-  pub lines_moved : (before left : Rounds) (x : Option Pick) → Holds old before → RoundsAreMoved places before.rounds left.rounds → length left.rounds ≡ length (topology_kept new).queues → left.next ≡ 0
+  pub lines_moved : (before left : Rounds) (x : Option Pick) → RoundsAreMoved places before.rounds left.rounds → length left.rounds ≡ length (topology_kept new).queues → left.next ≡ 0
       → LinesMove (with_turn old before x) (with_turn new left None)
-  lines_moved before left x held rounds len next = record { next = next; lines = lines }
-    where
-      lines : (from to : ℕ) → from < length (topology_kept old).queues → to < length (topology_kept new).queues → queue_name (topology_kept old) from ≡ queue_name (topology_kept new) to
-          → line_at (with_turn new left None) to ≡ line_at (with_turn old before x) from
-      lines from to lt within named =
-          line_is new left.rounds to len within
-          ∙ ap (λ (q : Text). filter (takes_from (broker_of new) q) (order (round_at left.rounds to))) (sym named)
-          ∙ ap (λ (test : Pick → Bool). filter test (order (round_at left.rounds to))) (takes_still (queue_name (topology_kept old) from))
-          ∙ ap (filter (takes_from (broker_of old) (queue_name (topology_kept old) from))) (round_moved before left rounds len from to lt within named).same
-          ∙ sym (line_is old before.rounds from held.rounds_for lt)
-
-  -- and its size
-  pub sizes_moved : (before empty left : Rounds) (x : Option Pick) → RoundsAreMoved places before.rounds left.rounds → SizesCome before.rounds empty.rounds left.rounds → AllAreEmpty empty.rounds
-      → length left.rounds ≡ length (topology_kept new).queues → SizesMove (with_turn old before x) (with_turn new left None)
-  sizes_moved before empty left x rounds came none len = record {
-    sizes = λ from to lt within named. size_is left.rounds to ∙ (round_moved before left rounds len from to lt within named).size ∙ sym (size_is before.rounds from);
-    came = λ to. elim (came to) [
-      | inl same ↦ inl (size_is left.rounds to ∙ same ∙ none to)
-      | inr its ↦ inr (its.0, size_is left.rounds to ∙ its.1 ∙ sym (size_is before.rounds its.0))
-    ];
+  lines_moved before left x rounds len next = record {
+    next = next;
+    lines = λ from to lt within named. order_at left.rounds to ∙ (round_moved before left rounds len from to lt within named).same ∙ sym (order_at before.rounds from);
   }

@@ -13,8 +13,8 @@ use Rattle.commands.specs.State.{Kept, broker_of}
 use Rattle.commands.specs.Picked.{IsPickFrom, CannotTake}
 use Rattle.commands.specs.declared.picks.Pick.{Pick}
 use Rattle.broker.specs.declared.rounds.waiters.Waiter.{Waiter}
-use Rattle.broker.specs.Rounds.{Waiters, Lists, Listing, round_of, picks, awake_waiter, asleep_waiter, has_its_consumer, is_of, listing, IsAwakeAt, IsAwake, IsAsleep, IsListed, IsInRound, KeepsIn, KeepsRound, ListsMore, ListsStay, NoneAwake, Dozes, FallsAsleep, NoneInRound, StaysAt, Wakens, AllWaken, IsWoken}
-use Rattle.broker.proofs.Picks.{picks_set}
+use Rattle.broker.specs.Rounds.{Waiters, Lists, Listing, round_of, picks, awake_waiter, asleep_waiter, is_of, listing, IsAwakeAt, IsAwake, IsAsleep, IsListed, IsInRound, KeepsIn, KeepsRound, ListsMore, ListsStay, NoneAwake, Dozes, FallsAsleep, NoneInRound, StaysAt, Wakens, AllWaken, IsWoken}
+use Rattle.broker.proofs.Picks.{picks_set, of_waiter}
 use Rattle.broker.proofs.Among.{stays, place_in, in_at, in_front, front_at}
 
 -- to one who may take nothing no delivery can be made
@@ -77,7 +77,7 @@ module _ (waiters : List Waiter) (old new : List ℕ) (place : ℕ) (s : Waiter)
 
   -- it is woken
   pub roused : ((d : Waiter) → get_or waiters place d ≡ s) → Differs (bit_of old) (bit_of new) place 1 → Wakens (round_of waiters old) (round_of (set waiters place (awake_waiter s.pick)) new)
-  roused there d = record { awake = awake; asleep = asleep; same = picks_set waiters place (awake_waiter s.pick) s within (ap (λ (z : Waiter). z.pick) (sym (there s))); next = refl; found = refl }
+  roused there d = record { awake = awake; asleep = asleep; same = picks_set waiters place (awake_waiter s.pick) s within (ap (λ (z : Waiter). z.pick) (sym (there s))); next = refl }
     where
       here : (p : Pick) → s.pick ≡ p → IsAwake (round_of (set waiters place (awake_waiter s.pick)) new) p
       here p is = (place, awake_here (awake_waiter s.pick) p (ap awake_waiter is) d.there)
@@ -237,24 +237,24 @@ awake_bits old new same bits p (i, at) = (
   },
 )
 
-pub waken_bits : (old new : Waiters) → new.waiters ≡ old.waiters → ((i : ℕ) → bit_of new.marks i ≡ bit_of old.marks i) → new.next ≡ old.next → new.found ≡ old.found → Wakens old new
-waken_bits old new same bits next found = record {
+pub waken_bits : (old new : Waiters) → new.waiters ≡ old.waiters → ((i : ℕ) → bit_of new.marks i ≡ bit_of old.marks i) → new.next ≡ old.next → Wakens old new
+waken_bits old new same bits next = record {
   awake = awake_bits old new same bits;
   asleep = λ p i. inl (subst (λ (xs : List Waiter). IsIn (asleep_waiter p) xs) (sym same) i);
   same = ap picks same;
   next = next;
-  found = found;
 }
 
 pub waken_on : (old mid new : Waiters) → Wakens old mid → Wakens mid new → Wakens old new
-waken_on old mid new v w = record { awake = λ p up. w.awake p (v.awake p up); asleep = λ p i. elim (v.asleep p i) [ inl still ↦ w.asleep p still | inr up ↦ inr (w.awake p up) ]; same = w.same ∙ v.same; next = w.next ∙ v.next; found = w.found ∙ v.found }
+waken_on old mid new v w = record { awake = λ p up. w.awake p (v.awake p up); asleep = λ p i. elim (v.asleep p i) [ inl still ↦ w.asleep p still | inr up ↦ inr (w.awake p up) ]; same = w.same ∙ v.same; next = w.next ∙ v.next }
 
--- after a sweep picks look at all that are left
-pub swept : (kept : Kept) (queue : ℕ) (old new : Waiters) → new.waiters ≡ filter (has_its_consumer kept queue) old.waiters → ((i : ℕ) → i < length new.waiters → bit_of new.marks i ≡ 1) → KeepsRound kept queue old new
-swept kept queue old new is marked lists p = keep
+-- where those are left who pass a test, as all do who are there, picks look at all of them
+pub swept : (kept : Kept) (queue : ℕ) (test : Pick → Bool) (old new : Waiters) → ((p : Pick) → is_of kept queue p ≡ true → test p ≡ true) → new.waiters ≡ filter (of_waiter test) old.waiters
+    → ((i : ℕ) → i < length new.waiters → bit_of new.marks i ≡ 1) → KeepsRound kept queue old new
+swept kept queue test old new sub is marked lists p = keep
   where
-    left : (s : Waiter) → IsIn s old.waiters → has_its_consumer kept queue s ≡ true → IsIn s new.waiters
-    left s i has = subst (λ (xs : List Waiter). IsIn s xs) (sym is) (stays (has_its_consumer kept queue) s old.waiters i has)
+    left : (s : Waiter) → IsIn s old.waiters → is_of kept queue s.pick ≡ true → IsIn s new.waiters
+    left s i has = subst (λ (xs : List Waiter). IsIn s xs) (sym is) (stays (of_waiter test) s old.waiters i (sub s.pick has))
 
     keep : IsInRound (broker_of kept) lists queue old p → is_of kept queue p ≡ true → IsInRound (broker_of kept) lists queue new p
     keep (inl (i, at)) has =

@@ -83,7 +83,7 @@ distinct_among x (y ∷ ys) xs none d = ((λ i. other (in_parts y ys (x ∷ xs) 
     other (inl s) = none (inl (sym s))
     other (inr i) = d.0 (in_parts y xs ys i)
 
-distinct_parts : {X : Type 0} (xs ys : List X) → AreDistinct (xs ++ ys) → AreDistinct (ys ++ xs)
+pub distinct_parts : {X : Type 0} (xs ys : List X) → AreDistinct (xs ++ ys) → AreDistinct (ys ++ xs)
 distinct_parts [] ys d = subst AreDistinct (sym (append-nil ys)) d
 distinct_parts (x ∷ xs) ys d = distinct_among x ys xs (λ i. d.0 (in_parts x ys xs i)) (distinct_parts xs ys d.1)
 
@@ -150,3 +150,11 @@ not_in test y xs stands absent = go (test y) refl
 -- whoever is in a list from any place on is in it
 pub from_turned : {X : Type 0} (y : X) (xs : List X) (n : ℕ) → IsIn y (turned n xs) → IsIn y xs
 from_turned y xs n i = subst (IsIn y) (take-append-drop n xs) (in_parts y (drop n xs) (take n xs) i)
+
+-- whoever is in a list is in it from any place on
+pub in_turned : {X : Type 0} (y : X) (xs : List X) (next : ℕ) → IsIn y xs → IsIn y (turned next xs)
+in_turned y xs next i = go (in_either y (take next xs) (drop next xs) (subst (IsIn y) (sym (take-append-drop next xs)) i))
+  where
+    go : IsIn y (take next xs) ⊎ IsIn y (drop next xs) → IsIn y (turned next xs)
+    go (inl j) = in_right y (drop next xs) (take next xs) j
+    go (inr j) = in_left y (drop next xs) (take next xs) j

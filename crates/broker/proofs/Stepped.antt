@@ -1,23 +1,29 @@
--- What a step leaves, and that what is listed of a connection that ended is forgotten.
-use Rattle.std.proofs.Common.{◌≡◌, ◌∙◌, ◌≤◌, ◌+◌, ◌⊎◌, ℕ, List, Bool, true, false, Option, Some, length, filter, refl, sym, ap, subst}
-use Rattle.std.specs.Prelude.{IfSome, not}
-use Rattle.std.proofs.lemmas.Bool.{false≢true}
+-- What a step leaves.
+use Rattle.std.proofs.Common.{◌≡◌, ◌∙◌, ℕ, List, true, false, Option, Some, None, length, filter, inl, inr, refl, sym, ap, subst}
+use Rattle.std.specs.Prelude.{◌==◌, IfSome}
+use Rattle.model.specs.Broker.{Broker}
 use Rattle.model.specs.Step.{Acts}
+use Rattle.model.specs.Topology.{IsIn}
 use Rattle.model.specs.declared.events.Event.{Event}
 use Rattle.model.specs.declared.events.Send.{Send}
 use Rattle.model.specs.declared.notes.Note.{Note}
 use Rattle.laws.specs.Consumers.{ConsumersAreMade}
+use Rattle.replies.specs.Sent.{connection_of_event}
+use Rattle.commands.specs.Ended.{AllRunStill, AllConsumersStay, TellsEnd}
 use Rattle.commands.specs.State.{Kept, broker_of, topology_kept}
 use Rattle.commands.specs.Seats.{seat_of, IsConsumed}
+use Rattle.commands.specs.declared.acted.Ends.{Ends}
+use Rattle.commands.specs.declared.acted.Ends.TheVariants as ended
 use Rattle.commands.specs.declared.picks.Pick.{Pick}
 use Rattle.broker.specs.declared.rounds.waiters.Newcomer.{Newcomer}
-use Rattle.broker.specs.Lines.{standing}
-use Rattle.broker.specs.Rounds.{Rounds, Waiters, Lists, KeepsIn, KeepLists, round_at, order, listing, wakes, is_consumer, IsServing, AllRun, AllAreFew, AllWaken, KeepsWaiters, KeepsAll, ListsRunning, MakesNoList, NotesStay, IsNoted, IsAwake, IsExpected, WakesWaiter, GoesOn, AllWait, AllStandIn, LetsIn, LetsNewcomerIn, KeepLines}
+use Rattle.broker.specs.Lines.{AreDistinct}
+use Rattle.broker.specs.Rounds.{Rounds, Waiters, Lists, KeepsIn, KeepLists, round_at, listing, is_of, wakes, IsServing, AllRun, AllAreConsumers, AllAddTheirOwn, AllWaken, KeepsWaiters, KeepsAll, LeaveLines, ListsRunning, HasNoList, MakesNoList, NotesStay, IsNoted, IsAwake, IsExpected, WakesWaiter, GoesOn, KeepLines}
 use Rattle.broker.proofs.Outcomes.{told_some}
-use Rattle.broker.proofs.Joined.{StayAgreed, Holds, HasJoined, holds, serves, serves_kept, serves_next, notes_keep, keeps_all}
+use Rattle.broker.proofs.Joined.{StayAgreed, Holds, HasJoined, holds, serves, serves_kept, serves_next, running_still, running_but, notes_keep, keeps_all}
 use Rattle.broker.proofs.Orders.{goes_then}
-use Rattle.broker.proofs.Sizing.{few_same}
 use Rattle.broker.proofs.Sleeping.{joined_kept}
+use Rattle.broker.proofs.Staying.{others_stay, its_connection, own_same, own_joined, own_stays, own_came}
+use Rattle.broker.proofs.Turning.{GoRound}
 
 -- ---- what is listed
 
@@ -25,15 +31,9 @@ use Rattle.broker.proofs.Sleeping.{joined_kept}
 pub lists_kept : (k : Kept) (old new : Lists) (rounds : List Waiters) → KeepLists k old new → (place : ℕ) → KeepsIn k place old new (round_at rounds place) (round_at rounds place)
 lists_kept k old new rounds keeps place p i has = joined_kept k old new place (round_at rounds place) p (keeps.listed (listing place p)) has i
 
--- ---- whether the connection ended
-
-pub is_ended : (b : Bool) → not b ≡ false → b ≡ true
-is_ended true e = refl
-is_ended false e = absurd (false≢true (sym e))
-
-pub is_running : (b : Bool) → not b ≡ true → b ≡ false
-is_running true e = absurd (false≢true e)
-is_running false e = refl
+-- a connection of which it is told so runs no more
+pub has_ended : (c : ℕ) (ends : Ends) (old new : Broker) → TellsEnd c ends old new → ends ≡ ended.Connection → new.connection c ≡ None
+has_ended c ends old new tells is = (subst (λ (x : Ends). TellsEnd c x old new) is tells).0
 
 -- ---- a step
 
@@ -53,24 +53,37 @@ module _ (old : Kept) (before woken ready : Rounds) (e : Event) (serving : IsSer
   pub lists_on : AllRun (broker_of old) ready.lists
   lists_on d gone = running d gone (none d (serving.running d gone))
 
-  pub few_on : AllAreFew ready.rounds
-  few_on = few_same before.rounds ready.rounds goes.sizes serving.few
+  pub own_on : AllAreConsumers old ready.rounds
+  own_on = own_same old before.rounds ready.rounds goes.same serving.own
 
   -- nothing else has changed
   pub serving_on : IsServing old ready
-  serving_on = serves old ready held_on lists_on few_on
+  serving_on = serves old ready held_on lists_on own_on
+
+  -- those who were there are gone round as before, where a newcomer waits in `after`
+  pub round_then : (new : Kept) (after : Rounds) → KeepLines ready.rounds after.rounds → GoRound new before.rounds after.rounds
+  round_then new after keeps place test stand =
+      let same = goes.same place in
+      keeps place test (subst (λ (ps : List Pick). (p : Pick) → test p ≡ true → IsIn p ps) (sym same) (λ p e. (stand p e).1)) ∙ ap (filter test) same
+
+  -- and whoever came in is there
+  pub adds_then : (new : Kept) (after : Rounds) → AllAddTheirOwn new ready.rounds after.rounds → AllAddTheirOwn new before.rounds after.rounds
+  adds_then new after adds place = record {
+    came = λ p i. elim ((adds place).came p i) [ inl was ↦ inl (subst (IsIn p) (goes.same place) was) | inr its ↦ inr its ];
+    once = λ apart. (adds place).once (subst (λ (ps : List Pick). AreDistinct ps) (sym (goes.same place)) apart);
+  }
 
   -- The step is made, and the newcomer waits in `after`.
   module _ (agrees : StayAgreed) (law : ConsumersAreMade) (new : Kept) (after : Rounds) (newcomer : Option Newcomer) (sends : List Send) (notes : List Note)
       (acts : Acts (topology_kept old) (broker_of old) e sends notes (broker_of new)) (topology : topology_kept new ≡ topology_kept old)
       (wake : (p : Pick) → wakes e p ≡ true → WakesWaiter before woken p) (wakens : AllWaken woken.rounds ready.rounds) (expected : IsExpected old e ready newcomer)
-      (joined : IfSome newcomer (λ n. IsAwake (round_at after.rounds n.queue) n.consumer)) (stays : KeepsWaiters new ready after) (lists : after.lists ≡ ready.lists)
+      (joined : IfSome newcomer (λ n. is_of new n.queue n.consumer ≡ true → IsAwake (round_at after.rounds n.queue) n.consumer)) (stays : KeepsWaiters new ready after) (lists : after.lists ≡ ready.lists)
       (len : length after.rounds ≡ length ready.rounds) where
-    has_joined : (place : ℕ) (p : Pick) → IsConsumed (topology_kept old) e place → seat_of old e ≡ Some p → HasJoined after place p
-    has_joined place p here is =
+    has_joined : (place : ℕ) (p : Pick) → IsConsumed (topology_kept old) e place → seat_of old e ≡ Some p → is_of new place p ≡ true → HasJoined after place p
+    has_joined place p here is its =
         let told = expected.told place p here is in
         record {
-          awake = told_some newcomer (record { queue = place; consumer = p }) (λ n. IsAwake (round_at after.rounds n.queue) n.consumer) told.0 joined;
+          awake = told_some newcomer (record { queue = place; consumer = p }) (λ n. is_of new n.queue n.consumer ≡ true → IsAwake (round_at after.rounds n.queue) n.consumer) told.0 joined its;
           noted = subst (λ (ls : Lists). IsNoted ls (listing place p)) (sym lists) told.1;
         }
 
@@ -79,18 +92,29 @@ module _ (old : Kept) (before woken ready : Rounds) (e : Event) (serving : IsSer
         serves_next agrees law old new e sends notes ready after acts
         (λ place p wants has. (wakens place).awake p (wake p wants (broker_of old) place (serving.joined place p has))) topology has_joined stays lists len held_on
 
-  -- each has at most one more before it, of those whose line it joins
-  pub lets_then : (new : Kept) (after : Rounds) (newcomer : Option Newcomer) → IsExpected old e ready newcomer → IfSome newcomer (LetsNewcomerIn new ready.rounds after.rounds)
-      → (place : ℕ) (p : Pick) → IsConsumed (topology_kept old) e place → seat_of old e ≡ Some p → LetsIn new place p (round_at before.rounds place) (round_at after.rounds place)
-  lets_then new after newcomer expected comes place p here is first last of wait =
-      let told = expected.told place p here is in
-      let same = goes.same place in
-      subst (λ (ps : List Pick). (more : (q : Pick) → last q ≡ true → (first q ≡ true) ⊎ (q ≡ p)) (q : Pick) → last q ≡ true
-      → standing (is_consumer q) (filter last (order (round_at after.rounds place))) ≤ standing (is_consumer q) (filter first ps) + 1) same
-      (told_some newcomer (record { queue = place; consumer = p }) (LetsNewcomerIn new ready.rounds after.rounds) told.0 comes first last of (subst (λ (ps : List Pick). AllWait first ps) (sym same) wait))
+    -- where nothing ended
+    module _ (tells : AllRunStill (broker_of old) (broker_of new)) (stay_there : AllConsumersStay (broker_of old) (broker_of new)) (adds : AllAddTheirOwn new ready.rounds after.rounds) where
+      pub own_held : AllAreConsumers new after.rounds
+      own_held = own_joined new ready.rounds after.rounds adds (own_stays old new ready.rounds topology stay_there own_on)
 
-  -- and the others of the lines are gone round as before
-  pub keep_then : (new : Kept) (after : Rounds) → KeepLines new ready.rounds after.rounds → KeepLines new before.rounds after.rounds
-  keep_then new after keep place test stand =
-      let same = goes.same place in
-      keep place test (subst (λ (ps : List Pick). AllStandIn new place test ps) (sym same) stand) ∙ ap (filter test) same
+      pub serving_held : IsServing new after
+      serving_held = serves new after held_then (running_still (broker_of old) (broker_of new) ready.lists after.lists tells (λ d gone. subst (λ (ls : Lists). HasNoList ls d) (sym lists) gone) lists_on) own_held
+
+    -- where something did, and what it took with it leaves
+    module _ (c : ℕ) (its : c ≡ connection_of_event e) (left : Rounds) (adds : AllAddTheirOwn new ready.rounds after.rounds) (leave : LeaveLines new c after.rounds left.rounds) where
+      pub own_left_then : AllAreConsumers new left.rounds
+      own_left_then =
+          own_came old new c before.rounds after.rounds left.rounds topology
+          (λ d h far. others_stay (topology_kept old) (broker_of old) (broker_of new) e sends notes acts d h (subst (λ (n : ℕ). (d == n) ≡ false) (its ∙ its_connection e) far)) serving.own (adds_then new after adds) leave
+
+      pub serving_left : (ends : Ends) → TellsEnd c ends (broker_of old) (broker_of new) → KeepsWaiters new after left → KeepLists new after.lists left.lists → (ends ≡ ended.Connection → HasNoList left.lists c) → MakesNoList after.lists left.lists
+          → length left.rounds ≡ length after.rounds → IsServing new left
+      serving_left ends tells keeps_there noted_there gone makes long = serves new left (serves_kept new after left keeps_there noted_there.noted long held_then) (runs ends tells gone) own_left_then
+        where
+          made : MakesNoList ready.lists left.lists
+          made d from = makes d (subst (λ (ls : Lists). HasNoList ls d) (sym lists) from)
+
+          runs : (x : Ends) → TellsEnd c x (broker_of old) (broker_of new) → (x ≡ ended.Connection → HasNoList left.lists c) → AllRun (broker_of new) left.lists
+          runs ended.Connection ends_it forgets = running_but (broker_of old) (broker_of new) ready.lists left.lists c ends_it.1 (λ from. forgets refl) made lists_on
+          runs ended.Consumers runs_on forgets = running_still (broker_of old) (broker_of new) ready.lists left.lists runs_on made lists_on
+          runs ended.Nothing runs_on forgets = running_still (broker_of old) (broker_of new) ready.lists left.lists runs_on made lists_on

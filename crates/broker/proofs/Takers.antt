@@ -1,5 +1,5 @@
 -- Who takes from a queue, and stands in its line.
-use Rattle.std.proofs.Common.{◌≡◌, ◌∙◌, ◌<◌, ℕ, zero, suc, List, [], ◌∷◌, Bool, true, false, Option, Some, None, length, get_or, inl, inr, refl, sym, ap, arith}
+use Rattle.std.proofs.Common.{◌≡◌, ◌∙◌, ◌<◌, ℕ, zero, suc, List, [], ◌∷◌, Bool, true, false, Option, Some, None, length, map, filter, get_or, inl, inr, refl, sym, ap, subst, arith}
 use Rattle.std.specs.Prelude.{◌==◌, ◌&&◌, ◌||◌, nat_lt}
 use Rattle.std.specs.List.{list_any}
 use Rattle.std.specs.Str.{bytes_eq}
@@ -8,12 +8,13 @@ use Rattle.std.proofs.lemmas.Slice.Eq.{bytes_eq-Decides}
 use Rattle.model.specs.Words.{Text}
 use Rattle.model.specs.Topology.{Topology, IsIn}
 use Rattle.model.specs.Broker.{Consumer, Channel, Broker}
-use Rattle.depot.proofs.Naming.{names-length}
+use Rattle.laws.specs.Consumers.{WasConsumer}
 use Rattle.exchange_graph.specs.Marks.{queue_name}
-use Rattle.commands.specs.State.{Kept, broker_of, topology_kept, names_of}
+use Rattle.commands.specs.State.{Kept, broker_of, topology_kept}
 use Rattle.commands.specs.Picked.{IsPickFrom}
 use Rattle.commands.specs.declared.picks.Pick.{Pick}
-use Rattle.broker.specs.Rounds.{Waiters, round_at, is_numbered_of, has_taker, takes_from, is_of, line_of, lines_of, HasConsumer}
+use Rattle.broker.specs.Rounds.{Waiters, round_at, order, is_numbered_of, has_taker, takes_from, is_of, HasConsumer, AllAreConsumers, SameOrders}
+use Rattle.broker.proofs.Later.{filter_all}
 use Rattle.broker.proofs.Waking.{both, and}
 use Rattle.broker.proofs.Present.{has_picked}
 
@@ -86,36 +87,35 @@ picked_of kept place p from = has_of kept place p (has_picked kept place p from)
 
 -- ---- the lines of queues
 
-lines_at : (b : Broker) (names : List Text) (rounds : List Waiters) (place : ℕ) → length rounds ≡ length names → place < length names → get_or (lines_of b names rounds) place [] ≡ line_of b (get_or names place []) (round_at rounds place)
-lines_at b [] rounds place long lt = absurd (omega (arith, lt))
-lines_at b (q ∷ qs) [] place long lt = absurd (omega (arith, long))
-lines_at b (q ∷ qs) (r ∷ rs) zero long lt = refl
-lines_at b (q ∷ qs) (r ∷ rs) (suc place) long lt = lines_at b qs rs place (omega (arith, long)) (omega (arith, lt))
+-- the consumers of this queue, in the order of its round
+abbrev pub line_of : Broker → Text → Waiters → List Pick
+line_of b queue r = filter (takes_from b queue) (order r)
 
-pub line_is : (kept : Kept) (rounds : List Waiters) (place : ℕ) → length rounds ≡ length (topology_kept kept).queues → place < length (topology_kept kept).queues
-    → get_or (lines_of (broker_of kept) (names_of kept) rounds) place [] ≡ line_of (broker_of kept) (queue_name (topology_kept kept) place) (round_at rounds place)
-line_is kept rounds place long lt =
-    let more = names-length (topology_kept kept).queues in
-    lines_at (broker_of kept) (names_of kept) rounds place (omega (arith, long, more)) (omega (arith, lt, more))
+pub order_at : (rounds : List Waiters) (place : ℕ) → get_or (map order rounds) place [] ≡ order (round_at rounds place)
+order_at [] place = refl
+order_at (r ∷ rounds) zero = refl
+order_at (r ∷ rounds) (suc place) = order_at rounds place
 
--- whoever stands in a line stands in that of a queue
-in_lines : (b : Broker) (names : List Text) (rounds : List Waiters) (place : ℕ) (p : Pick) → IsIn p (get_or (lines_of b names rounds) place []) → place < length names
-in_lines b [] rounds place p i = absurd i
-in_lines b (q ∷ qs) [] place p i = absurd i
-in_lines b (q ∷ qs) (r ∷ rs) zero p i = omega arith
-in_lines b (q ∷ qs) (r ∷ rs) (suc place) p i = let lt = in_lines b qs rs place p i in omega (arith, lt)
+-- nobody else stands there
+pub line_is : (kept : Kept) (rounds : List Waiters) (place : ℕ) → AllAreConsumers kept rounds → get_or (map order rounds) place [] ≡ line_of (broker_of kept) (queue_name (topology_kept kept) place) (round_at rounds place)
+line_is kept rounds place own =
+    order_at rounds place
+    ∙ sym (filter_all (takes_from (broker_of kept) (queue_name (topology_kept kept) place)) (order (round_at rounds place))
+    (λ p i. (both (nat_lt place (length (topology_kept kept).queues)) (takes_from (broker_of kept) (queue_name (topology_kept kept) place) p) ((own place).there p i)).1))
 
-pub in_line_of : (kept : Kept) (rounds : List Waiters) (place : ℕ) (p : Pick) → IsIn p (get_or (lines_of (broker_of kept) (names_of kept) rounds) place []) → place < length (topology_kept kept).queues
-in_line_of kept rounds place p i =
-    let lt = in_lines (broker_of kept) (names_of kept) rounds place p i in
-    let more = names-length (topology_kept kept).queues in
-    omega (arith, lt, more)
+pub orders_same : (old new : List Waiters) → length new ≡ length old → SameOrders old new → map order new ≡ map order old
+orders_same [] [] long same = refl
+orders_same [] (s ∷ ss) long same = absurd (omega (arith, long))
+orders_same (r ∷ rs) [] long same = absurd (omega (arith, long))
+orders_same (r ∷ rs) (s ∷ ss) long same = cc (same zero, orders_same rs ss (omega (arith, long)) (λ at. same (suc at)))
 
-pub lines_same : (b : Broker) (names : List Text) (old new : List Waiters) → length new ≡ length old
-    → ((place : ℕ) → place < length names → line_of b (get_or names place []) (round_at new place) ≡ line_of b (get_or names place []) (round_at old place)) → lines_of b names new ≡ lines_of b names old
-lines_same b [] old new long same = refl
-lines_same b (q ∷ qs) [] [] long same = refl
-lines_same b (q ∷ qs) [] (s ∷ ss) long same = absurd (omega (arith, long))
-lines_same b (q ∷ qs) (r ∷ rs) [] long same = absurd (omega (arith, long))
-lines_same b (q ∷ qs) (r ∷ rs) (s ∷ ss) long same =
-    cc (same zero (omega arith), lines_same b qs rs ss (omega (arith, long)) (λ place lt. same (suc place) (omega (arith, lt))))
+-- ---- consumers that stay
+
+-- who takes from a queue takes from it still, where its consumer is there still
+pub of_stays : (old new : Kept) (place : ℕ) (p : Pick) → topology_kept new ≡ topology_kept old
+    → ((k : Consumer) → WasConsumer (broker_of old) p.connection p.channel k → WasConsumer (broker_of new) p.connection p.channel k) → is_of old place p ≡ true → is_of new place p ≡ true
+of_stays old new place p is stays its =
+    let has = of_has old place p its in
+    has_of new place p
+    (subst (λ (t : Topology). HasConsumer t (broker_of new) place p) (sym is)
+    (record { consumer = has.consumer; was = stays has.consumer has.was; numbered = has.numbered; within = has.within; named = has.named }))

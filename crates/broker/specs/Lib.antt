@@ -1,6 +1,5 @@
 pub mod Lines
 pub mod Moving
 pub mod Rounds
-pub mod Sizes
 pub mod Turns
 pub mod Waiting

@@ -3,7 +3,7 @@ use Rattle.std.specs.Prelude.{◌≡◌, ◌<◌, ◌⊎◌, ℕ, List, map, len
 use Rattle.channels.specs.Moving.{place_now}
 use Rattle.commands.specs.declared.picks.Pick.{Pick}
 use Rattle.broker.specs.declared.rounds.waiters.Waiter.{Waiter}
-use Rattle.broker.specs.Rounds.{Waiters, Lists, Listing, Listings, round_at, order, size_of, awake_waiter, IsAwake, IsAsleep, IsNoted, MakesNoList}
+use Rattle.broker.specs.Rounds.{Waiters, Lists, Listing, Listings, round_at, order, awake_waiter, IsAwake, IsAsleep, IsNoted, MakesNoList}
 
 -- ---- rounds
 
@@ -19,11 +19,10 @@ StandsIn r p = IsAwake r p ⊎ IsAsleep r p
 abbrev pub AllRoused : Waiters → Waiters → Type 0
 AllRoused old new = (p : Pick) → StandsIn old p → IsAwake new p
 
--- Each waiter of the one round stands in the other, awake, which is gone round as the one was, and is as large.
+-- Each waiter of the one round stands in the other, awake, which is gone round as the one was.
 pub record IsMoved (old new : Waiters) : Type 0 where
   pub roused : AllRoused old new
   pub same : order new ≡ order old
-  pub size : size_of new ≡ size_of old
 
 -- no two entries of the table are one of so many places
 abbrev pub ArePlacesApart : List ℕ → ℕ → Type 0
@@ -34,14 +33,20 @@ abbrev pub RoundsAreMoved : List ℕ → List Waiters → List Waiters → Type 
 RoundsAreMoved places old new = (from : ℕ) → from < length places → place_now places from < length new
     → IsMoved (round_at old from) (round_at new (place_now places from))
 
--- the round is as large as the one of these, or as the other
-abbrev pub IsOfEither : Waiters → Waiters → Waiters → Type 0
-IsOfEither one other new = (size_of new ≡ size_of one) ⊎ (size_of new ≡ size_of other)
+-- the round at a place goes on as the one of these did, or as the other, which was put at this place
+abbrev pub IsOfEither : ℕ → ℕ → Waiters → Waiters → Waiters → Type 0
+IsOfEither place at one other new = (order new ≡ order one) ⊎ ((at ≡ place) × (order new ≡ order other))
 
--- each round is as large as it was before, or as one of the old was
-abbrev pub SizesCome : List Waiters → List Waiters → List Waiters → Type 0
-SizesCome old before new = (at : ℕ) → (size_of (round_at new at) ≡ size_of (round_at before at))
-    ⊎ ((from : ℕ) × (size_of (round_at new at) ≡ size_of (round_at old from)))
+-- A round goes on as one of these did that the table has at its place.
+pub record ComesFrom (places : List ℕ) (old : List Waiters) (at : ℕ) (new : Waiters) : Type 0 where
+  pub from : ℕ
+  pub within : from < length places
+  pub there : place_now places from ≡ at
+  pub same : order new ≡ order (round_at old from)
+
+-- each round goes on as it did, or as one of the old that the table has at its place
+abbrev pub LinesCome : List ℕ → List Waiters → List Waiters → List Waiters → Type 0
+LinesCome places old before new = (at : ℕ) → (order (round_at new at) ≡ order (round_at before at)) ⊎ ComesFrom places old at (round_at new at)
 
 -- ---- lists
 

@@ -1,6 +1,6 @@
 -- The consumers of all channels by their numbers, over which deliveries go round, and which of them are passed over (own).
-use Rattle.std.specs.Prelude.{◌≡◌, ◌==◌, ◌&&◌, ◌<◌, ◌≤◌, ◌*◌, ◌+◌, ◌⊎◌, ◌++◌, ℕ, List, []}
-use Rattle.std.specs.Prelude.{◌∷◌, map, filter, Bool, true, false, Option, Some, None, length, slice_index_or, nat_eq, nat_lt, count_by, IfSome}
+use Rattle.std.specs.Prelude.{◌≡◌, ◌==◌, ◌&&◌, ◌<◌, ◌≤◌, ◌*◌, ◌+◌, ◌⊎◌, ◌++◌, ◌||◌, ℕ, List, []}
+use Rattle.std.specs.Prelude.{◌∷◌, map, filter, Bool, true, false, not, Option, Some, None, length, slice_index_or, nat_eq, nat_lt, count_by, IfSome}
 use Rattle.std.specs.List.{list_any, All}
 use Rattle.std.specs.Map.{lookup}
 use Rattle.std.specs.Str.{bytes_eq}
@@ -25,7 +25,7 @@ use Rattle.broker.specs.declared.rounds.finding.Found.{Found}
 use Rattle.broker.specs.declared.rounds.finding.Found.TheVariants.{Able, Unable, Over}
 use Rattle.broker.specs.declared.rounds.waiters.Newcomer.{Newcomer}
 use Rattle.broker.specs.declared.rounds.waiters.Waiter.{Waiter}
-use Rattle.broker.specs.Lines.{turned, standing, IsPassed}
+use Rattle.broker.specs.Lines.{turned, IsPassed, AreDistinct}
 
 -- ---- waiters
 
@@ -35,8 +35,6 @@ pub record Waiters : Type 0 where
   pub marks : List ℕ
   -- the place from which they are gone round
   pub next : ℕ
-  -- how many were found there when it was last swept
-  pub found : ℕ
   -- how many have room
   pub capacity : ℕ
 
@@ -63,11 +61,11 @@ pub record Rounds : Type 0 where
 
 -- the waiters of the consumers of the queue at this place, where each queue has such a round
 abbrev pub round_at : List Waiters → ℕ → Waiters
-round_at rounds place = slice_index_or rounds place (record { waiters = []; marks = []; next = 0; found = 0; capacity = 0 })
+round_at rounds place = slice_index_or rounds place (record { waiters = []; marks = []; next = 0; capacity = 0 })
 
 -- waiters and their bits, gone round from the first
 abbrev pub round_of : List Waiter → List ℕ → Waiters
-round_of waiters marks = record { waiters = waiters; marks = marks; next = 0; found = 0; capacity = 0 }
+round_of waiters marks = record { waiters = waiters; marks = marks; next = 0; capacity = 0 }
 
 -- rounds, and what sleeps, gone round from the first
 abbrev pub rounds_of : List Waiters → Lists → Rounds
@@ -102,23 +100,9 @@ takes_from b queue p = has_taker queue p.number (b.channel p.connection p.channe
 abbrev pub is_of : Kept → ℕ → Pick → Bool
 is_of kept queue p = nat_lt queue (length (topology_kept kept).queues) && takes_from (broker_of kept) (queue_name (topology_kept kept) queue) p
 
--- the consumers of this queue, in the order of its round
-abbrev pub line_of : Broker → Text → Waiters → List Pick
-line_of b queue r = filter (takes_from b queue) (order r)
-
--- those of each of these queues, whose rounds are these
-abbrev pub lines_of : Broker → List Text → List Waiters → List (List Pick)
-lines_of b [] rounds = []
-lines_of b (queue ∷ queues) [] = []
-lines_of b (queue ∷ queues) (r ∷ rounds) = line_of b queue r ∷ lines_of b queues rounds
-
 -- the waiter is this consumer's
 abbrev pub is_waiter_of : Pick → Waiter → Bool
 is_waiter_of p s = is_consumer p s.pick
-
--- the consumer of the waiter is there, and takes from the queue at this place
-abbrev pub has_its_consumer : Kept → ℕ → Waiter → Bool
-has_its_consumer kept queue s = is_of kept queue s.pick
 
 -- this consumer's waiter, awake
 abbrev pub awake_waiter : Pick → Waiter
@@ -274,9 +258,14 @@ AllRun b lists = (c : ℕ) → b.connection c ≡ None → HasNoList lists c
 abbrev pub AreFew : {X : Type 0} → List X → ℕ → Type 0
 AreFew xs found = length xs ≤ 2 * found + 1
 
--- each round has few
-abbrev pub AllAreFew : List Waiters → Type 0
-AllAreFew rounds = (place : ℕ) → AreFew (round_at rounds place).waiters (round_at rounds place).found
+-- Those who stand in the line of the queue at this place are its consumers, each once.
+pub record AreItsConsumers (kept : Kept) (queue : ℕ) (line : List Pick) : Type 0 where
+  pub there : (p : Pick) → IsIn p line → is_of kept queue p ≡ true
+  pub once : AreDistinct line
+
+-- so are those whose waiters are in each round
+abbrev pub AllAreConsumers : Kept → List Waiters → Type 0
+AllAreConsumers kept rounds = (place : ℕ) → AreItsConsumers kept place (order (round_at rounds place))
 
 -- What every broker keeps:
 pub record IsServing (kept : Kept) (r : Rounds) : Type 0 where
@@ -287,8 +276,8 @@ pub record IsServing (kept : Kept) (r : Rounds) : Type 0 where
   pub noted : AllAreNoted (topology_kept kept) (broker_of kept) r.lists
   -- of a connection that runs no more nothing is listed
   pub running : AllRun (broker_of kept) r.lists
-  -- no round keeps many whose consumers are gone
-  pub few : AllAreFew r.rounds
+  -- and no waiter is kept but of a consumer that is there, and none has two
+  pub own : AllAreConsumers kept r.rounds
 
 -- ---- which queues are gone over
 
@@ -363,86 +352,67 @@ pub record PicksFirst (kept : Kept) (old new : Rounds) (p : Pick) : Type 0 where
   pub told : PicksFrom kept old.lists old.rounds new.rounds queue p
   pub next : new.next ≡ queue + 1
 
--- whoever passes this test takes from the queue at this place
-abbrev pub AllAreOf : Kept → ℕ → (Pick → Bool) → Type 0
-AllAreOf kept queue test = (p : Pick) → test p ≡ true → is_of kept queue p ≡ true
-
--- and stands in the line
-abbrev pub AllStandIn : Kept → ℕ → (Pick → Bool) → List Pick → Type 0
-AllStandIn kept queue test line = (p : Pick) → test p ≡ true → (is_of kept queue p ≡ true) × IsIn p line
-
--- those who take from the queue at this place are gone round as before
-abbrev pub KeepsThose : Kept → ℕ → List Pick → List Pick → Type 0
-KeepsThose kept queue old new = (test : Pick → Bool) → AllAreOf kept queue test → filter test new ≡ filter test old
-
--- but for this one
-abbrev pub KeepsOthers : Kept → ℕ → Pick → List Pick → List Pick → Type 0
-KeepsOthers kept queue other old new = (test : Pick → Bool) → AllAreOf kept queue test → test other ≡ false → filter test new ≡ filter test old
-
--- those who take from it and have waiters in its round are gone round as before
-abbrev pub KeepsLine : Kept → ℕ → Waiters → Waiters → Type 0
-KeepsLine kept queue old new = (test : Pick → Bool) → AllStandIn kept queue test (order old) → filter test (order new) ≡ filter test (order old)
-
--- in each round
-abbrev pub KeepLines : Kept → List Waiters → List Waiters → Type 0
-KeepLines kept old new = (place : ℕ) → KeepsLine kept place (round_at old place) (round_at new place)
-
 -- whoever passes this test stands in the line
 abbrev pub AllWait : (Pick → Bool) → List Pick → Type 0
 AllWait test line = (p : Pick) → test p ≡ true → IsIn p line
 
--- and where this one joins them, each has at most one more before it
-abbrev pub LetsIn : Kept → ℕ → Pick → Waiters → Waiters → Type 0
-LetsIn kept queue p old new = (before after : Pick → Bool) → AllAreOf kept queue after → AllWait before (order old)
-    → ((q : Pick) → after q ≡ true → (before q ≡ true) ⊎ (q ≡ p))
-    → (q : Pick) → after q ≡ true → standing (is_consumer q) (filter after (order new)) ≤ standing (is_consumer q) (filter before (order old)) + 1
+-- those who stood in the line are gone round as before
+abbrev pub KeepsLine : Waiters → Waiters → Type 0
+KeepsLine old new = (test : Pick → Bool) → AllWait test (order old) → filter test (order new) ≡ filter test (order old)
 
--- so it is where the newcomer joins them
-abbrev pub LetsNewcomerIn : Kept → List Waiters → List Waiters → Newcomer → Type 0
-LetsNewcomerIn kept old new n = LetsIn kept n.queue n.consumer (round_at old n.queue) (round_at new n.queue)
+-- in each round
+abbrev pub KeepLines : List Waiters → List Waiters → Type 0
+KeepLines old new = (place : ℕ) → KeepsLine (round_at old place) (round_at new place)
 
--- ---- how many wait
+-- ---- who leaves
 
--- How many waiters a round keeps, and how many were found there when it was last swept.
-pub record Size : Type 0 where
-  pub kept : ℕ
-  pub found : ℕ
+-- whoever is of another connection than this, or is there and takes from the queue at this place
+abbrev pub remains : Kept → ℕ → ℕ → Pick → Bool
+remains kept queue c p = not (p.connection == c) || is_of kept queue p
 
--- the size of a round
-abbrev pub size_of : Waiters → Size
-size_of r = record { kept = length r.waiters; found = r.found }
+-- of the waiter's consumer
+abbrev pub has_remained : Kept → ℕ → ℕ → Waiter → Bool
+has_remained kept queue c s = remains kept queue c s.pick
 
--- no waiter is kept, and none was found
-abbrev pub no_waiters : Size
-no_waiters = record { kept = 0; found = 0 }
+-- the others left the line of the queue at this place, and those who remain are gone round as before
+abbrev pub LeaveLine : Kept → ℕ → ℕ → Waiters → Waiters → Type 0
+LeaveLine kept queue c old new = order new ≡ filter (remains kept queue c) (order old)
 
--- so it is in each round
+-- and each line
+abbrev pub LeaveLines : Kept → ℕ → List Waiters → List Waiters → Type 0
+LeaveLines kept c old new = (place : ℕ) → LeaveLine kept place c (round_at old place) (round_at new place)
+
+-- ---- who comes in
+
+-- Whoever stands in the line stood there, or is this one; and nobody stands there twice.
+pub record AddsOne (p : Pick) (old new : Waiters) : Type 0 where
+  pub came : (q : Pick) → IsIn q (order new) → IsIn q (order old) ⊎ (q ≡ p)
+  pub once : AreDistinct (order new)
+
+-- Whoever stands in a line stood there, or is there and takes from its queue; and nobody stands twice in one.
+pub record AddsItsOwn (kept : Kept) (queue : ℕ) (old new : Waiters) : Type 0 where
+  pub came : (q : Pick) → IsIn q (order new) → IsIn q (order old) ⊎ (is_of kept queue q ≡ true)
+  pub once : AreDistinct (order old) → AreDistinct (order new)
+
+-- in each round
+abbrev pub AllAddTheirOwn : Kept → List Waiters → List Waiters → Type 0
+AllAddTheirOwn kept old new = (place : ℕ) → AddsItsOwn kept place (round_at old place) (round_at new place)
+
+-- ---- how rounds go on
+
+-- no round has a waiter
 abbrev pub AllAreEmpty : List Waiters → Type 0
-AllAreEmpty rounds = (at : ℕ) → size_of (round_at rounds at) ≡ no_waiters
-
--- each round is as large as before
-abbrev pub SameSizes : List Waiters → List Waiters → Type 0
-SameSizes old new = (at : ℕ) → size_of (round_at new at) ≡ size_of (round_at old at)
+AllAreEmpty rounds = (at : ℕ) → (round_at rounds at).waiters ≡ []
 
 -- The rounds go on as before, and so do the queues.
 pub record GoesOn (old new : Rounds) : Type 0 where
   pub len : length new.rounds ≡ length old.rounds
   pub same : SameOrders old.rounds new.rounds
-  pub sizes : SameSizes old.rounds new.rounds
   pub next : new.next ≡ old.next
 
 -- so many were found as before, or the consumers of those that are found now are there, which this test tells
 abbrev pub AreFound : {X : Type 0} → (X → Bool) → ℕ → List X → ℕ → Type 0
 AreFound is_there before xs found = (found ≡ before) ⊎ (found ≤ count_by is_there xs)
-
--- How many waiters a round has where one was to come in:
-pub record IsBounded (kept : Kept) (queue : ℕ) (old new : Waiters) : Type 0 where
-  pub few : AreFew old.waiters old.found → AreFew new.waiters new.found
-  pub found : AreFound (has_its_consumer kept queue) old.found new.waiters new.found
-
--- so it is in each round
-abbrev pub AllAreBounded : Kept → List Waiters → List Waiters → Type 0
-AllAreBounded kept old new = (place : ℕ) → IsBounded kept place (round_at old place) (round_at new place)
 
 -- ---- what stays
 
@@ -545,7 +515,6 @@ pub record Wakens (old new : Waiters) : Type 0 where
   pub asleep : (p : Pick) → IsAsleep old p → IsAsleep new p ⊎ IsAwake new p
   pub same : picks new.waiters ≡ picks old.waiters
   pub next : new.next ≡ old.next
-  pub found : new.found ≡ old.found
 
 -- in each round
 abbrev pub AllWaken : List Waiters → List Waiters → Type 0

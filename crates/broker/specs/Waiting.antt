@@ -7,13 +7,13 @@ use Rattle.exchange_graph.specs.Marks.{queue_name}
 use Rattle.commands.specs.Picked.{IsPickFrom}
 use Rattle.commands.specs.Seats.{IsConsumed}
 use Rattle.commands.specs.declared.picks.Pick.{Pick}
-use Rattle.broker.specs.Lines.{ahead, standing}
+use Rattle.broker.specs.Lines.{ahead, standing, AreDistinct}
 use Rattle.broker.specs.Rounds.{is_consumer, HasConsumer}
 use Rattle.broker.specs.Turns.{WithTurn, topology_kept, broker_of}
 
 -- ---- how far off a turn is
 
--- the consumers of the queue at this place, in the order in which their turns come
+-- the consumers whose waiters are kept for the queue at this place, in the order in which their turns come
 abbrev pub line_at : WithTurn → ℕ → List Pick
 line_at b place = slice_index_or b.lines place []
 
@@ -42,6 +42,11 @@ TakesAt b place p = HasConsumer (topology_kept b) (broker_of b) place p
 -- each consumer of a queue stands in its line, and nobody else does
 abbrev pub AllStand : WithTurn → Type 0
 AllStand b = (place : ℕ) (p : Pick) → (TakesAt b place p → IsIn p (line_at b place)) × (IsIn p (line_at b place) → TakesAt b place p)
+
+-- The waiters that are kept for each queue are exactly those of its consumers, each once: so they are as many as the queue has consumers.
+pub record WaitersAreConsumers (b : WithTurn) : Type 0 where
+  pub stand : AllStand b
+  pub once : (place : ℕ) → AreDistinct (line_at b place)
 
 -- ---- what becomes of turns
 

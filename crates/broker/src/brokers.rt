@@ -5,7 +5,7 @@ ghost use Rattle.replies.specs.Sent.{connection_of_event};
 
 use crate::rounds::ConsumerRounds;
 use crate::turns::turn_kept;
-use commands::{Core, Pick};
+use commands::{Core, Ends, Pick};
 use exchange_graph::Topology;
 use guarantees::Guarantee;
 use laws::{brokers_stay_agreed, consumers_are_made};
@@ -78,16 +78,14 @@ impl Broker {
     ghost use Rattle.commands.specs.Judged.{IsAsked, WantsNoMemory};
     ghost use Rattle.commands.specs.Picked.{IsPick};
     ghost use Rattle.commands.specs.declared.picks.Pick.{Pick as Consumer};
-    ghost use Rattle.broker.specs.Sizes.{NoneWait, KeepsFew, SizesMove};
     ghost use Rattle.broker.specs.Turns.{broker_of, topology_kept};
-    ghost use Rattle.broker.specs.Waiting.{AllStand, NoneIsLater, OneComesIn, IsToldInTurn, LinesMove, ServesSoon};
+    ghost use Rattle.broker.specs.Waiting.{AllStand, WaitersAreConsumers, NoneIsLater, OneComesIn, IsToldInTurn, LinesMove, ServesSoon};
     ghost use Rattle.replies.specs.Sent.{AreAddressed, connection_of_event};
 
     /// The broker of this topology: its queues are empty, and no connection runs.
     pub fn new(alloc: Global, topology: Topology) -> Result<Broker, AllocError>
         ensures topology { IfOk result (λ b. topology_kept b ≡ topology) }
         ensures empty { IfOk result (λ b. Is nothing (broker_of b)) }
-        ensures none { IfOk result NoneWait }
     {
         brokers_stay_agreed();
         let rounds = ConsumerRounds::new(alloc, topology.queues().len())?;
@@ -99,10 +97,18 @@ impl Broker {
         })
     }
 
+    /// What every broker keeps: the waiters that are kept for each queue are exactly those of its consumers. So they are as many as the
+    /// queue has consumers, whatever consumers came and left.
+    pub fn is_kept(&self)
+        ensures { WaitersAreConsumers self.now }
+    {
+        self.core.is_kept();
+    }
+
     /// One event: what it sends, what it notes, and the state after it. Where the event's method has a spelling, each send
     /// is for the event's own connection, by a method with a spelling. Nobody's turn is further off, but for one consumer more before
-    /// it where the event is a consume from its queue. Where memory is wanting, nothing has changed; an opening, a loss, a pause and
-    /// its end, a command that is ignored, and a rejection that requeues want none.
+    /// it where the event is a consume from its queue. No waiter is kept but of a consumer that is there. Where memory is wanting, nothing
+    /// has changed; an opening, a loss, a pause and its end, a command that is ignored, and a rejection that requeues want none.
     pub fn step(&mut self, alloc: Global, event: &Event) -> Result<Step, AllocError>
         requires asked { IsAsked event.now }
         ensures ok { IfOk result (λ s. Acts (topology_kept self.old) (broker_of self.old) event.now s.sends.items s.notes.items (broker_of self.new)) }
@@ -110,7 +116,7 @@ impl Broker {
         ensures topology { topology_kept self.new ≡ topology_kept self.old }
         ensures turn { self.new.turn ≡ self.old.turn }
         ensures later { OnOk result (OneComesIn event.now self.old self.new) }
-        ensures few { KeepsFew self.old self.new }
+        ensures own { WaitersAreConsumers self.new }
         ensures err { OnErr result (self.new ≡ self.old) }
         ensures quiet { WantsNoMemory (topology_kept self.old) (broker_of self.old) event.now → IsOk result }
     {
@@ -120,11 +126,14 @@ impl Broker {
         let newcomer = self.rounds.expect_next(alloc, &self.core, event)?;
         let acted = self.core.step(alloc, event)?;
         self.rounds.join(&self.core, newcomer);
-        if !acted.has_ended {
-            return Ok(acted.step);
+        match acted.ends {
+            Ends::Nothing => Ok(acted.step),
+            _ => {
+                self.rounds
+                    .leave(&self.core, connection_of(event), acted.ends);
+                Ok(acted.step)
+            }
         }
-        self.rounds.forget(connection_of(event));
-        Ok(acted.step)
     }
 
     /// How many messages came to queues that lag behind those who take from them.
@@ -141,7 +150,6 @@ impl Broker {
         ensures turn { self.new.turn ≡ result }
         ensures stand { AllStand self.old }
         ensures in_turn { IsToldInTurn self.old result self.new }
-        ensures sizes { self.new.sizes ≡ self.old.sizes }
         ensures again { (p : Consumer) → self.old.turn ≡ Some p → IsPick (broker_of self.old) p → result ≡ Some p }
         ensures some { IfSome result (λ p. IsPick (broker_of self.old) p) }
         ensures none { result ≡ None → (c : ℕ) → CanDeliver (broker_of self.old) c → ⊥ }
@@ -157,7 +165,6 @@ impl Broker {
         ensures kept { self.new.kept ≡ self.old.kept }
         ensures turn { self.new.turn ≡ result }
         ensures in_turn { IsToldInTurn self.old result self.new }
-        ensures sizes { self.new.sizes ≡ self.old.sizes }
         ensures some { IfSome result (λ p. IsPick (broker_of self.old) p) }
         ensures none { result ≡ None → (c : ℕ) → CanDeliver (broker_of self.old) c → ⊥ }
     {
@@ -177,7 +184,6 @@ impl Broker {
             → AreNamed (topology_kept self.old) (broker_of self.old) → AreAddressed pick.connection s.sends.items) }
         ensures over { OnOk result (self.new.turn ≡ None) }
         ensures later { OnOk result (NoneIsLater self.old self.new) }
-        ensures sizes { self.new.sizes ≡ self.old.sizes }
         ensures soon { OnOk result (ServesSoon self.old pick) }
         ensures topology { topology_kept self.new ≡ topology_kept self.old }
         ensures err { OnErr result (self.new ≡ self.old) }
@@ -203,12 +209,13 @@ impl Broker {
         ensures topology { topology_kept self.new ≡ topology_kept self.old }
         ensures turn { self.new.turn ≡ self.old.turn }
         ensures later { OnOk result (NoneIsLater self.old self.new) }
-        ensures sizes { self.new.sizes ≡ self.old.sizes }
         ensures err { OnErr result (self.new ≡ self.old) }
     {
         brokers_stay_agreed();
         consumers_are_made();
-        self.core.open(alloc, connection, channel_max, channels)
+        self.core.open(alloc, connection, channel_max, channels)?;
+        self.rounds.leave(&self.core, connection, Ends::Consumers);
+        Ok(())
     }
 
     /// The connection is lost: what it held is ready again, and it is gone with its channels. It takes no memory.
@@ -217,12 +224,11 @@ impl Broker {
         ensures topology { topology_kept self.new ≡ topology_kept self.old }
         ensures turn { self.new.turn ≡ self.old.turn }
         ensures later { NoneIsLater self.old self.new }
-        ensures sizes { self.new.sizes ≡ self.old.sizes }
     {
         brokers_stay_agreed();
         consumers_are_made();
         self.core.lose(connection);
-        self.rounds.forget(connection);
+        self.rounds.leave(&self.core, connection, Ends::Connection);
     }
 
     /// The output of the connection holds 1,048,576 bytes or more from now on. It takes no memory.
@@ -231,7 +237,6 @@ impl Broker {
         ensures topology { topology_kept self.new ≡ topology_kept self.old }
         ensures turn { self.new.turn ≡ self.old.turn }
         ensures later { NoneIsLater self.old self.new }
-        ensures sizes { self.new.sizes ≡ self.old.sizes }
     {
         brokers_stay_agreed();
         consumers_are_made();
@@ -244,7 +249,6 @@ impl Broker {
         ensures topology { topology_kept self.new ≡ topology_kept self.old }
         ensures turn { self.new.turn ≡ self.old.turn }
         ensures later { NoneIsLater self.old self.new }
-        ensures sizes { self.new.sizes ≡ self.old.sizes }
     {
         brokers_stay_agreed();
         consumers_are_made();
@@ -276,7 +280,6 @@ impl Broker {
         ensures stood { OnOk result (Is (with_all_stood (broker_of self.old)) (broker_of self.new)) }
         ensures turn { OnOk result (self.new.turn ≡ None) }
         ensures lines { OnOk result (LinesMove self.old self.new) }
-        ensures sizes { OnOk result (SizesMove self.old self.new) }
         ensures err { OnErr result (self.new ≡ self.old) }
     {
         let empty = ConsumerRounds::new(alloc, topology.queues().len())?;

@@ -6,7 +6,6 @@
 
 mod brokers;
 mod rounds;
-mod sizes;
 mod turns;
 mod waiting;
 
@@ -14,5 +13,4 @@ pub use brokers::Broker;
 pub use commands::Pick;
 pub use model::Event;
 pub use replies::Step;
-pub use sizes::nothing_grows;
 pub use waiting::nobody_waits;

@@ -5,7 +5,8 @@
 //! that has nothing ready costs nothing, nor does a queue of which nobody may take something. A waiter that is found when its
 //! consumer may take nothing falls asleep, and costs nothing until an event of its own channel or the end of its connection's pause
 //! wakes it. So a command wakes what sleeps on its channel, and goes over no waiter that is idle. Each consumer's waiter is listed at
-//! its channel as it is made, with a bit that tells whether it sleeps, so that a pick takes no memory.
+//! its channel as it is made, with a bit that tells whether it sleeps, so that a pick takes no memory. A waiter goes with its consumer: as
+//! consumers of a connection may have left, all waiters are gone over, and those of its consumers that are gone are taken out.
 
 mod finding;
 mod queue_rounds;
@@ -16,12 +17,13 @@ mod waiters;
 ghost use Rattle.std.specs.Prelude.{◌≡◌};
 ghost use Rattle.broker.specs.Rounds.{wakes_on};
 
+use crate::rounds::finding::is_of;
 use crate::rounds::queue_rounds::QueueRounds;
 use crate::rounds::sleepers::{
     Sleepers, forget_connection, move_sleepers, note_waiter, wake_connection,
 };
 use crate::rounds::waiters::Newcomer;
-use commands::{Core, Pick};
+use commands::{Core, Ends, Pick};
 use model::{Event, Method};
 use std::alloc::{AllocError, Global};
 use std::collections::HashMap;
@@ -63,14 +65,15 @@ impl Model for ConsumerRounds {
 
 impl ConsumerRounds {
     ghost use Rattle.std.specs.Prelude.{◌≡◌, [], ℕ, true, None, Option, IfSome, IfOk, IsOk, OnOk, length};
+    ghost use Rattle.commands.specs.declared.acted.Ends.TheVariants as ended;
     ghost use Rattle.commands.specs.declared.picks.Pick.{Pick as Consumer};
     ghost use Rattle.commands.specs.State.{Kept, broker_of, topology_kept};
     ghost use Rattle.commands.specs.Picked.{IsPickFrom};
     ghost use Rattle.commands.specs.Seats.{seat_of};
-    ghost use Rattle.broker.specs.Rounds.{round_at, wakes, AllAreNoted, IsAt, IsAwake, IsInItsRound, IsExpected, CanJoin, HasNoList, MakesNoList, NotesStay};
-    ghost use Rattle.broker.specs.Rounds.{KeepLists, ListsRunning, KeepsWaiters, KeepsAll, KeepLines, LetsNewcomerIn, AllAreBounded, AllWaken, WakesWaiter};
-    ghost use Rattle.broker.specs.Rounds.{PicksFirst, GoesOn, SameSizes, AllAreEmpty};
-    ghost use Rattle.broker.specs.Moving.{ArePlacesApart, RoundsAreMoved, SizesCome, ListsAreMoved};
+    ghost use Rattle.broker.specs.Rounds.{round_at, is_of, wakes, AllAreNoted, IsAt, IsAwake, IsInItsRound, IsExpected, CanJoin, HasNoList, MakesNoList};
+    ghost use Rattle.broker.specs.Rounds.{KeepLists, ListsRunning, KeepsWaiters, KeepsAll, KeepLines, AllAddTheirOwn, LeaveLines, AllWaken, WakesWaiter};
+    ghost use Rattle.broker.specs.Rounds.{NotesStay, PicksFirst, GoesOn, AllAreEmpty};
+    ghost use Rattle.broker.specs.Moving.{ArePlacesApart, RoundsAreMoved, LinesCome, ListsAreMoved};
 
     /// No waiter, for so many queues.
     pub fn new(alloc: Global, queues: usize) -> Result<ConsumerRounds, AllocError>
@@ -114,21 +117,42 @@ impl ConsumerRounds {
         Ok(Some(Newcomer { queue, consumer }))
     }
 
-    /// The newcomer, if there is one, waits in the round of its queue from now on, awake. No waiter of a consumer that is there is gone.
-    /// It takes no memory.
+    /// The newcomer, if there is one, and it is a consumer now, waits in the round of its queue from now on, awake. All others stay. It takes
+    /// no memory.
     pub fn join(&mut self, core: &Core, newcomer: Option<Newcomer>)
         requires { IfSome newcomer (CanJoin self.old) }
-        ensures joined { IfSome newcomer (λ n. IsAwake (round_at self.new.rounds n.queue) n.consumer) }
+        ensures joined { IfSome newcomer (λ n. is_of core.now n.queue n.consumer ≡ true → IsAwake (round_at self.new.rounds n.queue) n.consumer) }
         ensures kept { KeepsWaiters core.now self.old self.new }
         ensures lists { self.new.lists ≡ self.old.lists }
         ensures len { length self.new.rounds ≡ length self.old.rounds }
         ensures next { self.new.next ≡ self.old.next }
-        ensures lines { KeepLines core.now self.old.rounds self.new.rounds }
-        ensures comes { IfSome newcomer (LetsNewcomerIn core.now self.old.rounds self.new.rounds) }
-        ensures bounded { AllAreBounded core.now self.old.rounds self.new.rounds }
+        ensures lines { KeepLines self.old.rounds self.new.rounds }
+        ensures adds { AllAddTheirOwn core.now self.old.rounds self.new.rounds }
     {
-        if let Some(Newcomer { queue, consumer }) = newcomer {
-            self.rounds.join(core, queue, consumer);
+        let Some(Newcomer { queue, consumer }) = newcomer else {
+            return;
+        };
+        if is_of(core, queue, consumer) {
+            self.rounds.join(queue, consumer);
+        }
+    }
+
+    /// The waiters of this connection's consumers that are gone are gone too, and what is listed of it where it runs no more. The others
+    /// are gone round as before. It takes no memory.
+    pub fn leave(&mut self, core: &Core, connection: u64, ends: Ends)
+        requires { ends ≡ ended.Connection → (broker_of core.now).connection connection ≡ None }
+        ensures kept { KeepsWaiters core.now self.old self.new }
+        ensures noted { KeepLists core.now self.old.lists self.new.lists }
+        ensures gone { ends ≡ ended.Connection → HasNoList self.new.lists connection }
+        ensures none { MakesNoList self.old.lists self.new.lists }
+        ensures lines { LeaveLines core.now connection self.old.rounds self.new.rounds }
+        ensures len { length self.new.rounds ≡ length self.old.rounds }
+        ensures next { self.new.next ≡ self.old.next }
+    {
+        self.rounds.leave(core, connection);
+        match ends {
+            Ends::Connection => forget_connection(&mut self.sleepers, connection),
+            _ => {}
         }
     }
 
@@ -172,26 +196,13 @@ impl ConsumerRounds {
         }
     }
 
-    /// What is listed of this connection, which runs no more, is gone. It takes no memory.
-    pub fn forget(&mut self, connection: u64)
-        ensures kept { (k : Kept) → (broker_of k).connection connection ≡ None → KeepsWaiters k self.old self.new }
-        ensures noted { (k : Kept) → (broker_of k).connection connection ≡ None → KeepLists k self.old.lists self.new.lists }
-        ensures gone { HasNoList self.new.lists connection }
-        ensures rounds { self.new.rounds ≡ self.old.rounds }
-        ensures none { MakesNoList self.old.lists self.new.lists }
-        ensures len { length self.new.rounds ≡ length self.old.rounds }
-        ensures on { GoesOn self.old self.new }
-    {
-        forget_connection(&mut self.sleepers, connection);
-    }
-
     /// The waiters of `old` stand from now on in the rounds of their queues at the places that the table has for these, and all are
     /// awake; those of a queue whose place is behind the end are gone. They are listed there. It takes no memory.
     pub fn take_over(&mut self, old: ConsumerRounds, places: &[usize])
         requires len { length places.now ≡ length old.rounds }
         requires apart { ArePlacesApart places.now (length self.old.rounds) }
         ensures moved { RoundsAreMoved places.now old.rounds self.new.rounds }
-        ensures came { SizesCome old.rounds self.old.rounds self.new.rounds }
+        ensures came { LinesCome places.now old.rounds self.old.rounds self.new.rounds }
         ensures lists { ListsAreMoved places.now old.lists self.new.lists }
         ensures next { self.new.next ≡ self.old.next }
         ensures len { length self.new.rounds ≡ length self.old.rounds }
@@ -219,7 +230,6 @@ impl ConsumerRounds {
         ensures none { result ≡ None → (place : ℕ) (p : Consumer) → IsInItsRound (broker_of core.now) self.old place p → IsPickFrom core.now place p → ⊥ }
         ensures told { IfSome result (λ p. PicksFirst core.now self.old self.new p) }
         ensures on { result ≡ None → GoesOn self.old self.new }
-        ensures sizes { SameSizes self.old.rounds self.new.rounds }
     {
         let found = self.rounds.pick(core, &mut self.sleepers, self.next)?;
         self.next = found.queue + 1;

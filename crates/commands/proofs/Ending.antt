@@ -7,8 +7,10 @@ use Rattle.model.specs.Broker.{Connection, Broker, with_one}
 use Rattle.model.specs.Step.{Is, Acts, with_gone, paused}
 use Rattle.model.specs.declared.events.Send.{Send}
 use Rattle.model.specs.declared.events.Event.TheVariants.{Running, Lose, Pause, Resume, Deliver}
+use Rattle.model.specs.declared.methods.Method.{Method}
 use Rattle.model.specs.declared.notes.Note.{Note}
-use Rattle.commands.specs.Ended.{AllRunStill, OthersRunStill, TellsEnd}
+use Rattle.commands.specs.declared.acted.Ends.TheVariants as ends
+use Rattle.commands.specs.Ended.{AllRunStill, OthersRunStill, TellsEnd, ends_of, keeps_consumers}
 
 module _ (old new : Broker) where
   -- where connections are as they were, each runs still that ran
@@ -27,7 +29,7 @@ module _ (old new : Broker) where
   here c x = ap (λ (v : Bool). if v then x else old.connection c) (eq-eqb c c refl)
 
   -- one that is gone runs no more, and each other runs still
-  pub gone_ended : (c : ℕ) → Is (with_gone old c) new → TellsEnd c true old new
+  pub gone_ended : (c : ℕ) → Is (with_gone old c) new → TellsEnd c ends.Connection old new
   gone_ended c is = (is.connections c ∙ here c None, others_run c None is.connections)
 
   -- where one is another now that ended only if it hadn't run before, each runs still
@@ -42,9 +44,17 @@ module _ (old new : Broker) where
   paused_run v None e = refl
   paused_run v (Some conn) e = absurd (false≢true (sym (ap is_some e)))
 
+-- a command that is performed on its channel alone ends no connection
+pub performed_runs : (c : ℕ) (old new : Broker) (m : Method) → AllRunStill old new → TellsEnd c (ends_of m) old new
+performed_runs c old new m runs = go (keeps_consumers m)
+  where
+    go : (v : Bool) → TellsEnd c (if v then ends.Nothing else ends.Consumers) old new
+    go true = runs
+    go false = runs
+
 -- a loss ends no other connection; an opening, a pause and its end, and a delivery end none
 module _ (t : Topology) (old new : Broker) (sends : List Send) (notes : List Note) where
-  pub loss_ended : (c : ℕ) → Acts t old (Lose c) sends notes new → TellsEnd c true old new
+  pub loss_ended : (c : ℕ) → Acts t old (Lose c) sends notes new → TellsEnd c ends.Connection old new
   loss_ended c p = gone_ended old new c p.left
 
   pub opening_runs : (c max n : ℕ) → Acts t old (Running c max n) sends notes new → AllRunStill old new

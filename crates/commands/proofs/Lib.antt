@@ -18,6 +18,7 @@ mod Answering
 mod Commanding
 mod LiveQueues
 pub mod Stepping
+pub mod Remaining
 mod Turning
 mod Exchanges
 pub mod Judging

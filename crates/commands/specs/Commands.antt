@@ -105,9 +105,9 @@ WantsNone (Err Memory) = ⊥
 
 -- ---- what is left to be done
 
--- the method asks for this on the channel, which is there where it needs to be
+-- the method asks for this on the channel, which is there where it needs to be, and is not where it is opened
 abbrev pub AsksLeft : Topology → Option Channel → Method → asked.Left → Type 0
-AsksLeft t ch m left.OpenChannel = (reserved : Text) × (m ≡ method.ChannelOpen reserved)
+AsksLeft t ch m left.OpenChannel = (reserved : Text) × (m ≡ method.ChannelOpen reserved) × (ch ≡ None)
 AsksLeft t ch m left.AnswerClose = (x : Close) × (m ≡ method.ChannelClose x) × IsSome ch × ((channel_or_new ch).is_closing ≡ false)
 AsksLeft t ch m left.AnswerClosing = (x : Close) × (m ≡ method.ChannelClose x) × IsSome ch × ((channel_or_new ch).is_closing ≡ true)
 AsksLeft t ch m left.EndChannel = (m ≡ method.ChannelCloseOk) × IsSome ch

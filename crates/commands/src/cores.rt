@@ -9,7 +9,7 @@ mod reloads;
 mod running;
 mod seating;
 
-use crate::acted::Acted;
+use crate::acted::{Acted, Ends};
 use crate::commands::{Done, Left, on_channel, on_none};
 use crate::refusals::{Refusal, Stop, judge_large};
 use channels::{RunningConnections, lent_channels_are_put};
@@ -66,7 +66,7 @@ impl Core {
     ghost use Rattle.commands.specs.Steps.{PerformsOn};
     ghost use Rattle.commands.specs.Commands.{AnswersOn, IsAddressedBy, UnlessPerformed, WantsNone};
     ghost use Rattle.commands.specs.Commands.{AsksLeft, CanFinish};
-    ghost use Rattle.commands.specs.Ended.{AllRunStill, TellsEnd};
+    ghost use Rattle.commands.specs.Ended.{AllRunStill, TellsEnd, TellsStay};
     ghost use Rattle.commands.specs.Judged.{is_requeueing, IsAsked, IsRequeued, IsIgnored, IsLargeIgnored, WantsNoMemory, JudgesLarge};
     ghost use Rattle.replies.specs.Sent.{AreAddressed, connection_of_event};
 
@@ -136,7 +136,8 @@ impl Core {
         ensures addressed { IfOk result (λ a. (m : Seen)
             → AsksLeft (topology_kept self.old) ((broker_of self.old).channel id.connection id.number) m left.entry
             → IsMethod m → AreCarried (broker_of self.old) → AreAddressed id.connection a.step.sends.items) }
-        ensures ended { IfOk result (λ a. TellsEnd id.connection a.has_ended (broker_of self.old) (broker_of self.new)) }
+        ensures ended { IfOk result (λ a. TellsEnd id.connection a.ends (broker_of self.old) (broker_of self.new)) }
+        ensures stay { IfOk result (λ a. TellsStay a.ends (broker_of self.old) (broker_of self.new)) }
         ensures topology { topology_kept self.new ≡ topology_kept self.old }
         ensures err { OnErr result (self.new ≡ self.old) }
     {
@@ -144,7 +145,7 @@ impl Core {
         match left {
             Left::OpenChannel => {
                 let step = self.open_channel(alloc, connection, number)?;
-                Ok(Acted::running(step))
+                Ok(Acted::staying(step))
             }
             Left::AnswerClose => {
                 let step = self.answer_close(alloc, connection, number)?;
@@ -152,7 +153,7 @@ impl Core {
             }
             Left::AnswerClosing => {
                 let step = self.answer_closing(alloc, connection, number)?;
-                Ok(Acted::running(step))
+                Ok(Acted::staying(step))
             }
             Left::EndChannel => {
                 let step = self.end_channel(alloc, connection, number);
@@ -163,7 +164,7 @@ impl Core {
             }
             Left::FindQueue(place, declare) => {
                 let step = self.find_queue(alloc, connection, number, place, declare)?;
-                Ok(Acted::running(step))
+                Ok(Acted::staying(step))
             }
         }
     }
@@ -185,13 +186,14 @@ impl Core {
             ((broker_of self.old).connection id.connection) → IsOk result }
         ensures addressed { IfOk result (λ a. IsMethod method.now → AreCarried (broker_of self.old)
             → AreAddressed id.connection a.step.sends.items) }
-        ensures ended { IfOk result (λ a. TellsEnd id.connection a.has_ended (broker_of self.old) (broker_of self.new)) }
+        ensures ended { IfOk result (λ a. TellsEnd id.connection a.ends (broker_of self.old) (broker_of self.new)) }
+        ensures stay { IfOk result (λ a. TellsStay a.ends (broker_of self.old) (broker_of self.new)) }
         ensures topology { topology_kept self.new ≡ topology_kept self.old }
         ensures err { OnErr result (self.new ≡ self.old) }
     {
         match self.decide(alloc, id, method, content) {
-            None => Ok(Acted::running(Step::nothing(alloc))),
-            Some(Ok(Done::Performed(step))) => Ok(Acted::running(step)),
+            None => Ok(Acted::staying(Step::nothing(alloc))),
+            Some(Ok(Done::Performed(step))) => Ok(Acted::performed(step, method)),
             Some(Ok(Done::Left(left))) => self.finish(alloc, id, left),
             Some(Err(Stop::Refused(refusal))) => {
                 self.refuse(alloc, id.connection, id.number, method.ids(), refusal)
@@ -212,20 +214,21 @@ impl Core {
             (broker_of self.new) ((broker_of self.old).connection connection)) }
         ensures ignored { IsLargeIgnored (broker_of self.old) connection channel ((broker_of self.old).connection connection) → IsOk result }
         ensures addressed { IfOk result (λ a. AreAddressed connection a.step.sends.items) }
-        ensures ended { IfOk result (λ a. TellsEnd connection a.has_ended (broker_of self.old) (broker_of self.new)) }
+        ensures ended { IfOk result (λ a. TellsEnd connection a.ends (broker_of self.old) (broker_of self.new)) }
+        ensures stay { IfOk result (λ a. TellsStay a.ends (broker_of self.old) (broker_of self.new)) }
         ensures topology { topology_kept self.new ≡ topology_kept self.old }
         ensures err { OnErr result (self.new ≡ self.old) }
     {
         match self.judge_large(connection, channel) {
-            None => Ok(Acted::running(Step::nothing(alloc))),
+            None => Ok(Acted::staying(Step::nothing(alloc))),
             Some(refusal) => self.refuse(alloc, connection, channel, PUBLISH, refusal),
         }
     }
 
-    /// One event: what it sends, what it notes, the state after it, and whether its connection runs no more. Where the event's
-    /// method has a spelling, each send is for the event's own connection, by a method with a spelling. Where memory is wanting,
-    /// nothing has changed; an opening, a loss, a pause and its end, a command that is ignored, and a rejection that requeues want
-    /// none.
+    /// One event: what it sends, what it notes, the state after it, whether its connection runs no more, and whether each consumer is
+    /// there still. Where the event's method has a spelling, each send is for the event's own connection, by a method with a spelling.
+    /// Where memory is wanting, nothing has changed; an opening, a loss, a pause and its end, a command that is ignored, and a rejection
+    /// that requeues want none.
     pub fn step(&mut self, alloc: Global, event: &Event) -> Result<Acted, AllocError>
         requires agreed { IsAgreed (broker_of self.old) }
         requires asked { IsAsked event.now }
@@ -233,13 +236,14 @@ impl Core {
             a.step.sends.items a.step.notes.items (broker_of self.new)) }
         ensures addressed { IfOk result (λ a. IsSaid event.now → AreCarried (broker_of self.old)
             → AreAddressed (connection_of_event event.now) a.step.sends.items) }
-        ensures ended { IfOk result (λ a. TellsEnd (connection_of_event event.now) a.has_ended (broker_of self.old) (broker_of self.new)) }
+        ensures ended { IfOk result (λ a. TellsEnd (connection_of_event event.now) a.ends (broker_of self.old) (broker_of self.new)) }
+        ensures stay { IfOk result (λ a. TellsStay a.ends (broker_of self.old) (broker_of self.new)) }
         ensures topology { topology_kept self.new ≡ topology_kept self.old }
         ensures err { OnErr result (self.new ≡ self.old) }
         ensures quiet { WantsNoMemory (topology_kept self.old) (broker_of self.old) event.now → IsOk result }
     {
         match event {
-            Event::Open { .. } | Event::First { .. } => { Ok(Acted::running(Step::nothing(alloc))) }
+            Event::Open { .. } | Event::First { .. } => { Ok(Acted::staying(Step::nothing(alloc))) }
             Event::Running {
                 connection,
                 channel_max,
@@ -276,16 +280,16 @@ impl Core {
                 self.go(*connection);
                 Ok(Acted {
                     step: Step::nothing(alloc),
-                    has_ended: true,
+                    ends: Ends::Connection,
                 })
             }
             Event::Pause { connection } => {
                 self.pause(*connection);
-                Ok(Acted::running(Step::nothing(alloc)))
+                Ok(Acted::staying(Step::nothing(alloc)))
             }
             Event::Resume { connection } => {
                 self.resume(*connection);
-                Ok(Acted::running(Step::nothing(alloc)))
+                Ok(Acted::staying(Step::nothing(alloc)))
             }
             Event::Deliver { .. } => unreachable!(),
         }

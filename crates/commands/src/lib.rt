@@ -13,6 +13,6 @@ mod giving;
 mod picks;
 mod refusals;
 
-pub use acted::Acted;
+pub use acted::{Acted, Ends};
 pub use cores::Core;
 pub use picks::{Pick, Taking};

@@ -4,15 +4,15 @@
 //! something ready and whose bit is 1. A pick that finds none to whom it may deliver at a queue leaves no waiter awake there, and
 //! clears the bit, and the next waiter that is woken or made there sets it. So a queue that lacks one of the two is passed over.
 
-ghost use Rattle.std.specs.Prelude.{◌≡◌, ◌<◌, ◌≤◌, ◌*◌, [], ℕ, List, None, IfSome, IfOk, OnOk, length};
+ghost use Rattle.std.specs.Prelude.{◌≡◌, ◌<◌, ◌≤◌, ◌*◌, [], ℕ, List, None, true, IfSome, IfOk, OnOk, length};
 ghost use Rattle.marks.specs.Places.{bit_of};
 ghost use Rattle.depot.specs.Store.{HasReady};
-ghost use Rattle.commands.specs.State.{broker_of, topology_kept};
+ghost use Rattle.commands.specs.State.{Kept, broker_of, topology_kept};
 ghost use Rattle.commands.specs.Picked.{IsPickFrom};
-ghost use Rattle.broker.specs.Rounds.{round_at, rounds_of, AllAreNoted, IsAwake, IsAsleep, QueuesAreMarked, IsNextMarked, KeepRounds, KeepLines, LetsIn};
-ghost use Rattle.broker.specs.Rounds.{AllAreBounded, HasRoom, KeepsWaiters, ListsMore, AllWaken, NoneInRound, NoneBetween, NonePassed, PicksFrom};
-ghost use Rattle.broker.specs.Rounds.{SameOrders, SameSizes};
-ghost use Rattle.broker.specs.Moving.{IsMoved, IsOfEither, SizesCome, ArePlacesApart, RoundsAreMoved};
+ghost use Rattle.broker.specs.Rounds.{round_at, rounds_of, is_of, order, AllAreNoted, IsAwake, IsAsleep, QueuesAreMarked, IsNextMarked, KeepRounds, KeepLines};
+ghost use Rattle.broker.specs.Rounds.{AllAddTheirOwn, LeaveLine, LeaveLines, HasRoom, KeepsWaiters, ListsMore, AllWaken, NoneInRound, NoneBetween, NonePassed};
+ghost use Rattle.broker.specs.Rounds.{PicksFrom, SameOrders};
+ghost use Rattle.broker.specs.Moving.{IsMoved, IsOfEither, LinesCome, ArePlacesApart, RoundsAreMoved};
 ghost use Rattle.commands.specs.declared.picks.Pick.{Pick as Consumer};
 
 use crate::rounds::round::Round;
@@ -35,7 +35,6 @@ pub(crate) struct FoundWaiter {
 fn empty_rounds(alloc: Global, count: usize) -> Result<Vec<Round>, AllocError>
     ensures len { IfOk result (λ rounds. length rounds.items ≡ count) }
     ensures empty { IfOk result (λ rounds. (place : ℕ) → (round_at rounds.items place).waiters ≡ []) }
-    ensures found { IfOk result (λ rounds. (place : ℕ) → (round_at rounds.items place).found ≡ 0) }
 {
     let mut rounds = Vec::new(alloc);
     for _ in 0..count {
@@ -63,21 +62,20 @@ fn reserve_at(rounds: &mut [Round], queue: usize) -> Result<(), AllocError>
     rounds[queue].reserve()
 }
 
-/// This consumer, for whose waiter there is room, waits in the round of the queue at this place from now on, and is awake. No waiter of
-/// a consumer that is there is gone. It takes no memory.
-fn join_at(rounds: &mut [Round], awake: &mut PlaceMarks, core: &Core, queue: usize, consumer: Pick)
+/// This consumer, for whose waiter there is room, waits in the round of the queue at this place from now on, and is awake. All others stay.
+/// It takes no memory.
+fn join_at(rounds: &mut [Round], awake: &mut PlaceMarks, queue: usize, consumer: Pick)
     requires within { queue < length rounds.old }
     requires room { HasRoom (round_at rounds.old queue) }
     requires marked { QueuesAreMarked rounds.old awake.old }
     ensures joined { IsAwake (round_at rounds.new queue) consumer }
-    ensures kept { KeepRounds core.now rounds.old rounds.new }
-    ensures lines { KeepLines core.now rounds.old rounds.new }
-    ensures comes { LetsIn core.now queue consumer (round_at rounds.old queue) (round_at rounds.new queue) }
-    ensures bounded { AllAreBounded core.now rounds.old rounds.new }
+    ensures kept { (k : Kept) → KeepRounds k rounds.old rounds.new }
+    ensures lines { KeepLines rounds.old rounds.new }
+    ensures adds { (k : Kept) → is_of k queue consumer ≡ true → AllAddTheirOwn k rounds.old rounds.new }
     ensures marked { QueuesAreMarked rounds.new awake.new }
 {
     awake.set(queue);
-    rounds[queue].join(core, queue, consumer);
+    rounds[queue].join(consumer);
 }
 
 /// This consumer's waiter is awake from now on in the round of the queue at this place, where it is looked for at this place first.
@@ -130,7 +128,6 @@ fn pick_at(
     ensures none { result ≡ None → NoneInRound core.now sleepers.old.entries queue (round_at rounds.old queue) }
     ensures told { IfSome result (λ p. PicksFrom core.now sleepers.old.entries rounds.old rounds.new queue p) }
     ensures same { result ≡ None → SameOrders rounds.old rounds.new }
-    ensures sizes { SameSizes rounds.old rounds.new }
 {
     match rounds[queue].pick(core, sleepers, queue) {
         Some(pick) => Some(pick),
@@ -164,7 +161,6 @@ fn first_between(
     ensures below { IfSome result (λ f. f.queue < to) }
     ensures told { IfSome result (λ f. PicksFrom core.now sleepers.old.entries rounds.old rounds.new f.queue f.pick) }
     ensures same { result ≡ None → SameOrders rounds.old rounds.new }
-    ensures sizes { SameSizes rounds.old rounds.new }
 {
     let mut next = from;
     'queues: while let Some(queue) = next_both(core, awake, next) {
@@ -199,7 +195,6 @@ fn first_from(
     ensures passed { IfSome result (λ f. NonePassed core.now (rounds_of rounds.old sleepers.old.entries) next f.queue) }
     ensures told { IfSome result (λ f. PicksFrom core.now sleepers.old.entries rounds.old rounds.new f.queue f.pick) }
     ensures same { result ≡ None → SameOrders rounds.old rounds.new }
-    ensures sizes { SameSizes rounds.old rounds.new }
 {
     let turn = next.min(rounds.len());
     match first_between(rounds, awake, core, sleepers, turn, rounds.len()) {
@@ -220,13 +215,44 @@ fn mark_round(awake: &mut PlaceMarks, round: &Round, place: usize)
     }
 }
 
+/// The waiters of this connection's consumers that are gone leave the round of the queue at this place. The others are gone round as before.
+fn leave_at(
+    rounds: &mut [Round],
+    awake: &mut PlaceMarks,
+    core: &Core,
+    queue: usize,
+    connection: u64,
+)
+    requires within { queue < length rounds.old }
+    requires marked { QueuesAreMarked rounds.old awake.old }
+    ensures kept { KeepRounds core.now rounds.old rounds.new }
+    ensures here { LeaveLine core.now queue connection (round_at rounds.old queue) (round_at rounds.new queue) }
+    ensures others { (i : ℕ) → (i ≡ queue → ⊥) → round_at rounds.new i ≡ round_at rounds.old i }
+    ensures marked { QueuesAreMarked rounds.new awake.new }
+{
+    rounds[queue].leave(core, queue, connection);
+    mark_round(awake, &rounds[queue], queue);
+}
+
+/// They leave each round.
+fn leave_each(rounds: &mut [Round], awake: &mut PlaceMarks, core: &Core, connection: u64)
+    requires { QueuesAreMarked rounds.old awake.old }
+    ensures kept { KeepRounds core.now rounds.old rounds.new }
+    ensures lines { LeaveLines core.now connection rounds.old rounds.new }
+    ensures marked { QueuesAreMarked rounds.new awake.new }
+{
+    for queue in 0..rounds.len() {
+        leave_at(rounds, awake, core, queue, connection);
+    }
+}
+
 /// The waiters of this round stand in that of the queue at this place from now on, and all are awake. What stood there stands in this.
 fn take_round(rounds: &mut [Round], awake: &mut PlaceMarks, place: usize, round: &mut Round)
     requires within { place < length rounds.old }
     requires marked { QueuesAreMarked rounds.old awake.old }
     ensures moved { IsMoved round.old (round_at rounds.new place) }
     ensures others { (i : ℕ) → (i ≡ place → ⊥) → round_at rounds.new i ≡ round_at rounds.old i }
-    ensures came { (i : ℕ) → IsOfEither (round_at rounds.old i) round.old (round_at rounds.new i) }
+    ensures came { (i : ℕ) → IsOfEither place i (round_at rounds.old i) round.old (round_at rounds.new i) }
     ensures marked { QueuesAreMarked rounds.new awake.new }
 {
     round.wake_all();
@@ -239,7 +265,7 @@ fn move_round(rounds: &mut [Round], awake: &mut PlaceMarks, place: usize, round:
     requires { QueuesAreMarked rounds.old awake.old }
     ensures moved { place < length rounds.old → IsMoved round.old (round_at rounds.new place) }
     ensures others { (i : ℕ) → (i ≡ place → ⊥) → round_at rounds.new i ≡ round_at rounds.old i }
-    ensures came { (i : ℕ) → IsOfEither (round_at rounds.old i) round.old (round_at rounds.new i) }
+    ensures came { (i : ℕ) → IsOfEither place i (round_at rounds.old i) round.old (round_at rounds.new i) }
     ensures marked { QueuesAreMarked rounds.new awake.new }
 {
     if place < rounds.len() {
@@ -253,7 +279,7 @@ fn move_rounds(rounds: &mut [Round], awake: &mut PlaceMarks, old: &mut [Round], 
     requires apart { ArePlacesApart places.now (length rounds.old) }
     requires marked { QueuesAreMarked rounds.old awake.old }
     ensures moved { RoundsAreMoved places.now old.old rounds.new }
-    ensures came { SizesCome old.old rounds.old rounds.new }
+    ensures came { LinesCome places.now old.old rounds.old rounds.new }
     ensures marked { QueuesAreMarked rounds.new awake.new }
 {
     for (from, place) in places.iter().enumerate() {
@@ -290,12 +316,12 @@ impl Model for QueueRounds {
 }
 
 impl QueueRounds {
-    ghost use Rattle.std.specs.Prelude.{◌≡◌, ◌<◌, ◌+◌, ◌^◌, ℕ, None, IfSome, IfOk, OnOk, length};
-    ghost use Rattle.commands.specs.State.{broker_of, topology_kept};
+    ghost use Rattle.std.specs.Prelude.{◌≡◌, ◌<◌, ◌+◌, ◌^◌, ℕ, None, true, IfSome, IfOk, OnOk, length};
+    ghost use Rattle.commands.specs.State.{Kept, broker_of, topology_kept};
     ghost use Rattle.commands.specs.Picked.{IsPickFrom};
-    ghost use Rattle.broker.specs.Rounds.{round_at, rounds_of, AllAreNoted, IsAwake, IsAsleep, HasRoom, KeepRounds, KeepLines, LetsIn, AllAreBounded};
-    ghost use Rattle.broker.specs.Rounds.{KeepsWaiters, ListsMore, AllWaken, NoneBetween, NonePassed, PicksFrom, SameOrders, SameSizes, AllAreEmpty};
-    ghost use Rattle.broker.specs.Moving.{ArePlacesApart, RoundsAreMoved, SizesCome};
+    ghost use Rattle.broker.specs.Rounds.{round_at, rounds_of, is_of, AllAreNoted, IsAwake, IsAsleep, HasRoom, KeepRounds, KeepLines, AllAddTheirOwn};
+    ghost use Rattle.broker.specs.Rounds.{LeaveLines, KeepsWaiters, ListsMore, AllWaken, NoneBetween, NonePassed, PicksFrom, SameOrders, AllAreEmpty};
+    ghost use Rattle.broker.specs.Moving.{ArePlacesApart, RoundsAreMoved, LinesCome};
 
     /// So many rounds with no waiter.
     pub fn new(alloc: Global, queues: usize) -> Result<QueueRounds, AllocError>
@@ -317,19 +343,27 @@ impl QueueRounds {
         reserve_at(&mut self.rounds, queue)
     }
 
-    /// This consumer, for whose waiter there is room, waits in the round of the queue at this place from now on, and is awake. No waiter
-    /// of a consumer that is there is gone. It takes no memory.
-    pub fn join(&mut self, core: &Core, queue: usize, consumer: Pick)
+    /// This consumer, for whose waiter there is room, waits in the round of the queue at this place from now on, and is awake. All others
+    /// stay. It takes no memory.
+    pub fn join(&mut self, queue: usize, consumer: Pick)
         requires within { queue < length self.old }
         requires room { HasRoom (round_at self.old queue) }
         ensures joined { IsAwake (round_at self.new queue) consumer }
-        ensures kept { KeepRounds core.now self.old self.new }
-        ensures lines { KeepLines core.now self.old self.new }
-        ensures comes { LetsIn core.now queue consumer (round_at self.old queue) (round_at self.new queue) }
-        ensures bounded { AllAreBounded core.now self.old self.new }
+        ensures kept { (k : Kept) → KeepRounds k self.old self.new }
+        ensures lines { KeepLines self.old self.new }
+        ensures adds { (k : Kept) → is_of k queue consumer ≡ true → AllAddTheirOwn k self.old self.new }
         ensures len { length self.new ≡ length self.old }
     {
-        join_at(&mut self.rounds, &mut self.awake, core, queue, consumer);
+        join_at(&mut self.rounds, &mut self.awake, queue, consumer);
+    }
+
+    /// The waiters of this connection's consumers that are gone are gone too. The others are gone round as before. It takes no memory.
+    pub fn leave(&mut self, core: &Core, connection: u64)
+        ensures kept { KeepRounds core.now self.old self.new }
+        ensures lines { LeaveLines core.now connection self.old self.new }
+        ensures len { length self.new ≡ length self.old }
+    {
+        leave_each(&mut self.rounds, &mut self.awake, core, connection);
     }
 
     /// This consumer's waiter is awake from now on in the round of the queue at this place, if it is there; it is looked for at this
@@ -350,7 +384,7 @@ impl QueueRounds {
         requires len { length places.now ≡ length old }
         requires apart { ArePlacesApart places.now (length self.old) }
         ensures moved { RoundsAreMoved places.now old self.new }
-        ensures came { SizesCome old self.old self.new }
+        ensures came { LinesCome places.now old self.old self.new }
         ensures len { length self.new ≡ length self.old }
     {
         let QueueRounds {
@@ -374,7 +408,6 @@ impl QueueRounds {
         ensures passed { IfSome result (λ f. NonePassed core.now (rounds_of self.old sleepers.old.entries) next f.queue) }
         ensures told { IfSome result (λ f. PicksFrom core.now sleepers.old.entries self.old self.new f.queue f.pick) }
         ensures same { result ≡ None → SameOrders self.old self.new }
-        ensures sizes { SameSizes self.old self.new }
     {
         first_from(&mut self.rounds, &mut self.awake, core, sleepers, next)
     }

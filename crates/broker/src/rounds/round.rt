@@ -1,25 +1,24 @@
 //! The consumers of one queue, over which its deliveries go round.
 //!
-//! Each consumer waits in the round, by its numbers. A waiter stays there after its consumer is gone, until the round is swept: as one
-//! comes in, where there are more than twice those that were found at the last sweep. What is picked is found by looking at one waiter
-//! after another, from the one behind that which was picked last. A waiter whose consumer may take nothing then falls asleep, and is
-//! passed over until it is woken. Picks look at the waiters whose bit is 1: that of a waiter that sleeps may be, after a sweep, until one
-//! looks at it.
+//! Each consumer waits in the round, by its numbers, as long as it is there: the waiters of a connection's consumers are gone over as some
+//! of them may have left, and those of the others go. What is picked is found by looking at one waiter after another, from the one behind
+//! that which was picked last. A waiter whose consumer may take nothing then falls asleep, and is passed over until it is woken. Picks look
+//! at the waiters whose bit is 1: that of a waiter that sleeps may be, after others left, until one looks at it.
 
-ghost use Rattle.std.specs.Prelude.{◌≡◌, ◌<◌, ◌≤◌, ◌+◌, ◌*◌, ℕ, true, false};
+ghost use Rattle.std.specs.Prelude.{◌≡◌, ◌<◌, ◌≤◌, ◌+◌, ◌*◌, ◌++◌, ◌∷◌, [], ℕ, true, false};
 ghost use Rattle.std.specs.Prelude.{None, IfSome, OnOk, length, count_by, filter, slice_index_or, vec_len, vec_capacity};
 ghost use Rattle.std.specs.List.{position_from};
 ghost use Rattle.model.specs.Topology.{IsIn};
 ghost use Rattle.marks.specs.Places.{bit_of};
 ghost use Rattle.depot.specs.Store.{HasReady};
-ghost use Rattle.commands.specs.State.{broker_of, topology_kept};
+ghost use Rattle.commands.specs.State.{Kept, broker_of, topology_kept};
 ghost use Rattle.commands.specs.Picked.{CannotTake, IsPickFrom};
 ghost use Rattle.commands.specs.declared.picks.Pick.{Pick as Consumer};
 ghost use Rattle.broker.specs.declared.rounds.waiters.Waiter.{Waiter as InRound};
 ghost use Rattle.broker.specs.Lines.{turned, AreDistinct};
-ghost use Rattle.broker.specs.Rounds.{round_of, picks, is_consumer, is_able, is_waiter_of, has_its_consumer, listing};
+ghost use Rattle.broker.specs.Rounds.{round_of, picks, is_consumer, is_able, is_waiter_of, remains, has_remained, listing};
 ghost use Rattle.broker.specs.Rounds.{AllAreNoted, FindsWaiter, IsNoted, IsAwakeAt, IsAwake, IsAsleep, StaysAt};
-ghost use Rattle.broker.specs.Rounds.{KeepsIn, KeepsRound, KeepsThose, KeepsOthers, NoneAwake, NoneAwakePassed, ListsMore, Wakens, AreFew, AreFound};
+ghost use Rattle.broker.specs.Rounds.{KeepsIn, KeepsRound, NoneAwake, NoneAwakePassed, ListsMore, Wakens};
 ghost use Rattle.broker.specs.Moving.{all_awake};
 
 use crate::rounds::finding::{Found, find, is_able, is_of};
@@ -92,21 +91,28 @@ fn rouse_each(waiters: &mut [Waiter])
     }
 }
 
-/// Takes out the waiters whose consumer is gone, or takes from another queue than that at this place.
-fn sweep(waiters: &mut Vec<Waiter>, core: &Core, queue: usize)
-    ensures waiters { waiters.new.items ≡ filter (has_its_consumer core.now queue) waiters.old.items }
-    ensures capacity { vec_capacity waiters.new ≡ vec_capacity waiters.old }
+/// Whether this consumer is of another connection than this, or is there and takes from the queue at this place.
+fn remains(core: &Core, queue: usize, connection: u64, consumer: Pick) -> bool
+    ensures { result ≡ remains core.now queue connection consumer }
 {
-    waiters.retain(|waiter| is_of(core, queue, waiter.pick));
+    consumer.connection != connection || is_of(core, queue, consumer)
 }
 
-/// How many of the waiters have their consumer still, which takes from the queue at this place.
-fn staying(waiters: &[Waiter], core: &Core, queue: usize) -> usize
-    ensures { result ≡ count_by (has_its_consumer core.now queue) waiters.now }
+/// Takes out the waiters of this connection's consumers that are gone, or take from another queue than that at this place.
+fn sweep(waiters: &mut Vec<Waiter>, core: &Core, queue: usize, connection: u64)
+    ensures waiters { waiters.new.items ≡ filter (has_remained core.now queue connection) waiters.old.items }
+    ensures capacity { vec_capacity waiters.new ≡ vec_capacity waiters.old }
+{
+    waiters.retain(|waiter| remains(core, queue, connection, waiter.pick));
+}
+
+/// How many of the waiters are of consumers of other connections than this, or of such that are there and take from the queue at this place.
+fn staying(waiters: &[Waiter], core: &Core, queue: usize, connection: u64) -> usize
+    ensures { result ≡ count_by (has_remained core.now queue connection) waiters.now }
 {
     let mut count = 0;
     for waiter in waiters {
-        if is_of(core, queue, waiter.pick) {
+        if remains(core, queue, connection, waiter.pick) {
             count += 1;
         }
     }
@@ -126,62 +132,41 @@ fn grow(waiters: &mut Vec<Waiter>, awake: &mut PlaceMarks) -> Result<(), AllocEr
     waiters.reserve(1)
 }
 
-/// Where there are more than twice those that were found at the last sweep, the waiters whose consumer is gone, or takes from another
-/// queue, are taken out, picks look at those that are left, and these are found now. So few sweeps are made, and few waiters stand there
-/// whose consumer is gone. It takes no memory.
-fn tidy(
+/// The waiters of this connection's consumers that are gone, or take from another queue than that at this place, are taken out. Those that
+/// are left are gone round as before, and picks look at them. It takes no memory.
+fn let_go(
     waiters: &mut Vec<Waiter>,
     awake: &mut PlaceMarks,
     next: &mut usize,
-    found: &mut usize,
     core: &Core,
     queue: usize,
+    connection: u64,
 )
     requires { length waiters.old.items ≤ length awake.old * 64 }
-    ensures shorter { length waiters.new.items ≤ length waiters.old.items }
-    ensures capacity { vec_capacity waiters.new ≡ vec_capacity waiters.old }
-    ensures marks { length awake.new ≡ length awake.old }
+    ensures room { length waiters.new.items ≤ length awake.new * 64 }
     ensures kept { KeepsRound core.now queue (round_of waiters.old.items awake.old) (round_of waiters.new.items awake.new) }
-    ensures fewer { (p : Consumer) → IsIn p (picks waiters.new.items) → IsIn p (picks waiters.old.items) }
     ensures apart { AreDistinct (picks waiters.old.items) → AreDistinct (picks waiters.new.items) }
-    ensures line { KeepsThose core.now queue (turned next.old (picks waiters.old.items)) (turned next.new (picks waiters.new.items)) }
-    ensures few { length waiters.new.items ≤ 2 * found.new }
-    ensures found { AreFound (has_its_consumer core.now queue) found.old waiters.new.items found.new }
+    ensures line { turned next.new (picks waiters.new.items) ≡ filter (remains core.now queue connection) (turned next.old (picks waiters.old.items)) }
 {
-    let others = waiters.len().saturating_sub(*found);
-    if others <= *found {
+    let stay = staying(waiters, core, queue, connection);
+    if stay == waiters.len() {
         return;
     }
     let before = (*next).min(waiters.len());
-    *next = staying(waiters.split_at(before).0, core, queue);
-    sweep(waiters, core, queue);
-    *found = waiters.len();
-    mark_all(awake, *found);
+    *next = staying(waiters.split_at(before).0, core, queue, connection);
+    sweep(waiters, core, queue, connection);
+    mark_all(awake, waiters.len());
 }
 
-/// This consumer has a waiter behind all others from now on, which is awake, and for which there is room. No waiter of a consumer that
-/// is there is gone. It takes no memory.
-fn add_waiter(
-    waiters: &mut Vec<Waiter>,
-    awake: &mut PlaceMarks,
-    next: &mut usize,
-    found: &mut usize,
-    core: &Core,
-    queue: usize,
-    consumer: Pick,
-)
+/// This consumer has a waiter behind all others from now on, which is awake, and for which there is room. It takes no memory.
+fn add_waiter(waiters: &mut Vec<Waiter>, awake: &mut PlaceMarks, consumer: Pick)
     requires room { length waiters.old.items < vec_capacity waiters.old }
     requires mark { length waiters.old.items + 1 ≤ length awake.old * 64 }
-    requires absent { IsIn consumer (picks waiters.old.items) → ⊥ }
     ensures marks { length waiters.new.items ≤ length awake.new * 64 }
-    ensures apart { AreDistinct (picks waiters.old.items) → AreDistinct (picks waiters.new.items) }
-    ensures line { KeepsOthers core.now queue consumer (turned next.old (picks waiters.old.items)) (turned next.new (picks waiters.new.items)) }
-    ensures few { AreFew waiters.new.items found.new }
-    ensures found { AreFound (has_its_consumer core.now queue) found.old waiters.new.items found.new }
+    ensures last { picks waiters.new.items ≡ picks waiters.old.items ++ consumer ∷ [] }
     ensures joined { IsAwake (round_of waiters.new.items awake.new) consumer }
-    ensures kept { KeepsRound core.now queue (round_of waiters.old.items awake.old) (round_of waiters.new.items awake.new) }
+    ensures kept { (k : Kept) (queue : ℕ) → KeepsRound k queue (round_of waiters.old.items awake.old) (round_of waiters.new.items awake.new) }
 {
-    tidy(waiters, awake, next, found, core, queue);
     let place = waiters.len();
     waiters.push_reserved(Waiter {
         pick: consumer,
@@ -335,15 +320,13 @@ fn first_from(
     }
 }
 
-/// The waiters of the consumers of one queue, in the order in which they were made; some may be of consumers that are gone.
+/// The waiters of the consumers of one queue, in the order in which they were made.
 pub(crate) struct Round {
     waiters: Vec<Waiter>,
-    /// A bit for each waiter, 1 where picks look at it: where it is awake, and after a sweep until one has looked.
+    /// A bit for each waiter, 1 where picks look at it: where it is awake, and after others left until one has looked.
     awake: PlaceMarks,
     /// The place behind the waiter that was picked last.
     next: usize,
-    /// How many were found when it was last swept.
-    found: usize,
 }
 
 /// Written out, so that a drop is one call.
@@ -353,7 +336,6 @@ impl Drop for Round {
             waiters: _,
             awake: _,
             next: _,
-            found: _,
         } = self;
     }
 }
@@ -365,7 +347,7 @@ impl Model for Round {
 
     ghost Value = { Waiters };
 
-    ghost view = { λ r. record { waiters = r.waiters.items; marks = r.awake; next = r.next; found = r.found; capacity = vec_capacity r.waiters } };
+    ghost view = { λ r. record { waiters = r.waiters.items; marks = r.awake; next = r.next; capacity = vec_capacity r.waiters } };
 
     ghost invariant = { λ r. (length r.waiters.items ≤ length r.awake * 64) × AreDistinct (picks r.waiters.items) };
 }
@@ -374,23 +356,21 @@ impl Round {
     ghost use Rattle.std.specs.Prelude.{◌≡◌, ◌<◌, [], ℕ, true, false, None, IfSome, OnOk, length};
     ghost use Rattle.marks.specs.Places.{bit_of};
     ghost use Rattle.depot.specs.Store.{HasReady};
-    ghost use Rattle.commands.specs.State.{broker_of, topology_kept};
+    ghost use Rattle.commands.specs.State.{Kept, broker_of, topology_kept};
     ghost use Rattle.commands.specs.declared.picks.Pick.{Pick as Consumer};
     ghost use Rattle.commands.specs.Picked.{IsPickFrom};
     ghost use Rattle.broker.specs.Rounds.{order, AllAreNoted, IsAwake, IsAsleep, KeepsIn, KeepsRound};
-    ghost use Rattle.broker.specs.Rounds.{NoneInRound, GoesLast, KeepsLine, LetsIn, HasRoom, IsBounded, ListsMore, Wakens, size_of};
+    ghost use Rattle.broker.specs.Rounds.{NoneInRound, GoesLast, KeepsLine, AddsOne, LeaveLine, HasRoom, ListsMore, Wakens};
     ghost use Rattle.broker.specs.Moving.{AllRoused};
 
     /// No waiter. It takes no memory.
     pub fn new(alloc: Global) -> Round
-        ensures empty { result.waiters ≡ [] }
-        ensures found { result.found ≡ 0 }
+        ensures { result.waiters ≡ [] }
     {
         Round {
             waiters: Vec::new(alloc),
             awake: <Over<Flat>>::empty(alloc),
             next: 0,
-            found: 0,
         }
     }
 
@@ -403,27 +383,33 @@ impl Round {
         grow(&mut self.waiters, &mut self.awake)
     }
 
-    /// This consumer, for whose waiter there is room, waits in the round from now on, and is awake. No waiter of a consumer that is there
-    /// is gone. It takes no memory.
-    pub fn join(&mut self, core: &Core, queue: usize, consumer: Pick)
+    /// This consumer, for whose waiter there is room, waits in the round from now on, and is awake. All others stay. It takes no memory.
+    pub fn join(&mut self, consumer: Pick)
         requires { HasRoom self.old }
         ensures joined { IsAwake self.new consumer }
-        ensures kept { KeepsRound core.now queue self.old self.new }
-        ensures line { KeepsLine core.now queue self.old self.new }
-        ensures comes { LetsIn core.now queue consumer self.old self.new }
-        ensures bounded { IsBounded core.now queue self.old self.new }
+        ensures kept { (k : Kept) (queue : ℕ) → KeepsRound k queue self.old self.new }
+        ensures line { KeepsLine self.old self.new }
+        ensures adds { AddsOne consumer self.old self.new }
     {
         if wake_waiter(&mut self.waiters, &mut self.awake, consumer, 0) {
             return;
         }
-        add_waiter(
+        add_waiter(&mut self.waiters, &mut self.awake, consumer);
+    }
+
+    /// The waiters of this connection's consumers that are gone, or take from another queue than that at this place, are gone too. The others
+    /// are gone round as before. It takes no memory.
+    pub fn leave(&mut self, core: &Core, queue: usize, connection: u64)
+        ensures kept { KeepsRound core.now queue self.old self.new }
+        ensures line { LeaveLine core.now queue connection self.old self.new }
+    {
+        let_go(
             &mut self.waiters,
             &mut self.awake,
             &mut self.next,
-            &mut self.found,
             core,
             queue,
-            consumer,
+            connection,
         );
     }
 
@@ -439,7 +425,6 @@ impl Round {
     pub fn wake_all(&mut self)
         ensures roused { AllRoused self.old self.new }
         ensures same { order self.new ≡ order self.old }
-        ensures size { size_of self.new ≡ size_of self.old }
     {
         rouse_each(&mut self.waiters);
         mark_all(&mut self.awake, self.waiters.len());
@@ -466,7 +451,6 @@ impl Round {
         ensures none { result ≡ None → NoneInRound core.now sleepers.old.entries queue self.old }
         ensures told { IfSome result (λ p. GoesLast core.now sleepers.old.entries queue self.old self.new p) }
         ensures same { result ≡ None → order self.new ≡ order self.old }
-        ensures size { size_of self.new ≡ size_of self.old }
         // Where nobody is told, nobody is awake any more: who may take nothing sleeps.
         ensures rested { result ≡ None → (p : Consumer) → IsAwake self.new p → ⊥ }
     {

@@ -1,6 +1,6 @@
 //! Closes of channels and connections, from both sides.
 
-use crate::acted::Acted;
+use crate::acted::{Acted, Ends};
 use crate::cores::Core;
 use crate::refusals::Refusal;
 use channels::Channel;
@@ -20,7 +20,7 @@ impl Core {
     ghost use Rattle.commands.specs.State.{broker_of, channel_on, topology_kept, names_of};
     ghost use Rattle.commands.specs.Steps.{PerformsOn};
     ghost use Rattle.channels.specs.Open.{Open, open_in};
-    ghost use Rattle.commands.specs.Ended.{TellsEnd};
+    ghost use Rattle.commands.specs.Ended.{TellsEnd, TellsStay};
     ghost use Rattle.commands.specs.Judged.{refusal_seen, HasChannel};
     ghost use Rattle.replies.specs.Sent.{AreAddressed};
 
@@ -36,7 +36,8 @@ impl Core {
         ensures ok { IfOk result (λ a. Does a.step.sends.items a.step.notes.items (broker_of self.new) (send ∷ [])
             (with_gone (broker_of self.old) connection)) }
         ensures addressed { IfOk result (λ a. AreAddressed connection a.step.sends.items) }
-        ensures ended { IfOk result (λ a. TellsEnd connection a.has_ended (broker_of self.old) (broker_of self.new)) }
+        ensures ended { IfOk result (λ a. TellsEnd connection a.ends (broker_of self.old) (broker_of self.new)) }
+        ensures stay { IfOk result (λ a. TellsStay a.ends (broker_of self.old) (broker_of self.new)) }
         ensures topology { topology_kept self.new ≡ topology_kept self.old }
         ensures err { OnErr result (self.new ≡ self.old) }
     {
@@ -44,7 +45,7 @@ impl Core {
         self.go(connection);
         Ok(Acted {
             step,
-            has_ended: true,
+            ends: Ends::Connection,
         })
     }
 
@@ -148,12 +149,13 @@ impl Core {
             (ids cause.class cause.method) (refusal_seen refusal) a.step.sends.items a.step.notes.items (broker_of self.new)) }
         ensures ignored { refusal_seen refusal ≡ said.Ignored → IsOk result }
         ensures addressed { IfOk result (λ a. AreAddressed connection a.step.sends.items) }
-        ensures ended { IfOk result (λ a. TellsEnd connection a.has_ended (broker_of self.old) (broker_of self.new)) }
+        ensures ended { IfOk result (λ a. TellsEnd connection a.ends (broker_of self.old) (broker_of self.new)) }
+        ensures stay { IfOk result (λ a. TellsStay a.ends (broker_of self.old) (broker_of self.new)) }
         ensures topology { topology_kept self.new ≡ topology_kept self.old }
         ensures err { OnErr result (self.new ≡ self.old) }
     {
         match refusal {
-            Refusal::Ignored => Ok(Acted::running(Step::nothing(alloc))),
+            Refusal::Ignored => Ok(Acted::staying(Step::nothing(alloc))),
             Refusal::Channel(code) => {
                 let send = channel_close(connection, channel, code, cause);
                 let step = self.close_channel(alloc, connection, channel, send)?;

@@ -10,7 +10,7 @@ use Rattle.commands.proofs.Picking.{pick_from}
 use Rattle.broker.proofs.Outcomes.{if_some, told_some}
 use Rattle.broker.proofs.Joined.{holds, serves, serves_kept, notes_keep, running_still}
 use Rattle.broker.specs.Waiting.{IsToldInTurn}
-use Rattle.broker.proofs.Sizing.{few_same, sizes_same}
+use Rattle.broker.proofs.Staying.{own_picked}
 use Rattle.broker.proofs.Turning.{told_in_turn}
 use Rattle.broker.proofs.brokers.Broker.find.Goals as goal
 
@@ -34,7 +34,7 @@ invariant_of-self c =
     serves kept after
     (serves_kept kept before after c.pick-self-inside.ensures.kept (notes_keep kept before.lists after.lists c.pick-self-inside.ensures.noted) c.pick-self-inside.ensures.len (holds kept before c.self.invariant))
     (running_still (broker_of kept) (broker_of kept) before.lists after.lists (λ d none. none) c.pick-self-inside.ensures.no_list c.self.invariant.running)
-    (few_same before.rounds after.rounds c.pick-self-inside.ensures.sizes c.self.invariant.few)
+    (own_picked kept before after c.pick-self-inside.result c.pick-self-inside.ensures.told c.pick-self-inside.ensures.on c.self.invariant.own)
 
 pub returns-clause-in_turn : goal.returns-clause-in_turn
 returns-clause-in_turn c =
@@ -42,9 +42,5 @@ returns-clause-in_turn c =
     let before : Rounds = c.self.inside.rounds in
     let after : Rounds = c.pick-self-inside.new.self in
     subst (λ (b : WithTurn). IsToldInTurn b c.pick-self-inside.result (with_turn kept after c.pick-self-inside.result)) c.self.view_is
-    (told_in_turn kept before after c.self.inside.turn c.pick-self-inside.result (holds kept before c.self.invariant) c.pick-self-inside.ensures.len
+    (told_in_turn kept before after c.self.inside.turn c.pick-self-inside.result (holds kept before c.self.invariant)
     (λ p is. told_some c.pick-self-inside.result p (PicksFirst kept before after) is c.pick-self-inside.ensures.told) c.pick-self-inside.ensures.none)
-
-pub returns-clause-sizes : goal.returns-clause-sizes
-returns-clause-sizes c =
-    sizes_same c.self.inside.rounds.rounds c.pick-self-inside.new.self.rounds c.pick-self-inside.ensures.len c.pick-self-inside.ensures.sizes ∙ ap (λ (b : WithTurn). b.sizes) c.self.view_is

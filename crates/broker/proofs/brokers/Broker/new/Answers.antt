@@ -10,7 +10,7 @@ use Rattle.model.specs.declared.messages.Entry.{Entry}
 use Rattle.commands.specs.State.{Kept, broker_of, topology_kept, nothing}
 use Rattle.broker.specs.Rounds.{Rounds, Lists, HasNoList}
 use Rattle.broker.proofs.Joined.{serves, serves_none}
-use Rattle.broker.proofs.Sizing.{few_empty, none_wait}
+use Rattle.broker.proofs.Reloading.{own_empty}
 use Rattle.broker.proofs.brokers.Broker.new.Goals as goal
 
 no_channel : (b : Broker) → Is nothing b → (c h : ℕ) (ch : Channel) → b.channel c h ≡ Some ch → ⊥
@@ -33,7 +33,4 @@ invariant_of-result c =
     let rounds : Rounds = c.in_ok-rounds.rounds in
     let long : length rounds.rounds ≡ length (topology_kept core).queues = c.in_ok-rounds.ensures.rounds ∙ ap length c.queues.ensures ∙ ap (λ (t : Topology). length t.queues) (sym c.in_ok-core.ensures.topology) in
     serves core rounds (serves_none core rounds (nothing_agreed (broker_of core) c.in_ok-core.ensures.empty) long (λ d h. c.in_ok-core.ensures.empty.channels d h))
-    (λ d none. subst (λ (ls : Lists). HasNoList ls d) (sym c.in_ok-rounds.ensures.lists) refl) (few_empty rounds.rounds c.in_ok-rounds.ensures.empty)
-
-pub returns-clause-none : goal.returns-clause-none
-returns-clause-none c = none_wait c.in_ok-core.core c.in_ok-rounds.rounds None c.in_ok-rounds.ensures.empty
+    (λ d none. subst (λ (ls : Lists). HasNoList ls d) (sym c.in_ok-rounds.ensures.lists) refl) (own_empty core rounds.rounds c.in_ok-rounds.ensures.empty)

@@ -1,34 +1,44 @@
-use Rattle.std.proofs.Common.{[], refl, sym, subst}
+use Rattle.std.proofs.Common.{◌≡◌, [], refl, sym, subst}
+use Rattle.std.proofs.lemmas.Bool.{false≢true}
+use Rattle.model.specs.Step.{Acts}
 use Rattle.model.specs.declared.events.Event.TheVariants.{Running}
 use Rattle.broker.specs.Rounds.{Rounds, IsServing}
 use Rattle.commands.specs.State.{Kept, broker_of, topology_kept}
 use Rattle.commands.proofs.Ending.{opening_runs}
-use Rattle.broker.proofs.Outcomes.{either_way, on_ok}
-use Rattle.broker.proofs.Joined.{holds, was_there, serves, serves_asleep, running_still}
+use Rattle.broker.proofs.Joined.{holds, was_there, serves, serves_asleep, serves_kept, running_still}
 use Rattle.broker.specs.Turns.{WithTurn, with_turn}
 use Rattle.broker.specs.Waiting.{NoneIsLater}
-use Rattle.broker.proofs.Turning.{none_later}
+use Rattle.broker.proofs.Staying.{others_stay, own_left}
+use Rattle.broker.proofs.Turning.{none_later, round_same, round_left}
 use Rattle.broker.proofs.brokers.Broker.open.Goals as goal
 
+-- where memory is wanting
 pub invariant_of-self : goal.invariant_of-self
-invariant_of-self c =
+invariant_of-self c = subst (λ (k : Kept). IsServing k c.self.inside.rounds) (sym c.in_err-open.ensures.err) c.self.invariant
+
+-- where it runs
+pub invariant_of-self-2 : goal.invariant_of-self-2
+invariant_of-self-2 c =
     let old : Kept = c.self.inside.core in
     let new : Kept = c.open.new.self in
-    let rounds : Rounds = c.self.inside.rounds in
-    either_way c.open.result c.open.ensures.ok c.open.ensures.err
-    (λ acts. serves new rounds
-    (serves_asleep c.brokers_stay_agreed.ensures.acts c.consumers_are_made.ensures (topology_kept old) old new (Running c.args.connection c.args.channel_max c.args.channels) [] [] rounds acts (λ p. refl) refl refl c.open.ensures.topology (holds old rounds c.self.invariant))
-    (running_still (broker_of old) (broker_of new) rounds.lists rounds.lists (opening_runs (topology_kept old) (broker_of old) (broker_of new) [] [] c.args.connection c.args.channel_max c.args.channels acts) (λ d none. none) c.self.invariant.running)
-    c.self.invariant.few)
-    (λ same. subst (λ (k : Kept). IsServing k rounds) (sym same) c.self.invariant)
+    let before : Rounds = c.self.inside.rounds in
+    let after : Rounds = c.leave.new.self in
+    let acts : Acts (topology_kept old) (broker_of old) (Running c.args.connection c.args.channel_max c.args.channels) [] [] (broker_of new) = c.in_ok-open.ensures.ok in
+    serves new after
+    (serves_kept new before after c.leave.ensures.kept c.leave.ensures.noted.noted c.leave.ensures.len
+    (serves_asleep c.brokers_stay_agreed.ensures.acts c.consumers_are_made.ensures (topology_kept old) old new (Running c.args.connection c.args.channel_max c.args.channels) [] [] before acts (λ p. refl) refl refl c.open.ensures.topology (holds old before c.self.invariant)))
+    (running_still (broker_of old) (broker_of new) before.lists after.lists (opening_runs (topology_kept old) (broker_of old) (broker_of new) [] [] c.args.connection c.args.channel_max c.args.channels acts) c.leave.ensures.none c.self.invariant.running)
+    (own_left old new c.args.connection before.rounds after.rounds c.open.ensures.topology (others_stay (topology_kept old) (broker_of old) (broker_of new) (Running c.args.connection c.args.channel_max c.args.channels) [] [] acts) c.self.invariant.own c.leave.ensures.lines)
 
 pub returns-clause-later : goal.returns-clause-later
 returns-clause-later c =
     let old : Kept = c.self.inside.core in
     let new : Kept = c.open.new.self in
-    let rounds : Rounds = c.self.inside.rounds in
-    on_ok c.open.result
-    (λ acts. subst (λ (b : WithTurn). NoneIsLater b (with_turn new rounds c.self.inside.turn)) c.self.view_is
-    (none_later old new rounds rounds c.self.inside.turn c.self.inside.turn c.open.ensures.topology (holds old rounds c.self.invariant) refl (λ at. refl) refl
-    (was_there c.consumers_are_made.ensures (topology_kept old) (broker_of old) (broker_of new) (Running c.args.connection c.args.channel_max c.args.channels) [] [] acts refl)))
-    c.open.ensures.ok
+    let before : Rounds = c.self.inside.rounds in
+    let after : Rounds = c.leave.new.self in
+    let acts : Acts (topology_kept old) (broker_of old) (Running c.args.connection c.args.channel_max c.args.channels) [] [] (broker_of new) = c.in_ok-open.ensures.ok in
+    subst (λ (b : WithTurn). NoneIsLater b (with_turn new after c.self.inside.turn)) c.self.view_is
+    (none_later old new before after c.self.inside.turn c.self.inside.turn c.open.ensures.topology (holds old before c.self.invariant) c.self.invariant.own
+    (own_left old new c.args.connection before.rounds after.rounds c.open.ensures.topology (others_stay (topology_kept old) (broker_of old) (broker_of new) (Running c.args.connection c.args.channel_max c.args.channels) [] [] acts) c.self.invariant.own c.leave.ensures.lines)
+    (round_left new c.args.connection before.rounds before.rounds after.rounds (round_same new before.rounds before.rounds (λ at. refl)) c.leave.ensures.lines) c.leave.ensures.next
+    (was_there c.consumers_are_made.ensures (topology_kept old) (broker_of old) (broker_of new) (Running c.args.connection c.args.channel_max c.args.channels) [] [] acts refl))

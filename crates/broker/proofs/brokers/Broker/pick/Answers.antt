@@ -15,8 +15,8 @@ returns-in-None-clause-again c = λ p is pick.
 
 pub returns-in-Some-clause-stand : goal.returns-in-Some-clause-stand
 returns-in-Some-clause-stand c =
-    subst AllStand c.self.view_is (all_stand c.self.inside.core c.self.inside.rounds c.self.inside.turn (holds c.self.inside.core c.self.inside.rounds c.self.invariant))
+    subst AllStand c.self.view_is (all_stand c.self.inside.core c.self.inside.rounds c.self.inside.turn (holds c.self.inside.core c.self.inside.rounds c.self.invariant) c.self.invariant.own)
 
 pub returns-in-None-clause-stand : goal.returns-in-None-clause-stand
 returns-in-None-clause-stand c =
-    subst AllStand c.self.view_is (all_stand c.self.inside.core c.self.inside.rounds c.self.inside.turn (holds c.self.inside.core c.self.inside.rounds c.self.invariant))
+    subst AllStand c.self.view_is (all_stand c.self.inside.core c.self.inside.rounds c.self.inside.turn (holds c.self.inside.core c.self.inside.rounds c.self.invariant) c.self.invariant.own)

@@ -8,7 +8,8 @@ use Rattle.commands.specs.State.{Kept, broker_of, topology_kept}
 use Rattle.commands.proofs.Ending.{delivery_runs}
 use Rattle.broker.proofs.Joined.{holds, was_there, serves, serves_asleep, running_still}
 use Rattle.broker.specs.Waiting.{NoneIsLater}
-use Rattle.broker.proofs.Turning.{none_later}
+use Rattle.broker.proofs.Staying.{delivery_stays, own_stays}
+use Rattle.broker.proofs.Turning.{none_later, round_same}
 use Rattle.broker.proofs.Waits.{serves_soon}
 use Rattle.broker.proofs.brokers.Broker.pump.Goals as goal
 
@@ -29,7 +30,7 @@ invariant_of-self-2 c =
     serves new rounds
     (serves_asleep c.brokers_stay_agreed.ensures.acts c.consumers_are_made.ensures (topology_kept old) old new (Deliver c.args.pick.connection) _ _ rounds acts (λ p. refl) refl refl c.deliver.ensures.topology (holds old rounds c.self.invariant))
     (running_still (broker_of old) (broker_of new) rounds.lists rounds.lists (delivery_runs (topology_kept old) (broker_of old) (broker_of new) _ _ c.args.pick.connection acts) (λ d none. none) c.self.invariant.running)
-    c.self.invariant.few
+    (own_stays old new rounds.rounds c.deliver.ensures.topology (delivery_stays (broker_of old) (broker_of new) c.args.pick.connection _ _ c.in_ok-step.ensures.ok) c.self.invariant.own)
 
 pub returns-clause-addressed : goal.returns-clause-addressed
 returns-clause-addressed c = rw (← c.self.view_is) c.in_ok-step.ensures.addressed
@@ -40,7 +41,8 @@ returns-clause-later c =
     let new : Kept = c.deliver.new.self in
     let rounds : Rounds = c.self.inside.rounds in
     subst (λ (b : WithTurn). NoneIsLater b (with_turn new rounds None)) c.self.view_is
-    (none_later old new rounds rounds c.self.inside.turn None c.deliver.ensures.topology (holds old rounds c.self.invariant) refl (λ at. refl) refl
+    (none_later old new rounds rounds c.self.inside.turn None c.deliver.ensures.topology (holds old rounds c.self.invariant) c.self.invariant.own
+    (own_stays old new rounds.rounds c.deliver.ensures.topology (delivery_stays (broker_of old) (broker_of new) c.args.pick.connection _ _ c.in_ok-step.ensures.ok) c.self.invariant.own) (round_same new rounds.rounds rounds.rounds (λ at. refl)) refl
     (was_there c.consumers_are_made.ensures (topology_kept old) (broker_of old) (broker_of new) (Deliver c.args.pick.connection) _ _ c.in_ok-step.ensures.ok refl))
 
 pub returns-clause-soon : goal.returns-clause-soon

@@ -5,13 +5,11 @@ use Rattle.depot.specs.Moving.{AreMoved}
 use Rattle.depot.proofs.Naming.{names-length}
 use Rattle.commands.specs.State.{Kept, topology_kept, names_of}
 use Rattle.broker.specs.Rounds.{Rounds}
-use Rattle.broker.specs.Moving.{ArePlacesApart, RoundsAreMoved, SizesCome, ListsAreMoved}
-use Rattle.broker.specs.Sizes.{SizesMove}
+use Rattle.broker.specs.Moving.{ArePlacesApart, RoundsAreMoved, LinesCome, ListsAreMoved}
 use Rattle.broker.specs.Turns as seen
 use Rattle.broker.specs.Turns.{WithTurn, with_turn}
 use Rattle.broker.specs.Waiting.{LinesMove}
-use Rattle.broker.proofs.Joined.{holds}
-use Rattle.broker.proofs.Reloading.{places_apart, serves_moved, lines_moved, sizes_moved}
+use Rattle.broker.proofs.Reloading.{places_apart, serves_moved, lines_moved}
 use Rattle.broker.proofs.brokers.Broker.reload.Goals as goal
 
 pub reload-requires-clause-kept : goal.reload-requires-clause-kept
@@ -38,7 +36,9 @@ invariant_of-self-2 c =
     serves_moved old new places c.is_kept-2.ensures.whole c.is_kept.ensures.placed (subst (λ (x : Topology). AreMoved (names_of old) (queue_names x.queues) places) (sym is) c.in_ok-places.ensures.moved) c.in_ok-places.ensures.stood
     before c.in_ok-empty.empty left c.self.invariant
     (subst (λ (r : Rounds). RoundsAreMoved places r.rounds left.rounds) c.replace-old.ensures.value (subst (λ (ps : List ℕ). RoundsAreMoved ps c.replace-old.result.rounds left.rounds) c.deref.ensures.value c.take_over.ensures.moved))
-    (subst (λ (r : Rounds). SizesCome r.rounds c.in_ok-empty.empty.rounds left.rounds) c.replace-old.ensures.value (subst (λ (r : Rounds). SizesCome c.replace-old.result.rounds r.rounds left.rounds) c.replace-old.ensures.after c.take_over.ensures.came))
+    (subst (λ (r : Rounds). LinesCome places r.rounds c.in_ok-empty.empty.rounds left.rounds) c.replace-old.ensures.value
+    (subst (λ (r : Rounds). LinesCome places c.replace-old.result.rounds r.rounds left.rounds) c.replace-old.ensures.after
+    (subst (λ (ps : List ℕ). LinesCome ps c.replace-old.result.rounds c.replace-old.new.dest.rounds left.rounds) c.deref.ensures.value c.take_over.ensures.came)))
     c.in_ok-empty.ensures.empty
     (subst (λ (r : Rounds). ListsAreMoved places r.lists left.lists) c.replace-old.ensures.value (subst (λ (ps : List ℕ). ListsAreMoved ps c.replace-old.result.lists left.lists) c.deref.ensures.value c.take_over.ensures.lists))
     (c.take_over.ensures.len ∙ count ∙ ap (λ (x : Topology). length x.queues) (sym is))
@@ -54,23 +54,7 @@ returns-clause-lines c =
     let count : length c.replace-old.new.dest.rounds ≡ length c.args.topology.queues = ap (λ (r : Rounds). length r.rounds) c.replace-old.ensures.after ∙ c.in_ok-empty.ensures.rounds ∙ ap length c.queues.ensures in
     subst (λ (b : WithTurn). LinesMove b (with_turn new left None)) c.self.view_is
     (lines_moved old new places c.is_kept-2.ensures.whole c.is_kept.ensures.placed (subst (λ (x : Topology). AreMoved (names_of old) (queue_names x.queues) places) (sym is) c.in_ok-places.ensures.moved) c.in_ok-places.ensures.stood
-    before left c.self.inside.turn (holds old before c.self.invariant)
+    before left c.self.inside.turn
     (subst (λ (r : Rounds). RoundsAreMoved places r.rounds left.rounds) c.replace-old.ensures.value (subst (λ (ps : List ℕ). RoundsAreMoved ps c.replace-old.result.rounds left.rounds) c.deref.ensures.value c.take_over.ensures.moved))
     (c.take_over.ensures.len ∙ count ∙ ap (λ (x : Topology). length x.queues) (sym is))
     (c.take_over.ensures.next ∙ ap (λ (r : Rounds). r.next) c.replace-old.ensures.after ∙ c.in_ok-empty.ensures.next))
-
-pub returns-clause-sizes : goal.returns-clause-sizes
-returns-clause-sizes c =
-    let old : Kept = c.self.inside.core in
-    let new : Kept = c.reload.new.self in
-    let before : Rounds = c.self.inside.rounds in
-    let left : Rounds = c.take_over.new.self in
-    let places = c.in_ok-places.places.items in
-    let is : topology_kept new ≡ c.args.topology = c.in_ok-places.ensures.topology in
-    let count : length c.replace-old.new.dest.rounds ≡ length c.args.topology.queues = ap (λ (r : Rounds). length r.rounds) c.replace-old.ensures.after ∙ c.in_ok-empty.ensures.rounds ∙ ap length c.queues.ensures in
-    subst (λ (b : WithTurn). SizesMove b (with_turn new left None)) c.self.view_is
-    (sizes_moved old new places c.is_kept-2.ensures.whole c.is_kept.ensures.placed (subst (λ (x : Topology). AreMoved (names_of old) (queue_names x.queues) places) (sym is) c.in_ok-places.ensures.moved) c.in_ok-places.ensures.stood
-    before c.in_ok-empty.empty left c.self.inside.turn
-    (subst (λ (r : Rounds). RoundsAreMoved places r.rounds left.rounds) c.replace-old.ensures.value (subst (λ (ps : List ℕ). RoundsAreMoved ps c.replace-old.result.rounds left.rounds) c.deref.ensures.value c.take_over.ensures.moved))
-    (subst (λ (r : Rounds). SizesCome r.rounds c.in_ok-empty.empty.rounds left.rounds) c.replace-old.ensures.value (subst (λ (r : Rounds). SizesCome c.replace-old.result.rounds r.rounds left.rounds) c.replace-old.ensures.after c.take_over.ensures.came))
-    c.in_ok-empty.ensures.empty (c.take_over.ensures.len ∙ count ∙ ap (λ (x : Topology). length x.queues) (sym is)))

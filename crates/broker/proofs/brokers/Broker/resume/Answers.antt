@@ -1,14 +1,15 @@
-use Rattle.std.proofs.Common.{[], ◌∙◌, refl, ap, subst}
+use Rattle.std.proofs.Common.{[], refl, subst}
 use Rattle.std.proofs.lemmas.Bool.{eqb-true}
 use Rattle.model.specs.declared.events.Event.TheVariants.{Resume}
 use Rattle.commands.specs.State.{Kept, broker_of, topology_kept}
 use Rattle.broker.specs.Rounds.{Rounds}
 use Rattle.commands.proofs.Ending.{resume_runs}
+use Rattle.commands.proofs.Remaining.{same_stay}
 use Rattle.broker.proofs.Joined.{Holds, holds, was_there, serves, serves_still, serves_kept, notes_keep, keeps_all, running_still}
 use Rattle.broker.specs.Turns.{WithTurn, with_turn}
 use Rattle.broker.specs.Waiting.{NoneIsLater}
-use Rattle.broker.proofs.Sizing.{few_same, sizes_same}
-use Rattle.broker.proofs.Turning.{none_later}
+use Rattle.broker.proofs.Staying.{own_same, own_stays}
+use Rattle.broker.proofs.Turning.{none_later, round_same}
 use Rattle.broker.proofs.brokers.Broker.resume.Goals as goal
 
 pub invariant_of-self : goal.invariant_of-self
@@ -23,7 +24,7 @@ invariant_of-self c =
     (serves_still c.brokers_stay_agreed.ensures.acts c.consumers_are_made.ensures (topology_kept old) old new (Resume c.args.connection) [] [] after c.resume.ensures.acts
     (λ place p woken has. c.wake.ensures.woken p (eqb-true p.connection c.args.connection woken, refl) (broker_of old) place (c.self.invariant.joined place p has)) refl refl c.resume.ensures.topology held)
     (running_still (broker_of old) (broker_of new) before.lists after.lists (resume_runs (topology_kept old) (broker_of old) (broker_of new) [] [] c.args.connection c.resume.ensures.acts) c.wake.ensures.none c.self.invariant.running)
-    (few_same before.rounds after.rounds c.wake.ensures.on.sizes c.self.invariant.few)
+    (own_stays old new after.rounds c.resume.ensures.topology (same_stay (broker_of old) (broker_of new) c.resume.ensures.acts.left.channels) (own_same old before.rounds after.rounds c.wake.ensures.on.same c.self.invariant.own))
 
 pub returns-clause-later : goal.returns-clause-later
 returns-clause-later c =
@@ -32,9 +33,6 @@ returns-clause-later c =
     let before : Rounds = c.self.inside.rounds in
     let after : Rounds = c.wake.new.self in
     subst (λ (b : WithTurn). NoneIsLater b (with_turn new after c.self.inside.turn)) c.self.view_is
-    (none_later old new before after c.self.inside.turn c.self.inside.turn c.resume.ensures.topology (holds old before c.self.invariant) c.wake.ensures.len c.wake.ensures.on.same c.wake.ensures.on.next
+    (none_later old new before after c.self.inside.turn c.self.inside.turn c.resume.ensures.topology (holds old before c.self.invariant) c.self.invariant.own
+    (own_stays old new after.rounds c.resume.ensures.topology (same_stay (broker_of old) (broker_of new) c.resume.ensures.acts.left.channels) (own_same old before.rounds after.rounds c.wake.ensures.on.same c.self.invariant.own)) (round_same new before.rounds after.rounds c.wake.ensures.on.same) c.wake.ensures.on.next
     (was_there c.consumers_are_made.ensures (topology_kept old) (broker_of old) (broker_of new) (Resume c.args.connection) [] [] c.resume.ensures.acts refl))
-
-pub returns-clause-sizes : goal.returns-clause-sizes
-returns-clause-sizes c =
-    sizes_same c.self.inside.rounds.rounds c.wake.new.self.rounds c.wake.ensures.len c.wake.ensures.on.sizes ∙ ap (λ (b : WithTurn). b.sizes) c.self.view_is

@@ -1,6 +1,6 @@
 use Rattle.std.proofs.Common.{◌+◌, length, refl, sym, ap, subst, arith}
 use Rattle.commands.specs.State.{broker_of, topology_kept}
-use Rattle.broker.specs.Rounds.{Rounds, AllAreNoted, IsNoted, IsInItsRound, PicksFirst, GoesOn, SameSizes}
+use Rattle.broker.specs.Rounds.{Rounds, AllAreNoted, IsNoted, IsInItsRound, PicksFirst, GoesOn}
 use Rattle.broker.proofs.rounds.ConsumerRounds.pick.Goals as goal
 
 pub returns-in_err-found-clause-none : goal.returns-in_err-found-clause-none
@@ -13,7 +13,7 @@ returns-in_err-found-clause-none c = λ e place p i pick.
 pub returns-in_err-found-clause-on : goal.returns-in_err-found-clause-on
 returns-in_err-found-clause-on c = λ e.
     let new : Rounds = record { rounds = c.pick.new.self; lists = c.pick.new.sleepers.entries; next = c.self.inside.next } in
-    subst (λ (r : Rounds). GoesOn r new) c.self.view_is (record { len = c.pick.ensures.len; same = c.in_err-found.ensures.same refl; sizes = c.pick.ensures.sizes; next = refl })
+    subst (λ (r : Rounds). GoesOn r new) c.self.view_is (record { len = c.pick.ensures.len; same = c.in_err-found.ensures.same refl; next = refl })
 
 pub returns-clause-told : goal.returns-clause-told
 returns-clause-told c =
@@ -39,9 +39,3 @@ returns-in_err-found-clause-noted c = λ l i. c.in_err-found.ensures.more.noted 
 
 pub returns-clause-noted : goal.returns-clause-noted
 returns-clause-noted c = λ l i. c.in_ok-found.ensures.more.noted l (subst (λ (r : Rounds). IsNoted r.lists l) (sym c.self.view_is) i)
-
-pub returns-in_err-found-clause-sizes : goal.returns-in_err-found-clause-sizes
-returns-in_err-found-clause-sizes c = subst (λ (r : Rounds). SameSizes r.rounds c.pick.new.self) c.self.view_is c.pick.ensures.sizes
-
-pub returns-clause-sizes : goal.returns-clause-sizes
-returns-clause-sizes c = subst (λ (r : Rounds). SameSizes r.rounds c.pick.new.self) c.self.view_is c.pick.ensures.sizes

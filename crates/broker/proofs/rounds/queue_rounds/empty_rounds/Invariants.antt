@@ -7,5 +7,4 @@ abbrev pub invariant-loop : goal.invariant-loop
 invariant-loop l = record {
   count : length l.rounds.items ≡ l.counter;
   empty : (place : ℕ) → (round_at l.rounds.items place).waiters ≡ [];
-  found : (place : ℕ) → (round_at l.rounds.items place).found ≡ 0;
 }

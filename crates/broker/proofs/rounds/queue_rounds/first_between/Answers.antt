@@ -47,7 +47,6 @@ queues-preserved c =
             ]
       ];
       same = λ at. c.in_default-pick_at.ensures.same refl at ∙ c.queues.invariant.same at;
-      sizes = λ at. c.pick_at.ensures.sizes at ∙ c.queues.invariant.sizes at;
     }
 
 pub returns-clause-none : goal.returns-clause-none
@@ -75,6 +74,3 @@ returns-in-Some-pick_at-clause-told c =
 
 pub pick_at-requires-clause-noted : goal.pick_at-requires-clause-noted
 pick_at-requires-clause-noted c = λ place p has. c.queues.invariant.more.noted (listing place p) (c.requires.noted place p has)
-
-pub returns-in-Some-pick_at-clause-sizes : goal.returns-in-Some-pick_at-clause-sizes
-returns-in-Some-pick_at-clause-sizes c = λ at. c.pick_at.ensures.sizes at ∙ c.queues.invariant.sizes at

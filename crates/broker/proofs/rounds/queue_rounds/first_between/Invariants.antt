@@ -1,5 +1,5 @@
 use Rattle.std.proofs.Common.{◌≡◌, ◌≤◌, ◌-◌, length}
-use Rattle.broker.specs.Rounds.{rounds_of, QueuesAreMarked, KeepsWaiters, ListsMore, NoneBetween, SameOrders, SameSizes}
+use Rattle.broker.specs.Rounds.{rounds_of, QueuesAreMarked, KeepsWaiters, ListsMore, NoneBetween, SameOrders}
 use Rattle.commands.specs.State.{topology_kept}
 use Rattle.broker.proofs.rounds.queue_rounds.first_between.Given as goal
 
@@ -13,7 +13,6 @@ invariant-queues l = record {
   least : l.from ≤ l.next;
   none : NoneBetween l.core (rounds_of l.fn.rounds l.fn.sleepers.entries) l.from l.next;
   same : SameOrders l.fn.rounds l.rounds;
-  sizes : SameSizes l.fn.rounds l.rounds;
 }
 
 abbrev pub decreases-queues : goal.decreases-queues

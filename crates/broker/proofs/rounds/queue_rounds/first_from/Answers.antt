@@ -38,6 +38,3 @@ returns-in-None-clause-told c =
     if_some c.first_between-in-None.result (λ f. PicksFrom c.args.core.now mid.lists mid.rounds c.first_between-in-None.new.rounds f.queue f.pick)
     (λ f. PicksFrom c.args.core.now old.lists old.rounds c.first_between-in-None.new.rounds f.queue f.pick)
     (λ f told. picks_since c.args.core.now old mid c.first_between-in-None.new.rounds f.queue f.pick (c.in-None.ensures.same refl) c.in-None.ensures.kept told) c.first_between-in-None.ensures.told
-
-pub returns-in-None-clause-sizes : goal.returns-in-None-clause-sizes
-returns-in-None-clause-sizes c = λ at. c.first_between-in-None.ensures.sizes at ∙ c.first_between.ensures.sizes at

@@ -2,7 +2,7 @@ use Rattle.std.proofs.Common.{◌≡◌, ◌∙◌, ◌<◌, ℕ, [], length, ge
 use Rattle.std.proofs.lemmas.List.{get_or-set_other}
 use Rattle.channels.specs.Moving.{place_now}
 use Rattle.channels.proofs.Setting.{same_default}
-use Rattle.broker.specs.Rounds.{Waiters, round_at, size_of}
+use Rattle.broker.specs.Rounds.{Waiters, round_at, order}
 use Rattle.broker.specs.Moving.{IsMoved, ArePlacesApart}
 use Rattle.broker.proofs.Moving.{one_moved}
 use Rattle.broker.proofs.rounds.queue_rounds.move_rounds.Goals as goal
@@ -16,7 +16,7 @@ loop-from-preserved c =
     let mid = c.loop-from.rounds in
     let new = c.move_round.new.rounds in
     let one = c.index-old-from.result in
-    let none : Waiters = record { waiters = []; marks = []; next = 0; found = 0; capacity = 0 } in
+    let none : Waiters = record { waiters = []; marks = []; next = 0; capacity = 0 } in
     let lt = c.loop-from-test.true in
     let len = c.loop-from.auto.rounds in
     let old_len = c.loop-from.auto.old in
@@ -32,8 +32,11 @@ loop-from-preserved c =
           one_moved places olds mid new from lt (subst (ArePlacesApart places) (sym len) c.requires.apart) (λ j less at. c.loop-from.invariant.moved j less (omega (arith, at, len))) here
           (λ j far. c.move_round.ensures.others j (λ same. far (same ∙ now))) i le (omega (arith, there, len));
       came = λ i. elim (c.move_round.ensures.came i) [
-        | inl same ↦ elim (c.loop-from.invariant.came i) [ inl was ↦ inl (same ∙ was) | inr its ↦ inr (its.0, same ∙ its.1) ]
-        | inr its ↦ inr (from, its ∙ ap size_of (sym round))
+        | inl same ↦ elim (c.loop-from.invariant.came i) [
+          | inl was ↦ inl (same ∙ was)
+          | inr its ↦ inr (record { from = its.from; within = its.within; there = its.there; same = same ∙ its.same })
+        ]
+        | inr its ↦ inr (record { from = from; within = lt; there = sym now ∙ sym its.0; same = its.1 ∙ ap order (sym round) })
       ];
       marked = c.move_round.ensures.marked;
     }

@@ -1,7 +1,7 @@
 use Rattle.std.proofs.Common.{◌≡◌, ◌<◌, ◌≤◌, ℕ, length}
 use Rattle.channels.specs.Moving.{place_now}
 use Rattle.broker.specs.Rounds.{round_at, QueuesAreMarked}
-use Rattle.broker.specs.Moving.{IsMoved, SizesCome}
+use Rattle.broker.specs.Moving.{IsMoved, LinesCome}
 use Rattle.broker.proofs.rounds.queue_rounds.move_rounds.Given as goal
 
 -- the rounds before this place are moved, and those from it on are as they were
@@ -9,6 +9,6 @@ abbrev pub invariant-loop-from : goal.invariant-loop-from
 invariant-loop-from l = record {
   behind : (i : ℕ) → l.from ≤ i → round_at l.old i ≡ round_at l.initial.old i;
   moved : (i : ℕ) → i < l.from → place_now l.places i < length l.initial.rounds → IsMoved (round_at l.initial.old i) (round_at l.rounds (place_now l.places i));
-  came : SizesCome l.initial.old l.initial.rounds l.rounds;
+  came : LinesCome l.places l.initial.old l.initial.rounds l.rounds;
   marked : QueuesAreMarked l.rounds l.awake;
 }

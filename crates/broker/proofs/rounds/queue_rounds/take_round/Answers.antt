@@ -1,15 +1,14 @@
 use Rattle.std.proofs.Common.{◌∙◌, [], sym, ap, subst}
 use Rattle.std.proofs.lemmas.List.{get_or-set_same}
-use Rattle.broker.specs.Rounds.{Waiters, size_of, IsAwake}
+use Rattle.broker.specs.Rounds.{Waiters, order, IsAwake}
 use Rattle.broker.specs.Moving.{IsMoved}
-use Rattle.broker.proofs.Moving.{marked_moved}
-use Rattle.broker.proofs.Sizing.{either_set}
+use Rattle.broker.proofs.Moving.{marked_moved, either_set}
 use Rattle.broker.proofs.rounds.queue_rounds.take_round.Goals as goal
 
 pub returns-clause-moved : goal.returns-clause-moved
 returns-clause-moved c =
-    subst (IsMoved c.args.round.now) (sym (get_or-set_same c.args.rounds.now c.args.place c.swap.new.x (record { waiters = []; marks = []; next = 0; found = 0; capacity = 0 }) c.requires.within ∙ c.swap.ensures.x_after))
-    (record { roused = c.wake_all.ensures.roused; same = c.wake_all.ensures.same; size = c.wake_all.ensures.size })
+    subst (IsMoved c.args.round.now) (sym (get_or-set_same c.args.rounds.now c.args.place c.swap.new.x (record { waiters = []; marks = []; next = 0; capacity = 0 }) c.requires.within ∙ c.swap.ensures.x_after))
+    (record { roused = c.wake_all.ensures.roused; same = c.wake_all.ensures.same })
 
 pub returns-clause-marked : goal.returns-clause-marked
 returns-clause-marked c =
@@ -17,4 +16,4 @@ returns-clause-marked c =
     (λ p up. c.mark_round.ensures.here p (subst (λ (r : Waiters). IsAwake r p) c.swap.ensures.x_after up)) c.requires.marked
 
 pub returns-clause-came : goal.returns-clause-came
-returns-clause-came c = either_set c.args.rounds.now c.args.place c.swap.new.x c.args.round.now c.requires.within (ap size_of c.swap.ensures.x_after ∙ c.wake_all.ensures.size)
+returns-clause-came c = either_set c.args.rounds.now c.args.place c.swap.new.x c.args.round.now c.requires.within (ap order c.swap.ensures.x_after ∙ c.wake_all.ensures.same)

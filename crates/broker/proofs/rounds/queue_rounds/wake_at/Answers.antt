@@ -7,7 +7,7 @@ use Rattle.broker.proofs.rounds.queue_rounds.wake_at.Goals as goal
 pub returns-clause-wakens : goal.returns-clause-wakens
 returns-clause-wakens c =
     waken_set c.args.rounds.now c.args.queue c.wake.new.self c.requires.within
-    (subst (λ (r : Waiters). Wakens r c.wake.new.self) (sym (same_default c.args.rounds.now c.args.queue (record { waiters = []; marks = []; next = 0; found = 0; capacity = 0 }) c.index-rounds-queue.result c.requires.within)) c.wake.ensures.wakens)
+    (subst (λ (r : Waiters). Wakens r c.wake.new.self) (sym (same_default c.args.rounds.now c.args.queue (record { waiters = []; marks = []; next = 0; capacity = 0 }) c.index-rounds-queue.result c.requires.within)) c.wake.ensures.wakens)
 
 pub returns-clause-marked : goal.returns-clause-marked
 returns-clause-marked c =

@@ -1,7 +1,7 @@
 use Rattle.std.proofs.Common.{rules}
 use Rattle.std.proofs.lemmas.Fn.{filter_same}
-use Rattle.broker.specs.Rounds.{has_its_consumer}
+use Rattle.broker.specs.Rounds.{has_remained}
 use Rattle.broker.proofs.rounds.round.sweep.Goals as goal
 
 pub returns-clause-waiters : goal.returns-clause-waiters
-returns-clause-waiters c = filter_same _ (has_its_consumer c.args.core.now c.args.queue) _ (λ x b f' r. search rules) _ _ c.retain.ensures.filtered
+returns-clause-waiters c = filter_same _ (has_remained c.args.core.now c.args.queue c.args.connection) _ (λ x b f' r. search rules) _ _ c.retain.ensures.filtered

@@ -2,7 +2,7 @@ use Rattle.std.proofs.Common.{◌∙◌, List, length, sym, ap, subst, arith}
 use Rattle.std.specs.Prelude.{IfSome}
 use Rattle.std.proofs.lemmas.List.{take_at}
 use Rattle.commands.specs.State.{broker_of}
-use Rattle.broker.specs.Rounds.{Waiters, rounds_of, IsInItsRound, KeepsWaiters, NonePassed, PicksFrom, SameOrders, SameSizes}
+use Rattle.broker.specs.Rounds.{Waiters, rounds_of, IsInItsRound, KeepsWaiters, NonePassed, PicksFrom, SameOrders}
 use Rattle.broker.proofs.rounds.queue_rounds.QueueRounds.pick.Goals as goal
 
 pub returns-clause-none : goal.returns-clause-none
@@ -31,8 +31,3 @@ pub returns-clause-same : goal.returns-clause-same
 returns-clause-same c = λ e.
     subst (λ (xs : List Waiters). SameOrders c.args.self.now xs) (sym (take_at c.first_from.new.rounds _ c.self.inside.rounds.len (c.first_from.auto.rounds ∙ c.deref_mut.ensures.len)))
     (subst (λ (xs : List Waiters). SameOrders xs c.first_from.new.rounds) (c.deref_mut.ensures.value ∙ c.self.view_is) (c.first_from.ensures.same e))
-
-pub returns-clause-sizes : goal.returns-clause-sizes
-returns-clause-sizes c =
-    subst (λ (xs : List Waiters). SameSizes c.args.self.now xs) (sym (take_at c.first_from.new.rounds _ c.self.inside.rounds.len (c.first_from.auto.rounds ∙ c.deref_mut.ensures.len)))
-    (subst (λ (xs : List Waiters). SameSizes xs c.first_from.new.rounds) (c.deref_mut.ensures.value ∙ c.self.view_is) c.first_from.ensures.sizes)

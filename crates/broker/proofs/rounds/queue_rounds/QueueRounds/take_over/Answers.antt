@@ -1,7 +1,7 @@
 use Rattle.std.proofs.Common.{◌∙◌, List, sym, subst}
 use Rattle.std.proofs.lemmas.List.{take_at}
 use Rattle.broker.specs.Rounds.{Waiters}
-use Rattle.broker.specs.Moving.{RoundsAreMoved, SizesCome}
+use Rattle.broker.specs.Moving.{RoundsAreMoved, LinesCome}
 use Rattle.broker.proofs.rounds.queue_rounds.QueueRounds.take_over.Goals as goal
 
 pub returns-clause-moved : goal.returns-clause-moved
@@ -11,6 +11,6 @@ returns-clause-moved c =
 
 pub returns-clause-came : goal.returns-clause-came
 returns-clause-came c =
-    subst (λ (xs : List Waiters). SizesCome c.args.old c.args.self.now xs) (sym (take_at c.move_rounds.new.rounds _ c.self.inside.rounds.len (c.move_rounds.auto.rounds ∙ c.deref_mut.ensures.len)))
-    (subst (λ (xs : List Waiters). SizesCome c.args.old xs c.move_rounds.new.rounds) (c.deref_mut.ensures.value ∙ c.self.view_is)
-    (subst (λ (xs : List Waiters). SizesCome xs c.deref_mut.result.now c.move_rounds.new.rounds) (c.deref_mut-2.ensures.value ∙ c.old.view_is) c.move_rounds.ensures.came))
+    subst (λ (xs : List Waiters). LinesCome c.args.places.now c.args.old c.args.self.now xs) (sym (take_at c.move_rounds.new.rounds _ c.self.inside.rounds.len (c.move_rounds.auto.rounds ∙ c.deref_mut.ensures.len)))
+    (subst (λ (xs : List Waiters). LinesCome c.args.places.now c.args.old xs c.move_rounds.new.rounds) (c.deref_mut.ensures.value ∙ c.self.view_is)
+    (subst (λ (xs : List Waiters). LinesCome c.args.places.now xs c.deref_mut.result.now c.move_rounds.new.rounds) (c.deref_mut-2.ensures.value ∙ c.old.view_is) c.move_rounds.ensures.came))

@@ -1,4 +1,4 @@
-use Rattle.std.proofs.Common.{◌∙◌, List, [], length, filter, drop, inl, inr, sym, ap, subst, arith}
+use Rattle.std.proofs.Common.{◌≡◌, ◌∙◌, ◌++◌, List, [], ◌∷◌, length, filter, drop, inl, inr, sym, ap, subst, arith}
 use Rattle.std.specs.Prelude.{vec_capacity}
 use Rattle.std.proofs.lemmas.List.{take_at}
 use Rattle.model.specs.Topology.{IsIn}
@@ -7,27 +7,28 @@ use Rattle.commands.specs.declared.picks.Pick.{Pick}
 use Rattle.broker.specs.declared.rounds.waiters.Waiter.{Waiter}
 use Rattle.broker.specs.Lines.{turned, AreDistinct}
 use Rattle.broker.specs.Rounds.{Waiters, round_of, picks, order, IsInRound}
-use Rattle.broker.proofs.Later.{lets_in}
+use Rattle.broker.proofs.Later.{came_last}
+use Rattle.broker.proofs.Lining.{distinct_end}
 use Rattle.broker.proofs.Sleeping.{joined_woken}
-use Rattle.broker.proofs.Standing.{not_in, from_turned}
+use Rattle.broker.proofs.Standing.{not_in, from_turned, filter_end, distinct_turned}
 use Rattle.broker.proofs.rounds.round.Round.join.Goals as goal
 
 pub returns-then-wake_waiter-clause-kept : goal.returns-then-wake_waiter-clause-kept
-returns-then-wake_waiter-clause-kept c = λ lists p i has.
-    let b = broker_of c.args.core.now in
-    let was = ap (λ (xs : List Waiter). record { waiters = xs; marks = c.self.inside.awake; next = c.self.inside.next; found = c.self.inside.found; capacity = vec_capacity c.self.inside.waiters }) c.deref_mut.ensures.value ∙ c.self.view_is in
+returns-then-wake_waiter-clause-kept c = λ k queue lists p i has.
+    let b = broker_of k in
+    let was = ap (λ (xs : List Waiter). record { waiters = xs; marks = c.self.inside.awake; next = c.self.inside.next; capacity = vec_capacity c.self.inside.waiters }) c.deref_mut.ensures.value ∙ c.self.view_is in
     let back = take_at c.wake_waiter.new.waiters _ c.self.inside.waiters.len (c.wake_waiter.auto.waiters ∙ c.deref_mut.ensures.len) in
-    (subst (λ (xs : List Waiter). IsInRound b lists c.args.queue (round_of xs c.wake_waiter.new.awake) p) (sym back)
-    (joined_woken b lists c.args.queue (round_of c.deref_mut.result.now c.self.inside.awake) (round_of c.wake_waiter.new.waiters c.wake_waiter.new.awake) p c.wake_waiter.ensures.wakens (subst (λ (r : Waiters). IsInRound b lists c.args.queue r p) (sym was) i)))
+    (subst (λ (xs : List Waiter). IsInRound b lists queue (round_of xs c.wake_waiter.new.awake) p) (sym back)
+    (joined_woken b lists queue (round_of c.deref_mut.result.now c.self.inside.awake) (round_of c.wake_waiter.new.waiters c.wake_waiter.new.awake) p c.wake_waiter.ensures.wakens (subst (λ (r : Waiters). IsInRound b lists queue r p) (sym was) i)))
 
 pub returns-clause-kept : goal.returns-clause-kept
-returns-clause-kept c = λ lists p i has.
-    let b = broker_of c.args.core.now in
-    let was = ap (λ (xs : List Waiter). record { waiters = xs; marks = c.self.inside.awake; next = c.self.inside.next; found = c.self.inside.found; capacity = vec_capacity c.self.inside.waiters }) c.deref_mut.ensures.value ∙ c.self.view_is in
+returns-clause-kept c = λ k queue lists p i has.
+    let b = broker_of k in
+    let was = ap (λ (xs : List Waiter). record { waiters = xs; marks = c.self.inside.awake; next = c.self.inside.next; capacity = vec_capacity c.self.inside.waiters }) c.deref_mut.ensures.value ∙ c.self.view_is in
     let back = take_at c.wake_waiter.new.waiters _ c.self.inside.waiters.len (c.wake_waiter.auto.waiters ∙ c.deref_mut.ensures.len) in
-    c.add_waiter.ensures.kept lists p
-    (subst (λ (xs : List Waiter). IsInRound b lists c.args.queue (round_of xs c.wake_waiter.new.awake) p) (sym back)
-    (joined_woken b lists c.args.queue (round_of c.deref_mut.result.now c.self.inside.awake) (round_of c.wake_waiter.new.waiters c.wake_waiter.new.awake) p c.wake_waiter.ensures.wakens (subst (λ (r : Waiters). IsInRound b lists c.args.queue r p) (sym was) i))) has
+    c.add_waiter.ensures.kept k queue lists p
+    (subst (λ (xs : List Waiter). IsInRound b lists queue (round_of xs c.wake_waiter.new.awake) p) (sym back)
+    (joined_woken b lists queue (round_of c.deref_mut.result.now c.self.inside.awake) (round_of c.wake_waiter.new.waiters c.wake_waiter.new.awake) p c.wake_waiter.ensures.wakens (subst (λ (r : Waiters). IsInRound b lists queue r p) (sym was) i))) has
 
 -- where it was woken all go round as before
 pub returns-then-wake_waiter-clause-line : goal.returns-then-wake_waiter-clause-line
@@ -36,20 +37,14 @@ returns-then-wake_waiter-clause-line c =
     let same = ap picks back ∙ c.wake_waiter.ensures.wakens.same ∙ ap picks c.deref_mut.ensures.value in
     λ test stand. ap (filter test) (ap (turned c.self.inside.next) same ∙ ap order c.self.view_is)
 
-pub returns-then-wake_waiter-clause-comes : goal.returns-then-wake_waiter-clause-comes
-returns-then-wake_waiter-clause-comes c =
+pub returns-then-wake_waiter-clause-adds : goal.returns-then-wake_waiter-clause-adds
+returns-then-wake_waiter-clause-adds c =
     let back = take_at c.wake_waiter.new.waiters (drop (length c.wake_waiter.new.waiters) c.self.inside.waiters.items) c.self.inside.waiters.len (c.wake_waiter.auto.waiters ∙ c.deref_mut.ensures.len) in
     let same = ap picks back ∙ c.wake_waiter.ensures.wakens.same ∙ ap picks c.deref_mut.ensures.value in
-    lets_in c.args.core.now c.args.queue c.args.consumer c.args.self.now (record { waiters = _; marks = []; next = c.self.inside.next; found = 0; capacity = 0 }) (subst (λ (ps : List Pick). AreDistinct ps) (sym same) c.self.invariant.1) (returns-then-wake_waiter-clause-line c)
-
-pub returns-then-wake_waiter-clause-bounded : goal.returns-then-wake_waiter-clause-bounded
-returns-then-wake_waiter-clause-bounded c =
-    let one = ap (λ (xs : List Waiter). length xs) (take_at c.wake_waiter.new.waiters (drop (length c.wake_waiter.new.waiters) c.self.inside.waiters.items) c.self.inside.waiters.len (c.wake_waiter.auto.waiters ∙ c.deref_mut.ensures.len)) in
-    let two = c.wake_waiter.auto.waiters in
-    let three = ap (λ (xs : List Waiter). length xs) c.deref_mut.ensures.value in
-    let long = ap (λ (r : Waiters). length r.waiters) c.self.view_is in
-    let found = ap (λ (r : Waiters). r.found) c.self.view_is in
-    record { few = λ few. omega (arith, one, two, three, long, found, few); found = inl found }
+    record {
+      came = λ q i. inl (subst (IsIn q) (ap (turned c.self.inside.next) same ∙ ap order c.self.view_is) i);
+      once = subst (λ (ps : List Pick). AreDistinct (turned c.self.inside.next ps)) (sym same) (distinct_turned c.self.inside.next (picks c.self.inside.waiters.items) c.self.invariant.1);
+    }
 
 pub add_waiter-requires-clause-room : goal.add_waiter-requires-clause-room
 add_waiter-requires-clause-room c =
@@ -72,33 +67,32 @@ add_waiter-requires-clause-mark c =
     let room = c.requires.mark in
     omega (arith, one, two, three, long, marks, same, room)
 
-pub add_waiter-requires-clause-absent : goal.add_waiter-requires-clause-absent
-add_waiter-requires-clause-absent c =
-    let back = take_at c.wake_waiter.new.waiters (drop (length c.wake_waiter.new.waiters) c.self.inside.waiters.items) c.self.inside.waiters.len (c.wake_waiter.auto.waiters ∙ c.deref_mut.ensures.len) in
-    subst (λ (xs : List Waiter). IsIn c.args.consumer (picks xs) → ⊥) (sym back) (c.wake_waiter.ensures.absent c.if-wake_waiter.false)
-
 -- where it was not there
 pub returns-clause-line : goal.returns-clause-line
 returns-clause-line c = λ test stand.
     let back = take_at c.wake_waiter.new.waiters (drop (length c.wake_waiter.new.waiters) c.self.inside.waiters.items) c.self.inside.waiters.len (c.wake_waiter.auto.waiters ∙ c.deref_mut.ensures.len) in
     let same = ap picks back ∙ c.wake_waiter.ensures.wakens.same ∙ ap picks c.deref_mut.ensures.value in
-    let was = ap (turned c.self.inside.next) same ∙ ap order c.self.view_is in
-    c.add_waiter.ensures.line test (λ p its. (stand p its).0)
-    (not_in test c.args.consumer (order c.args.self.now) (λ its. (stand c.args.consumer its).1)
-    (λ i. subst (λ (xs : List Waiter). IsIn c.args.consumer (picks xs) → ⊥) (sym back) (c.wake_waiter.ensures.absent c.if-wake_waiter.false) (from_turned c.args.consumer _ c.self.inside.next (subst (λ (ps : List Pick). IsIn c.args.consumer ps) (sym was) i))))
-    ∙ ap (filter test) was
+    let last = c.add_waiter.ensures.last ∙ ap (λ (ps : List Pick). ps ++ c.args.consumer ∷ []) same in
+    let absent = subst (λ (ps : List Pick). IsIn c.args.consumer ps → ⊥) (c.wake_waiter.ensures.wakens.same ∙ ap picks c.deref_mut.ensures.value) (c.wake_waiter.ensures.absent c.if-wake_waiter.false) in
+    let none =
+    not_in test c.args.consumer (order c.args.self.now) (stand c.args.consumer)
+    (λ i. absent (from_turned c.args.consumer (picks c.self.inside.waiters.items) c.self.inside.next (subst (λ (ps : List Pick). IsIn c.args.consumer ps) (sym (ap order c.self.view_is)) i))) in
+    ap (λ (ps : List Pick). filter test (turned c.self.inside.next ps)) last ∙ filter_end test c.args.consumer c.self.inside.next (picks c.self.inside.waiters.items) none ∙ ap (filter test) (ap order c.self.view_is)
 
-pub returns-clause-comes : goal.returns-clause-comes
-returns-clause-comes c =
+pub returns-clause-adds : goal.returns-clause-adds
+returns-clause-adds c =
     let back = take_at c.wake_waiter.new.waiters (drop (length c.wake_waiter.new.waiters) c.self.inside.waiters.items) c.self.inside.waiters.len (c.wake_waiter.auto.waiters ∙ c.deref_mut.ensures.len) in
     let same = ap picks back ∙ c.wake_waiter.ensures.wakens.same ∙ ap picks c.deref_mut.ensures.value in
-    lets_in c.args.core.now c.args.queue c.args.consumer c.args.self.now (record { waiters = c.add_waiter.new.waiters.items; marks = []; next = c.add_waiter.new.next; found = 0; capacity = 0 }) (c.add_waiter.ensures.apart (subst (λ (ps : List Pick). AreDistinct ps) (sym same) c.self.invariant.1)) (returns-clause-line c)
-
-pub returns-clause-bounded : goal.returns-clause-bounded
-returns-clause-bounded c = record {
-  few = λ few. c.add_waiter.ensures.few;
-  found = elim c.add_waiter.ensures.found [ inl same ↦ inl (same ∙ ap (λ (r : Waiters). r.found) c.self.view_is) | inr le ↦ inr le ];
-}
+    let last = c.add_waiter.ensures.last ∙ ap (λ (ps : List Pick). ps ++ c.args.consumer ∷ []) same in
+    let absent = subst (λ (ps : List Pick). IsIn c.args.consumer ps → ⊥) (c.wake_waiter.ensures.wakens.same ∙ ap picks c.deref_mut.ensures.value) (c.wake_waiter.ensures.absent c.if-wake_waiter.false) in
+    let old = picks c.self.inside.waiters.items in
+    record {
+      came = λ q i. elim (came_last c.args.consumer q c.self.inside.next old (subst (λ (ps : List Pick). IsIn q (turned c.self.inside.next ps)) last i)) [
+        | inl was ↦ inl (subst (IsIn q) (ap order c.self.view_is) was)
+        | inr its ↦ inr its
+      ];
+      once = subst (λ (ps : List Pick). AreDistinct (turned c.self.inside.next ps)) (sym last) (distinct_turned c.self.inside.next (old ++ c.args.consumer ∷ []) (distinct_end c.args.consumer old c.self.invariant.1 absent));
+    }
 
 pub invariant_of-self : goal.invariant_of-self
 invariant_of-self c =
@@ -115,4 +109,6 @@ pub invariant_of-self-2 : goal.invariant_of-self-2
 invariant_of-self-2 c =
     let back = take_at c.wake_waiter.new.waiters (drop (length c.wake_waiter.new.waiters) c.self.inside.waiters.items) c.self.inside.waiters.len (c.wake_waiter.auto.waiters ∙ c.deref_mut.ensures.len) in
     let same = ap picks back ∙ c.wake_waiter.ensures.wakens.same ∙ ap picks c.deref_mut.ensures.value in
-    (c.add_waiter.ensures.marks, c.add_waiter.ensures.apart (subst (λ (ps : List Pick). AreDistinct ps) (sym same) c.self.invariant.1))
+    let last = c.add_waiter.ensures.last ∙ ap (λ (ps : List Pick). ps ++ c.args.consumer ∷ []) same in
+    let absent = subst (λ (ps : List Pick). IsIn c.args.consumer ps → ⊥) (c.wake_waiter.ensures.wakens.same ∙ ap picks c.deref_mut.ensures.value) (c.wake_waiter.ensures.absent c.if-wake_waiter.false) in
+    (c.add_waiter.ensures.marks, subst (λ (ps : List Pick). AreDistinct ps) (sym last) (distinct_end c.args.consumer (picks c.self.inside.waiters.items) c.self.invariant.1 absent))

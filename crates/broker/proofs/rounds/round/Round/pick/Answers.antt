@@ -14,7 +14,7 @@ use Rattle.broker.proofs.rounds.round.Round.pick.Goals as goal
 pub returns-in-Some-clause-kept : goal.returns-in-Some-clause-kept
 returns-in-Some-clause-kept c =
     let same = c.deref_mut.ensures.value in
-    let was = ap (λ (xs : List Waiter). record { waiters = xs; marks = c.self.inside.awake; next = c.self.inside.next; found = c.self.inside.found; capacity = vec_capacity c.self.inside.waiters }) same ∙ c.self.view_is in
+    let was = ap (λ (xs : List Waiter). record { waiters = xs; marks = c.self.inside.awake; next = c.self.inside.next; capacity = vec_capacity c.self.inside.waiters }) same ∙ c.self.view_is in
     let back = take_at c.first_from.new.waiters (drop (length c.first_from.new.waiters) c.self.inside.waiters.items) c.self.inside.waiters.len (c.first_from.auto.waiters ∙ c.deref_mut.ensures.len) in
     subst (λ (xs : List Waiter). KeepsIn c.args.core.now c.args.queue c.args.sleepers.now.entries c.first_from.new.sleepers.entries c.args.self.now (round_of xs c.first_from.new.awake)) (sym back)
     (subst (λ (r : Waiters). KeepsIn c.args.core.now c.args.queue c.args.sleepers.now.entries c.first_from.new.sleepers.entries r (round_of c.first_from.new.waiters c.first_from.new.awake)) was c.first_from.ensures.kept)
@@ -28,21 +28,21 @@ returns-in-Some-clause-some c =
 pub returns-in-None-clause-kept : goal.returns-in-None-clause-kept
 returns-in-None-clause-kept c =
     let same = c.deref_mut.ensures.value in
-    let was = ap (λ (xs : List Waiter). record { waiters = xs; marks = c.self.inside.awake; next = c.self.inside.next; found = c.self.inside.found; capacity = vec_capacity c.self.inside.waiters }) same ∙ c.self.view_is in
+    let was = ap (λ (xs : List Waiter). record { waiters = xs; marks = c.self.inside.awake; next = c.self.inside.next; capacity = vec_capacity c.self.inside.waiters }) same ∙ c.self.view_is in
     let back = take_at c.first_from.new.waiters (drop (length c.first_from.new.waiters) c.self.inside.waiters.items) c.self.inside.waiters.len (c.first_from.auto.waiters ∙ c.deref_mut.ensures.len) in
     subst (λ (xs : List Waiter). KeepsIn c.args.core.now c.args.queue c.args.sleepers.now.entries c.first_from.new.sleepers.entries c.args.self.now (round_of xs c.first_from.new.awake)) (sym back)
     (subst (λ (r : Waiters). KeepsIn c.args.core.now c.args.queue c.args.sleepers.now.entries c.first_from.new.sleepers.entries r (round_of c.first_from.new.waiters c.first_from.new.awake)) was c.first_from.ensures.kept)
 
 pub returns-in-None-clause-none : goal.returns-in-None-clause-none
 returns-in-None-clause-none c = λ e.
-    let was = ap (λ (xs : List Waiter). record { waiters = xs; marks = c.self.inside.awake; next = c.self.inside.next; found = c.self.inside.found; capacity = vec_capacity c.self.inside.waiters }) c.deref_mut.ensures.value ∙ c.self.view_is in
+    let was = ap (λ (xs : List Waiter). record { waiters = xs; marks = c.self.inside.awake; next = c.self.inside.next; capacity = vec_capacity c.self.inside.waiters }) c.deref_mut.ensures.value ∙ c.self.view_is in
     none_in_round c.args.core.now c.args.sleepers.now.entries c.args.queue c.args.self.now (subst (λ (r : Waiters). NoneAwake c.args.core.now c.args.queue r 0 (length r.waiters)) was (c.in-None.ensures.none refl))
 
 pub returns-in-Some-clause-told : goal.returns-in-Some-clause-told
 returns-in-Some-clause-told c =
     let one = c.index.result.now in
     let place = c.in-Some.place in
-    let was = ap (λ (xs : List Waiter). record { waiters = xs; marks = c.self.inside.awake; next = c.self.inside.next; found = c.self.inside.found; capacity = vec_capacity c.self.inside.waiters }) c.deref_mut.ensures.value ∙ c.self.view_is in
+    let was = ap (λ (xs : List Waiter). record { waiters = xs; marks = c.self.inside.awake; next = c.self.inside.next; capacity = vec_capacity c.self.inside.waiters }) c.deref_mut.ensures.value ∙ c.self.view_is in
     let back = take_at c.first_from.new.waiters (drop (length c.first_from.new.waiters) c.self.inside.waiters.items) c.self.inside.waiters.len (c.first_from.auto.waiters ∙ c.deref_mut.ensures.len) in
     let same = ap picks back ∙ c.first_from.ensures.same ∙ ap (λ (r : Waiters). picks r.waiters) was in
     let within = c.in-Some.ensures.within in
@@ -52,7 +52,6 @@ returns-in-Some-clause-told c =
       waiters = take c.self.inside.waiters.len (c.first_from.new.waiters ++ drop (length c.first_from.new.waiters) c.self.inside.waiters.items);
       marks = c.first_from.new.awake;
       next = place + 1;
-      found = 0;
       capacity = 0;
     } in
     let told = sym (picks_at c.args.self.now.waiters place one) ∙ sym (ap (λ (ps : List Pick). get_or ps place one.pick) same) ∙ picks_at new.waiters place one ∙ ap (λ (s : Waiter). s.pick) (sym c.index.ensures) in
@@ -76,17 +75,3 @@ pub returns-in-None-clause-rested : goal.returns-in-None-clause-rested
 returns-in-None-clause-rested c = λ e p up.
     let back = take_at c.first_from.new.waiters (drop (length c.first_from.new.waiters) c.self.inside.waiters.items) c.self.inside.waiters.len (c.first_from.auto.waiters ∙ c.deref_mut.ensures.len) in
     none_awake (round_of c.first_from.new.waiters c.first_from.new.awake) p (c.in-None.ensures.rested refl) (subst (λ (xs : List Waiter). IsAwake (round_of xs c.first_from.new.awake) p) back up)
-
-pub returns-in-Some-clause-size : goal.returns-in-Some-clause-size
-returns-in-Some-clause-size c =
-    let back = take_at c.first_from.new.waiters (drop (length c.first_from.new.waiters) c.self.inside.waiters.items) c.self.inside.waiters.len (c.first_from.auto.waiters ∙ c.deref_mut.ensures.len) in
-    let long = ap (λ (xs : List Waiter). length xs) back ∙ c.first_from.auto.waiters ∙ ap (λ (xs : List Waiter). length xs) c.deref_mut.ensures.value ∙ ap (λ (r : Waiters). length r.waiters) c.self.view_is in
-    let found = ap (λ (r : Waiters). r.found) c.self.view_is in
-    cc (long, found)
-
-pub returns-in-None-clause-size : goal.returns-in-None-clause-size
-returns-in-None-clause-size c =
-    let back = take_at c.first_from.new.waiters (drop (length c.first_from.new.waiters) c.self.inside.waiters.items) c.self.inside.waiters.len (c.first_from.auto.waiters ∙ c.deref_mut.ensures.len) in
-    let long = ap (λ (xs : List Waiter). length xs) back ∙ c.first_from.auto.waiters ∙ ap (λ (xs : List Waiter). length xs) c.deref_mut.ensures.value ∙ ap (λ (r : Waiters). length r.waiters) c.self.view_is in
-    let found = ap (λ (r : Waiters). r.found) c.self.view_is in
-    cc (long, found)

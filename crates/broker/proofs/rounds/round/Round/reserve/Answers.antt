@@ -10,12 +10,12 @@ returns-clause-room c = on_both c.grow.result (λ waiter mark. record { waiter =
 
 pub returns-clause-wakens : goal.returns-clause-wakens
 returns-clause-wakens c =
-    let old : Waiters = record { waiters = c.self.inside.waiters.items; marks = c.self.inside.awake; next = c.self.inside.next; found = c.self.inside.found; capacity = vec_capacity c.self.inside.waiters } in
-    let new : Waiters = record { waiters = c.grow.new.waiters.items; marks = c.grow.new.awake; next = c.self.inside.next; found = c.self.inside.found; capacity = vec_capacity c.grow.new.waiters } in
-    subst (λ (r : Waiters). Wakens r new) c.self.view_is (waken_bits old new c.grow.ensures.same c.grow.ensures.bits refl refl)
+    let old : Waiters = record { waiters = c.self.inside.waiters.items; marks = c.self.inside.awake; next = c.self.inside.next; capacity = vec_capacity c.self.inside.waiters } in
+    let new : Waiters = record { waiters = c.grow.new.waiters.items; marks = c.grow.new.awake; next = c.self.inside.next; capacity = vec_capacity c.grow.new.waiters } in
+    subst (λ (r : Waiters). Wakens r new) c.self.view_is (waken_bits old new c.grow.ensures.same c.grow.ensures.bits refl)
 
 pub returns-clause-none : goal.returns-clause-none
 returns-clause-none c = λ p up.
-    let old : Waiters = record { waiters = c.self.inside.waiters.items; marks = c.self.inside.awake; next = c.self.inside.next; found = c.self.inside.found; capacity = vec_capacity c.self.inside.waiters } in
-    let new : Waiters = record { waiters = c.grow.new.waiters.items; marks = c.grow.new.awake; next = c.self.inside.next; found = c.self.inside.found; capacity = vec_capacity c.grow.new.waiters } in
+    let old : Waiters = record { waiters = c.self.inside.waiters.items; marks = c.self.inside.awake; next = c.self.inside.next; capacity = vec_capacity c.self.inside.waiters } in
+    let new : Waiters = record { waiters = c.grow.new.waiters.items; marks = c.grow.new.awake; next = c.self.inside.next; capacity = vec_capacity c.grow.new.waiters } in
     subst (λ (r : Waiters). IsAwake r p) c.self.view_is (awake_bits new old (sym c.grow.ensures.same) (λ i. sym (c.grow.ensures.bits i)) p up)

@@ -7,7 +7,7 @@ use Rattle.broker.proofs.rounds.round.Round.wake.Goals as goal
 
 pub returns-clause-wakens : goal.returns-clause-wakens
 returns-clause-wakens c =
-    let was = ap (λ (xs : List Waiter). record { waiters = xs; marks = c.self.inside.awake; next = c.self.inside.next; found = c.self.inside.found; capacity = vec_capacity c.self.inside.waiters }) c.deref_mut.ensures.value ∙ c.self.view_is in
+    let was = ap (λ (xs : List Waiter). record { waiters = xs; marks = c.self.inside.awake; next = c.self.inside.next; capacity = vec_capacity c.self.inside.waiters }) c.deref_mut.ensures.value ∙ c.self.view_is in
     let back = take_at c.wake_waiter.new.waiters _ c.self.inside.waiters.len (c.wake_waiter.auto.waiters ∙ c.deref_mut.ensures.len) in
     let w = c.wake_waiter.ensures.wakens in
     record {
@@ -18,5 +18,4 @@ returns-clause-wakens c =
       ];
       same = ap picks back ∙ w.same ∙ ap (λ (r : Waiters). picks r.waiters) was;
       next = ap (λ (r : Waiters). r.next) c.self.view_is;
-      found = ap (λ (r : Waiters). r.found) c.self.view_is;
     }

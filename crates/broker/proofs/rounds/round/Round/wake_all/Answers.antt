@@ -26,13 +26,6 @@ returns-clause-same c =
     let same = ap picks (back ∙ c.rouse_each.ensures) ∙ picks_awake c.deref_mut.result.now ∙ ap picks c.deref_mut.ensures.value in
     ap (turned c.self.inside.next) same ∙ ap order c.self.view_is
 
-pub returns-clause-size : goal.returns-clause-size
-returns-clause-size c =
-    let back = take_at c.rouse_each.new.waiters (drop (length c.rouse_each.new.waiters) c.self.inside.waiters.items) c.self.inside.waiters.len (c.rouse_each.auto.waiters ∙ c.deref_mut.ensures.len) in
-    let long = ap (λ (xs : List Waiter). length xs) back ∙ c.rouse_each.auto.waiters ∙ ap (λ (xs : List Waiter). length xs) c.deref_mut.ensures.value ∙ ap (λ (r : Waiters). length r.waiters) c.self.view_is in
-    let found = ap (λ (r : Waiters). r.found) c.self.view_is in
-    cc (long, found)
-
 pub invariant_of-self : goal.invariant_of-self
 invariant_of-self c =
     let back = take_at c.rouse_each.new.waiters _ c.self.inside.waiters.len (c.rouse_each.auto.waiters ∙ c.deref_mut.ensures.len) in

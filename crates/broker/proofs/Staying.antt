@@ -1,0 +1,156 @@
+-- Consumers that are there still after an event, and those whose waiters are kept.
+use Rattle.std.proofs.Common.{◌≡◌, ◌∙◌, ◌++◌, ◌⊎◌, ℕ, List, [], ◌∷◌, Bool, true, false, Option, Some, None, filter, append_assoc, inl, inr, refl, sym, ap, subst, if◌then◌else◌}
+use Rattle.std.specs.Prelude.{◌==◌, ◌&&◌, IfSome}
+use Rattle.std.proofs.lemmas.Bool.{eqb-true}
+use Rattle.model.specs.Alone.{event_connection}
+use Rattle.model.specs.Broker.{Consumer, Channel, Broker, with_pair, with_row}
+use Rattle.model.specs.Step.{Acts, IsDelivery, channel_or_new}
+use Rattle.model.specs.Topology.{Topology, IsIn}
+use Rattle.model.specs.declared.events.Event.{Event}
+use Rattle.model.specs.declared.events.Event.TheVariants.{Open, First, Running, Command, TooLarge, Fault, Lose, Pause, Resume, Deliver}
+use Rattle.model.specs.declared.events.Send.{Send}
+use Rattle.model.specs.declared.notes.Note.{Note}
+use Rattle.laws.proofs.Deeds.{Deed, changes, enters, gives, settles, purges, nothing, alters, ends, clears, renews, acted}
+use Rattle.laws.specs.Consumers.{WasConsumer}
+use Rattle.replies.specs.Sent.{connection_of_event}
+use Rattle.commands.proofs.Remaining.{one_stays}
+use Rattle.commands.specs.Ended.{AllConsumersStay}
+use Rattle.commands.specs.State.{Kept, broker_of, topology_kept}
+use Rattle.commands.specs.declared.picks.Pick.{Pick}
+use Rattle.broker.specs.Lines.{AreDistinct}
+use Rattle.broker.specs.Rounds.{Waiters, Rounds, round_at, order, is_of, remains, AreItsConsumers, AllAreConsumers, AddsItsOwn, AllAddTheirOwn, LeaveLines, SameOrders, GoesOn, GoesLast, PicksFrom, PicksFirst}
+use Rattle.broker.proofs.Later.{remains_of}
+use Rattle.broker.proofs.Lining.{in_either, filter_in, filter_distinct}
+use Rattle.broker.proofs.Standing.{in_left, in_right, passes, distinct_parts}
+use Rattle.broker.proofs.Sleeping.{apart}
+use Rattle.broker.proofs.Takers.{of_stays}
+
+-- ---- events
+
+-- an event changes no channel of another connection
+module _ (t : Topology) (old new : Broker) (e : Event) (sends : List Send) (notes : List Note) where
+  paired : (c h : ℕ) (x : Option Channel) → ((d l : ℕ) → new.channel d l ≡ with_pair old.channel c h x d l) → (d l : ℕ) → (d == c) ≡ false → new.channel d l ≡ old.channel d l
+  paired c h x is d l far = is d l ∙ ap (λ (v : Bool). if v && (l == h) then x else old.channel d l) far
+
+  in_row : (c : ℕ) (row : ℕ → Option Channel) → ((d l : ℕ) → new.channel d l ≡ with_row old.channel c row d l) → (d l : ℕ) → (d == c) ≡ false → new.channel d l ≡ old.channel d l
+  in_row c row is d l far = is d l ∙ ap (λ (v : Bool). if v then row l else old.channel d l) far
+
+  aside : (c : ℕ) → Deed t old new e c sends notes → (d l : ℕ) → (d == c) ≡ false → new.channel d l ≡ old.channel d l
+  aside c (changes s (nothing same_queues channels connections)) d l far = channels d l
+  aside c (changes s (alters h now same_queues puts alike serves)) d l far = paired c h (Some now) puts.channels d l far
+  aside c (changes s (ends h same_queues puts awaits)) d l far = paired c h None puts.channels d l far
+  aside c (changes s (clears h now freed puts empty)) d l far = paired c h now puts.channels d l far
+  aside c (changes s (renews row freed r)) d l far = in_row c row r.channels d l far
+  aside c (enters h now p puts alike serves) d l far = paired c h (Some now) puts.channels d l far
+  aside c (gives g) d l far = paired c g.h _ g.left.channels d l far
+  aside c (settles s) d l far = paired c s.h _ s.is.channels d l far
+  aside c (purges p) d l far = p.left.channels d l
+
+  pub others_same : Acts t old e sends notes new → (d l : ℕ) → (d == event_connection e) ≡ false → new.channel d l ≡ old.channel d l
+  others_same p = aside (event_connection e) (acted t old new sends notes e p).deed
+
+-- so their consumers stay
+pub others_stay : (t : Topology) (old new : Broker) (e : Event) (sends : List Send) (notes : List Note) → Acts t old e sends notes new
+    → (c h : ℕ) → (c == event_connection e) ≡ false → (k : Consumer) → WasConsumer old c h k → WasConsumer new c h k
+others_stay t old new e sends notes p c h far k (ch, at, i) = (ch, others_same t old new e sends notes p c h far ∙ at, i)
+
+pub its_connection : (e : Event) → connection_of_event e ≡ event_connection e
+its_connection (Open c) = refl
+its_connection (First c bytes) = refl
+its_connection (Running c max k) = refl
+its_connection (Command c h m content) = refl
+its_connection (TooLarge c h) = refl
+its_connection (Fault c code) = refl
+its_connection (Lose c) = refl
+its_connection (Pause c) = refl
+its_connection (Resume c) = refl
+its_connection (Deliver c) = refl
+
+-- and where something is delivered all stay
+pub delivery_stays : (old new : Broker) (c : ℕ) (sends : List Send) (notes : List Note) → IsDelivery old c sends notes new → AllConsumersStay old new
+delivery_stays old new c sends notes p =
+    one_stays old new c p.made.number _ p.makes.left.channels (λ k i. subst (λ (o : Option Channel). IsIn k (channel_or_new o).consumers) p.made.taker.there i)
+
+-- ---- whose waiters are kept
+
+-- those whose consumers stay are kept
+pub own_stays : (old new : Kept) (rounds : List Waiters) → topology_kept new ≡ topology_kept old → AllConsumersStay (broker_of old) (broker_of new) → AllAreConsumers old rounds → AllAreConsumers new rounds
+own_stays old new rounds is stay own place = record {
+  there = λ p i. of_stays old new place p is (stay p.connection p.channel) ((own place).there p i);
+  once = (own place).once;
+}
+
+-- so they are where all go on as before
+pub own_same : (kept : Kept) (old new : List Waiters) → SameOrders old new → AllAreConsumers kept old → AllAreConsumers kept new
+own_same kept old new same own place = subst (AreItsConsumers kept place) (sym (same place)) (own place)
+
+-- where one comes in that is there
+pub own_joined : (kept : Kept) (old new : List Waiters) → AllAddTheirOwn kept old new → AllAreConsumers kept old → AllAreConsumers kept new
+own_joined kept old new adds own place = record {
+  there = λ p i. elim ((adds place).came p i) [ inl was ↦ (own place).there p was | inr its ↦ its ];
+  once = (adds place).once (own place).once;
+}
+
+-- where those of one connection leave that are gone, and those of others stay; one may have come in before
+module _ (old new : Kept) (c : ℕ) (before after left : List Waiters) (is : topology_kept new ≡ topology_kept old)
+    (stay : (d h : ℕ) → (d == c) ≡ false → (k : Consumer) → WasConsumer (broker_of old) d h k → WasConsumer (broker_of new) d h k) (own : AllAreConsumers old before) (leave : LeaveLines new c after left) where
+  -- whoever is left is there, if it was there or came in
+  left_there : (place : ℕ) (p : Pick) → IsIn p (order (round_at before place)) ⊎ (is_of new place p ≡ true) → remains new place c p ≡ true → is_of new place p ≡ true
+  left_there place p (inr its) remained = its
+  left_there place p (inl was) remained = go (p.connection == c) refl
+    where
+      go : (v : Bool) → (p.connection == c) ≡ v → is_of new place p ≡ true
+      go true here = remains_of new place c p remained here
+      go false far = of_stays old new place p is (stay p.connection p.channel far) ((own place).there p was)
+
+  own_after : ((place : ℕ) (p : Pick) → IsIn p (order (round_at after place)) → IsIn p (order (round_at before place)) ⊎ (is_of new place p ≡ true)) → ((place : ℕ) → AreDistinct (order (round_at after place))) → AllAreConsumers new left
+  own_after came once place = record {
+    there = λ p i.
+        let j = subst (IsIn p) (leave place) i in
+        left_there place p (came place p (filter_in (remains new place c) p (order (round_at after place)) j)) (passes (remains new place c) p (order (round_at after place)) j);
+    once = subst (λ (ps : List Pick). AreDistinct ps) (sym (leave place)) (filter_distinct (remains new place c) (order (round_at after place)) (once place));
+  }
+
+-- where nobody came in
+pub own_left : (old new : Kept) (c : ℕ) (before left : List Waiters) → topology_kept new ≡ topology_kept old
+    → ((d h : ℕ) → (d == c) ≡ false → (k : Consumer) → WasConsumer (broker_of old) d h k → WasConsumer (broker_of new) d h k) → AllAreConsumers old before → LeaveLines new c before left → AllAreConsumers new left
+own_left old new c before left is stay own leave = own_after old new c before before left is stay own leave (λ place p i. inl i) (λ place. (own place).once)
+
+-- and where one did
+pub own_came : (old new : Kept) (c : ℕ) (before after left : List Waiters) → topology_kept new ≡ topology_kept old
+    → ((d h : ℕ) → (d == c) ≡ false → (k : Consumer) → WasConsumer (broker_of old) d h k → WasConsumer (broker_of new) d h k) → AllAreConsumers old before → AllAddTheirOwn new before after
+    → LeaveLines new c after left → AllAreConsumers new left
+own_came old new c before after left is stay own adds leave = own_after old new c before after left is stay own leave (λ place p i. (adds place).came p i) (λ place. (adds place).once (own place).once)
+
+-- ---- picks
+
+-- whoever is told goes last in its line
+last_own : (kept : Kept) (place : ℕ) (front back : List Pick) (q : Pick) (old new : List Pick) → old ≡ front ++ q ∷ back → new ≡ back ++ front ++ q ∷ [] → AreItsConsumers kept place old → AreItsConsumers kept place new
+last_own kept place front back q old new was now own = record {
+  there = λ p i. own.there p (subst (IsIn p) (sym was) (there p (in_either p back (front ++ q ∷ []) (subst (IsIn p) (now ∙ append_assoc back front (q ∷ [])) i))));
+  once = subst (λ (ps : List Pick). AreDistinct ps) (sym (now ∙ append_assoc back front (q ∷ []))) (distinct_parts (front ++ q ∷ []) back (subst (λ (ps : List Pick). AreDistinct ps) (was ∙ sym (append_assoc front (q ∷ []) back)) own.once));
+}
+  where
+    ahead : (p : Pick) → IsIn p front ⊎ IsIn p (q ∷ []) → IsIn p (front ++ q ∷ back)
+    ahead p (inl j) = in_left p front (q ∷ back) j
+    ahead p (inr (inl s)) = in_right p front (q ∷ back) (inl s)
+    ahead p (inr (inr none)) = absurd none
+
+    there : (p : Pick) → IsIn p back ⊎ IsIn p (front ++ q ∷ []) → IsIn p (front ++ q ∷ back)
+    there p (inl j) = in_right p front (q ∷ back) (inr j)
+    there p (inr j) = ahead p (in_either p front (q ∷ []) j)
+
+own_told : (kept : Kept) (old new : Rounds) (q : Pick) → PicksFirst kept old new q → AllAreConsumers kept old.rounds → AllAreConsumers kept new.rounds
+own_told kept old new q told own place = go (place == told.queue) refl
+  where
+    its : AreItsConsumers kept told.queue (order (round_at new.rounds told.queue))
+    its = let goes = told.told.round in last_own kept told.queue goes.front goes.back q (order (round_at old.rounds told.queue)) (order (round_at new.rounds told.queue)) goes.was goes.now (own told.queue)
+
+    go : (v : Bool) → (place == told.queue) ≡ v → AreItsConsumers kept place (order (round_at new.rounds place))
+    go true f = subst (λ (n : ℕ). AreItsConsumers kept n (order (round_at new.rounds n))) (sym (eqb-true place told.queue f)) its
+    go false f = subst (AreItsConsumers kept place) (sym (told.told.others place (apart place told.queue f))) (own place)
+
+-- a pick leaves each line its consumers
+pub own_picked : (kept : Kept) (old new : Rounds) (o : Option Pick) → IfSome o (PicksFirst kept old new) → (o ≡ None → GoesOn old new) → AllAreConsumers kept old.rounds → AllAreConsumers kept new.rounds
+own_picked kept old new None told on own = own_same kept old.rounds new.rounds (on refl).same own
+own_picked kept old new (Some q) told on own = own_told kept old new q told own

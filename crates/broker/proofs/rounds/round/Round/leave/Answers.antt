@@ -1,0 +1,14 @@
+use Rattle.std.proofs.Common.{◌∙◌, filter, sym, ap, subst}
+use Rattle.commands.specs.State.{broker_of}
+use Rattle.broker.specs.Rounds.{Waiters, order, remains, IsInRound}
+use Rattle.broker.proofs.rounds.round.Round.leave.Goals as goal
+
+pub returns-clause-kept : goal.returns-clause-kept
+returns-clause-kept c = λ lists p i has.
+    c.let_go.ensures.kept lists p (subst (λ (r : Waiters). IsInRound (broker_of c.args.core.now) lists c.args.queue r p) (sym c.self.view_is) i) has
+
+pub returns-clause-line : goal.returns-clause-line
+returns-clause-line c = c.let_go.ensures.line ∙ ap (filter (remains c.args.core.now c.args.queue c.args.connection)) (ap order c.self.view_is)
+
+pub invariant_of-self : goal.invariant_of-self
+invariant_of-self c = (c.let_go.ensures.room, c.let_go.ensures.apart c.self.invariant.1)
