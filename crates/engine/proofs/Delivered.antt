@@ -1,5 +1,5 @@
 -- A delivery to one connection is a delivery of the world.
-use Rattle.std.proofs.Common.{◌≡◌, ℕ, List, ◌∷◌, ◌++◌, Bool, true, false, cond, Option, Some, Result, Ok, Err, get_or, set, remove, length, refl, sym, ap, subst, ◌∙◌, append-nil}
+use Rattle.std.proofs.Common.{◌≡◌, ℕ, List, ◌∷◌, ◌++◌, Bool, true, false, cond, Option, Some, None, Result, Ok, Err, get_or, set, remove, length, refl, sym, ap, subst, ◌∙◌, append-nil}
 use Rattle.std.specs.Prelude.{◌&&◌, not, nat_lt, is_some, IfOk, OnErr}
 use Rattle.std.proofs.lemmas.Bool.{false≢true}
 use Rattle.model.specs.Broker.{Broker}
@@ -24,7 +24,7 @@ use Rattle.engine.specs.Reading.{IsKeptEvent}
 use Rattle.outputs.specs.Waiting.{WaitingBytes}
 use Rattle.engine.specs.Pumping.{ConnectionPumped, OutputChanges, ConnectionsPumped, ConnectionsNotPumped, IsPump}
 use Rattle.engine.specs.World.{Parts, connection_in, session_of, wire_in, wire_of, config_of, state_of, world_of, is_connection_gone, AreRising, IsEngine}
-use Rattle.engine.specs.Engines.{Becomes, Changes, IsConnectionPlace}
+use Rattle.engine.specs.Engines.{Becomes, Changes, HasConnection, IsConnectionPlace}
 use Rattle.engine.specs.declared.connection.Connection.{Connection}
 use Rattle.engine.proofs.Numbered.{connection_in-place}
 use Rattle.engine.proofs.Agreeing.{agreed, same_agrees, delivers_agrees}
@@ -49,6 +49,14 @@ runs p c k made = sym (k.running c) ∙ ap is_some made.taker.runs
 -- and its output is below the bound
 below : (p : Parts) (c : ℕ) → IsConsistent (world_of p) → CanDeliver (broker_of p.broker) c → is_paused (world_of p) c ≡ false
 below p c k made = sym (k.paused c made.taker.connection made.taker.runs) ∙ made.taker.awake
+
+-- so it is there
+pub picked_there : (p : Parts) (c : ℕ) → IsEngine p → CanDeliver (broker_of p.broker) c → HasConnection p.connections c
+picked_there p c e made = go (connection_in p.connections c) refl
+  where
+    go : (o : Option Connection) → connection_in p.connections c ≡ o → HasConnection p.connections c
+    go None none = absurd (false≢true (sym (ap (λ (o : Option Connection). is_running (session_of o).phase) none) ∙ runs p c e.consistent made))
+    go (Some l) found = (l, found)
 
 -- ---- the connection whose output changes
 

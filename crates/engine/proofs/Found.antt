@@ -1,13 +1,15 @@
--- What a binary search finds among rising numbers.
-use Rattle.std.proofs.Common.{◌≡◌, ◌≢◌, ◌<◌, ◌≤◌, ℕ, zero, suc, List, [], ◌∷◌, Bool, cond, Some, None, get_or, length, refl, sym, ap, ◌∙◌, arith}
+-- Where a connection stands among rising numbers.
+use Rattle.std.proofs.Common.{◌≡◌, ◌≢◌, ◌<◌, ◌≤◌, ℕ, zero, suc, List, [], ◌∷◌, Bool, true, false, cond, ltb, ltb-true, ltb-false, Some, None, get_or, length, refl, sym, ap, subst, ◌∙◌, arith}
+use Rattle.std.specs.Prelude.{◌==◌, is_some}
 use Rattle.std.specs.List.{HoldsAt}
 use Rattle.std.specs.List.Sorted.{IsNonDecreasingBy, IsPartitionPoint}
 use Rattle.std.specs.Ordering.{nat_cmp, ordering_index}
 use Rattle.std.proofs.lemmas.Cmp.{ranked}
+use Rattle.std.proofs.lemmas.Bool.{eqb-true, false≢true}
 use Rattle.std.proofs.lemmas.Bool.Decides.{nat_tests}
 use Rattle.std.specs.declared.cmp.Ordering.TheVariants.{Less, Equal, Greater}
 use Rattle.engine.specs.World.{connection_in, AreRising}
-use Rattle.engine.specs.Engines.{IsConnectionPlace}
+use Rattle.engine.specs.Engines.{HasConnection, IsConnectionPlace}
 use Rattle.engine.specs.declared.connection.Connection.{Connection}
 use Rattle.engine.proofs.Numbered.{other_false}
 
@@ -53,6 +55,32 @@ not_found ls c i r parted =
         let smaller : j < i → (get_or ls j d).number < c = λ lt. ranked _ c _ (sym (p.0 j d (omega arith) lt)) in
         let greater : i ≤ j → c < (get_or ls j d).number = λ le. ranked _ c _ (sym (p.1 j d le within)) in
         grind (arith, smaller, greater, same)
+
+pub never_less : (ls : List Connection) → AreRising 0 ls → IsNonDecreasingBy (λ (l : Connection). l.number) ls
+never_less ls r i j d le within = pairs_not_fall ls i j d r le within
+
+-- one that is there stands at some place
+somewhere : (ls : List Connection) (c : ℕ) (l : Connection) → connection_in ls c ≡ Some l → (j : ℕ) × (j < length ls) × ((d : Connection) → (get_or ls j d).number ≡ c)
+somewhere [] c l e = absurd (false≢true (ap is_some e))
+somewhere (x ∷ xs) c l e = go (x.number == c) refl e (somewhere xs c l)
+  where
+    go : (b : Bool) → (x.number == c) ≡ b → cond b (Some x) (connection_in xs c) ≡ Some l
+        → (connection_in xs c ≡ Some l → (j : ℕ) × (j < length xs) × ((d : Connection) → (get_or xs j d).number ≡ c))
+        → (j : ℕ) × (j < suc (length xs)) × ((d : Connection) → (get_or (x ∷ xs) j d).number ≡ c)
+    go true same f behind = (zero, omega arith, λ d. eqb-true x.number c same)
+    go false same f behind = let next = behind f in (suc next.0, let lt = next.1 in omega (arith, lt), λ d. next.2 d)
+
+-- and that is the first place of its number or a greater one
+pub first_there : (ls : List Connection) (c i : ℕ) → AreRising 0 ls
+    → IsPartitionPoint (λ (l : Connection). ltb l.number c ≡ true) (λ (l : Connection). ltb l.number c ≡ false) ls i → HasConnection ls c → IsConnectionPlace ls c (Some i)
+first_there ls c i r p (l, e) = at (somewhere ls c l e)
+  where
+    at : (j : ℕ) × (j < length ls) × ((d : Connection) → (get_or ls j d).number ≡ c) → IsConnectionPlace ls c (Some i)
+    at (j, within, is) =
+        let before : j < i → ⊥ = λ lt. let less = ltb-true _ _ (p.0 j l (omega arith) lt) in let same = is l in omega (arith, less, same) in
+        let behind : i < j → ⊥ = λ lt. let less = pairs_rise 0 ls i j l r lt within in let more = ltb-false _ _ (p.1 i l (omega arith) (omega (arith, lt, within))) in let same = is l in omega (arith, less, more, same) in
+        let here : j ≡ i = grind (arith, before, behind) in
+        subst (λ (k : ℕ). IsConnectionPlace ls c (Some k)) here (within, is)
 
 -- there is an element at each place
 pub element : (ls : List Connection) (i : ℕ) → i < length ls → (l : Connection) × (get_or ls i l ≡ l)

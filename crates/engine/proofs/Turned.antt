@@ -1,8 +1,6 @@
 -- What is read next of one connection, and one turn of it.
 use Rattle.std.proofs.Common.{◌≡◌, ◌<◌, ◌≤◌, ◌+◌, ◌++◌, inl, inr, ℕ, List, true, false, Option, Some, None, length, refl, sym, ap, subst, ◌∙◌, arith}
 use Rattle.std.specs.List.{AllByRecursion}
-use Rattle.std.specs.Prelude.{is_some, Result, Ok, Err, IfOk, OnErr}
-use Rattle.std.proofs.lemmas.Bool.{false≢true}
 use Rattle.model.specs.Broker.{Broker}
 use Rattle.model.specs.Topology.{Topology}
 use Rattle.model.specs.Spelling.{receiver, spelling, IsSpelled}
@@ -20,12 +18,10 @@ use Rattle.model.specs.declared.notes.Note.{Note}
 use Rattle.assembly.specs.Held.{stream_of}
 use Rattle.assembly.specs.Front.{HasFront}
 use Rattle.assembly.proofs.Fronts.{ends_front, yields_front}
-use Rattle.engine.specs.Reading.{kept_of, IsEventMade, IsKeptEvent, HasMore, HasEvent, ComesNext, to_read}
-use Rattle.engine.specs.Performing.{Rules, DecidesByPhase, PausesOr}
-use Rattle.engine.specs.Turning.{Performed, ConnectionPerformed, DidEvent, ConnectionStays, ConnectionTook, ConnectionWaits, OnIdle}
+use Rattle.engine.specs.Reading.{kept_of, kept_for, IsEventMade, IsKeptEvent, HasMore, HasCommand, ComesNext, to_read}
+use Rattle.engine.specs.Performing.{Rules, DecidesByPhase, IsAskedBy, PausesOr}
+use Rattle.engine.specs.Turning.{Performed, DidEvent, ConnectionStays, ConnectionTook, ConnectionWaits, OnIdle}
 use Rattle.outputs.specs.Waiting.{HoldsNone, WaitingBytes}
-use Rattle.engine.specs.declared.reading.Next.{Next}
-use Rattle.engine.specs.declared.reading.Next.TheVariants as next
 use Rattle.engine.specs.declared.connection.Connection.{Connection}
 use Rattle.engine.specs.declared.turning.Turn.{Turn}
 use Rattle.engine.specs.declared.turning.Turn.TheVariants as turn
@@ -50,43 +46,46 @@ says_made c e is = subst (λ (x : Event). IsSaid x) (sym is.made) (says_command 
 kept_made : (c : ℕ) (e : Event) (is : IsEventMade c e) → kept_of (Some e) ≡ Some is.command
 kept_made c e is = ap (λ (x : Event). kept_of (Some x)) is.made ∙ kept_is c is.command
 
--- a command that is kept is the next
-pub kept_has : (c : ℕ) (k : Option Event) (broke : Option ℕ) (s : Stream) → is_some k ≡ true → IsKeptEvent c k broke → HasEvent c k s k s
-kept_has c None broke s some is = absurd (false≢true some)
-kept_has c (Some e) broke s some (is, whole) = record {
-  event = e;
-  is = refl;
-  made = is;
-  read = subst (λ (o : Option Command). Reads c o s e s) (sym (kept_made c e is)) (subst (λ (x : Event). Reads c (Some is.command) s x s) (sym is.made) again);
-  same = subst (λ (o : Option Command). SameToCome o s o s) (sym (kept_made c e is)) still;
-  fewer = subst (λ (o : Option Command). to_read None s < to_read o s) (sym (kept_made c e is)) (omega arith);
-}
+-- a command is kept where it could not be performed
+kept_as : (c : ℕ) (m : Command) → kept_for (event_of c m) ≡ Some (event_of c m)
+kept_as c (Head bytes) = refl
+kept_as c (Plain h m) = refl
+kept_as c (Full h p content) = refl
+kept_as c (TooLarge h) = refl
+
+made_kept : (c : ℕ) (e : Event) → IsEventMade c e → kept_for e ≡ Some e
+made_kept c e is = subst (λ (x : Event). kept_for x ≡ Some x) (sym is.made) (kept_as c is.command)
+
+asks_command : (c : ℕ) (m : Command) → IsAskedBy c (event_of c m)
+asks_command c (Head bytes) = refl
+asks_command c (Plain h m) = refl
+asks_command c (Full h p content) = refl
+asks_command c (TooLarge h) = refl
+
+-- a command that was kept is the next
+pub kept_has : (c : ℕ) (k : Option Event) (e : Event) (broke : Option ℕ) (s : Stream) → k ≡ Some e → IsKeptEvent c k broke → HasCommand c k s e broke s
+kept_has c k e broke s is own = subst (λ (o : Option Event). HasCommand c o s e broke s) (sym is) (one (subst (λ (o : Option Event). IsKeptEvent c o broke) is own))
+  where
+    one : IsEventMade c e × (broke ≡ None) → HasCommand c (Some e) s e broke s
+    one (made, whole) = record {
+      made = made;
+      whole = whole;
+      read = subst (λ (o : Option Command). Reads c o s e s) (sym (kept_made c e made)) (subst (λ (x : Event). Reads c (Some made.command) s x s) (sym made.made) again);
+      same = subst (λ (o : Option Command). SameToCome o s o s) (sym (kept_made c e made)) still;
+      fewer = subst (λ (o : Option Command). to_read None s < to_read o s) (sym (kept_made c e made)) (omega arith);
+    }
 
 -- and so is one that was read
-pub read_has : (c : ℕ) (k left : Option Event) (m : Command) (s new : Stream) → k ≡ None → left ≡ Some (event_of c m) → Yields s m new → IsCommand m → length new.unread + 8 ≤ length s.unread → HasEvent c k s left new
-read_has c k left m s new none is y said short =
-    subst (λ (o : Option Event). HasEvent c o s left new) (sym none) (subst (λ (o : Option Event). HasEvent c None s o new) (sym is) (record {
-      event = event_of c m;
-      is = refl;
+pub read_has : (c : ℕ) (k : Option Event) (e : Event) (m : Command) (broke : Option ℕ) (s new : Stream) → k ≡ None → e ≡ event_of c m → Yields s m new → IsCommand m → length new.unread + 8 ≤ length s.unread → broke ≡ None
+    → HasCommand c k s e broke new
+read_has c k e m broke s new none is y said short whole =
+    subst (λ (o : Option Event). HasCommand c o s e broke new) (sym none) (subst (λ (x : Event). HasCommand c None s x broke new) (sym is) (record {
       made = record { command = m; made = refl; said = said };
+      whole = whole;
       read = fresh y;
       same = subst (λ (o : Option Command). SameToCome None s o new) (sym (kept_is c m)) (kept y);
       fewer = omega (arith, short);
     }))
-
-pub kept_read : (c : ℕ) (left : Option Event) (broke : Option ℕ) (m : Command) → left ≡ Some (event_of c m) → IsCommand m → broke ≡ None → IsKeptEvent c left broke
-kept_read c left broke m is said whole = subst (λ (o : Option Event). IsKeptEvent c o broke) (sym is) (record { command = m; made = refl; said = said }, whole)
-
--- where a command is kept the stream has not broken
-kept_whole : (c : ℕ) (k : Option Event) (e : Event) (broke : Option ℕ) → k ≡ Some e → IsKeptEvent c k broke → broke ≡ None
-kept_whole c k e broke is own = (subst (λ (o : Option Event). IsKeptEvent c o broke) is own).1
-
-pub waits_on : (k : Option Event) (s new : Stream) → k ≡ None → GoesOn s new → SameToCome (kept_of k) s (kept_of k) new
-waits_on k s new none on = subst (λ (o : Option Event). SameToCome (kept_of o) s (kept_of o) new) (sym none) (waits on)
-
-pub not_some : (k : Option Event) → is_some k ≡ false → k ≡ None
-not_some None e = refl
-not_some (Some x) e = absurd (false≢true (sym e))
 
 -- ---- after a fault a connection is over
 
@@ -132,28 +131,28 @@ performed_put r b mid new_b c s new_s output new_output e notes given sends max 
   pauses = subst (λ (z : Topology). PausesOr z c false (is_past_bound new_output) mid new_b) topology pauses;
 }
 
-pub did_kept : (t : Rules) (b new_b : Broker) (old mid new : Connection) (what : Turn) → is_ended old.session.phase ≡ false → is_past_bound old.output.bytes ≡ false → IsRead old mid
-    → (h : HasEvent old.number old.kept (stream_of old.stream) mid.kept (stream_of mid.stream)) → mid.stream.fault ≡ None → DidEvent t b mid h.event what new_b new → ConnectionTook t b old what new_b new
-did_kept t b new_b old mid new (turn.Did notes) open_still below read h whole did = (
+did_command : (t : Rules) (b new_b : Broker) (old mid new : Connection) (e : Event) (what : Turn) → is_ended old.session.phase ≡ false → is_past_bound old.output.bytes ≡ false → IsRead old mid
+    → HasCommand old.number old.kept (stream_of old.stream) e mid.stream.fault (stream_of mid.stream) → DidEvent t b mid e what new_b new → ConnectionTook t b old what new_b new
+did_command t b new_b old mid new e (turn.Did notes) open_still below read h did = (
   open_still,
   below,
   record {
-    event = h.event;
+    event = e;
     next = stream_of mid.stream;
     read = h.read;
-    said = says_made old.number h.event h.made;
-    performed = performed_of t b new_b old mid new h.event notes.items read did.performed;
+    said = says_made old.number e h.made;
+    performed = performed_of t b new_b old mid new e notes.items read did.performed;
     number = did.number ∙ read.number;
     none_kept = did.none_kept;
-    follows = inl (did.stream whole);
-    fewer = inl (subst (λ (s : Stream). to_read None s < to_read (kept_of old.kept) (stream_of old.stream)) (sym (did.stream whole)) h.fewer);
+    follows = inl (did.stream h.whole);
+    fewer = inl (subst (λ (s : Stream). to_read None s < to_read (kept_of old.kept) (stream_of old.stream)) (sym (did.stream h.whole)) h.fewer);
   },
 )
-did_kept t b new_b old mid new turn.Idle open_still below read h whole did = absurd did
-did_kept t b new_b old mid new turn.Paused open_still below read h whole did = absurd did
-did_kept t b new_b old mid new turn.Over open_still below read h whole did = absurd did
+did_command t b new_b old mid new e turn.Idle open_still below read h did = absurd did
+did_command t b new_b old mid new e turn.Paused open_still below read h did = absurd did
+did_command t b new_b old mid new e turn.Over open_still below read h did = absurd did
 
-pub did_fault : (t : Rules) (b new_b : Broker) (old mid new : Connection) (code : ℕ) (what : Turn) → is_ended old.session.phase ≡ false → is_past_bound old.output.bytes ≡ false → IsRead old mid
+did_fault : (t : Rules) (b new_b : Broker) (old mid new : Connection) (code : ℕ) (what : Turn) → is_ended old.session.phase ≡ false → is_past_bound old.output.bytes ≡ false → IsRead old mid
     → old.kept ≡ None → Ends (stream_of old.stream) (Some code) → DidEvent t b mid (event.Fault mid.number code) what new_b new → ConnectionTook t b old what new_b new
 did_fault t b new_b old mid new code (turn.Did notes) open_still below read none ends did =
     let over = over_after mid.session.phase t b mid.session mid.number code did.performed.sends notes.items did.performed.mid new.session refl did.performed.decides in (
@@ -176,25 +175,46 @@ did_fault t b new_b old mid new code turn.Idle open_still below read none ends d
 did_fault t b new_b old mid new code turn.Paused open_still below read none ends did = absurd did
 did_fault t b new_b old mid new code turn.Over open_still below read none ends did = absurd did
 
-pub waits_kept : (b new_b : Broker) (old mid new : Connection) → IsRead old mid → SameToCome (kept_of old.kept) (stream_of old.stream) (kept_of mid.kept) (stream_of mid.stream) → new_b ≡ b → ConnectionStays mid new → ConnectionWaits b old new_b new
-waits_kept b new_b old mid new read same broker was = record {
-  broker = broker;
-  number = ap (λ (z : Connection). z.number) was.rest ∙ read.number;
-  session = ap (λ (z : Connection). z.session) was.rest ∙ read.session;
-  output = was.bytes ∙ read.output;
-  coming = subst (λ (z : Connection). SameToCome (kept_of old.kept) (stream_of old.stream) (kept_of z.kept) (stream_of z.stream)) (sym was.rest) same;
-}
+pub coming_on : (k left : Option Event) (s new : Stream) → k ≡ None → left ≡ None → GoesOn s new → SameToCome (kept_of k) s (kept_of left) new
+coming_on k left s new none gone on = subst (λ (o : Option Event). SameToCome (kept_of o) s (kept_of left) new) (sym none) (subst (λ (o : Option Event). SameToCome None s (kept_of o) new) (sym gone) (waits on))
+
+-- what comes next was performed
+pub did_next : (t : Rules) (b new_b : Broker) (old mid new : Connection) (e : Event) (what : Turn) → is_ended old.session.phase ≡ false → is_past_bound old.output.bytes ≡ false → IsRead old mid
+    → ComesNext old.number old.kept (stream_of old.stream) (Some e) mid.stream.fault (stream_of mid.stream) → DidEvent t b mid e what new_b new → ConnectionTook t b old what new_b new
+did_next t b new_b old mid new e what open_still below read (inl h) did = did_command t b new_b old mid new e what open_still below read h did
+did_next t b new_b old mid new e what open_still below read (inr h) did =
+    did_fault t b new_b old mid new h.code what open_still below read h.none_kept h.ends
+    (subst (λ (x : Event). DidEvent t b mid x what new_b new) (h.is ∙ ap (λ (c : ℕ). event.Fault c h.code) (sym read.number)) did)
+
+-- the same is still to come
+coming_next : (c : ℕ) (k : Option Event) (s : Stream) (e : Event) (broke : Option ℕ) (new : Stream) → ComesNext c k s (Some e) broke new → SameToCome (kept_of k) s (kept_of (kept_for e)) new
+coming_next c k s e broke new (inl h) = subst (λ (o : Option Event). SameToCome (kept_of k) s (kept_of o) new) (sym (made_kept c e h.made)) h.same
+coming_next c k s e broke new (inr h) = coming_on k (kept_for e) s new h.none_kept (ap kept_for h.is) h.on
+
+keeps_next : (c : ℕ) (k : Option Event) (s : Stream) (e : Event) (broke : Option ℕ) (new : Stream) → ComesNext c k s (Some e) broke new → IsKeptEvent c (kept_for e) broke
+keeps_next c k s e broke new (inl h) = subst (λ (o : Option Event). IsKeptEvent c o broke) (sym (made_kept c e h.made)) (h.made, h.whole)
+keeps_next c k s e broke new (inr h) = subst (λ (o : Option Event). IsKeptEvent c o broke) (sym (ap kept_for h.is)) tt
+
+-- it is asked for by the connection, and has a spelling
+pub next_asked : (c : ℕ) (k : Option Event) (s : Stream) (e : Event) (broke : Option ℕ) (new : Stream) → ComesNext c k s (Some e) broke new → IsAskedBy c e
+next_asked c k s e broke new (inl h) = subst (λ (x : Event). IsAskedBy c x) (sym h.made.made) (asks_command c h.made.command)
+next_asked c k s e broke new (inr h) = subst (λ (x : Event). IsAskedBy c x) (sym h.is) refl
+
+pub next_said : (c : ℕ) (k : Option Event) (s : Stream) (e : Event) (broke : Option ℕ) (new : Stream) → ComesNext c k s (Some e) broke new → IsSaid e
+next_said c k s e broke new (inl h) = says_made c e h.made
+next_said c k s e broke new (inr h) = subst (λ (x : Event). IsSaid x) (sym h.is) tt
+
+-- and read, with what follows it
+pub next_read : (c : ℕ) (k : Option Event) (s : Stream) (e : Event) (broke : Option ℕ) (new : Stream) → ComesNext c k s (Some e) broke new → (next : Stream) × Reads c (kept_of k) s e next
+next_read c k s e broke new (inl h) = (new, h.read)
+next_read c k s e broke new (inr h) = (
+  s,
+  subst (λ (x : Event). Reads c (kept_of k) s x s) (sym h.is) (subst (λ (o : Option Event). Reads c (kept_of o) s (event.Fault c h.code) s) (sym h.none_kept) (fault h.ends)),
+)
 
 -- it stays where memory was refused
 pub stays_refused : (l : Connection) (s : Session) (o : WaitingBytes) → s ≡ l.session → o.bytes ≡ l.output.bytes → HoldsNone o → ConnectionStays l (record l { session = s; output = o })
 stays_refused l s o session bytes none = record { rest = λ i. record { number = l.number; session = session i; stream = l.stream; kept = l.kept; output = o }; bytes = bytes; none = none }
-
--- so where nothing more was done to it
-pub waits_read : (b : Broker) (old new : Connection) → IsRead old new → SameToCome (kept_of old.kept) (stream_of old.stream) (kept_of new.kept) (stream_of new.stream) → ConnectionWaits b old b new
-waits_read b old new read same = record { broker = refl; number = read.number; session = read.session; output = read.output; coming = same }
-
-pub coming_on : (k left : Option Event) (s new : Stream) → k ≡ None → left ≡ None → GoesOn s new → SameToCome (kept_of k) s (kept_of left) new
-coming_on k left s new none gone on = subst (λ (o : Option Event). SameToCome (kept_of o) s (kept_of left) new) (sym none) (subst (λ (o : Option Event). SameToCome None s (kept_of o) new) (sym gone) (waits on))
 
 -- ---- what is read was there
 
@@ -208,90 +228,57 @@ front_more k s none front = subst (λ (o : Option Event). HasMore (kept_of o) s)
 
 -- ---- by the answer
 
-pub comes_command : (c : ℕ) (k left : Option Event) (s new : Stream) (n : Next) → n ≡ next.Command → ComesNext c k s n left new → HasEvent c k s left new
-comes_command c k left s new n e h = subst (λ (x : Next). ComesNext c k s x left new) e h
+pub comes : (c : ℕ) (k : Option Event) (s : Stream) (n : Option Event) (e : Event) (broke : Option ℕ) (new : Stream) → n ≡ Some e → ComesNext c k s n broke new → ComesNext c k s (Some e) broke new
+comes c k s n e broke new is h = subst (λ (x : Option Event). ComesNext c k s x broke new) is h
 
-pub comes_fault : (c code : ℕ) (k left : Option Event) (s new : Stream) (n : Next) → n ≡ next.Fault code → ComesNext c k s n left new → (left ≡ None) × (k ≡ None) × Ends s (Some code) × GoesOn s new
-comes_fault c code k left s new n e h = subst (λ (x : Next). ComesNext c k s x left new) e h
+pub ends : (c : ℕ) (k : Option Event) (s : Stream) (n : Option Event) (broke : Option ℕ) (new : Stream) → n ≡ None → ComesNext c k s n broke new → (k ≡ None) × Ends s None × GoesOn s new
+ends c k s n broke new is h = subst (λ (x : Option Event). ComesNext c k s x broke new) is h
 
-pub comes_nothing : (c : ℕ) (k left : Option Event) (s new : Stream) (n : Next) → n ≡ next.Nothing → ComesNext c k s n left new → (left ≡ None) × (k ≡ None) × Ends s None × GoesOn s new
-comes_nothing c k left s new n e h = subst (λ (x : Next). ComesNext c k s x left new) e h
-
--- one turn, whatever it answered
-pub record Whole {E : Type 0} (t : Rules) (b : Broker) (old : Connection) (what : Result Turn E) (new_b : Broker) (new : Connection) : Type 0 where
-  pub ok : IfOk what (λ x. ConnectionTook t b old x new_b new)
-  pub err : OnErr what (ConnectionWaits b old new_b new)
-  pub idle : IfOk what (λ x. OnIdle x (HoldsNone new.output))
-  pub refused : OnErr what (HoldsNone new.output)
-  pub kept : IsKeptEvent new.number new.kept new.stream.fault
-  pub number : new.number ≡ old.number
+-- ---- what a turn leaves
 
 -- nothing is kept after what was performed
-did_keeps : (t : Rules) (b new_b : Broker) (mid new : Connection) (e : Event) (what : Turn) → DidEvent t b mid e what new_b new → IsKeptEvent new.number new.kept new.stream.fault × (new.number ≡ mid.number)
+pub did_keeps : (t : Rules) (b new_b : Broker) (mid new : Connection) (e : Event) (what : Turn) → DidEvent t b mid e what new_b new → IsKeptEvent new.number new.kept new.stream.fault × (new.number ≡ mid.number)
 did_keeps t b new_b mid new e (turn.Did notes) did = (subst (λ (k : Option Event). IsKeptEvent new.number k new.stream.fault) (sym did.none_kept) tt, did.number)
 did_keeps t b new_b mid new e turn.Idle did = absurd did
 did_keeps t b new_b mid new e turn.Paused did = absurd did
 did_keeps t b new_b mid new e turn.Over did = absurd did
 
-did_something : (t : Rules) (b new_b : Broker) (mid new : Connection) (e : Event) (what : Turn) → DidEvent t b mid e what new_b new → OnIdle what (HoldsNone new.output)
+pub did_something : (t : Rules) (b new_b : Broker) (mid new : Connection) (e : Event) (what : Turn) → DidEvent t b mid e what new_b new → OnIdle what (HoldsNone new.output)
 did_something t b new_b mid new e (turn.Did notes) did = tt
 did_something t b new_b mid new e turn.Idle did = absurd did
 did_something t b new_b mid new e turn.Paused did = absurd did
 did_something t b new_b mid new e turn.Over did = absurd did
 
-pub after_kept : {E : Type 0} (r : Result Turn E) (t : Rules) (b new_b : Broker) (old mid new : Connection) → is_ended old.session.phase ≡ false → is_past_bound old.output.bytes ≡ false → IsRead old mid
-    → HasEvent old.number old.kept (stream_of old.stream) mid.kept (stream_of mid.stream) → IsKeptEvent old.number mid.kept mid.stream.fault
-    → IfOk r (λ x. (e : Event) → mid.kept ≡ Some e → DidEvent t b mid e x new_b new) → OnErr r (new_b ≡ b) → OnErr r (ConnectionStays mid new) → Whole t b old r new_b new
-after_kept (Ok x) t b new_b old mid new open_still below read h own did broker connection =
-    let d = did h.event h.is in
-    let k = did_keeps t b new_b mid new h.event x d in
-    record { ok = did_kept t b new_b old mid new x open_still below read h (kept_whole old.number mid.kept h.event mid.stream.fault h.is own) d; err = tt; idle = did_something t b new_b mid new h.event x d; refused = tt; kept = k.0; number = k.1 ∙ read.number }
-after_kept (Err x) t b new_b old mid new open_still below read h own did broker connection = record {
-  ok = tt;
-  err = waits_kept b new_b old mid new read h.same broker connection;
-  idle = tt;
-  refused = connection.none;
-  kept = subst (λ (z : Connection). IsKeptEvent z.number z.kept z.stream.fault) (sym connection.rest) (subst (λ (c : ℕ). IsKeptEvent c mid.kept mid.stream.fault) (sym read.number) own);
-  number = ap (λ (z : Connection). z.number) connection.rest ∙ read.number;
+-- where memory was refused what came next is kept, if it is a command, and is still to come
+pub waits_next : (b new_b : Broker) (old mid left : Connection) (k : Option Event) (e : Event) → IsRead old mid → ComesNext old.number old.kept (stream_of old.stream) (Some e) mid.stream.fault (stream_of mid.stream)
+    → new_b ≡ b → ConnectionStays mid left → k ≡ kept_for e → ConnectionWaits b old new_b (record left { kept = k })
+waits_next b new_b old mid left k e read h broker was keeps = record {
+  broker = broker;
+  number = ap (λ (z : Connection). z.number) was.rest ∙ read.number;
+  session = ap (λ (z : Connection). z.session) was.rest ∙ read.session;
+  output = was.bytes ∙ read.output;
+  coming = subst (λ (z : Connection). SameToCome (kept_of old.kept) (stream_of old.stream) (kept_of k) (stream_of z.stream)) (sym was.rest)
+      (subst (λ (o : Option Event). SameToCome (kept_of old.kept) (stream_of old.stream) (kept_of o) (stream_of mid.stream)) (sym keeps) (coming_next old.number old.kept (stream_of old.stream) e mid.stream.fault (stream_of mid.stream) h));
 }
 
-pub after_fault : {E : Type 0} (r : Result Turn E) (t : Rules) (b new_b : Broker) (old mid new : Connection) (code : ℕ) → is_ended old.session.phase ≡ false → is_past_bound old.output.bytes ≡ false → IsRead old mid
-    → (mid.kept ≡ None) × (old.kept ≡ None) × Ends (stream_of old.stream) (Some code) × GoesOn (stream_of old.stream) (stream_of mid.stream)
-    → IfOk r (λ x. DidEvent t b mid (event.Fault mid.number code) x new_b new) → OnErr r (new_b ≡ b) → OnErr r (ConnectionStays mid new) → Whole t b old r new_b new
-after_fault (Ok x) t b new_b old mid new code open_still below read h did broker connection =
-    let k = did_keeps t b new_b mid new (event.Fault mid.number code) x did in
-    record { ok = did_fault t b new_b old mid new code x open_still below read h.1 h.2 did; err = tt; idle = did_something t b new_b mid new (event.Fault mid.number code) x did; refused = tt; kept = k.0; number = k.1 ∙ read.number }
-after_fault (Err x) t b new_b old mid new code open_still below read h did broker connection = record {
-  ok = tt;
-  err = waits_kept b new_b old mid new read (coming_on old.kept mid.kept (stream_of old.stream) (stream_of mid.stream) h.1 h.0 h.3) broker connection;
-  idle = tt;
-  refused = connection.none;
-  kept = subst (λ (z : Connection). IsKeptEvent z.number z.kept z.stream.fault) (sym connection.rest) (subst (λ (k : Option Event). IsKeptEvent mid.number k mid.stream.fault) (sym h.0) tt);
-  number = ap (λ (z : Connection). z.number) connection.rest ∙ read.number;
-}
+pub still_kept : (old mid left : Connection) (k : Option Event) (e : Event) → IsRead old mid → ComesNext old.number old.kept (stream_of old.stream) (Some e) mid.stream.fault (stream_of mid.stream)
+    → ConnectionStays mid left → k ≡ kept_for e → IsKeptEvent left.number k left.stream.fault
+still_kept old mid left k e read h was keeps =
+    subst (λ (z : Connection). IsKeptEvent z.number k z.stream.fault) (sym was.rest)
+    (subst (λ (c : ℕ). IsKeptEvent c k mid.stream.fault) (sym read.number)
+    (subst (λ (o : Option Event). IsKeptEvent old.number o mid.stream.fault) (sym keeps) (keeps_next old.number old.kept (stream_of old.stream) e mid.stream.fault (stream_of mid.stream) h)))
 
 pub after_nothing : (t : Rules) (b : Broker) (old mid : Connection) → is_ended old.session.phase ≡ false → IsRead old mid
-    → (mid.kept ≡ None) × (old.kept ≡ None) × Ends (stream_of old.stream) None × GoesOn (stream_of old.stream) (stream_of mid.stream)
+    → mid.kept ≡ None → (old.kept ≡ None) × Ends (stream_of old.stream) None × GoesOn (stream_of old.stream) (stream_of mid.stream)
     → ConnectionTook t b old turn.Idle b mid
-after_nothing t b old mid open_still read h = (
+after_nothing t b old mid open_still read none h = (
   open_still,
   record {
-    waits = waits_read b old mid read (coming_on old.kept mid.kept (stream_of old.stream) (stream_of mid.stream) h.1 h.0 h.3);
-    none_kept = h.1;
-    ends = h.2;
+    waits = record { broker = refl; number = read.number; session = read.session; output = read.output; coming = coming_on old.kept mid.kept (stream_of old.stream) (stream_of mid.stream) h.0 none h.2 };
+    none_kept = h.0;
+    ends = h.1;
   },
 )
-
--- the event is the one that is kept
-pub performed_is : (t : Rules) (b new_b : Broker) (old new : Connection) (x e : Event) (notes : List Note) (k : Option Event) → k ≡ Some x → k ≡ Some e → ConnectionPerformed t b old x notes new_b new → ConnectionPerformed t b old e notes new_b new
-performed_is t b new_b old new x e notes k is other p = subst (λ (z : Event). ConnectionPerformed t b old z notes new_b new) (some_same x e (sym is ∙ other)) p
-  where
-    some_same : (x y : Event) → Some x ≡ Some y → x ≡ y
-    some_same x y f = cc
-
-pub on_err_map : {T F : Type 0} (r : Result T F) (P Q : Type 0) → (P → Q) → OnErr r P → OnErr r Q
-on_err_map (Ok x) P Q f p = tt
-on_err_map (Err e) P Q f p = f p
 
 pub same_coming : (k : Option Command) (s : Stream) → SameToCome k s k s
 same_coming None s = waits stays

@@ -1,19 +1,17 @@
 -- What the calls of an engine leave of turns to be served.
-use Rattle.std.proofs.Common.{◌≡◌, ◌∙◌, ◌<◌, ℕ, List, Bool, false, Option, Some, None, Result, Ok, Err, get_or, length, refl, sym, ap, subst, arith}
-use Rattle.std.specs.Prelude.{IfOk, OnOk}
+use Rattle.std.proofs.Common.{◌≡◌, ◌∙◌, ◌<◌, ℕ, List, Bool, false, Some, None, Result, Ok, Err, get_or, length, refl, sym, ap, subst, arith}
+use Rattle.std.specs.Prelude.{IfOk}
 use Rattle.std.proofs.lemmas.Option.{same_Some}
 use Rattle.model.specs.Broker.{Broker}
-use Rattle.model.specs.Commands.{Stream, Ends}
-use Rattle.model.specs.Arrivals.{Wire, Reads, fault, is_ended}
+use Rattle.model.specs.Commands.{Stream}
+use Rattle.model.specs.Arrivals.{Wire, Reads, is_ended}
 use Rattle.model.specs.declared.events.Event.{Event}
-use Rattle.model.specs.declared.events.Event.TheVariants as event
 use Rattle.commands.specs.Picked.{IsPick, IsPickFrom}
 use Rattle.commands.specs.declared.picks.Pick.{Pick}
 use Rattle.broker.specs.Turns.{WithTurn, topology_kept, broker_of}
 use Rattle.broker.specs.Waiting.{NoneIsLater, OneComesIn, IsToldInTurn, IsPassedOver, ServesSoon}
 use Rattle.broker.specs.Waiting.Waits.{passed, other}
 use Rattle.engine.specs.Performing.{Rules, rules_of}
-use Rattle.engine.specs.Reading.{kept_of}
 use Rattle.engine.specs.Turning.{DidEvent}
 use Rattle.engine.specs.World.{Parts, connection_in, wire_in, wire_of, world_of, IsEngine}
 use Rattle.engine.specs.Engines.{IsConnectionPlace, ConnectionsTook}
@@ -68,29 +66,13 @@ one_then e old mid new first last = record {
 -- ---- a turn
 
 -- what is performed is what the connection says next
-did_next : (c : ℕ) (w : Wire) (next : Stream) (e : Event) (r : Rules) (l l' : Connection) (what : Turn) (old new : WithTurn) → Reads c w.kept w.stream e next
+pub did_leaves : (c : ℕ) (w : Wire) (next : Stream) (e : Event) (r : Rules) (l l' : Connection) (what : Turn) (old new : WithTurn) → Reads c w.kept w.stream e next
     → DidEvent r (broker_of old) l e what (broker_of new) l' → new.turn ≡ old.turn → topology_kept new ≡ topology_kept old → OneComesIn e old new → TurnLeaves c w old what new
-did_next c w next e r l l' (turn.Did notes) old new read did same topology later =
+did_leaves c w next e r l l' (turn.Did notes) old new read did same topology later =
     record { event = e; next = next; read = read; turn = same; topology = topology; later = later }
-did_next c w next e r l l' turn.Idle old new read did same topology later = absurd did
-did_next c w next e r l l' turn.Paused old new read did same topology later = absurd did
-did_next c w next e r l l' turn.Over old new read did same topology later = absurd did
-
-pub leaves_next : {E : Type 0} (result : Result Turn E) (c : ℕ) (w : Wire) (next : Stream) (e : Event) (r : Rules) (l l' : Connection) (old new : WithTurn) → Reads c w.kept w.stream e next
-    → IfOk result (λ t. DidEvent r (broker_of old) l e t (broker_of new) l') → new.turn ≡ old.turn → topology_kept new ≡ topology_kept old → OnOk result (OneComesIn e old new)
-    → IfOk result (λ t. TurnLeaves c w old t new)
-leaves_next (Ok t) c w next e r l l' old new read did same topology later = did_next c w next e r l l' t old new read did same topology later
-leaves_next (Err x) c w next e r l l' old new read did same topology later = tt
-
--- so where the event is the one that is kept
-pub leaves_kept : {E : Type 0} (result : Result Turn E) (c : ℕ) (w : Wire) (next : Stream) (k : Option Event) (e : Event) (r : Rules) (l l' : Connection) (old new : WithTurn) → Reads c w.kept w.stream e next → k ≡ Some e
-    → IfOk result (λ t. (x : Event) → k ≡ Some x → DidEvent r (broker_of old) l x t (broker_of new) l') → new.turn ≡ old.turn → topology_kept new ≡ topology_kept old
-    → OnOk result ((x : Event) → k ≡ Some x → OneComesIn x old new) → IfOk result (λ t. TurnLeaves c w old t new)
-leaves_kept (Ok t) c w next k e r l l' old new read is did same topology later = did_next c w next e r l l' t old new read (did e is) same topology (later e is)
-leaves_kept (Err x) c w next k e r l l' old new read is did same topology later = tt
-
-pub fault_read : (c code : ℕ) (k : Option Event) (s : Stream) → k ≡ None → Ends s (Some code) → Reads c (kept_of k) s (event.Fault c code) s
-fault_read c code k s none ends = subst (λ (o : Option Event). Reads c (kept_of o) s (event.Fault c code) s) (sym none) (fault ends)
+did_leaves c w next e r l l' turn.Idle old new read did same topology later = absurd did
+did_leaves c w next e r l l' turn.Paused old new read did same topology later = absurd did
+did_leaves c w next e r l l' turn.Over old new read did same topology later = absurd did
 
 -- what one that is not over has to say is what its wire has
 wire_found : (p : Parts) (c : ℕ) (l : Connection) → connection_in p.connections c ≡ Some l → is_ended l.session.phase ≡ false → wire_in false l ≡ (world_of p).wire c

@@ -69,6 +69,10 @@ abbrev pub room_in : Option Connection → ℕ
 room_in None = 0
 room_in (Some l) = l.stream.room
 
+-- the connection of this number is there
+abbrev pub HasConnection : List Connection → ℕ → Type 0
+HasConnection ls c = (l : Connection) × (connection_in ls c ≡ Some l)
+
 -- the connection of this number is at this place, if it is there
 abbrev pub IsConnectionPlace : List Connection → ℕ → Option ℕ → Type 0
 IsConnectionPlace ls c None = connection_in ls c ≡ None

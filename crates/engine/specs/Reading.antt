@@ -1,5 +1,5 @@
 -- What a connection's bytes ask for next.
-use Rattle.std.specs.Prelude.{◌≡◌, ◌+◌, ◌<◌, ℕ, length, Option, Some, None}
+use Rattle.std.specs.Prelude.{◌≡◌, ◌⊎◌, ◌+◌, ◌<◌, ℕ, length, Option, Some, None}
 use Rattle.model.specs.Commands.{Stream, Ends, GoesOn, IsCommand}
 use Rattle.model.specs.Arrivals.{Reads, SameToCome, event_of}
 use Rattle.model.specs.declared.contents.Content.{Content}
@@ -10,8 +10,6 @@ use Rattle.model.specs.declared.events.Command.TheVariants.{Head, Plain, Full, T
 use Rattle.model.specs.declared.events.Event.{Event}
 use Rattle.model.specs.declared.events.Event.TheVariants as event
 use Rattle.assembly.specs.Front.{HasFront}
-use Rattle.engine.specs.declared.reading.Next.{Next}
-use Rattle.engine.specs.declared.reading.Next.TheVariants as next
 
 -- ---- a command that is kept, as an event
 
@@ -56,17 +54,28 @@ abbrev pub HasMore : Option Command → Stream → Type 0
 HasMore None s = HasFront s
 HasMore (Some m) s = Unit {0}
 
--- A command is the next, and is kept.
-pub record HasEvent (c : ℕ) (kept : Option Event) (old : Stream) (left : Option Event) (new : Stream) : Type 0 where
-  pub event : Event
-  pub is : left ≡ Some event
-  pub made : IsEventMade c event
-  pub read : Reads c (kept_of kept) old event new
-  pub same : SameToCome (kept_of kept) old (kept_of left) new
+-- A command is the next: one that was kept, or one that was read, whose stream has not broken.
+pub record HasCommand (c : ℕ) (kept : Option Event) (old : Stream) (e : Event) (broke : Option ℕ) (new : Stream) : Type 0 where
+  pub made : IsEventMade c e
+  pub whole : broke ≡ None
+  pub read : Reads c (kept_of kept) old e new
+  pub same : SameToCome (kept_of kept) old (kept_of (Some e)) new
   pub fewer : to_read None new < to_read (kept_of kept) old
 
--- This is what comes next of the connection c.
-abbrev pub ComesNext : ℕ → Option Event → Stream → Next → Option Event → Stream → Type 0
-ComesNext c kept old next.Command left new = HasEvent c kept old left new
-ComesNext c kept old (next.Fault code) left new = (left ≡ None) × (kept ≡ None) × Ends old (Some code) × GoesOn old new
-ComesNext c kept old next.Nothing left new = (left ≡ None) × (kept ≡ None) × Ends old None × GoesOn old new
+-- A fault is the next, and the stream answers it again.
+pub record HasFault (c : ℕ) (kept : Option Event) (old : Stream) (e : Event) (new : Stream) : Type 0 where
+  pub code : ℕ
+  pub is : e ≡ event.Fault c code
+  pub none_kept : kept ≡ None
+  pub ends : Ends old (Some code)
+  pub on : GoesOn old new
+
+-- This is what comes next of the connection c, or nothing.
+abbrev pub ComesNext : ℕ → Option Event → Stream → Option Event → (fault : Option ℕ) → Stream → Type 0
+ComesNext c kept old (Some e) broke new = HasCommand c kept old e broke new ⊎ HasFault c kept old e new
+ComesNext c kept old None broke new = (kept ≡ None) × Ends old None × GoesOn old new
+
+-- what is kept of an event that could not be performed: a command, for the stream answers a fault again
+abbrev pub kept_for : Event → Option Event
+kept_for (event.Fault c code) = None
+kept_for e = Some e

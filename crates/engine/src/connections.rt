@@ -17,7 +17,7 @@ ghost use Rattle.broker.specs.Turns.{topology_kept, broker_of};
 ghost use Rattle.broker.specs.Waiting.{NoneIsLater};
 ghost use Rattle.outputs.specs.Waiting.{HoldsNone};
 ghost use Rattle.engine.specs.World.{AreRising};
-ghost use Rattle.engine.specs.Engines.{IsConnectionPlace, ConnectionSent, ConnectionFed, IsSwept};
+ghost use Rattle.engine.specs.Engines.{HasConnection, IsConnectionPlace, ConnectionSent, ConnectionFed, IsSwept};
 ghost use Rattle.engine.specs.declared.connection.Connection as seen;
 
 use crate::connection::{BOUND, Connection};
@@ -41,6 +41,20 @@ pub(crate) fn connection_place(
     match place_at_once(connections, places.guess(number), number) {
         Some(place) => Some(place),
         None => place_by_search(connections, number),
+    }
+}
+
+/// The place of the connection of this number, which is there: the first of this number or a greater one, where it does not stand
+/// where it was remembered to.
+pub(crate) fn known_place(connections: &[Connection], places: &Places, number: u64) -> usize
+    requires rising { AreRising 0 connections.now }
+    requires there { HasConnection connections.now number }
+    ensures place { IsConnectionPlace connections.now number (Some result) }
+    ensures within { result < length connections.now }
+{
+    match place_at_once(connections, places.guess(number), number) {
+        Some(place) => place,
+        None => connections.partition_point(|connection| connection.number < number),
     }
 }
 

@@ -17,7 +17,7 @@ ghost use Rattle.engine.specs.Opening.{Numbers, OpenedNew, OpenedReady};
 ghost use Rattle.engine.specs.InForce.{in_force};
 
 use crate::connection::Connection;
-use crate::connections::{connection_place, feed_connection, sweep, take_from};
+use crate::connections::{connection_place, feed_connection, known_place, sweep, take_from};
 use crate::places::Places;
 use crate::pumping::pump_connection;
 use crate::turning::{Turn, turn_connection};
@@ -225,9 +225,7 @@ impl Engine {
             return Ok(None);
         };
         let connection = pick.connection;
-        let Some(place) = connection_place(&self.connections, &self.places, connection) else {
-            unreachable!();
-        };
+        let place = known_place(&self.connections, &self.places, connection);
         let notes = pump_connection(
             alloc,
             &mut self.broker,

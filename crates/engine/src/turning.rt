@@ -1,17 +1,15 @@
 //! One turn of one connection.
 
-ghost use Rattle.std.specs.Prelude.{◌≡◌, ◌≤◌, ◌<◌, ◌++◌, Some, None, false, IfOk, OnOk, OnErr};
+ghost use Rattle.std.specs.Prelude.{◌≡◌, ◌≤◌, ◌<◌, ◌++◌, None, false, IfOk, OnOk, OnErr};
 ghost use Rattle.std.specs.List.{AllByRecursion};
 ghost use Rattle.model.specs.Arrivals.{IsSaid, is_ended, is_past_bound, under_session};
 ghost use Rattle.model.specs.Phases.{is_running as runs};
 ghost use Rattle.model.specs.Sending.{AreCarried, AreOwn, most_sent};
 ghost use Rattle.model.specs.Spelling.{receiver, spelling, IsSpelled};
-ghost use Rattle.model.specs.declared.events.Event as event;
-ghost use Rattle.model.specs.declared.events.Event.TheVariants as happens;
 ghost use Rattle.broker.specs.Turns.{topology_kept, broker_of};
 ghost use Rattle.broker.specs.Waiting.{NoneIsLater, OneComesIn};
 ghost use Rattle.assembly.specs.Held.{stream_of};
-ghost use Rattle.engine.specs.Reading.{IsKeptEvent, IsEventMade, HasMore, kept_of};
+ghost use Rattle.engine.specs.Reading.{IsKeptEvent, HasMore, kept_of};
 ghost use Rattle.engine.specs.Performing.{IsAskedBy, PausesOr, rules_of};
 ghost use Rattle.engine.specs.Turning.{DidEvent, ConnectionStays, ConnectionTook, ConnectionWaits, MayTurn, OnIdle};
 ghost use Rattle.engine.specs.World.{wire_in};
@@ -20,7 +18,7 @@ ghost use Rattle.outputs.specs.Waiting.{HoldsNone};
 
 use crate::connection::{BOUND, Connection};
 use crate::performing::{pause_if, perform};
-use crate::reading::{Next, forget, read_next};
+use crate::reading::{keep, read_next};
 use assembly::Stream;
 use broker::Broker;
 use model::{Event, Note, Phase, Send, User};
@@ -67,96 +65,33 @@ pub(crate) fn put_out(
     pause_if(broker, c, is_past);
 }
 
-/// Performs the command that is kept, which stays so where memory is refused. There is room for what it sends.
-fn do_kept(
+/// Performs this event of the connection, where none is kept. Room for what it sends is made first. Where memory is refused an output
+/// in which nothing waits holds no storage.
+fn do_event(
     alloc: Global,
     users: &[User],
     broker: &mut Broker,
     scratch: &mut Scratch,
     spares: &mut Spares,
     connection: &mut Connection,
+    event: &Event,
 ) -> Result<Turn, AllocError>
-    requires kept { (e : event.Event) × (connection.old.kept ≡ Some e) × IsAskedBy connection.old.number e × IsSaid e }
-    requires carried { AreCarried (broker_of broker.old) }
-    requires room { most_sent ≤ connection.old.output.room }
-    ensures ok { IfOk result (λ t. (e : event.Event) → connection.old.kept ≡ Some e
-        → DidEvent (rules_of (topology_kept broker.old) users.now) (broker_of broker.old) connection.old e t
-        (broker_of broker.new) connection.new) }
-    ensures broker_kept { OnErr result (broker.new ≡ broker.old) }
-    ensures connection_kept { OnErr result (ConnectionStays connection.old connection.new) }
-    ensures topology { topology_kept broker.new ≡ topology_kept broker.old }
-    ensures turn { broker.new.turn ≡ broker.old.turn }
-    ensures later { OnOk result ((e : event.Event) → connection.old.kept ≡ Some e → OneComesIn e broker.old broker.new) }
-{
-    let Some(event) = &connection.kept else {
-        unreachable!();
-    };
-    let max = connection.session.frame_max();
-    match perform(
-        connection.number,
-        alloc,
-        users,
-        broker,
-        &mut connection.session,
-        event,
-    ) {
-        Ok(step) => {
-            put_out(
-                connection.number,
-                broker,
-                scratch,
-                &mut connection.output,
-                max,
-                &step.sends,
-            );
-            forget(&mut connection.kept);
-            follow(&mut connection.stream, &connection.session);
-            Ok(Turn::Did(step.notes))
-        }
-        Err(error) => {
-            spares.take_back(&mut connection.output);
-            Err(error)
-        }
-    }
-}
-
-/// Performs a fault of the stream, which the stream answers again where memory is refused. There is room for what it sends.
-fn do_fault(
-    alloc: Global,
-    users: &[User],
-    broker: &mut Broker,
-    scratch: &mut Scratch,
-    spares: &mut Spares,
-    connection: &mut Connection,
-    code: u16,
-) -> Result<Turn, AllocError>
+    requires asked { IsAskedBy connection.old.number event.now }
+    requires said { IsSaid event.now }
     requires kept { connection.old.kept ≡ None }
     requires carried { AreCarried (broker_of broker.old) }
-    requires room { most_sent ≤ connection.old.output.room }
     ensures ok { IfOk result (λ t. DidEvent (rules_of (topology_kept broker.old) users.now) (broker_of broker.old)
-        connection.old (happens.Fault connection.old.number code) t (broker_of broker.new) connection.new) }
+        connection.old event.now t (broker_of broker.new) connection.new) }
     ensures broker_kept { OnErr result (broker.new ≡ broker.old) }
     ensures connection_kept { OnErr result (ConnectionStays connection.old connection.new) }
     ensures topology { topology_kept broker.new ≡ topology_kept broker.old }
     ensures turn { broker.new.turn ≡ broker.old.turn }
-    ensures later { OnOk result (OneComesIn (happens.Fault connection.old.number code) broker.old broker.new) }
+    ensures later { OnOk result (OneComesIn event.now broker.old broker.new) }
 {
+    make_room(spares, &mut connection.output)?;
     let number = connection.number;
-    let event = Event::Fault {
-        connection: number,
-        code,
-    };
     let max = connection.session.frame_max();
-    let done = perform(
-        number,
-        alloc,
-        users,
-        broker,
-        &mut connection.session,
-        &event,
-    );
-    drop(event);
-    match done {
+    match perform(number, alloc, users, broker, &mut connection.session, event) {
         Ok(step) => {
             put_out(
                 number,
@@ -207,8 +142,8 @@ pub(crate) fn make_room(spares: &mut Spares, output: &mut Output) -> Result<(), 
     }
 }
 
-/// One turn of one connection. Room is made once there is something to perform. Where memory is refused an output in which nothing
-/// waits holds no storage.
+/// One turn of one connection. Room is made once there is something to perform. Where memory is refused what was read is still to come,
+/// and an output in which nothing waits holds no storage.
 pub(crate) fn turn_connection(
     alloc: Global,
     users: &[User],
@@ -243,15 +178,19 @@ pub(crate) fn turn_connection(
         &mut connection.stream,
         &mut connection.kept,
     ) {
-        Ok(Next::Command) => {
-            make_room(spares, &mut connection.output)?;
-            do_kept(alloc, users, broker, scratch, spares, connection)
+        Ok(Some(event)) => {
+            match do_event(alloc, users, broker, scratch, spares, connection, &event) {
+                Ok(turn) => {
+                    drop(event);
+                    Ok(turn)
+                }
+                Err(error) => {
+                    keep(&mut connection.kept, event);
+                    Err(error)
+                }
+            }
         }
-        Ok(Next::Fault(code)) => {
-            make_room(spares, &mut connection.output)?;
-            do_fault(alloc, users, broker, scratch, spares, connection, code)
-        }
-        Ok(Next::Nothing) => {
+        Ok(None) => {
             spares.take_back(&mut connection.output);
             Ok(Turn::Idle)
         }

@@ -1,111 +1,102 @@
-use Rattle.std.proofs.Common.{◌≡◌, false, refl, sym, ap, rules}
+use Rattle.std.proofs.Common.{◌≡◌, ◌∙◌, false, Option, refl, sym, ap, subst, rules}
+use Rattle.model.specs.declared.events.Event.{Event}
+use Rattle.engine.specs.Reading.{IsKeptEvent}
 use Rattle.broker.specs.Turns.{topology_kept, broker_of}
 use Rattle.model.specs.Arrivals.{is_ended, is_past_bound}
-use Rattle.model.specs.declared.events.Event.TheVariants as event
 use Rattle.engine.specs.Performing.{rules_of}
 use Rattle.engine.specs.World.{wire_in}
 use Rattle.engine.specs.declared.connection.Connection.{Connection}
 use Rattle.assembly.specs.Held.{stream_of}
-use Rattle.assembly.proofs.Fronts.{ends_front}
-use Rattle.engine.proofs.Asked.{on_err}
-use Rattle.engine.proofs.Turned.{comes_command, comes_fault, comes_nothing, after_kept, after_fault, after_nothing, waits_read, coming_on, on_err_map, reads_more, front_more}
-use Rattle.engine.proofs.Waiting.{leaves_next, leaves_kept, fault_read}
+use Rattle.engine.proofs.Turned.{IsRead, comes, ends, next_asked, next_said, next_read, did_next, did_keeps, did_something, waits_next, still_kept, after_nothing, reads_more}
+use Rattle.engine.proofs.Waiting.{did_leaves}
 use Rattle.engine.proofs.turning.turn_connection.Goals as goal
 
-pub returns-in_err-make_room-in-Ok-Command-clause-err : goal.returns-in_err-make_room-in-Ok-Command-clause-err
-returns-in_err-make_room-in-Ok-Command-clause-err c =
+pub do_event-requires-clause-asked : goal.do_event-requires-clause-asked
+do_event-requires-clause-asked c =
     let old = c.args.connection.now in
-    let mid : Connection = record { number = old.number; session = old.session; stream = c.read_next.new.stream; kept = c.read_next.new.kept; output = c.make_room.new.output } in
-    let has = comes_command old.number old.kept mid.kept (stream_of old.stream) (stream_of mid.stream) c.in-Ok-Command.field-0 c.in-Ok-Command.field-0-is c.in-Ok-Command.ensures.ok in
-    on_err c.from_residual.result _ (waits_read (broker_of c.args.broker.now) old mid (record { number = refl; session = refl; output = c.make_room.ensures.bytes }) has.same)
+    let event = c.in-Ok-Some.event in
+    let h = comes old.number old.kept (stream_of old.stream) c.in-Ok-Some.field-0 event c.read_next.new.stream.fault (stream_of c.read_next.new.stream) c.in-Ok-Some.field-0-is c.in-Ok-Some.ensures.ok in
+    next_asked old.number old.kept (stream_of old.stream) event c.read_next.new.stream.fault (stream_of c.read_next.new.stream) h
 
-pub returns-in_err-make_room-in-Ok-Command-clause-more : goal.returns-in_err-make_room-in-Ok-Command-clause-more
-returns-in_err-make_room-in-Ok-Command-clause-more c =
+pub do_event-requires-clause-said : goal.do_event-requires-clause-said
+do_event-requires-clause-said c =
     let old = c.args.connection.now in
-    let has = comes_command old.number old.kept c.read_next.new.kept (stream_of old.stream) (stream_of c.read_next.new.stream) c.in-Ok-Command.field-0 c.in-Ok-Command.field-0-is c.in-Ok-Command.ensures.ok in
-    on_err c.from_residual.result _ (reads_more has.read)
+    let event = c.in-Ok-Some.event in
+    let h = comes old.number old.kept (stream_of old.stream) c.in-Ok-Some.field-0 event c.read_next.new.stream.fault (stream_of c.read_next.new.stream) c.in-Ok-Some.field-0-is c.in-Ok-Some.ensures.ok in
+    next_said old.number old.kept (stream_of old.stream) event c.read_next.new.stream.fault (stream_of c.read_next.new.stream) h
 
-pub returns-in_ok-make_room-in-Ok-Command : goal.returns-in_ok-make_room-in-Ok-Command
-returns-in_ok-make_room-in-Ok-Command c =
+pub keep-requires : goal.keep-requires
+keep-requires c = ap (λ (z : Connection). z.kept) c.in-Err-do_event.ensures.connection_kept.rest ∙ c.read_next.ensures.none
+
+pub returns-in-Ok : goal.returns-in-Ok
+returns-in-Ok c =
     let b = c.args.broker.now in
     let old = c.args.connection.now in
+    let event = c.in-Ok-Some.event in
+    let h = comes old.number old.kept (stream_of old.stream) c.in-Ok-Some.field-0 event c.read_next.new.stream.fault (stream_of c.read_next.new.stream) c.in-Ok-Some.field-0-is c.in-Ok-Some.ensures.ok in
     let r = rules_of (topology_kept b) c.args.users.now in
     let open_still : is_ended old.session.phase ≡ false = sym c.if-is_over.ensures.value in
     let below : is_past_bound old.output.bytes ≡ false = search rules in
-    let mid : Connection = record { number = old.number; session = old.session; stream = c.read_next.new.stream; kept = c.read_next.new.kept; output = c.make_room.new.output } in
-    let has = comes_command old.number old.kept mid.kept (stream_of old.stream) (stream_of mid.stream) c.in-Ok-Command.field-0 c.in-Ok-Command.field-0-is c.in-Ok-Command.ensures.ok in
-    let did = c.do_kept.ensures in
-    let whole = after_kept c.do_kept.result r (broker_of b) (broker_of c.do_kept.new.broker) old mid c.do_kept.new.connection open_still below
-    (record { number = refl; session = refl; output = c.make_room.ensures.bytes }) has c.read_next.ensures.kept did.ok (on_err_map c.do_kept.result _ _ (λ e. ap broker_of e) did.broker_kept) did.connection_kept in
+    let mid : Connection = record { number = old.number; session = old.session; stream = c.read_next.new.stream; kept = c.read_next.new.kept; output = old.output } in
+    let new = c.do_event.new.connection in
+    let did = c.in-Ok.ensures in
+    let after = c.do_event.ensures in
+    let read = next_read old.number old.kept (stream_of old.stream) event mid.stream.fault (stream_of mid.stream) h in
+    let kept = did_keeps r (broker_of b) (broker_of c.do_event.new.broker) mid new event c.in-Ok.turn did.ok in
     record {
-      ok = whole.ok;
-      err = whole.err;
-      idle = whole.idle;
-      refused = whole.refused;
-      kept = whole.kept;
-      number = whole.number;
-      awake = on_err c.do_kept.result _ (open_still, below);
-      more = on_err c.do_kept.result _ (reads_more has.read);
-      topology = did.topology;
-      turns = leaves_kept c.do_kept.result old.number (wire_in false old) (stream_of mid.stream) mid.kept has.event r mid c.do_kept.new.connection b c.do_kept.new.broker has.read has.is did.ok did.turn did.topology did.later;
-      broker_kept = did.broker_kept;
+      ok = did_next r (broker_of b) (broker_of c.do_event.new.broker) old mid new event c.in-Ok.turn open_still below (record { number = refl; session = refl; output = refl }) h did.ok;
+      err = tt;
+      idle = did_something r (broker_of b) (broker_of c.do_event.new.broker) mid new event c.in-Ok.turn did.ok;
+      refused = tt;
+      kept = kept.0;
+      number = kept.1;
+      awake = tt;
+      more = tt;
+      topology = after.topology;
+      turns = did_leaves old.number (wire_in false old) read.0 event r mid new c.in-Ok.turn b c.do_event.new.broker read.1 did.ok after.turn after.topology did.later;
+      broker_kept = tt;
     }
 
-pub returns-in_err-make_room-in-Ok-Fault-clause-err : goal.returns-in_err-make_room-in-Ok-Fault-clause-err
-returns-in_err-make_room-in-Ok-Fault-clause-err c =
-    let old = c.args.connection.now in
-    let mid : Connection = record { number = old.number; session = old.session; stream = c.read_next.new.stream; kept = c.read_next.new.kept; output = c.make_room-in-Ok-Fault.new.output } in
-    let h = comes_fault old.number c.in-Ok-Fault.code old.kept mid.kept (stream_of old.stream) (stream_of mid.stream) c.in-Ok-Fault.field-0 c.in-Ok-Fault.field-0-is c.in-Ok-Fault.ensures.ok in
-    on_err c.from_residual-in_err-make_room-in-Ok-Fault.result _
-    (waits_read (broker_of c.args.broker.now) old mid (record { number = refl; session = refl; output = c.make_room-in-Ok-Fault.ensures.bytes }) (coming_on old.kept mid.kept (stream_of old.stream) (stream_of mid.stream) h.1 h.0 h.3))
-
-pub returns-in_err-make_room-in-Ok-Fault-clause-more : goal.returns-in_err-make_room-in-Ok-Fault-clause-more
-returns-in_err-make_room-in-Ok-Fault-clause-more c =
-    let old = c.args.connection.now in
-    let h = comes_fault old.number c.in-Ok-Fault.code old.kept c.read_next.new.kept (stream_of old.stream) (stream_of c.read_next.new.stream) c.in-Ok-Fault.field-0 c.in-Ok-Fault.field-0-is c.in-Ok-Fault.ensures.ok in
-    on_err c.from_residual-in_err-make_room-in-Ok-Fault.result _ (front_more old.kept (stream_of old.stream) h.1 (ends_front h.2))
-
-pub returns-in_ok-make_room-in-Ok-Fault : goal.returns-in_ok-make_room-in-Ok-Fault
-returns-in_ok-make_room-in-Ok-Fault c =
+pub returns-in-Err-do_event : goal.returns-in-Err-do_event
+returns-in-Err-do_event c =
     let b = c.args.broker.now in
     let old = c.args.connection.now in
-    let r = rules_of (topology_kept b) c.args.users.now in
-    let code = c.in-Ok-Fault.code in
+    let event = c.in-Ok-Some.event in
+    let h = comes old.number old.kept (stream_of old.stream) c.in-Ok-Some.field-0 event c.read_next.new.stream.fault (stream_of c.read_next.new.stream) c.in-Ok-Some.field-0-is c.in-Ok-Some.ensures.ok in
     let open_still : is_ended old.session.phase ≡ false = sym c.if-is_over.ensures.value in
     let below : is_past_bound old.output.bytes ≡ false = search rules in
-    let mid : Connection = record { number = old.number; session = old.session; stream = c.read_next.new.stream; kept = c.read_next.new.kept; output = c.make_room-in-Ok-Fault.new.output } in
-    let h = comes_fault old.number code old.kept mid.kept (stream_of old.stream) (stream_of mid.stream) c.in-Ok-Fault.field-0 c.in-Ok-Fault.field-0-is c.in-Ok-Fault.ensures.ok in
-    let did = c.do_fault.ensures in
-    let whole = after_fault c.do_fault.result r (broker_of b) (broker_of c.do_fault.new.broker) old mid c.do_fault.new.connection code open_still below
-    (record { number = refl; session = refl; output = c.make_room-in-Ok-Fault.ensures.bytes }) h did.ok (on_err_map c.do_fault.result _ _ (λ e. ap broker_of e) did.broker_kept) did.connection_kept in
+    let mid : Connection = record { number = old.number; session = old.session; stream = c.read_next.new.stream; kept = c.read_next.new.kept; output = old.output } in
+    let left = c.do_event.new.connection in
+    let stays = c.in-Err-do_event.ensures in
+    let is : IsRead old mid = record { number = refl; session = refl; output = refl } in
+    let read = next_read old.number old.kept (stream_of old.stream) event mid.stream.fault (stream_of mid.stream) h in
     record {
-      ok = whole.ok;
-      err = whole.err;
-      idle = whole.idle;
-      refused = whole.refused;
-      kept = whole.kept;
-      number = whole.number;
-      awake = on_err c.do_fault.result _ (open_still, below);
-      more = on_err c.do_fault.result _ (front_more old.kept (stream_of old.stream) h.1 (ends_front h.2));
-      topology = did.topology;
-      turns = leaves_next c.do_fault.result old.number (wire_in false old) (stream_of old.stream) (event.Fault old.number code) r mid c.do_fault.new.connection b c.do_fault.new.broker
-          (fault_read old.number code old.kept (stream_of old.stream) h.1 h.2) did.ok did.turn did.topology did.later;
-      broker_kept = did.broker_kept;
+      ok = tt;
+      err = waits_next (broker_of b) (broker_of c.do_event.new.broker) old mid left c.keep.new.kept event is h (ap broker_of stays.broker_kept) stays.connection_kept c.keep.ensures;
+      idle = tt;
+      refused = stays.connection_kept.none;
+      kept = still_kept old mid left c.keep.new.kept event is h stays.connection_kept c.keep.ensures;
+      number = ap (λ (z : Connection). z.number) stays.connection_kept.rest;
+      awake = (open_still, below);
+      more = reads_more read.1;
+      topology = c.do_event.ensures.topology;
+      turns = tt;
+      broker_kept = stays.broker_kept;
     }
 
-pub returns-in-Ok-Nothing : goal.returns-in-Ok-Nothing
-returns-in-Ok-Nothing c =
+pub returns-in-Ok-None : goal.returns-in-Ok-None
+returns-in-Ok-None c =
     let old = c.args.connection.now in
     let mid : Connection = record { number = old.number; session = old.session; stream = c.read_next.new.stream; kept = c.read_next.new.kept; output = c.take_back.new.output } in
-    let h = comes_nothing old.number old.kept mid.kept (stream_of old.stream) (stream_of mid.stream) c.in-Ok-Nothing.field-0 c.in-Ok-Nothing.field-0-is c.in-Ok-Nothing.ensures.ok in
+    let h = ends old.number old.kept (stream_of old.stream) c.in-Ok-None.field-0 c.read_next.new.stream.fault (stream_of mid.stream) c.in-Ok-None.field-0-is c.in-Ok-None.ensures.ok in
     record {
-      ok = after_nothing (rules_of (topology_kept c.args.broker.now) c.args.users.now) (broker_of c.args.broker.now) old mid (sym c.if-is_over.ensures.value) (record { number = refl; session = refl; output = c.take_back.ensures.bytes }) h;
+      ok = after_nothing (rules_of (topology_kept c.args.broker.now) c.args.users.now) (broker_of c.args.broker.now) old mid (sym c.if-is_over.ensures.value) (record { number = refl; session = refl; output = c.take_back.ensures.bytes }) c.read_next.ensures.none h;
       err = tt;
       awake = tt;
       more = tt;
       idle = c.take_back.ensures.none;
       refused = tt;
-      kept = c.read_next.ensures.kept;
+      kept = subst (λ (k : Option Event). IsKeptEvent old.number k mid.stream.fault) (sym c.read_next.ensures.none) tt;
       number = refl;
       topology = refl;
       turns = refl;

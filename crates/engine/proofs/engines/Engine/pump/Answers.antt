@@ -8,12 +8,20 @@ use Rattle.commands.specs.Picked.{IsPick}
 use Rattle.broker.specs.Turns.{WithTurn}
 use Rattle.runs.specs.Opened.{Idles}
 use Rattle.engine.specs.World.{Parts, world_of}
+use Rattle.engine.specs.Engines.{HasConnection}
 use Rattle.engine.specs.Pumping.{IsPump}
 use Rattle.engine.specs.Waiting.{ServesOne, TellsOne}
+use Rattle.engine.specs.declared.connection.Connection.{Connection}
 use Rattle.engine.proofs.Asked.{on_err}
-use Rattle.engine.proofs.Delivered.{picked_engine, picked_none, pumped_at}
+use Rattle.engine.proofs.Delivered.{picked_there, picked_engine, picked_none, pumped_at}
 use Rattle.engine.proofs.Waiting.{serves_one, told_again}
 use Rattle.engine.proofs.engines.Engine.pump.Goals as goal
+
+pub known_place-place-requires-clause-there : goal.known_place-place-requires-clause-there
+known_place-place-requires-clause-there c =
+    let i = c.self.inside in
+    let old : Parts = record { broker = i.broker; guarantees = i.guarantees.items; users = i.users.items; given = i.given; connections = i.connections.items } in
+    subst (λ (ls : List Connection). HasConnection ls c.in-Some.pick.connection) (sym c.deref.ensures.value) (picked_there old c.in-Some.pick.connection c.self.invariant c.in-Some.ensures.some.0)
 
 pub pump_connection-requires-clause-picked : goal.pump_connection-requires-clause-picked
 pump_connection-requires-clause-picked c = subst (λ (b : Kept). IsPick (broker_of b) c.in-Some.pick) (sym c.in-Some.ensures.kept) c.in-Some.ensures.some
@@ -25,26 +33,26 @@ pub invariant_of-self-in_err-notes : goal.invariant_of-self-in_err-notes
 invariant_of-self-in_err-notes c =
     let i = c.self.inside in
     let old : Parts = record { broker = i.broker; guarantees = i.guarantees.items; users = i.users.items; given = i.given; connections = i.connections.items } in
-    (pumped_at c.pump_connection.result (λ v. v.items) old c.pick.new.self c.pump_connection.new.broker c.in-Some.pick.connection c.in-Some-connection_place.place c.index_mut.result.now c.pump_connection.new.connection
-    c.self.invariant c.in-Some.ensures.kept c.pump_connection.ensures.topology c.in-Some.ensures.some.0 (rw (← c.deref.ensures.value) c.in-Some-connection_place.ensures.place) (sym c.index_mut.ensures.value)
+    (pumped_at c.pump_connection.result (λ v. v.items) old c.pick.new.self c.pump_connection.new.broker c.in-Some.pick.connection c.known_place-place.result c.index_mut.result.now c.pump_connection.new.connection
+    c.self.invariant c.in-Some.ensures.kept c.pump_connection.ensures.topology c.in-Some.ensures.some.0 (rw (← c.deref.ensures.value) c.known_place-place.ensures.place) (sym c.index_mut.ensures.value)
     c.pump_connection.ensures.rest c.pump_connection.ensures.ok c.pump_connection.ensures.broker_kept c.pump_connection.ensures.output_kept).engine
 
 pub invariant_of-self-2 : goal.invariant_of-self-2
 invariant_of-self-2 c =
     let i = c.self.inside in
     let old : Parts = record { broker = i.broker; guarantees = i.guarantees.items; users = i.users.items; given = i.given; connections = i.connections.items } in
-    (pumped_at c.pump_connection.result (λ v. v.items) old c.pick.new.self c.pump_connection.new.broker c.in-Some.pick.connection c.in-Some-connection_place.place c.index_mut.result.now c.pump_connection.new.connection
-    c.self.invariant c.in-Some.ensures.kept c.pump_connection.ensures.topology c.in-Some.ensures.some.0 (rw (← c.deref.ensures.value) c.in-Some-connection_place.ensures.place) (sym c.index_mut.ensures.value)
+    (pumped_at c.pump_connection.result (λ v. v.items) old c.pick.new.self c.pump_connection.new.broker c.in-Some.pick.connection c.known_place-place.result c.index_mut.result.now c.pump_connection.new.connection
+    c.self.invariant c.in-Some.ensures.kept c.pump_connection.ensures.topology c.in-Some.ensures.some.0 (rw (← c.deref.ensures.value) c.known_place-place.ensures.place) (sym c.index_mut.ensures.value)
     c.pump_connection.ensures.rest c.pump_connection.ensures.ok c.pump_connection.ensures.broker_kept c.pump_connection.ensures.output_kept).engine
 
 pub returns-in_err-notes-clause-err : goal.returns-in_err-notes-clause-err
 returns-in_err-notes-clause-err c =
     let i = c.self.inside in
     let old : Parts = record { broker = i.broker; guarantees = i.guarantees.items; users = i.users.items; given = i.given; connections = i.connections.items } in
-    let did = pumped_at {E = Unit {0}} (Err tt) (λ (v : List Note). v) old c.pick.new.self c.pump_connection.new.broker c.in-Some.pick.connection c.in-Some-connection_place.place c.index_mut.result.now c.pump_connection.new.connection
-    c.self.invariant c.in-Some.ensures.kept c.pump_connection.ensures.topology c.in-Some.ensures.some.0 (rw (← c.deref.ensures.value) c.in-Some-connection_place.ensures.place) (sym c.index_mut.ensures.value)
+    let did = pumped_at {E = Unit {0}} (Err tt) (λ (v : List Note). v) old c.pick.new.self c.pump_connection.new.broker c.in-Some.pick.connection c.known_place-place.result c.index_mut.result.now c.pump_connection.new.connection
+    c.self.invariant c.in-Some.ensures.kept c.pump_connection.ensures.topology c.in-Some.ensures.some.0 (rw (← c.deref.ensures.value) c.known_place-place.ensures.place) (sym c.index_mut.ensures.value)
     c.pump_connection.ensures.rest tt c.in_err-notes.ensures.broker_kept c.in_err-notes.ensures.output_kept in
-    on_err c.from_residual.result _ (subst (λ (p : Parts). Same (world_of p) (world_of (record old { broker = c.pump_connection.new.broker; connections = set i.connections.items c.in-Some-connection_place.place c.pump_connection.new.connection }))) c.self.view_is did.err)
+    on_err c.from_residual.result _ (subst (λ (p : Parts). Same (world_of p) (world_of (record old { broker = c.pump_connection.new.broker; connections = set i.connections.items c.known_place-place.result c.pump_connection.new.connection }))) c.self.view_is did.err)
 
 pub returns-in_err-notes-clause-wanted : goal.returns-in_err-notes-clause-wanted
 returns-in_err-notes-clause-wanted c =
@@ -68,10 +76,10 @@ returns-clause-ok c =
     let i = c.self.inside in
     let old : Parts = record { broker = i.broker; guarantees = i.guarantees.items; users = i.users.items; given = i.given; connections = i.connections.items } in
     let notes = c.in_ok-notes.notes.items in
-    let did = pumped_at {E = Unit {0}} (Ok notes) (λ (v : List Note). v) old c.pick.new.self c.pump_connection.new.broker c.in-Some.pick.connection c.in-Some-connection_place.place c.index_mut.result.now c.pump_connection.new.connection
-    c.self.invariant c.in-Some.ensures.kept c.pump_connection.ensures.topology c.in-Some.ensures.some.0 (rw (← c.deref.ensures.value) c.in-Some-connection_place.ensures.place) (sym c.index_mut.ensures.value)
+    let did = pumped_at {E = Unit {0}} (Ok notes) (λ (v : List Note). v) old c.pick.new.self c.pump_connection.new.broker c.in-Some.pick.connection c.known_place-place.result c.index_mut.result.now c.pump_connection.new.connection
+    c.self.invariant c.in-Some.ensures.kept c.pump_connection.ensures.topology c.in-Some.ensures.some.0 (rw (← c.deref.ensures.value) c.known_place-place.ensures.place) (sym c.index_mut.ensures.value)
     c.pump_connection.ensures.rest c.in_ok-notes.ensures.ok tt tt in
-    subst (λ (p : Parts). IsPump (world_of p) c.in-Some.pick.connection notes (world_of (record old { broker = c.pump_connection.new.broker; connections = set i.connections.items c.in-Some-connection_place.place c.pump_connection.new.connection }))) c.self.view_is did.ok
+    subst (λ (p : Parts). IsPump (world_of p) c.in-Some.pick.connection notes (world_of (record old { broker = c.pump_connection.new.broker; connections = set i.connections.items c.known_place-place.result c.pump_connection.new.connection }))) c.self.view_is did.ok
 
 pub returns-clause-in_turn : goal.returns-clause-in_turn
 returns-clause-in_turn c =
