@@ -1,11 +1,11 @@
 -- The places of a form, and the patterns at them.
-use Rattle.std.proofs.Common.{◌≡◌, ℕ, zero, suc, ◌+◌, ◌<◌, ◌≤◌, Bool, true, false, ◌&&◌, List, [], ◌∷◌, ◌++◌, length, refl, sym, ap, subst, ◌∙◌, arith, rules, append_assoc, Option, Some, None, drop, get_or}
+use Rattle.std.proofs.Common.{◌≡◌, ℕ, zero, suc, ◌+◌, ◌<◌, Bool, true, false, ◌&&◌, List, [], ◌∷◌, ◌++◌, length, refl, sym, ap, subst, ◌∙◌, arith, rules, append_assoc, Option, Some, None, drop, get_or}
 use Rattle.std.specs.Prelude.{Decides, AllPairs, slice_index_or, nat_lt}
 use Rattle.std.specs.Str.{bytes_eq}
 use Rattle.std.proofs.lemmas.Slice.Eq.{bytes_eq-Decides}
 use Rattle.std.proofs.lemmas.List.{drop_more}
 use Rattle.model.specs.Words.{Text}
-use Rattle.std.specs.List.{AllByRecursion, list_all, cons_option, slice_get}
+use Rattle.std.specs.List.{AllByRecursion, list_all, cons_option}
 use Rattle.std.proofs.lemmas.Bool.{false≢true}
 use Rattle.model.specs.Tracking.{Tracked}
 use Rattle.model.specs.Certificates.{Form, Whole, Sliced, Excepting, AreChosen}

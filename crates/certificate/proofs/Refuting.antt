@@ -1,5 +1,5 @@
 -- What a refutation has to show.
-use Rattle.std.proofs.Common.{◌≡◌, ◌<◌, ◌≤◌, ℕ, zero, suc, Bool, List, [], ◌∷◌, length, sym, subst, arith, get_or, Fits, w8, leb, leb-true, le-leb}
+use Rattle.std.proofs.Common.{◌≡◌, ◌<◌, ℕ, zero, suc, Bool, List, [], ◌∷◌, length, sym, subst, arith, get_or, Fits, w8, leb, leb-true, le-leb}
 use Rattle.model.specs.Words.{Text}
 use Rattle.std.specs.Prelude.{Decides}
 use Rattle.std.specs.List.{AllByRecursion}

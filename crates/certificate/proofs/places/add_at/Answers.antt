@@ -1,4 +1,4 @@
-use Rattle.std.proofs.Common.{◌≡◌, ◌∙◌, ◌++◌, List, [], Option, None, sym, ap, append-nil}
+use Rattle.std.proofs.Common.{◌≡◌, ◌∙◌, ◌++◌, [], Option, None, sym, ap, append-nil}
 use Rattle.std.proofs.lemmas.Option.{slice_get_past, MatchOption-at_none}
 use Rattle.std.specs.List.{cons_option, slice_get}
 use Rattle.model.specs.Tracking.{Tracked}
