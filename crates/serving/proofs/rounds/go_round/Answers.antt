@@ -28,6 +28,7 @@ returns g c =
         ended = c.settle_all-has_settled.ensures.ended;
         most = subst (λ (n : ℕ). most_peers ≤ n) (sym capacity) c.requires.settled.most;
       };
+      capacity = capacity;
       round = record {
         met = met;
         heard = heard;
