@@ -69,7 +69,7 @@ unmarked [] i e = absurd (false≢true (sym e))
 unmarked (m ∷ ms) zero e = (omega arith, e)
 unmarked (m ∷ ms) (suc i) e = let u = unmarked ms i e in let lt = u.0 in (omega (arith, lt), u.1)
 
--- behind the last mark there is none
+-- behind the end of the marks there is none
 unmarked_behind : (marks : List Bool) (i : ℕ) → length marks ≤ i → slice_index_or marks i false ≡ false
 unmarked_behind [] i le = refl
 unmarked_behind (m ∷ ms) zero le = absurd (omega (arith, le))
@@ -88,7 +88,7 @@ not_in_set : (x : Bool) → ◌≡◌ {A = ℕ} (cond x 0 1) 0 → x ≡ true
 not_in_set true e = refl
 not_in_set false e = absurd (omega (arith, e))
 
--- one that is not in it, up to the last mark, is marked
+-- one that is not in it, up to the end of the marks, is marked
 marked_out : (loud : List ℕ) (marks : List Bool) → AreLoud loud marks → (i : ℕ) → i < length marks → bit_of loud i ≡ 0 → IsMarkedAt marks i
 marked_out loud marks are i lt e = marked marks i lt (not_in_set (slice_index_or marks i true) (sym (are.each i) ∙ e))
 
@@ -99,7 +99,7 @@ next_in loud marks from slot are next =
     let within = here.0 in
     record { least = next.least; loud = here.1; before = λ i le less. marked_out loud marks are i (omega (arith, less, within)) (next.before i le less) }
 
--- where the set has no more, the next is the first behind the last mark
+-- where the set has no more, the next is the first behind the end of the marks
 pub next_behind : (loud : List ℕ) (marks : List Bool) (from : ℕ) → AreLoud loud marks → ((i : ℕ) → from ≤ i → bit_of loud i ≡ 0) → IsNextLoud marks from (max from (length marks))
 next_behind loud marks from are none = go (cases_lt from (length marks))
   where

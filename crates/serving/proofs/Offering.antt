@@ -1,5 +1,5 @@
 -- A reload between two calls that serve: what is offered is decided, or memory was refused, and no slot and no output is different.
-use Rattle.std.proofs.Common.{◌≡◌, ℕ, List, [], ◌∷◌, Bool, Option, refl, ◌∙◌, arith}
+use Rattle.std.proofs.Common.{◌≡◌, ℕ, List, [], Bool, Option, refl, ◌∙◌, arith}
 use Rattle.std.specs.Prelude.{Result, Ok, Err}
 use Rattle.model.specs.State.{Config}
 use Rattle.model.specs.History.{Occurrence}

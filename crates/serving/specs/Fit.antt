@@ -4,11 +4,11 @@ use Rattle.model.specs.Arrivals.{World}
 use Rattle.serving.specs.Story.{At}
 use Rattle.serving.specs.declared.peers.Peer.{Peer}
 
--- so many slots there are at least: as many as connections may stand
+-- so many slots there are at least: as many as connections may stand at a time
 abbrev pub most_peers : ℕ
 most_peers = 1024
 
--- Each slot has a connection of its own, which was opened.
+-- Each slot that is taken has a connection of its own, which was opened.
 pub record IsFit (w : World) (peers : List (Option Peer)) : Type 0 where
   pub apart : (i j : ℕ) (p q : Peer) → At peers i p → At peers j q → p.connection ≡ q.connection → i ≡ j
   pub numbered : (i : ℕ) (p : Peer) → At peers i p → 0 < p.connection

@@ -21,11 +21,11 @@ IsMarkedAt marks i = slice_index_or marks i false ≡ true
 abbrev pub AreQuiet : World → List (Option Peer) → List Bool → Type 0
 AreQuiet w ps marks = (i : ℕ) (p : Peer) → At ps i p → IsMarkedAt marks i → IsQuiet w p.connection
 
--- the bit of a slot in the set of those that have no mark: 0 too behind the last mark
+-- the bit of a slot in the set of those that have no mark: 0 too behind the end of the marks
 abbrev pub loud_bit : List Bool → ℕ → ℕ
 loud_bit marks i = cond (slice_index_or marks i true) 0 1
 
--- This set has those slots that have no mark, up to the last mark.
+-- This set has those slots that have no mark, up to the end of the marks.
 pub record AreLoud (loud : List ℕ) (marks : List Bool) : Type 0 where
   pub room : length marks ≤ length loud * 64
   pub each : (i : ℕ) → bit_of loud i ≡ loud_bit marks i
@@ -44,7 +44,7 @@ IsOther c ps i = (p : Peer) → At ps i p → p.connection ≢ c
 abbrev pub Wakes : ℕ → List (Option Peer) → List Bool → List Bool → Type 0
 Wakes c ps old new = (i : ℕ) → IsMarkedAt new i ↔ IsMarkedAt old i × IsOther c ps i
 
--- The slots within a round: each has a connection of its own, and each that is marked is quiet.
+-- The slots within a round: each that is taken has a connection of its own, which is quiet where the slot is marked.
 pub record AreSeated (w : World) (ps : List (Option Peer)) (marks : List Bool) : Type 0 where
   pub fit : IsFit w ps
   pub quiet : AreQuiet w ps marks

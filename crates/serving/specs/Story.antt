@@ -34,7 +34,7 @@ read_room = 65536
 abbrev pub IsOffer : ℕ → Type 0
 IsOffer room = (16 ≤ room) × (room ≤ read_room)
 
--- One thing that a server does: what it makes of one answer of its wire, a pump, a pause of the wire, or a reload between two calls that serve.
+-- One thing that a server does: what it makes of one answer of its wire, a pump, a rest, or a reload between two calls that serve.
 pub data Deed : Type 0 where
   -- a socket came, and a connection was opened for it in this slot
   Met : (slot : ℕ) → (peer : Peer) → Deed

@@ -19,7 +19,7 @@ pub data Call : Type 0 where
   Welcomed : (socket : ℕ) → Call
   Rested : Call
 
--- what was asked, without the answer: a read, a write of these bytes; closes, welcomes and rests are left out
+-- what was asked, without the answer: an accept, a read, a write of these bytes; closes, welcomes and rests are left out
 pub data Ask : Type 0 where
   To_accept : Ask
   To_read : (socket : ℕ) → Ask

@@ -21,7 +21,7 @@ const LOGIN: usize = 4_096;
 /// What each is offered at most while sockets come, of whom one round accepts one.
 const HURRIED: usize = 1_024;
 
-/// In so many rounds after one that accepted a socket, so that it logs in at once.
+/// In so many rounds, from the one on that took in a socket, so that it logs in at once.
 const HURRY: u32 = 16;
 
 /// What is known of a slot.
@@ -43,7 +43,7 @@ const FIRST: Offer = Offer {
 #[derive(Drop)]
 pub(crate) struct Offers {
     offers: Vec<Offer>,
-    /// In how many rounds yet there is a hurry.
+    /// In how many rounds yet there is a hurry, with this one.
     hurry: u32,
 }
 
@@ -99,7 +99,7 @@ impl Offers {
         offer.room.min(self.most(offer.runs)).max(LEAST)
     }
 
-    /// After a read for this slot, by which messages came to queues that lag or not, it is offered half as much, or a quarter more. As
+    /// After a read for this slot, by which messages came to queues that lag or not, its room is halved, or a quarter is added. As
     /// its bytes came, its connection ran or not yet.
     pub(crate) fn learn(&mut self, slot: usize, has_run: bool, has_filled: bool) {
         if slot < self.offers.len() {

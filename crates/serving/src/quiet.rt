@@ -8,7 +8,7 @@ use marks::{Flat, Over, Places};
 use std::alloc::{AllocError, Global};
 use std::marker::Model;
 
-/// So many slots are remembered, each for the numbers of connections that leave the same when divided by this.
+/// So many places remember a slot, each for the numbers of connections that leave the same remainder when divided by this.
 const REMEMBERED: usize = 16_384;
 
 /// A set of slots, of which the next is found without a look at each.
@@ -20,7 +20,7 @@ pub(crate) struct Quiet {
     marks: Vec<bool>,
     /// Those without a mark.
     loud: SlotSet,
-    /// Which slot a connection had when it was last looked at. It is a guess: others may have been remembered in its place.
+    /// By place, the slot of the connection that was remembered there last. It is a guess: connections share places.
     slots: Vec<u16>,
 }
 
@@ -67,7 +67,7 @@ fn put(set: &mut SlotSet, slot: usize, is_in: bool)
 }
 
 impl Quiet {
-    /// So many slots, all of them marked: none has a peer.
+    /// So many slots, all of them marked: none has a peer yet.
     pub(crate) fn new(alloc: Global, slots: usize) -> Result<Quiet, AllocError>
         ensures { IfOk result (λ q. q ≡ replicate slots true) }
     {
@@ -117,7 +117,7 @@ impl Quiet {
         }
     }
 
-    /// The first slot without a mark, of those from `from` on. Those behind the last mark have none.
+    /// The first slot without a mark, of those from `from` on. Those behind the end of the marks have none.
     pub(crate) fn next_loud(&self, from: usize) -> usize
         ensures { IsNextLoud self.now from result }
     {

@@ -77,7 +77,7 @@ impl<M: Machine> Server<M> {
         })
     }
 
-    /// One round: an accept, a read of 16 to 65,536 bytes of each connection that is neither paused nor over, at most 256 pumps, a
+    /// One round: an accept, a read into 16 to 65,536 bytes of each connection that is neither paused nor over, at most 256 pumps, a
     /// write of all that waits for each with output, the end of those that are over with no output left, and a rest where nothing
     /// was done. A socket is welcomed exactly as its connection comes to run.
     pub fn round<W: Wire>(&mut self, alloc: Global, wire: &mut W)
