@@ -1,6 +1,6 @@
 -- Consumers by their numbers, and what they may be given.
 use Rattle.std.proofs.Common.{◌≡◌, inl, inr, ℕ, ◌+◌, ◌<◌, List, [], ◌∷◌, ◌++◌, length, map, filter, find, Bool, true, false, cond, Option, Some, None, count_by, refl, sym, ap, subst, ◌∙◌, arith}
-use Rattle.std.specs.Prelude.{◌==◌, ◌&&◌, ◌||◌, option_map, is_some, if◌then◌else◌, IfSome}
+use Rattle.std.specs.Prelude.{◌==◌, ◌&&◌, ◌||◌, option_map, is_some, if◌then◌else◌, IfSome, IsSome}
 use Rattle.std.specs.List.{AllByRecursion}
 use Rattle.std.proofs.lemmas.Bool.{eq-eqb, eqb-true, false≢true}
 use Rattle.std.proofs.lemmas.List.Sums.{length-filter}
@@ -12,6 +12,7 @@ use Rattle.model.specs.Consuming as said
 use Rattle.channels.specs.Outstanding.{taker_of}
 use Rattle.channels.specs.Seats.{consumers_of, is_numbered, AreNumbered}
 use Rattle.channels.specs.Deliveries.{Given, may_of, taker_among, may_be_given, consumer_at, taker_at}
+use Rattle.channels.specs.Consumers.{AreBelow}
 use Rattle.channels.specs.Open.{Open, consumer_in, open_in, IsOne, IsTaker, HasNoTaker, TellsTaker}
 use Rattle.model.specs.Placed.{outstanding_in}
 use Rattle.model.specs.declared.deliveries.Delivery.{Delivery}
@@ -101,6 +102,18 @@ found next number (c ∷ cs) k (lt, (above, rest)) e = go (c.number == number) r
         later : IsAlone number cs k → (x : Consumer) → IsIn x (c ∷ cs) → x.number ≡ number → x ≡ k
         later one x (inl s) m = absurd (false≢true (sym t ∙ eq-eqb c.number number (ap (λ (d : Consumer). d.number) (sym s) ∙ m)))
         later one x (inr i) m = one.only x i m
+
+found_below : (next number : ℕ) (cs : List Consumer) → AreNumbered next cs → IsSome (find (λ (c : Consumer). c.number == number) cs) → number < next
+found_below next number [] h s = absurd (false≢true s)
+found_below next number (c ∷ cs) (lt, (above, rest)) s = go (c.number == number) refl (found_below next number cs rest) s
+  where
+    go : (b : Bool) → (c.number == number) ≡ b → (IsSome (find (λ (d : Consumer). d.number == number) cs) → number < next) → IsSome (cond b (Some c) (find (λ (d : Consumer). d.number == number) cs)) → number < next
+    go true t more f = subst (λ (n : ℕ). n < next) (eqb-true c.number number t) lt
+    go false t more f = more f
+
+-- so each that a channel has is below its next number
+pub are_below : (ch : Open) (next : ℕ) → AreNumbered next ch.given.consumers → AreBelow (Some ch) next
+are_below ch next rise number s = found_below next number ch.given.consumers rise s
 
 none_found : (number : ℕ) (cs : List Consumer) (x : Consumer) → find (λ (c : Consumer). c.number == number) cs ≡ None → IsIn x cs → x.number ≡ number → ⊥
 none_found number [] x e i m = i

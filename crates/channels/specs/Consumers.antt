@@ -1,5 +1,5 @@
 -- Consumers of a channel, by their numbers.
-use Rattle.std.specs.Prelude.{◌≡◌, ℕ, false, Option, Some, None, if◌then◌else◌}
+use Rattle.std.specs.Prelude.{◌≡◌, ◌<◌, ℕ, false, Option, Some, None, IsSome, if◌then◌else◌}
 use Rattle.channels.specs.Deliveries.{consumer_at}
 use Rattle.channels.specs.Open.{Open, IsOne, IsTaker, HasNoTaker}
 use Rattle.channels.specs.declared.consumers.Consumer.{Consumer}
@@ -20,6 +20,10 @@ pub record IsOneOn (l : Running) (h number : ℕ) (k : Consumer) : Type 0 where
 abbrev pub next_number : Option Open → Option ℕ
 next_number None = Some 1
 next_number (Some ch) = if ch.is_closing then None else Some ch.given.next_number
+
+-- each consumer of this channel has a number below this one
+abbrev pub AreBelow : Option Open → ℕ → Type 0
+AreBelow ch next = (number : ℕ) → IsSome (consumer_numbered ch number) → number < next
 
 -- The consumer of this number on the channel h of a connection may take a message now.
 pub record MayTakeOn (l : Running) (h number : ℕ) (k : Consumer) : Type 0 where

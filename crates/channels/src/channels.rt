@@ -1,6 +1,6 @@
 //! What is kept of an open channel.
 
-ghost use Rattle.std.specs.Prelude.{◌≡◌, ◌+◌, ◌*◌, ◌<◌, ◌≤◌, List, length, None, true, false, IfSome, OnOk, OnErr, option_map};
+ghost use Rattle.std.specs.Prelude.{◌≡◌, ◌+◌, ◌*◌, ◌<◌, ◌≤◌, List, length, None, Some, true, false, IfSome, OnOk, OnErr, option_map};
 ghost use Rattle.model.specs.Words.{Text as Name};
 ghost use Rattle.model.specs.Consuming.{without_consumer};
 ghost use Rattle.model.specs.Step.{started, next_of, is_spent};
@@ -10,6 +10,7 @@ ghost use Rattle.channels.specs.Spans.{settled_by, TellsSpan};
 ghost use Rattle.channels.specs.Deliveries.{nothing_given, may_be_given, consumer_at};
 ghost use Rattle.channels.specs.Open.{with_qos, given_on, settled_on, without_settled, without_named, consumers_from, open_in};
 ghost use Rattle.channels.specs.Open.{JudgesConsumer, SeatsConsumer, IsOne, TellsTaker};
+ghost use Rattle.channels.specs.Consumers.{AreBelow};
 ghost use Rattle.channels.specs.Moving.{open_moved};
 
 use crate::consumers::{Consumer, SeatRefusal, Unseated};
@@ -161,9 +162,10 @@ impl Channel {
         self.deliveries.cancel(tag);
     }
 
-    /// The number of the next consumer: none was made under it yet.
+    /// The number of the next consumer: none was made under it yet, and each that is there has a smaller one.
     pub fn next_number(&self) -> u64
-        ensures { result ≡ self.now.given.next_number }
+        ensures next { result ≡ self.now.given.next_number }
+        ensures above { AreBelow (Some self.now) result }
     {
         self.deliveries.next_number()
     }

@@ -170,9 +170,10 @@ impl Deliveries {
         }
     }
 
-    /// The number of the next consumer.
+    /// The number of the next consumer: each that is there has a smaller one.
     pub fn next_number(&self) -> u64
-        ensures { result ≡ self.now.next_number }
+        ensures next { result ≡ self.now.next_number }
+        ensures numbered { AreNumbered result self.now.consumers }
     {
         self.next_number
     }

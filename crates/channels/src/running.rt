@@ -38,7 +38,7 @@ impl RunningConnection {
     ghost use Rattle.model.specs.Step.{channels_up_to, greatest};
     ghost use Rattle.model.specs.Placed.{waiting};
     ghost use Rattle.channels.specs.Open.{open_in};
-    ghost use Rattle.channels.specs.Consumers.{TellsOn, IsOneOn, consumer_numbered, next_number};
+    ghost use Rattle.channels.specs.Consumers.{TellsOn, IsOneOn, AreBelow, consumer_numbered, next_number};
     ghost use Rattle.channels.specs.Counting.{consumers_counted};
     ghost use Rattle.channels.specs.ConnectionsMoving.{running_moved};
     ghost use Rattle.channels.specs.RunningConnections.{channel_in, outstanding_on, PutsIn};
@@ -110,9 +110,11 @@ impl RunningConnection {
         }
     }
 
-    /// The number of the next consumer on this channel, 1 where it is not open; none where close-ok is awaited.
+    /// The number of the next consumer on this channel, 1 where it is not open; none where close-ok is awaited. Each consumer that
+    /// is there has a smaller one.
     pub fn next_number(&self, number: u16) -> Option<u64>
-        ensures { result ≡ next_number (channel_in self.now number) }
+        ensures next { result ≡ next_number (channel_in self.now number) }
+        ensures above { IfSome result (AreBelow (channel_in self.now number)) }
     {
         match self.channel(number) {
             Some(channel) => number_of(channel),

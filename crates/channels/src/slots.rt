@@ -35,7 +35,7 @@ ghost use Rattle.model.specs.Broker.{new_channel};
 ghost use Rattle.model.specs.Step.{greatest};
 ghost use Rattle.channels.specs.Open.{open_in, IsTaker, HasNoTaker};
 ghost use Rattle.channels.specs.RunningConnections.{IsChannelSet};
-ghost use Rattle.channels.specs.Consumers.{next_number};
+ghost use Rattle.channels.specs.Consumers.{next_number, AreBelow};
 ghost use Rattle.channels.specs.Counting.{consumers_at};
 
 use crate::channels::Channel;
@@ -119,9 +119,10 @@ pub(crate) fn count_consumers(channels: &[Option<Channel>], queue: usize) -> usi
     count
 }
 
-/// The number of the next consumer, where close-ok is not awaited on the channel.
+/// The number of the next consumer, where close-ok is not awaited on the channel: each that is there has a smaller one.
 pub(crate) fn number_of(channel: &Channel) -> Option<u64>
-    ensures { result ≡ next_number (Some channel.now) }
+    ensures next { result ≡ next_number (Some channel.now) }
+    ensures above { IfSome result (AreBelow (Some channel.now)) }
 {
     if channel.is_closing() {
         None

@@ -21,6 +21,10 @@ consumer_kept kept p = consumer_numbered (channel_of kept.connections p.connecti
 abbrev pub has_consumer : Kept → Pick → Bool
 has_consumer kept p = is_some (consumer_kept kept p)
 
+-- each consumer that is on the channel of this one has a smaller number
+abbrev pub IsNewest : Kept → Pick → Type 0
+IsNewest kept p = (q : Pick) → q.connection ≡ p.connection → q.channel ≡ p.channel → has_consumer kept q ≡ true → q.number < p.number
+
 -- ---- the seat of a consumer that is to be made
 
 -- the method is a consume

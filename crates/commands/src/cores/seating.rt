@@ -38,11 +38,12 @@ impl Core {
     ghost use Rattle.std.specs.Prelude.{◌≡◌, ◌<◌, ℕ, Some, IfSome, length};
     ghost use Rattle.channels.specs.RunningConnections.{running_in};
     ghost use Rattle.commands.specs.State.{topology_kept};
-    ghost use Rattle.commands.specs.Seats.{next_seat, seat_of, IsConsumed};
+    ghost use Rattle.commands.specs.Seats.{next_seat, seat_of, IsConsumed, IsNewest};
 
-    /// The seat of the next consumer of this channel; none where a consume does nothing there.
+    /// The seat of the next consumer of this channel: it is newer than all that are there. None where a consume does nothing there.
     fn next_seat(&self, connection: u64, channel: u16) -> Option<Pick>
-        ensures { result ≡ next_seat connection channel (running_in self.now.connections connection) }
+        ensures seat { result ≡ next_seat connection channel (running_in self.now.connections connection) }
+        ensures newest { IfSome result (IsNewest self.now) }
     {
         let running = self.connections.get(connection)?;
         let number = running.next_number(channel)?;
@@ -53,9 +54,10 @@ impl Core {
         })
     }
 
-    /// The seat of the consumer that this event is to make.
+    /// The seat of the consumer that this event is to make: it is newer than all that are on its channel.
     pub fn seat_of(&self, event: &Event) -> Option<Pick>
-        ensures { result ≡ seat_of self.now event.now }
+        ensures seat { result ≡ seat_of self.now event.now }
+        ensures newest { IfSome result (IsNewest self.now) }
     {
         let Event::Command {
             connection,
