@@ -1,6 +1,6 @@
 -- Waiters of consumers: among others, after a sweep, and at each event.
 use Rattle.std.proofs.Common.{◌≡◌, ◌∙◌, ℕ, List, [], ◌∷◌, ◌++◌, Bool, true, false, Option, Some, None, length, inl, inr, ◌⊎◌, refl, sym, ap, subst, if◌then◌else◌}
-use Rattle.std.specs.Prelude.{option_map, is_some, ◌==◌, ◌&&◌, IfSome}
+use Rattle.std.specs.Prelude.{option_map, is_some, ◌==◌, ◌&&◌}
 use Rattle.std.proofs.lemmas.Bool.{eqb-true, eq-eqb, false≢true}
 use Rattle.std.proofs.lemmas.Option.{same_Some}
 use Rattle.model.specs.Words.{Text}
@@ -24,11 +24,10 @@ use Rattle.channels.specs.Open.{Open, open_in}
 use Rattle.channels.specs.RunningConnections.{Running, running_in, channel_in, channel_at, connection_at, limits_of}
 use Rattle.commands.specs.State.{Kept, broker_of, topology_kept, names_of}
 use Rattle.commands.specs.Judged.{IsIgnored}
-use Rattle.broker.specs.Rounds.{Rounds, Lists, Listing, round_at, listing, is_of, wakes, HasConsumer, AllAreInRounds, AllAreNoted, AllAreConsumers, IsServing, AllRun, HasNoList, MakesNoList, NotesStay, IsNoted, IsInItsRound, IsAwake, KeepsWaiters, KeepsAll}
+use Rattle.broker.specs.Rounds.{Rounds, Lists, Listing, round_at, listing, is_of, wakes, HasConsumer, AllAreInRounds, AllAreNoted, AllAreConsumers, AllListedAreThere, HasJoined, IsServing, AllRun, HasNoList, MakesNoList, NotesStay, IsNoted, IsInItsRound, IsAwake, KeepsWaiters, KeepsAll}
 use Rattle.channels.specs.Consumers.{next_number}
 use Rattle.commands.specs.Seats.{next_seat, seat_of, consumed, IsConsumed}
 use Rattle.commands.specs.declared.picks.Pick.{Pick}
-use Rattle.broker.proofs.Outcomes.{if_some, told_some}
 use Rattle.broker.proofs.Takers.{has_of}
 use Rattle.broker.proofs.Waking.{cannot_still}
 
@@ -227,7 +226,7 @@ came_there law t kept new e sends notes acts place p has = go (law t b new e sen
 
 -- ---- what every broker keeps
 
--- What it keeps but for that what is listed is of connections that run, and that no waiter is kept but of a consumer that is there.
+-- What it keeps but for that what is listed is of connections that run, and that nothing is kept or listed but of a consumer that is there.
 pub record Holds (kept : Kept) (r : Rounds) : Type 0 where
   pub agreed : IsAgreed (broker_of kept)
   pub rounds_for : length r.rounds ≡ length (topology_kept kept).queues
@@ -237,8 +236,16 @@ pub record Holds (kept : Kept) (r : Rounds) : Type 0 where
 pub holds : (kept : Kept) (r : Rounds) → IsServing kept r → Holds kept r
 holds kept r serving = record { agreed = serving.agreed; rounds_for = serving.rounds_for; joined = serving.joined; noted = serving.noted }
 
-pub serves : (kept : Kept) (r : Rounds) → Holds kept r → AllRun (broker_of kept) r.lists → AllAreConsumers kept r.rounds → IsServing kept r
-serves kept r held running own = record { agreed = held.agreed; rounds_for = held.rounds_for; joined = held.joined; noted = held.noted; running = running; own = own }
+pub serves : (kept : Kept) (r : Rounds) → Holds kept r → AllRun (broker_of kept) r.lists → AllAreConsumers kept r.rounds → AllListedAreThere kept r.lists → IsServing kept r
+serves kept r held running own listed = record {
+  agreed = held.agreed;
+  rounds_for = held.rounds_for;
+  joined = held.joined;
+  noted = held.noted;
+  running = running;
+  own = own;
+  listed = listed;
+}
 
 -- where no connection ends, and no list is made, what is listed is of connections that run
 pub running_still : (old new : Broker) (before after : Lists) → ((d : ℕ) → new.connection d ≡ None → old.connection d ≡ None) → MakesNoList before after → AllRun old before → AllRun new after
@@ -272,16 +279,11 @@ pub serves_asleep : StayAgreed → ConsumersAreMade → (t : Topology) (old new 
 serves_asleep agrees law t old new e sends notes rounds acts asleep none was is serving =
     serves_still agrees law t old new e sends notes rounds acts (λ place p woken has. absurd (false≢true (sym (asleep p) ∙ woken))) none was is serving
 
--- The consumer's waiter stands there, awake, and is listed, so that it can fall asleep without memory.
-pub record HasJoined (r : Rounds) (place : ℕ) (p : Pick) : Type 0 where
-  pub awake : IsAwake (round_at r.rounds place) p
-  pub noted : IsNoted r.lists (listing place p)
-
 -- so does one behind which the consumer that it makes comes in
 module _ (agrees : StayAgreed) (law : ConsumersAreMade) (old new : Kept) (e : Event) (sends : List Send) (notes : List Note) (rounds after : Rounds)
     (acts : Acts (topology_kept old) (broker_of old) e sends notes (broker_of new)) (woken : AreWoken (topology_kept old) (broker_of old) e rounds) (is : topology_kept new ≡ topology_kept old)
     (next : (place : ℕ) (p : Pick) → IsConsumed (topology_kept old) e place → seat_of old e ≡ Some p → is_of new place p ≡ true → HasJoined after place p)
-    (keeps : KeepsWaiters new rounds after) (lists : after.lists ≡ rounds.lists) (len : length after.rounds ≡ length rounds.rounds) (serving : Holds old rounds) where
+    (keeps : KeepsWaiters new rounds after) (stay : NotesStay rounds.lists after.lists) (len : length after.rounds ≡ length rounds.rounds) (serving : Holds old rounds) where
   there : (place : ℕ) (p : Pick) → HasConsumer (topology_kept new) (broker_of new) place p
       → HasConsumer (topology_kept old) (broker_of old) place p ⊎ (IsConsumed (topology_kept old) e place × (seat_of old e ≡ Some p))
   there place p has = came_there law (topology_kept old) old (broker_of new) e sends notes acts place p (subst (λ (x : Topology). HasConsumer x (broker_of new) place p) is has)
@@ -294,7 +296,7 @@ module _ (agrees : StayAgreed) (law : ConsumersAreMade) (old new : Kept) (e : Ev
 
   noted : AllAreNoted (topology_kept new) (broker_of new) after.lists
   noted place p has = elim (there place p has) [
-    | inl was ↦ subst (λ (ls : Lists). IsNoted ls (listing place p)) (sym lists) (serving.noted place p was)
+    | inl was ↦ stay (listing place p) (serving.noted place p was)
     | inr made ↦ (next place p made.0 made.1 (has_of new place p has)).noted
   ]
 

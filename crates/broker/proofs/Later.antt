@@ -1,17 +1,17 @@
 -- A waiter is made, and those of consumers that are gone go: those who are there are gone round as before.
-use Rattle.std.proofs.Common.{◌≡◌, ◌∙◌, ◌<◌, ◌≤◌, ◌+◌, ◌⊎◌, ◌++◌, ℕ, zero, suc, List, [], ◌∷◌, Bool, true, false, cond, length, take, drop, filter, min, inl, inr, refl, sym, ap, subst, arith}
+use Rattle.std.proofs.Common.{◌≡◌, ◌∙◌, ◌≤◌, ◌+◌, ◌⊎◌, ◌++◌, ℕ, zero, suc, List, [], ◌∷◌, Bool, true, false, cond, length, take, drop, filter, min, inl, inr, refl, sym, ap, subst, arith}
 use Rattle.std.specs.Prelude.{count_by, not, ◌==◌, ◌&&◌, ◌||◌}
 use Rattle.std.proofs.lemmas.Bool.{false≢true}
 use Rattle.std.proofs.lemmas.List.{drop_min, take_min}
 use Rattle.std.proofs.lemmas.List.Elements.{filter-append}
-use Rattle.std.proofs.lemmas.List.Sums.{count_by-le-length}
-use Rattle.laws.proofs.Counts.{count-append, count-cons, count-cons_yes}
+use Rattle.std.proofs.lemmas.List.Sums.{length-filter, count_by-le-length}
+use Rattle.laws.proofs.Counts.{count-cons}
 use Rattle.model.specs.Topology.{IsIn}
 use Rattle.commands.specs.State.{Kept}
 use Rattle.commands.specs.declared.picks.Pick.{Pick}
 use Rattle.broker.specs.declared.rounds.waiters.Waiter.{Waiter}
 use Rattle.broker.specs.Lines.{turned, standing, AreDistinct}
-use Rattle.broker.specs.Rounds.{picks, is_consumer, is_of, remains, AreFound}
+use Rattle.broker.specs.Rounds.{picks, is_consumer, is_of, remains}
 use Rattle.broker.proofs.Among.{one_consumer, same_consumer}
 use Rattle.broker.proofs.Lining.{in_either}
 use Rattle.broker.proofs.Picks.{of_waiter, picks_length, picks_swept}
@@ -70,6 +70,13 @@ all_counted test (y ∷ xs) same x i = go (test y) refl i (λ less j. all_counte
     go true e (inl s) rest = ap test s ∙ e
     go true e (inr j) rest = let one : cond (test y) 1 0 + count_by test xs ≡ 1 + count_by test xs = ap (λ (w : Bool). cond w 1 0 + count_by test xs) e in rest (omega (arith, same, count, one)) j
     go false e j rest = let none : cond (test y) 1 0 + count_by test xs ≡ 0 + count_by test xs = ap (λ (w : Bool). cond w 1 0 + count_by test xs) e in absurd (omega (arith, same, count, none, most))
+
+-- so they do where no fewer are left
+pub filter_full : {X : Type 0} (test : X → Bool) (xs : List X) → length xs ≤ length (filter test xs) → filter test xs ≡ xs
+filter_full test xs le =
+    let left = length-filter test xs in
+    let most = count_by-le-length test xs in
+    filter_all test xs (all_counted test xs (omega (arith, le, left, most)))
 
 -- ---- a sweep of waiters, by a test of their consumers
 
@@ -143,23 +150,3 @@ came_last p q next ps i = go (in_either q ps (p ∷ []) (from_turned q (ps ++ p 
     go (inl j) = inl (in_turned q ps next j)
     go (inr (inl s)) = inr s
     go (inr (inr none)) = absurd none
-
--- ---- how many there are
-
-module _ {X : Type 0} (test : X → Bool) where
-  -- all that are left after a sweep stay
-  pub all_stay : (old new : List X) → new ≡ filter test old → length new ≤ count_by test new
-  all_stay old new is = subst (λ (xs : List X). length xs ≤ count_by test xs) (sym is) (go old)
-    where
-      go : (xs : List X) → length (filter test xs) ≤ count_by test (filter test xs)
-      go [] = omega arith
-      go (x ∷ xs) = by (test x) refl (go xs)
-        where
-          by : (v : Bool) → test x ≡ v → length (filter test xs) ≤ count_by test (filter test xs) → length (cond v (x ∷ filter test xs) (filter test xs)) ≤ count_by test (cond v (x ∷ filter test xs) (filter test xs))
-          by true e le = let more = count-cons_yes test x (filter test xs) e in omega (arith, le, more)
-          by false e le = le
-
-  -- those that were found are so still, where one more comes in at the end
-  pub found_end : (before : ℕ) (xs : List X) (x : X) (found : ℕ) → AreFound test before xs found → AreFound test before (xs ++ x ∷ []) found
-  found_end before xs x found (inl same) = inl same
-  found_end before xs x found (inr le) = let count = count-append test xs (x ∷ []) in inr (omega (arith, le, count))

@@ -1,5 +1,5 @@
 -- Rounds of queues that stand at other places, and consumers that stand there.
-use Rattle.std.proofs.Common.{◌≡◌, ◌∙◌, ◌<◌, ◌+◌, ℕ, zero, suc, List, [], ◌∷◌, Bool, true, false, length, map, get_or, set, inl, inr, refl, sym, ap, subst, arith}
+use Rattle.std.proofs.Common.{◌≡◌, ◌∙◌, ◌<◌, ◌+◌, ℕ, zero, suc, List, [], ◌∷◌, Bool, true, false, Option, Some, None, length, map, get_or, set, inl, inr, refl, sym, ap, subst, arith}
 use Rattle.std.specs.Prelude.{◌==◌, nat_eq, option_map}
 use Rattle.std.specs.Map.{lookup}
 use Rattle.std.proofs.lemmas.Bool.{eqb-true}
@@ -11,7 +11,7 @@ use Rattle.marks.specs.Places.{bit_of}
 use Rattle.channels.specs.Moving.{place_now}
 use Rattle.commands.specs.declared.picks.Pick.{Pick}
 use Rattle.broker.specs.declared.rounds.waiters.Waiter.{Waiter}
-use Rattle.broker.specs.Rounds.{Waiters, Lists, Listing, Listings, round_of, round_at, awake_waiter, asleep_waiter, listings_on, order, IsAwake, QueuesAreMarked}
+use Rattle.broker.specs.Rounds.{Waiters, Lists, Listing, Listings, round_of, round_at, awake_waiter, asleep_waiter, listings_on, channels_of, order, IsAwake, QueuesAreMarked}
 use Rattle.broker.specs.Moving.{all_awake, StandsIn, AllRoused, IsMoved, IsOfEither, ArePlacesApart, listing_moved, channels_moved, all_moved, ListsAreMoved}
 use Rattle.broker.proofs.Among.{place_in}
 use Rattle.broker.proofs.Sleeping.{apart}
@@ -110,7 +110,12 @@ lists_moved places lists = record {
     among = subst (λ (ls : List Listing). IsIn (listing_moved places l) ls) (sym (moved_on places i.channels l.consumer.channel)) (in_moved places l (listings_on i.channels l.consumer.channel).all i.among);
   };
   made = λ c none. at c ∙ ap (option_map (channels_moved places)) none;
+  listed = λ c h. ap (λ (o : Option (List Listings)). (listings_on (channels_of o) h).all) (at c) ∙ of (lookup (nat_eq c) lists) h;
 }
   where
     at : (c : ℕ) → lookup (nat_eq c) (all_moved places lists) ≡ option_map (channels_moved places) (lookup (nat_eq c) lists)
     at c = lookup-map_values (channels_moved places) (nat_eq c) lists
+
+    of : (o : Option (List Listings)) (h : ℕ) → (listings_on (channels_of (option_map (channels_moved places) o)) h).all ≡ map (listing_moved places) (listings_on (channels_of o) h).all
+    of None h = refl
+    of (Some channels) h = moved_on places channels h

@@ -9,7 +9,7 @@ use Rattle.model.specs.Broker as seen
 use Rattle.model.specs.Broker.{Broker}
 use Rattle.model.specs.Agreement.{IsAgreed}
 use Rattle.model.specs.Entries.{is_held_as}
-use Rattle.model.specs.Reloading.{stood_now, with_all_stood}
+use Rattle.model.specs.Reloading.{by_consumer, NoneIsStranded, stood_now, with_all_stood}
 use Rattle.model.specs.Step.{Is}
 use Rattle.model.specs.declared.messages.Entry.{Entry}
 use Rattle.laws.proofs.Counts.{count-map}
@@ -28,11 +28,12 @@ use Rattle.commands.proofs.Stepping.{seen_there}
 use Rattle.exchange_graph.specs.Marks.{queue_name}
 use Rattle.broker.specs.declared.rounds.waiters.Waiter.{Waiter}
 use Rattle.broker.specs.Lines.{turned, AreDistinct}
-use Rattle.broker.specs.Rounds.{Rounds, Lists, Waiters, round_at, picks, order, is_of, IsAwake, IsInRound, listing, HasConsumer, AllAreInRounds, AllAreNoted, AreItsConsumers, AllAreConsumers, IsNoted, IsServing, AllAreEmpty}
-use Rattle.broker.specs.Moving.{StandsIn, IsMoved, ArePlacesApart, RoundsAreMoved, LinesCome, ListsAreMoved}
+use Rattle.broker.specs.Rounds.{Rounds, Lists, Listing, Waiters, round_at, listed_on, is_listed_there, NumbersRise, picks, order, is_of, IsItsOwn, AllListedAreThere, IsAwake, IsInRound, listing, HasConsumer, AllAreInRounds, AllAreNoted, AreItsConsumers, AllAreConsumers, IsNoted, IsServing, AllAreEmpty}
+use Rattle.broker.specs.Moving.{listing_moved, StandsIn, IsMoved, ArePlacesApart, RoundsAreMoved, LinesCome, ListsAreMoved}
 use Rattle.broker.specs.Turns.{with_turn}
 use Rattle.broker.specs.Waiting.{LinesMove}
 use Rattle.broker.proofs.Joined.{serves, running_still}
+use Rattle.broker.proofs.Rising.{rises_moved}
 use Rattle.broker.proofs.Takers.{has_of, of_has, order_at}
 
 -- ---- what is held and what is outstanding
@@ -191,13 +192,38 @@ module _ (old new : Kept) (places : List ℕ) (after : IsStoreWhole new.store) (
         | inr a ↦ let past = a.1 in absurd (subst (IsIn p) (ap order (get_or_past left.rounds at no_round (omega (arith, past)))) i)
       ]
 
-  pub serves_moved : (before empty left : Rounds) → IsServing old before → RoundsAreMoved places before.rounds left.rounds → LinesCome places before.rounds empty.rounds left.rounds → AllAreEmpty empty.rounds → ListsAreMoved places before.lists left.lists
+  -- and each list
+  listed_moved : NoneIsStranded (topology_kept old) (topology_kept new) (broker_of old) → (before left : Lists) → AllListedAreThere old before → ListsAreMoved places before left → AllListedAreThere new left
+  listed_moved none before left own lists c h = record {
+    there = λ l i.
+        let was = seen_of (listing_moved places) l (listed_on before c h) (subst (IsIn l) (lists.listed c h) i) in
+        let its = (own c h).there was.one was.among in
+        subst (IsItsOwn new c h) was.is (record { connection = its.connection; channel = its.channel; there = there_moved was.one its.there });
+    once = subst (λ (ls : List Listing). NumbersRise ls) (sym (lists.listed c h)) (rises_moved places (listed_on before c h) (own c h).once);
+  }
+    where
+      there_moved : (m : Listing) → is_listed_there old m ≡ true → is_listed_there new (listing_moved places m) ≡ true
+      there_moved m its =
+          let has = of_has old m.queue m.consumer its in
+          let lt = has.within in
+          let long = names-length (topology_kept old).queues in
+          let more = names-length (topology_kept new).queues in
+          let len = moved.len in
+          let here = same_default places m.queue 0 m.queue (omega (arith, lt, long, len)) in
+          elim (moved.each m.queue (omega (arith, lt, long))) [
+            | stays inside is ↦ of_moved m.queue (place_now places m.queue) m.consumer (omega (arith, lt, long, len)) refl (omega (arith, inside, here, more)) its
+            | goes gone behind ↦
+                absurd (none (get_or (names_of old) m.queue [])
+                (record { was = is_in (names_of old) m.queue (omega (arith, lt, long)); gone = gone; in_use = by_consumer m.consumer.connection m.consumer.channel has.was.0 has.consumer has.was.1 has.was.2 (sym has.named) }))
+          ]
+
+  pub serves_moved : NoneIsStranded (topology_kept old) (topology_kept new) (broker_of old) → (before empty left : Rounds) → IsServing old before → RoundsAreMoved places before.rounds left.rounds → LinesCome places before.rounds empty.rounds left.rounds → AllAreEmpty empty.rounds → ListsAreMoved places before.lists left.lists
       → length left.rounds ≡ length (topology_kept new).queues → IsServing new left
-  serves_moved before empty left serving rounds came none lists len =
+  serves_moved none_stranded before empty left serving rounds came none lists len =
       serves new left
       (record { agreed = agreed_stood (broker_of old) (broker_of new) stood serving.agreed; rounds_for = len; joined = joined_moved before left serving.joined rounds len; noted = noted_moved before left serving.noted lists })
       (running_still (broker_of old) (broker_of new) before.lists left.lists (λ d none. sym (stood.connections d) ∙ none) lists.made serving.running)
-      (own_moved before empty left serving.own came none len)
+      (own_moved before empty left serving.own came none len) (listed_moved none_stranded before.lists left.lists serving.listed lists)
 
   -- the round of each queue that is there still stands at its new place
   round_moved : (before left : Rounds) → RoundsAreMoved places before.rounds left.rounds → length left.rounds ≡ length (topology_kept new).queues

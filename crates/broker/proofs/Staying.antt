@@ -1,5 +1,5 @@
 -- Consumers that are there still after an event, and those whose waiters are kept.
-use Rattle.std.proofs.Common.{◌≡◌, ◌∙◌, ◌++◌, ◌⊎◌, ℕ, List, [], ◌∷◌, Bool, true, false, Option, Some, None, filter, append_assoc, inl, inr, refl, sym, ap, subst, if◌then◌else◌}
+use Rattle.std.proofs.Common.{◌≡◌, ◌∙◌, ◌++◌, ◌⊎◌, ℕ, List, [], ◌∷◌, Bool, true, false, Option, Some, None, append_assoc, inl, inr, refl, sym, ap, subst, if◌then◌else◌}
 use Rattle.std.specs.Prelude.{◌==◌, ◌&&◌, IfSome}
 use Rattle.std.proofs.lemmas.Bool.{eqb-true}
 use Rattle.model.specs.Alone.{event_connection}
@@ -18,7 +18,7 @@ use Rattle.commands.specs.Ended.{AllConsumersStay}
 use Rattle.commands.specs.State.{Kept, broker_of, topology_kept}
 use Rattle.commands.specs.declared.picks.Pick.{Pick}
 use Rattle.broker.specs.Lines.{AreDistinct}
-use Rattle.broker.specs.Rounds.{Waiters, Rounds, round_at, order, is_of, remains, AreItsConsumers, AllAreConsumers, AddsItsOwn, AllAddTheirOwn, LeaveLines, SameOrders, GoesOn, GoesLast, PicksFrom, PicksFirst}
+use Rattle.broker.specs.Rounds.{Waiters, Rounds, Lists, Listing, IsItsOwn, AreItsListings, AllListedAreThere, is_listed_there, SameListed, ListsItsOwn, ListingsLeave, round_at, order, is_of, remains, AreItsConsumers, AllAreConsumers, AllAddTheirOwn, LeaveLines, SameOrders, GoesOn, PicksFirst}
 use Rattle.broker.proofs.Later.{remains_of}
 use Rattle.broker.proofs.Lining.{in_either, filter_in, filter_distinct}
 use Rattle.broker.proofs.Standing.{in_left, in_right, passes, distinct_parts}
@@ -121,6 +121,55 @@ pub own_came : (old new : Kept) (c : ℕ) (before after left : List Waiters) →
     → ((d h : ℕ) → (d == c) ≡ false → (k : Consumer) → WasConsumer (broker_of old) d h k → WasConsumer (broker_of new) d h k) → AllAreConsumers old before → AllAddTheirOwn new before after
     → LeaveLines new c after left → AllAreConsumers new left
 own_came old new c before after left is stay own adds leave = own_after old new c before after left is stay own leave (λ place p i. (adds place).came p i) (λ place. (adds place).once (own place).once)
+
+-- ---- what is listed
+
+-- where consumers stay, and the same is listed, it is listed of those that are there
+pub listed_stays : (old new : Kept) (lists : Lists) → topology_kept new ≡ topology_kept old → AllConsumersStay (broker_of old) (broker_of new) → AllListedAreThere old lists → AllListedAreThere new lists
+listed_stays old new lists is stay own c h = record {
+  there = λ l i.
+      let its = (own c h).there l i in
+      record {
+        connection = its.connection;
+        channel = its.channel;
+        there = of_stays old new l.queue l.consumer is (stay l.consumer.connection l.consumer.channel) its.there;
+      };
+  once = (own c h).once;
+}
+
+pub listed_same : (kept : Kept) (old new : Lists) → SameListed old new → AllListedAreThere kept old → AllListedAreThere kept new
+listed_same kept old new same own c h = subst (AreItsListings kept c h) (sym (same c h)) (own c h)
+
+-- so it is where one is listed more that is there
+pub listed_joined : (kept : Kept) (old new : Lists) → ListsItsOwn kept old new → AllListedAreThere kept old → AllListedAreThere kept new
+listed_joined kept old new adds own c h = record {
+  there = λ l i. elim (adds.came c h l i) [ inl was ↦ (own c h).there l was | inr its ↦ its ];
+  once = adds.once c h (own c h).once;
+}
+
+-- and where those of one connection leave that are gone, and those of others stay; one may have been listed before
+pub listed_left : (old new : Kept) (c : ℕ) (before after left : Lists) → topology_kept new ≡ topology_kept old
+    → ((d h : ℕ) → (d == c) ≡ false → (k : Consumer) → WasConsumer (broker_of old) d h k → WasConsumer (broker_of new) d h k) → AllListedAreThere old before → ListsItsOwn new before after
+    → ListingsLeave new c after left → AllListedAreThere new left
+listed_left old new c before after left is stay own adds leave d h = record {
+  there = λ l i. elim (adds.came d h l (leave.left d h l i).0) [
+    | inl was ↦ go l (leave.left d h l i).1 (d == c) refl ((own d h).there l was)
+    | inr its ↦ its
+  ];
+  once = leave.once d h (adds.once d h (own d h).once);
+}
+  where
+    go : (l : Listing) → ((d == c) ≡ true → is_listed_there new l ≡ true) → (v : Bool) → (d == c) ≡ v → IsItsOwn old d h l → IsItsOwn new d h l
+    go l there true here its = record { connection = its.connection; channel = its.channel; there = there here }
+    go l there false far its = record {
+      connection = its.connection;
+      channel = its.channel;
+      there = of_stays old new l.queue l.consumer is (stay l.consumer.connection l.consumer.channel (ap (λ (n : ℕ). n == c) its.connection ∙ far)) its.there;
+    }
+
+-- nobody need be listed more
+pub none_listed : (kept : Kept) (lists : Lists) → ListsItsOwn kept lists lists
+none_listed kept lists = record { came = λ c h l i. inl i; once = λ c h rises. rises }
 
 -- ---- picks
 

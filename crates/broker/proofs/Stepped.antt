@@ -1,13 +1,13 @@
 -- What a step leaves.
 use Rattle.std.proofs.Common.{◌≡◌, ◌∙◌, ℕ, List, true, false, Option, Some, None, length, filter, inl, inr, refl, sym, ap, subst}
 use Rattle.std.specs.Prelude.{◌==◌, IfSome}
-use Rattle.model.specs.Broker.{Broker}
+use Rattle.model.specs.Broker.{Broker, Consumer}
 use Rattle.model.specs.Step.{Acts}
 use Rattle.model.specs.Topology.{IsIn}
 use Rattle.model.specs.declared.events.Event.{Event}
 use Rattle.model.specs.declared.events.Send.{Send}
 use Rattle.model.specs.declared.notes.Note.{Note}
-use Rattle.laws.specs.Consumers.{ConsumersAreMade}
+use Rattle.laws.specs.Consumers.{WasConsumer, ConsumersAreMade}
 use Rattle.replies.specs.Sent.{connection_of_event}
 use Rattle.commands.specs.Ended.{AllRunStill, AllConsumersStay, TellsEnd}
 use Rattle.commands.specs.State.{Kept, broker_of, topology_kept}
@@ -17,12 +17,12 @@ use Rattle.commands.specs.declared.acted.Ends.TheVariants as ended
 use Rattle.commands.specs.declared.picks.Pick.{Pick}
 use Rattle.broker.specs.declared.rounds.waiters.Newcomer.{Newcomer}
 use Rattle.broker.specs.Lines.{AreDistinct}
-use Rattle.broker.specs.Rounds.{Rounds, Waiters, Lists, KeepsIn, KeepLists, round_at, listing, is_of, wakes, IsServing, AllRun, AllAreConsumers, AllAddTheirOwn, AllWaken, KeepsWaiters, KeepsAll, LeaveLines, ListsRunning, HasNoList, MakesNoList, NotesStay, IsNoted, IsAwake, IsExpected, WakesWaiter, GoesOn, KeepLines}
+use Rattle.broker.specs.Rounds.{Rounds, Waiters, Lists, KeepsIn, KeepLists, round_at, listing, is_of, wakes, IsServing, AllRun, AllAreConsumers, AllListedAreThere, SameListed, ListsItsOwn, ListingsLeave, HasJoined, AllAddTheirOwn, AllWaken, KeepsWaiters, KeepsAll, LeaveLines, ListsRunning, HasNoList, MakesNoList, NotesStay, IsExpected, WakesWaiter, GoesOn, KeepLines}
 use Rattle.broker.proofs.Outcomes.{told_some}
-use Rattle.broker.proofs.Joined.{StayAgreed, Holds, HasJoined, holds, serves, serves_kept, serves_next, running_still, running_but, notes_keep, keeps_all}
+use Rattle.broker.proofs.Joined.{StayAgreed, Holds, holds, serves, serves_kept, serves_next, running_still, running_but, notes_keep, keeps_all}
 use Rattle.broker.proofs.Orders.{goes_then}
 use Rattle.broker.proofs.Sleeping.{joined_kept}
-use Rattle.broker.proofs.Staying.{others_stay, its_connection, own_same, own_joined, own_stays, own_came}
+use Rattle.broker.proofs.Staying.{others_stay, its_connection, own_same, own_joined, own_stays, own_came, listed_stays, listed_same, listed_joined, listed_left}
 use Rattle.broker.proofs.Turning.{GoRound}
 
 -- ---- what is listed
@@ -37,10 +37,11 @@ has_ended c ends old new tells is = (subst (λ (x : Ends). TellsEnd c x old new)
 
 -- ---- a step
 
--- The rounds went from `before` to `woken` as waiters were woken, and to `ready` as a newcomer was listed and got room.
+-- The rounds went from `before` to `woken` as waiters were woken, and to `ready` as room was made for a newcomer.
 module _ (old : Kept) (before woken ready : Rounds) (e : Event) (serving : IsServing old before)
     (keeps : KeepsAll before woken) (stay : NotesStay before.lists woken.lists) (none : MakesNoList before.lists woken.lists) (on : GoesOn before woken)
-    (kept : KeepsWaiters old woken ready) (noted : KeepLists old woken.lists ready.lists) (running : ListsRunning (broker_of old) woken.lists ready.lists) (then : GoesOn woken ready) where
+    (kept : KeepsWaiters old woken ready) (noted : NotesStay woken.lists ready.lists) (running : ListsRunning (broker_of old) woken.lists ready.lists) (then : GoesOn woken ready)
+    (same : SameListed before.lists woken.lists) (then_same : SameListed woken.lists ready.lists) where
   held_woken : Holds old woken
   held_woken = serves_kept old before woken (keeps_all old before woken keeps) (notes_keep old before.lists woken.lists stay) on.len (holds old before serving)
 
@@ -48,7 +49,7 @@ module _ (old : Kept) (before woken ready : Rounds) (e : Event) (serving : IsSer
   goes = goes_then before woken ready on then
 
   pub held_on : Holds old ready
-  held_on = serves_kept old woken ready kept noted.noted then.len held_woken
+  held_on = serves_kept old woken ready kept (notes_keep old woken.lists ready.lists noted) then.len held_woken
 
   pub lists_on : AllRun (broker_of old) ready.lists
   lists_on d gone = running d gone (none d (serving.running d gone))
@@ -56,9 +57,12 @@ module _ (old : Kept) (before woken ready : Rounds) (e : Event) (serving : IsSer
   pub own_on : AllAreConsumers old ready.rounds
   own_on = own_same old before.rounds ready.rounds goes.same serving.own
 
+  pub listed_on : AllListedAreThere old ready.lists
+  listed_on = listed_same old woken.lists ready.lists then_same (listed_same old before.lists woken.lists same serving.listed)
+
   -- nothing else has changed
   pub serving_on : IsServing old ready
-  serving_on = serves old ready held_on lists_on own_on
+  serving_on = serves old ready held_on lists_on own_on listed_on
 
   -- those who were there are gone round as before, where a newcomer waits in `after`
   pub round_then : (new : Kept) (after : Rounds) → KeepLines ready.rounds after.rounds → GoRound new before.rounds after.rounds
@@ -77,20 +81,16 @@ module _ (old : Kept) (before woken ready : Rounds) (e : Event) (serving : IsSer
   module _ (agrees : StayAgreed) (law : ConsumersAreMade) (new : Kept) (after : Rounds) (newcomer : Option Newcomer) (sends : List Send) (notes : List Note)
       (acts : Acts (topology_kept old) (broker_of old) e sends notes (broker_of new)) (topology : topology_kept new ≡ topology_kept old)
       (wake : (p : Pick) → wakes e p ≡ true → WakesWaiter before woken p) (wakens : AllWaken woken.rounds ready.rounds) (expected : IsExpected old e ready newcomer)
-      (joined : IfSome newcomer (λ n. is_of new n.queue n.consumer ≡ true → IsAwake (round_at after.rounds n.queue) n.consumer)) (stays : KeepsWaiters new ready after) (lists : after.lists ≡ ready.lists)
-      (len : length after.rounds ≡ length ready.rounds) where
+      (joined : IfSome newcomer (λ n. is_of new n.queue n.consumer ≡ true → HasJoined after n.queue n.consumer)) (stays : KeepsWaiters new ready after) (notes_stay : NotesStay ready.lists after.lists)
+      (lists_own : ListsItsOwn new ready.lists after.lists) (makes_none : MakesNoList ready.lists after.lists) (len : length after.rounds ≡ length ready.rounds) where
     has_joined : (place : ℕ) (p : Pick) → IsConsumed (topology_kept old) e place → seat_of old e ≡ Some p → is_of new place p ≡ true → HasJoined after place p
     has_joined place p here is its =
-        let told = expected.told place p here is in
-        record {
-          awake = told_some newcomer (record { queue = place; consumer = p }) (λ n. is_of new n.queue n.consumer ≡ true → IsAwake (round_at after.rounds n.queue) n.consumer) told.0 joined its;
-          noted = subst (λ (ls : Lists). IsNoted ls (listing place p)) (sym lists) told.1;
-        }
+        told_some newcomer (record { queue = place; consumer = p }) (λ n. is_of new n.queue n.consumer ≡ true → HasJoined after n.queue n.consumer) (expected.told place p here is) joined its
 
     pub held_then : Holds new after
     held_then =
         serves_next agrees law old new e sends notes ready after acts
-        (λ place p wants has. (wakens place).awake p (wake p wants (broker_of old) place (serving.joined place p has))) topology has_joined stays lists len held_on
+        (λ place p wants has. (wakens place).awake p (wake p wants (broker_of old) place (serving.joined place p has))) topology has_joined stays notes_stay len held_on
 
     -- where nothing ended
     module _ (tells : AllRunStill (broker_of old) (broker_of new)) (stay_there : AllConsumersStay (broker_of old) (broker_of new)) (adds : AllAddTheirOwn new ready.rounds after.rounds) where
@@ -98,21 +98,26 @@ module _ (old : Kept) (before woken ready : Rounds) (e : Event) (serving : IsSer
       own_held = own_joined new ready.rounds after.rounds adds (own_stays old new ready.rounds topology stay_there own_on)
 
       pub serving_held : IsServing new after
-      serving_held = serves new after held_then (running_still (broker_of old) (broker_of new) ready.lists after.lists tells (λ d gone. subst (λ (ls : Lists). HasNoList ls d) (sym lists) gone) lists_on) own_held
+      serving_held =
+          serves new after held_then (running_still (broker_of old) (broker_of new) ready.lists after.lists tells makes_none lists_on) own_held
+          (listed_joined new ready.lists after.lists lists_own (listed_stays old new ready.lists topology stay_there listed_on))
 
     -- where something did, and what it took with it leaves
     module _ (c : ℕ) (its : c ≡ connection_of_event e) (left : Rounds) (adds : AllAddTheirOwn new ready.rounds after.rounds) (leave : LeaveLines new c after.rounds left.rounds) where
+      others : (d h : ℕ) → (d == c) ≡ false → (k : Consumer) → WasConsumer (broker_of old) d h k → WasConsumer (broker_of new) d h k
+      others d h far = others_stay (topology_kept old) (broker_of old) (broker_of new) e sends notes acts d h (subst (λ (n : ℕ). (d == n) ≡ false) (its ∙ its_connection e) far)
+
       pub own_left_then : AllAreConsumers new left.rounds
-      own_left_then =
-          own_came old new c before.rounds after.rounds left.rounds topology
-          (λ d h far. others_stay (topology_kept old) (broker_of old) (broker_of new) e sends notes acts d h (subst (λ (n : ℕ). (d == n) ≡ false) (its ∙ its_connection e) far)) serving.own (adds_then new after adds) leave
+      own_left_then = own_came old new c before.rounds after.rounds left.rounds topology others serving.own (adds_then new after adds) leave
 
       pub serving_left : (ends : Ends) → TellsEnd c ends (broker_of old) (broker_of new) → KeepsWaiters new after left → KeepLists new after.lists left.lists → (ends ≡ ended.Connection → HasNoList left.lists c) → MakesNoList after.lists left.lists
-          → length left.rounds ≡ length after.rounds → IsServing new left
-      serving_left ends tells keeps_there noted_there gone makes long = serves new left (serves_kept new after left keeps_there noted_there.noted long held_then) (runs ends tells gone) own_left_then
+          → ListingsLeave new c after.lists left.lists → length left.rounds ≡ length after.rounds → IsServing new left
+      serving_left ends tells keeps_there noted_there gone makes lists_leave long =
+          serves new left (serves_kept new after left keeps_there noted_there.noted long held_then) (runs ends tells gone) own_left_then
+          (listed_left old new c ready.lists after.lists left.lists topology others listed_on lists_own lists_leave)
         where
           made : MakesNoList ready.lists left.lists
-          made d from = makes d (subst (λ (ls : Lists). HasNoList ls d) (sym lists) from)
+          made d from = makes d (makes_none d from)
 
           runs : (x : Ends) → TellsEnd c x (broker_of old) (broker_of new) → (x ≡ ended.Connection → HasNoList left.lists c) → AllRun (broker_of new) left.lists
           runs ended.Connection ends_it forgets = running_but (broker_of old) (broker_of new) ready.lists left.lists c ends_it.1 (λ from. forgets refl) made lists_on

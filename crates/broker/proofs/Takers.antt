@@ -12,11 +12,13 @@ use Rattle.laws.specs.Consumers.{WasConsumer}
 use Rattle.exchange_graph.specs.Marks.{queue_name}
 use Rattle.commands.specs.State.{Kept, broker_of, topology_kept}
 use Rattle.commands.specs.Picked.{IsPickFrom}
+use Rattle.commands.specs.Seats.{IsNewest}
 use Rattle.commands.specs.declared.picks.Pick.{Pick}
-use Rattle.broker.specs.Rounds.{Waiters, round_at, order, is_numbered_of, has_taker, takes_from, is_of, HasConsumer, AllAreConsumers, SameOrders}
+use Rattle.broker.specs.Rounds.{Waiters, Lists, listed_on, AreBelow, AllListedAreThere, round_at, order, is_numbered_of, has_taker, takes_from, is_of, HasConsumer, AllAreConsumers, SameOrders}
 use Rattle.broker.proofs.Later.{filter_all}
 use Rattle.broker.proofs.Waking.{both, and}
-use Rattle.broker.proofs.Present.{has_picked}
+use Rattle.broker.proofs.Among.{in_at}
+use Rattle.broker.proofs.Present.{has_kept, has_picked}
 
 -- ---- by its numbers
 
@@ -84,6 +86,16 @@ not_of kept place p none = go (is_of kept place p) refl
 -- so does one to whom a delivery can be made from it
 pub picked_of : (kept : Kept) (place : ℕ) (p : Pick) → IsPickFrom kept place p → is_of kept place p ≡ true
 picked_of kept place p from = has_of kept place p (has_picked kept place p from)
+
+-- ---- a consumer that is to be made
+
+-- its number is greater than those of all that are listed on its channel
+pub newest_last : (kept : Kept) (lists : Lists) (p : Pick) → IsNewest kept p → AllListedAreThere kept lists → AreBelow (listed_on lists p.connection p.channel) p.number
+newest_last kept lists p newest own i d lt =
+    let ls = listed_on lists p.connection p.channel in
+    let l = get_or ls i d in
+    let its = (own p.connection p.channel).there l (in_at ls i l d lt refl) in
+    newest l.consumer its.connection its.channel (has_kept kept l.queue l.consumer (of_has kept l.queue l.consumer its.there))
 
 -- ---- the lines of queues
 

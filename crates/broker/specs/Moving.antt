@@ -3,7 +3,7 @@ use Rattle.std.specs.Prelude.{◌≡◌, ◌<◌, ◌⊎◌, ℕ, List, map, len
 use Rattle.channels.specs.Moving.{place_now}
 use Rattle.commands.specs.declared.picks.Pick.{Pick}
 use Rattle.broker.specs.declared.rounds.waiters.Waiter.{Waiter}
-use Rattle.broker.specs.Rounds.{Waiters, Lists, Listing, Listings, round_at, order, awake_waiter, IsAwake, IsAsleep, IsNoted, MakesNoList}
+use Rattle.broker.specs.Rounds.{Waiters, Lists, Listing, Listings, round_at, order, awake_waiter, listed_on, IsAwake, IsAsleep, IsNoted, MakesNoList}
 
 -- ---- rounds
 
@@ -66,7 +66,8 @@ channels_moved places channels = map (listings_moved places) channels
 abbrev pub all_moved : List ℕ → Lists → Lists
 all_moved places lists = map (λ e. (e.0, channels_moved places e.1)) lists
 
--- What is listed is listed in the round that stands elsewhere, and no connection has a list that had none.
+-- What is listed is listed in the round that stands elsewhere, nothing else is, and no connection has a list that had none.
 pub record ListsAreMoved (places : List ℕ) (old new : Lists) : Type 0 where
   pub noted : (l : Listing) → IsNoted old l → IsNoted new (listing_moved places l)
   pub made : MakesNoList old new
+  pub listed : (c h : ℕ) → listed_on new c h ≡ map (listing_moved places) (listed_on old c h)

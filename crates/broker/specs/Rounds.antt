@@ -1,6 +1,6 @@
 -- The consumers of all channels by their numbers, over which deliveries go round, and which of them are passed over (own).
 use Rattle.std.specs.Prelude.{◌≡◌, ◌==◌, ◌&&◌, ◌<◌, ◌≤◌, ◌*◌, ◌+◌, ◌⊎◌, ◌++◌, ◌||◌, ℕ, List, []}
-use Rattle.std.specs.Prelude.{◌∷◌, map, filter, Bool, true, false, not, Option, Some, None, length, slice_index_or, nat_eq, nat_lt, count_by, IfSome}
+use Rattle.std.specs.Prelude.{◌∷◌, map, filter, Bool, true, false, not, Option, Some, None, length, slice_index_or, nat_eq, nat_lt, IfSome}
 use Rattle.std.specs.List.{list_any, All}
 use Rattle.std.specs.Map.{lookup}
 use Rattle.std.specs.Str.{bytes_eq}
@@ -47,6 +47,8 @@ pub record Listing : Type 0 where
 pub record Listings : Type 0 where
   pub all : List Listing
   pub asleep : List ℕ
+  -- how many have room
+  pub capacity : ℕ
 
 -- beside the number of each connection what is listed on each of its channels, at the channel's number
 abbrev pub Lists : Type 0
@@ -66,6 +68,10 @@ round_at rounds place = slice_index_or rounds place (record { waiters = []; mark
 -- waiters and their bits, gone round from the first
 abbrev pub round_of : List Waiter → List ℕ → Waiters
 round_of waiters marks = record { waiters = waiters; marks = marks; next = 0; capacity = 0 }
+
+-- listings and their bits
+abbrev pub listings_of : List Listing → List ℕ → Listings
+listings_of all asleep = record { all = all; asleep = asleep; capacity = 0 }
 
 -- rounds, and what sleeps, gone round from the first
 abbrev pub rounds_of : List Waiters → Lists → Rounds
@@ -161,17 +167,26 @@ pub record IsListedAt (ls : List Listing) (i : ℕ) (l : Listing) : Type 0 where
 
 -- what is listed on a channel, of what is listed on all channels of its connection
 abbrev pub listings_on : List Listings → ℕ → Listings
-listings_on channels h = slice_index_or channels h (record { all = []; asleep = [] })
+listings_on channels h = slice_index_or channels h (listings_of [] [])
 
--- At this place of the list the listing stands, and tells that its waiter sleeps.
-pub record IsAsleepAt (s : Listings) (i : ℕ) (l : Listing) : Type 0 where
-  pub within : i < length s.all
-  pub there : (d : Listing) → slice_index_or s.all i d ≡ l
-  pub marked : bit_of s.asleep i ≡ 1
+-- what is listed on all channels of a connection, of what is listed of all
+abbrev pub channels_of : Option (List Listings) → List Listings
+channels_of None = []
+channels_of (Some channels) = channels
+
+-- what is listed on channel h of connection c
+abbrev pub listed_on : Lists → ℕ → ℕ → List Listing
+listed_on lists c h = (listings_on (channels_of (lookup (nat_eq c) lists)) h).all
+
+-- At this place of the list the listing stands, and its bit tells that its waiter sleeps.
+pub record IsAsleepAt (ls : List Listing) (asleep : List ℕ) (i : ℕ) (l : Listing) : Type 0 where
+  pub within : i < length ls
+  pub there : (d : Listing) → slice_index_or ls i d ≡ l
+  pub marked : bit_of asleep i ≡ 1
 
 -- so it does somewhere in the list
 abbrev pub IsAsleepIn : Listings → Listing → Type 0
-IsAsleepIn s l = (i : ℕ) × IsAsleepAt s i l
+IsAsleepIn s l = (i : ℕ) × IsAsleepAt s.all s.asleep i l
 
 -- a waiter is listed, of those of its connection, on its channel
 abbrev pub IsNotedOn : List Listings → Listing → Type 0
@@ -214,19 +229,38 @@ pub record HasRoom (r : Waiters) : Type 0 where
   pub waiter : length r.waiters < r.capacity
   pub mark : length r.waiters + 1 ≤ length r.marks * 64
 
--- The newcomer can wait in its round.
+-- There is room for one listing more on a channel, and for its bit.
+pub record HasListRoom (s : Listings) : Type 0 where
+  pub listing : length s.all < s.capacity
+  pub mark : length s.all + 1 ≤ length s.asleep * 64
+
+-- This consumer's waiter can be listed, of those of its connection, on its channel, behind all that are.
+pub record CanListOn (channels : List Listings) (p : Pick) : Type 0 where
+  pub room : HasListRoom (listings_on channels p.channel)
+  pub last : AreBelow (listings_on channels p.channel).all p.number
+
+-- It can be listed at its connection.
+pub record CanList (lists : Lists) (p : Pick) : Type 0 where
+  pub channels : List Listings
+  pub there : lookup (nat_eq p.connection) lists ≡ Some channels
+  pub can : CanListOn channels p
+
+-- The newcomer can wait in its round, and be listed, so that it can fall asleep without memory.
 pub record CanJoin (r : Rounds) (n : Newcomer) : Type 0 where
   pub within : n.queue < length r.rounds
   pub room : HasRoom (round_at r.rounds n.queue)
+  pub listed : CanList r.lists n.consumer
 
--- it is this consumer, of the queue at this place, and is listed, so that it can fall asleep without memory
-abbrev pub IsNewcomer : Rounds → ℕ → Pick → Option Newcomer → Type 0
-IsNewcomer r place p newcomer = (newcomer ≡ Some (record { queue = place; consumer = p })) × IsNoted r.lists (listing place p)
-
--- The newcomer, if there is one, can wait in its round, and the consumer that this event is to make is it.
+-- The newcomer, if there is one, can wait in its round and be listed, and the consumer that this event is to make is it.
 pub record IsExpected (kept : Kept) (e : Event) (r : Rounds) (newcomer : Option Newcomer) : Type 0 where
   pub room : IfSome newcomer (CanJoin r)
-  pub told : (place : ℕ) (p : Pick) → IsConsumed (topology_kept kept) e place → seat_of kept e ≡ Some p → IsNewcomer r place p newcomer
+  pub told : (place : ℕ) (p : Pick) → IsConsumed (topology_kept kept) e place → seat_of kept e ≡ Some p
+      → newcomer ≡ Some (record { queue = place; consumer = p })
+
+-- The consumer's waiter stands in the round of the queue at this place, awake, and is listed, so that it can fall asleep without memory.
+pub record HasJoined (r : Rounds) (place : ℕ) (p : Pick) : Type 0 where
+  pub awake : IsAwake (round_at r.rounds place) p
+  pub noted : IsNoted r.lists (listing place p)
 
 -- ---- what every broker keeps
 
@@ -254,9 +288,20 @@ HasNoList lists c = lookup (nat_eq c) lists ≡ None
 abbrev pub AllRun : Broker → Lists → Type 0
 AllRun b lists = (c : ℕ) → b.connection c ≡ None → HasNoList lists c
 
--- no more stand in a list than twice those that were found there when it was last swept, and one
-abbrev pub AreFew : {X : Type 0} → List X → ℕ → Type 0
-AreFew xs found = length xs ≤ 2 * found + 1
+-- The listing is of a consumer of channel h of connection c, which is there, and takes from its queue.
+pub record IsItsOwn (kept : Kept) (c h : ℕ) (l : Listing) : Type 0 where
+  pub connection : l.consumer.connection ≡ c
+  pub channel : l.consumer.channel ≡ h
+  pub there : is_listed_there kept l ≡ true
+
+-- What is listed on channel h of connection c is of its consumers that are there, and of none twice.
+pub record AreItsListings (kept : Kept) (c h : ℕ) (ls : List Listing) : Type 0 where
+  pub there : (l : Listing) → IsIn l ls → IsItsOwn kept c h l
+  pub once : NumbersRise ls
+
+-- so it is on each channel
+abbrev pub AllListedAreThere : Kept → Lists → Type 0
+AllListedAreThere kept lists = (c h : ℕ) → AreItsListings kept c h (listed_on lists c h)
 
 -- Those who stand in the line of the queue at this place are its consumers, each once.
 pub record AreItsConsumers (kept : Kept) (queue : ℕ) (line : List Pick) : Type 0 where
@@ -276,8 +321,10 @@ pub record IsServing (kept : Kept) (r : Rounds) : Type 0 where
   pub noted : AllAreNoted (topology_kept kept) (broker_of kept) r.lists
   -- of a connection that runs no more nothing is listed
   pub running : AllRun (broker_of kept) r.lists
-  -- and no waiter is kept but of a consumer that is there, and none has two
+  -- no waiter is kept but of a consumer that is there, and none has two
   pub own : AllAreConsumers kept r.rounds
+  -- and nothing is listed on a channel but waiters of its consumers that are there
+  pub listed : AllListedAreThere kept r.lists
 
 -- ---- which queues are gone over
 
@@ -410,10 +457,6 @@ pub record GoesOn (old new : Rounds) : Type 0 where
   pub same : SameOrders old.rounds new.rounds
   pub next : new.next ≡ old.next
 
--- so many were found as before, or the consumers of those that are found now are there, which this test tells
-abbrev pub AreFound : {X : Type 0} → (X → Bool) → ℕ → List X → ℕ → Type 0
-AreFound is_there before xs found = (found ≡ before) ⊎ (found ≤ count_by is_there xs)
-
 -- ---- what stays
 
 -- no waiter of a consumer that is there is gone from the round of the queue at this place, by what was listed before and is after
@@ -472,11 +515,44 @@ pub record SleepMore (old new : Listings) : Type 0 where
 abbrev pub MakesNoList : Lists → Lists → Type 0
 MakesNoList old new = (c : ℕ) → HasNoList old c → HasNoList new c
 
+-- the same is listed on each channel
+abbrev pub SameListed : Lists → Lists → Type 0
+SameListed old new = (c h : ℕ) → listed_on new c h ≡ listed_on old c h
+
 -- More sleep, of the waiters that are listed, and no list is made for a connection that had none.
 pub record ListsMore (old new : Lists) : Type 0 where
   pub stay : ListsStay old new
   pub noted : NotesStay old new
   pub none : MakesNoList old new
+  pub same : SameListed old new
+
+-- What is listed on channel h is listed as before, and beside it this one may be, if it is of the channel.
+pub record AddsListing (one : Listing) (h : ℕ) (old new : Listings) : Type 0 where
+  pub noted : (l : Listing) → IsIn l old.all → IsIn l new.all
+  pub asleep : (l : Listing) → IsAsleepIn old l → IsAsleepIn new l
+  pub came : (l : Listing) → IsIn l new.all → IsIn l old.all ⊎ ((l ≡ one) × (one.consumer.channel ≡ h))
+  pub once : NumbersRise old.all → NumbersRise new.all
+
+-- none is listed twice that was not
+abbrev pub ListOnce : Lists → Lists → Type 0
+ListOnce old new = (c h : ℕ) → NumbersRise (listed_on old c h) → NumbersRise (listed_on new c h)
+
+-- Whatever is listed was listed, or is this one, on the channel of its consumer.
+pub record ListsOneMore (one : Listing) (old new : Lists) : Type 0 where
+  pub came : (c h : ℕ) (l : Listing) → IsIn l (listed_on new c h)
+      → IsIn l (listed_on old c h) ⊎ ((l ≡ one) × ((one.consumer.connection ≡ c) × (one.consumer.channel ≡ h)))
+  pub once : ListOnce old new
+
+-- Whatever is listed was listed, or is of a consumer of its channel that is there.
+pub record ListsItsOwn (kept : Kept) (old new : Lists) : Type 0 where
+  pub came : (c h : ℕ) (l : Listing) → IsIn l (listed_on new c h) → IsIn l (listed_on old c h) ⊎ IsItsOwn kept c h l
+  pub once : ListOnce old new
+
+-- Whatever is listed was listed, and is of another connection than this, or of a consumer that is there.
+pub record ListingsLeave (kept : Kept) (c : ℕ) (old new : Lists) : Type 0 where
+  pub left : (d h : ℕ) (l : Listing) → IsIn l (listed_on new d h)
+      → IsIn l (listed_on old d h) × ((d == c) ≡ true → is_listed_there kept l ≡ true)
+  pub once : ListOnce old new
 
 -- no list is made for a connection that had none, and doesn't run
 abbrev pub ListsRunning : Broker → Lists → Lists → Type 0

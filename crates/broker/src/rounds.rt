@@ -5,8 +5,9 @@
 //! that has nothing ready costs nothing, nor does a queue of which nobody may take something. A waiter that is found when its
 //! consumer may take nothing falls asleep, and costs nothing until an event of its own channel or the end of its connection's pause
 //! wakes it. So a command wakes what sleeps on its channel, and goes over no waiter that is idle. Each consumer's waiter is listed at
-//! its channel as it is made, with a bit that tells whether it sleeps, so that a pick takes no memory. A waiter goes with its consumer: as
-//! consumers of a connection may have left, all waiters are gone over, and those of its consumers that are gone are taken out.
+//! its channel as it is made, with a bit that tells whether it sleeps, so that a pick takes no memory. A waiter goes with its consumer, and so
+//! does its listing: as consumers of a connection may have left, all waiters are gone over, and all that is listed of the connection, and
+//! those of its consumers that are gone are taken out.
 
 mod finding;
 mod queue_rounds;
@@ -20,7 +21,8 @@ ghost use Rattle.broker.specs.Rounds.{wakes_on};
 use crate::rounds::finding::is_of;
 use crate::rounds::queue_rounds::QueueRounds;
 use crate::rounds::sleepers::{
-    Sleepers, forget_connection, move_sleepers, note_waiter, wake_connection,
+    Sleepers, forget_connection, join_listing, leave_lists, move_sleepers, reserve_listing,
+    wake_connection,
 };
 use crate::rounds::waiters::Newcomer;
 use commands::{Core, Ends, Pick};
@@ -70,9 +72,9 @@ impl ConsumerRounds {
     ghost use Rattle.commands.specs.State.{Kept, broker_of, topology_kept};
     ghost use Rattle.commands.specs.Picked.{IsPickFrom};
     ghost use Rattle.commands.specs.Seats.{seat_of};
-    ghost use Rattle.broker.specs.Rounds.{round_at, is_of, wakes, AllAreNoted, IsAt, IsAwake, IsInItsRound, IsExpected, CanJoin, HasNoList, MakesNoList};
+    ghost use Rattle.broker.specs.Rounds.{is_of, wakes, AllAreNoted, AllListedAreThere, IsAt, IsInItsRound, IsExpected, CanJoin, HasJoined};
     ghost use Rattle.broker.specs.Rounds.{KeepLists, ListsRunning, KeepsWaiters, KeepsAll, KeepLines, AllAddTheirOwn, LeaveLines, AllWaken, WakesWaiter};
-    ghost use Rattle.broker.specs.Rounds.{NotesStay, PicksFirst, GoesOn, AllAreEmpty};
+    ghost use Rattle.broker.specs.Rounds.{NotesStay, SameListed, ListsItsOwn, ListingsLeave, HasNoList, MakesNoList, PicksFirst, GoesOn, AllAreEmpty};
     ghost use Rattle.broker.specs.Moving.{ArePlacesApart, RoundsAreMoved, LinesCome, ListsAreMoved};
 
     /// No waiter, for so many queues.
@@ -89,18 +91,20 @@ impl ConsumerRounds {
         })
     }
 
-    /// The consumer that this event is to make, if any: it is listed for when it sleeps, and there is room for its waiter in the round of
-    /// its queue. Where memory is wanting it may not be; no waiter of a consumer that is there is gone, and all go on as before.
+    /// The consumer that this event is to make, if any: there is room for its waiter in the round of its queue, and on the list of its channel.
+    /// Where memory is wanting there may not be. No waiter of a consumer that is there is gone, and all go on as before.
     pub fn expect_next(
         &mut self,
         alloc: Global,
         core: &Core,
         event: &Event,
     ) -> Result<Option<Newcomer>, AllocError>
-        requires { length self.old.rounds ≡ length (topology_kept core.now).queues }
+        requires rounds { length self.old.rounds ≡ length (topology_kept core.now).queues }
+        requires listed { AllListedAreThere core.now self.old.lists }
         ensures expected { IfOk result (IsExpected core.now event.now self.new) }
         ensures kept { KeepsWaiters core.now self.old self.new }
-        ensures noted { KeepLists core.now self.old.lists self.new.lists }
+        ensures noted { NotesStay self.old.lists self.new.lists }
+        ensures same { SameListed self.old.lists self.new.lists }
         ensures running { ListsRunning (broker_of core.now) self.old.lists self.new.lists }
         ensures wakens { AllWaken self.old.rounds self.new.rounds }
         ensures quiet { seat_of core.now event.now ≡ None → IsOk result }
@@ -112,18 +116,20 @@ impl ConsumerRounds {
         let Some(queue) = core.queue_consumed(event) else {
             return Ok(None);
         };
-        note_waiter(&mut self.sleepers, alloc, core, queue, consumer)?;
+        reserve_listing(&mut self.sleepers, alloc, consumer)?;
         self.rounds.reserve(queue)?;
         Ok(Some(Newcomer { queue, consumer }))
     }
 
-    /// The newcomer, if there is one, and it is a consumer now, waits in the round of its queue from now on, awake. All others stay. It takes
-    /// no memory.
+    /// The newcomer, if there is one, and it is a consumer now, waits in the round of its queue from now on, awake, and is listed. All others
+    /// stay. It takes no memory.
     pub fn join(&mut self, core: &Core, newcomer: Option<Newcomer>)
         requires { IfSome newcomer (CanJoin self.old) }
-        ensures joined { IfSome newcomer (λ n. is_of core.now n.queue n.consumer ≡ true → IsAwake (round_at self.new.rounds n.queue) n.consumer) }
+        ensures joined { IfSome newcomer (λ n. is_of core.now n.queue n.consumer ≡ true → HasJoined self.new n.queue n.consumer) }
         ensures kept { KeepsWaiters core.now self.old self.new }
-        ensures lists { self.new.lists ≡ self.old.lists }
+        ensures noted { NotesStay self.old.lists self.new.lists }
+        ensures listed { ListsItsOwn core.now self.old.lists self.new.lists }
+        ensures none { MakesNoList self.old.lists self.new.lists }
         ensures len { length self.new.rounds ≡ length self.old.rounds }
         ensures next { self.new.next ≡ self.old.next }
         ensures lines { KeepLines self.old.rounds self.new.rounds }
@@ -133,16 +139,18 @@ impl ConsumerRounds {
             return;
         };
         if is_of(core, queue, consumer) {
+            join_listing(&mut self.sleepers, queue, consumer);
             self.rounds.join(queue, consumer);
         }
     }
 
-    /// The waiters of this connection's consumers that are gone are gone too, and what is listed of it where it runs no more. The others
-    /// are gone round as before. It takes no memory.
+    /// The waiters of this connection's consumers that are gone are gone too, and so are their listings. Of a connection that runs no more
+    /// nothing is listed any longer. The others are gone round as before. It takes no memory.
     pub fn leave(&mut self, core: &Core, connection: u64, ends: Ends)
         requires { ends ≡ ended.Connection → (broker_of core.now).connection connection ≡ None }
         ensures kept { KeepsWaiters core.now self.old self.new }
         ensures noted { KeepLists core.now self.old.lists self.new.lists }
+        ensures left { ListingsLeave core.now connection self.old.lists self.new.lists }
         ensures gone { ends ≡ ended.Connection → HasNoList self.new.lists connection }
         ensures none { MakesNoList self.old.lists self.new.lists }
         ensures lines { LeaveLines core.now connection self.old.rounds self.new.rounds }
@@ -152,7 +160,7 @@ impl ConsumerRounds {
         self.rounds.leave(core, connection);
         match ends {
             Ends::Connection => forget_connection(&mut self.sleepers, connection),
-            _ => {}
+            _ => leave_lists(&mut self.sleepers, core, connection),
         }
     }
 
@@ -162,6 +170,7 @@ impl ConsumerRounds {
         ensures woken { (p : Consumer) → IsAt connection channel p → WakesWaiter self.old self.new p }
         ensures kept { KeepsAll self.old self.new }
         ensures noted { NotesStay self.old.lists self.new.lists }
+        ensures same { SameListed self.old.lists self.new.lists }
         ensures wakens { AllWaken self.old.rounds self.new.rounds }
         ensures none { MakesNoList self.old.lists self.new.lists }
         ensures len { length self.new.rounds ≡ length self.old.rounds }
@@ -175,6 +184,7 @@ impl ConsumerRounds {
         ensures woken { (p : Consumer) → wakes event.now p ≡ true → WakesWaiter self.old self.new p }
         ensures kept { KeepsAll self.old self.new }
         ensures noted { NotesStay self.old.lists self.new.lists }
+        ensures same { SameListed self.old.lists self.new.lists }
         ensures wakens { AllWaken self.old.rounds self.new.rounds }
         ensures none { MakesNoList self.old.lists self.new.lists }
         ensures len { length self.new.rounds ≡ length self.old.rounds }
@@ -224,6 +234,7 @@ impl ConsumerRounds {
         requires noted { AllAreNoted (topology_kept core.now) (broker_of core.now) self.old.lists }
         ensures kept { KeepsWaiters core.now self.old self.new }
         ensures noted { NotesStay self.old.lists self.new.lists }
+        ensures same { SameListed self.old.lists self.new.lists }
         ensures no_list { MakesNoList self.old.lists self.new.lists }
         ensures len { length self.new.rounds ≡ length self.old.rounds }
         ensures some { IfSome result (λ p. (place : ℕ) × IsPickFrom core.now place p) }

@@ -148,14 +148,13 @@ fn let_go(
     ensures apart { AreDistinct (picks waiters.old.items) → AreDistinct (picks waiters.new.items) }
     ensures line { turned next.new (picks waiters.new.items) ≡ filter (remains core.now queue connection) (turned next.old (picks waiters.old.items)) }
 {
-    let stay = staying(waiters, core, queue, connection);
-    if stay == waiters.len() {
-        return;
-    }
-    let before = (*next).min(waiters.len());
+    let count = waiters.len();
+    let before = (*next).min(count);
     *next = staying(waiters.split_at(before).0, core, queue, connection);
     sweep(waiters, core, queue, connection);
-    mark_all(awake, waiters.len());
+    if waiters.len() < count {
+        mark_all(awake, waiters.len());
+    }
 }
 
 /// This consumer has a waiter behind all others from now on, which is awake, and for which there is room. It takes no memory.

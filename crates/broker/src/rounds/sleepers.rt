@@ -3,15 +3,15 @@
 mod moving;
 mod waking;
 
-ghost use Rattle.std.specs.Prelude.{◌≡◌, ◌≤◌, ◌<◌, ◌+◌, ◌*◌, ℕ, true, false, None, IfSome, OnOk, length, filter, vec_len, vec_capacity};
+ghost use Rattle.std.specs.Prelude.{◌≡◌, ◌≤◌, ◌<◌, ◌+◌, ◌*◌, ℕ, true, false, None, IfSome, OnOk, length, filter, vec_capacity};
 ghost use Rattle.std.specs.List.{AllWithin};
 ghost use Rattle.model.specs.Topology.{IsIn};
 ghost use Rattle.marks.specs.Places.{bit_of};
 ghost use Rattle.commands.specs.State.{Kept, broker_of};
-ghost use Rattle.broker.specs.Rounds.{is_listed_there, listing, listings_on, number_of, Listing};
-ghost use Rattle.broker.specs.Rounds.{IsAsleepIn, IsListedOn, IsNotedOn, IsNoted, IsListed, HasNoList};
-ghost use Rattle.broker.specs.Rounds.{NumbersRise, AreBelow, IsListedAt, AreFew, AreFound};
-ghost use Rattle.broker.specs.Rounds.{MakesNoList, KeepsListings, KeepListingsOn, KeepLists, SleepMore, ListsMore};
+ghost use Rattle.broker.specs.Rounds.{is_listed_there, listing, listings_of, listings_on, listed_on, number_of, Listing, HasListRoom, CanListOn, CanList};
+ghost use Rattle.broker.specs.Rounds.{IsAsleepIn, IsListedOn, IsNotedOn, IsNoted, IsListed, HasNoList, NumbersRise, AreBelow, IsListedAt};
+ghost use Rattle.broker.specs.Rounds.{MakesNoList, NotesStay, ListsStay, SameListed, ListsOneMore, ListingsLeave, AddsListing};
+ghost use Rattle.broker.specs.Rounds.{KeepsListings, KeepListingsOn, KeepLists, SleepMore, ListsMore};
 
 use crate::rounds::finding::is_of;
 use crate::rounds::waiters::{PlaceMarks, is_same, mark_all};
@@ -115,14 +115,6 @@ fn search(listed: &[Listed], queue: usize, consumer: Pick) -> Option<usize>
     }
 }
 
-/// Whether this number is greater than that of each that is listed.
-fn is_greatest(listed: &[Listed], number: u64) -> bool
-    requires { NumbersRise listed.now }
-    ensures { result ≡ true → AreBelow listed.now number }
-{
-    place_near(listed, number) == listed.len()
-}
-
 /// This consumer's waiter in this queue's round, which is listed, sleeps from now on; it stands at this place of the round.
 fn mark_in(
     listed: &mut [Listed],
@@ -136,9 +128,9 @@ fn mark_in(
     requires noted { IsIn (listing queue consumer) listed.old }
     ensures len { length asleep.new ≡ length asleep.old }
     ensures same { listed.new ≡ listed.old }
-    ensures marked { IsAsleepIn (record { all = listed.new; asleep = asleep.new }) (listing queue consumer) }
-    ensures stay { (l : Listing) → IsAsleepIn (record { all = listed.old; asleep = asleep.old }) l
-        → IsAsleepIn (record { all = listed.new; asleep = asleep.new }) l }
+    ensures marked { IsAsleepIn (listings_of listed.new asleep.new) (listing queue consumer) }
+    ensures stay { (l : Listing) → IsAsleepIn (listings_of listed.old asleep.old) l
+        → IsAsleepIn (listings_of listed.new asleep.new) l }
 {
     match search(listed, queue, consumer) {
         Some(at) => {
@@ -157,38 +149,25 @@ fn sweep(listed: &mut Vec<Listed>, core: &Core)
     listed.retain(|one| one.is_there(core));
 }
 
-/// Takes out the waiters whose consumer is gone, if there are more than twice those that were found at the last sweep, or if this number
-/// is not greater than theirs: numbers come again where a channel is opened again, or a consume was refused memory. Those that are left are
-/// found now, and are woken with those that sleep.
-fn tidy(
-    listed: &mut Vec<Listed>,
-    asleep: &mut PlaceMarks,
-    found: &mut usize,
-    core: &Core,
-    number: u64,
-)
-    requires room { length listed.old.items ≤ length asleep.old * 64 }
-    requires rising { NumbersRise listed.old.items }
+/// The waiters whose consumer is gone are taken out. If some were, those that are left are woken with those that sleep. It takes no memory.
+fn let_go(listed: &mut Vec<Listed>, asleep: &mut PlaceMarks, core: &Core)
+    requires { length listed.old.items ≤ length asleep.old * 64 }
     ensures marks { length listed.new.items ≤ length asleep.new * 64 }
-    ensures rising { NumbersRise listed.new.items }
-    ensures few { length listed.new.items ≤ 2 * found.new }
-    ensures found { AreFound (is_listed_there core.now) found.old listed.new.items found.new }
-    ensures kept { KeepsListings core.now (record { all = listed.old.items; asleep = asleep.old }) (record { all = listed.new.items; asleep = asleep.new }) }
+    ensures all { listed.new.items ≡ filter (is_listed_there core.now) listed.old.items }
+    ensures kept { KeepsListings core.now (listings_of listed.old.items asleep.old) (listings_of listed.new.items asleep.new) }
 {
-    let others = listed.len().saturating_sub(*found);
-    if others <= *found && is_greatest(listed, number) {
-        return;
-    }
+    let before = listed.len();
     sweep(listed, core);
-    *found = listed.len();
-    mark_all(asleep, *found);
+    if listed.len() < before {
+        mark_all(asleep, listed.len());
+    }
 }
 
 /// Room for one waiter more, and for its bit.
 fn make_room(listed: &mut Vec<Listed>, asleep: &mut PlaceMarks) -> Result<(), AllocError>
     requires { length listed.old.items ≤ length asleep.old * 64 }
-    ensures room { OnOk result (vec_len listed.new < vec_capacity listed.new) }
-    ensures mark { OnOk result (vec_len listed.new + 1 ≤ length asleep.new * 64) }
+    ensures room { OnOk result (length listed.new.items < vec_capacity listed.new) }
+    ensures mark { OnOk result (length listed.new.items + 1 ≤ length asleep.new * 64) }
     ensures marks { length listed.new.items ≤ length asleep.new * 64 }
     ensures same { listed.new.items ≡ listed.old.items }
     ensures bits { (i : ℕ) → bit_of asleep.new i ≡ bit_of asleep.old i }
@@ -197,45 +176,11 @@ fn make_room(listed: &mut Vec<Listed>, asleep: &mut PlaceMarks) -> Result<(), Al
     listed.reserve(1)
 }
 
-/// This consumer's waiter in this queue's round is listed from now on. Where memory is wanting it may not be, nor where a consumer that is
-/// there has as great a number, as none has while one is made.
-fn note_in(
-    listed: &mut Vec<Listed>,
-    asleep: &mut PlaceMarks,
-    found: &mut usize,
-    core: &Core,
-    queue: usize,
-    consumer: Pick,
-) -> Result<(), AllocError>
-    requires room { length listed.old.items ≤ length asleep.old * 64 }
-    requires rising { NumbersRise listed.old.items }
-    requires few { AreFew listed.old.items found.old }
-    ensures marks { length listed.new.items ≤ length asleep.new * 64 }
-    ensures rising { NumbersRise listed.new.items }
-    ensures few { AreFew listed.new.items found.new }
-    ensures found { AreFound (is_listed_there core.now) found.old listed.new.items found.new }
-    ensures noted { OnOk result (IsIn (listing queue consumer) listed.new.items) }
-    ensures kept { KeepsListings core.now (record { all = listed.old.items; asleep = asleep.old }) (record { all = listed.new.items; asleep = asleep.new }) }
-{
-    if search(listed, queue, consumer).is_some() {
-        return Ok(());
-    }
-    tidy(listed, asleep, found, core, consumer.number);
-    if !is_greatest(listed, consumer.number) {
-        return Err(AllocError);
-    }
-    make_room(listed, asleep)?;
-    listed.push_reserved(Listed::new(queue, consumer));
-    Ok(())
-}
-
-/// The waiters of one channel's consumers; some may be of consumers that are gone.
+/// The waiters of one channel's consumers.
 pub(crate) struct ChannelSleepers {
     listed: Vec<Listed>,
     /// A bit for each, 1 where it sleeps.
     asleep: PlaceMarks,
-    /// How many were found when the list was last swept.
-    found: usize,
 }
 
 /// Written out, so that a drop is one call.
@@ -244,26 +189,25 @@ impl Drop for ChannelSleepers {
         let ChannelSleepers {
             listed: _,
             asleep: _,
-            found: _,
         } = self;
     }
 }
 
 impl Model for ChannelSleepers {
-    ghost use Rattle.std.specs.Prelude.{◌≤◌, ◌*◌, length};
-    ghost use Rattle.broker.specs.Rounds.{Listings, NumbersRise, AreFew};
+    ghost use Rattle.std.specs.Prelude.{◌≤◌, ◌*◌, length, vec_capacity};
+    ghost use Rattle.broker.specs.Rounds.{Listings, NumbersRise};
 
     ghost Value = { Listings };
 
-    ghost view = { λ s. record { all = s.listed.items; asleep = s.asleep } };
+    ghost view = { λ s. record { all = s.listed.items; asleep = s.asleep; capacity = vec_capacity s.listed } };
 
-    ghost invariant = { λ s. (length s.listed.items ≤ length s.asleep * 64) × NumbersRise s.listed.items × AreFew s.listed.items s.found };
+    ghost invariant = { λ s. (length s.listed.items ≤ length s.asleep * 64) × NumbersRise s.listed.items };
 }
 
 impl ChannelSleepers {
-    ghost use Rattle.std.specs.Prelude.{◌≡◌, [], OnOk};
+    ghost use Rattle.std.specs.Prelude.{◌≡◌, ◌++◌, ◌∷◌, [], OnOk, filter};
     ghost use Rattle.model.specs.Topology.{IsIn};
-    ghost use Rattle.broker.specs.Rounds.{listing, Listing, IsAsleepIn, KeepsListings, SleepMore};
+    ghost use Rattle.broker.specs.Rounds.{listing, is_listed_there, Listing, HasListRoom, AreBelow, IsAsleepIn, KeepsListings, SleepMore};
 
     /// None. It takes no memory.
     fn new(alloc: Global) -> ChannelSleepers
@@ -272,8 +216,33 @@ impl ChannelSleepers {
         ChannelSleepers {
             listed: Vec::new(alloc),
             asleep: <Over<Flat>>::empty(alloc),
-            found: 0,
         }
+    }
+
+    /// There is room for one waiter more from now on. All are listed as before.
+    fn reserve(&mut self) -> Result<(), AllocError>
+        ensures room { OnOk result (HasListRoom self.new) }
+        ensures same { SleepMore self.old self.new }
+    {
+        make_room(&mut self.listed, &mut self.asleep)
+    }
+
+    /// This consumer's waiter in this queue's round is listed behind all others from now on. It takes no memory.
+    fn join(&mut self, queue: usize, consumer: Pick)
+        requires room { HasListRoom self.old }
+        requires last { AreBelow self.old.all consumer.number }
+        ensures all { self.new.all ≡ self.old.all ++ listing queue consumer ∷ [] }
+        ensures stay { (l : Listing) → IsAsleepIn self.old l → IsAsleepIn self.new l }
+    {
+        self.listed.push_reserved(Listed::new(queue, consumer));
+    }
+
+    /// The waiters whose consumer is gone are gone too. It takes no memory.
+    fn leave(&mut self, core: &Core)
+        ensures all { self.new.all ≡ filter (is_listed_there core.now) self.old.all }
+        ensures kept { KeepsListings core.now self.old self.new }
+    {
+        let_go(&mut self.listed, &mut self.asleep, core);
     }
 
     /// This consumer's waiter in this queue's round, which is listed, sleeps from now on; it stands at this place of the round.
@@ -284,27 +253,12 @@ impl ChannelSleepers {
     {
         mark_in(&mut self.listed, &mut self.asleep, queue, consumer, place);
     }
-
-    /// This consumer's waiter in this queue's round is listed from now on. Where memory is wanting it may not be.
-    fn note(&mut self, core: &Core, queue: usize, consumer: Pick) -> Result<(), AllocError>
-        ensures noted { OnOk result (IsIn (listing queue consumer) self.new.all) }
-        ensures kept { KeepsListings core.now self.old self.new }
-    {
-        note_in(
-            &mut self.listed,
-            &mut self.asleep,
-            &mut self.found,
-            core,
-            queue,
-            consumer,
-        )
-    }
 }
 
 /// Makes a list, in which none stands, for each channel below this number that has none.
 fn grow(channels: &mut Vec<ChannelSleepers>, alloc: Global, count: usize) -> Result<(), AllocError>
     ensures room { OnOk result (count ≤ length channels.new.items) }
-    ensures kept { (core : Kept) → KeepListingsOn core channels.old.items channels.new.items }
+    ensures same { (h : ℕ) → SleepMore (listings_on channels.old.items h) (listings_on channels.new.items h) }
 {
     'channels: while channels.len() < count {
         channels.push(ChannelSleepers::new(alloc))?;
@@ -312,18 +266,33 @@ fn grow(channels: &mut Vec<ChannelSleepers>, alloc: Global, count: usize) -> Res
     Ok(())
 }
 
-/// This consumer's waiter is listed on its channel, for which there is a list. Where memory is wanting it may not be.
-fn note_on(
-    channels: &mut [ChannelSleepers],
-    core: &Core,
-    queue: usize,
-    consumer: Pick,
-) -> Result<(), AllocError>
-    requires { consumer.channel < length channels.old }
-    ensures noted { OnOk result (IsNotedOn channels.new (listing queue consumer)) }
+/// There is room for one waiter more on this channel, for which there is a list.
+fn reserve_on(channels: &mut [ChannelSleepers], channel: u16) -> Result<(), AllocError>
+    requires { channel < length channels.old }
+    ensures room { OnOk result (HasListRoom (listings_on channels.new channel)) }
+    ensures same { (h : ℕ) → SleepMore (listings_on channels.old h) (listings_on channels.new h) }
+{
+    channels[channel as usize].reserve()
+}
+
+/// This consumer's waiter in this queue's round is listed on its channel from now on, behind all others.
+fn join_on(channels: &mut [ChannelSleepers], queue: usize, consumer: Pick)
+    requires within { consumer.channel < length channels.old }
+    requires can { CanListOn channels.old consumer }
+    ensures noted { IsNotedOn channels.new (listing queue consumer) }
+    ensures adds { (h : ℕ) → AddsListing (listing queue consumer) h (listings_on channels.old h) (listings_on channels.new h) }
+{
+    channels[consumer.channel as usize].join(queue, consumer);
+}
+
+/// The waiters whose consumer is gone leave the list of each channel.
+fn leave_each(channels: &mut [ChannelSleepers], core: &Core)
+    ensures all { (h : ℕ) → (listings_on channels.new h).all ≡ filter (is_listed_there core.now) (listings_on channels.old h).all }
     ensures kept { KeepListingsOn core.now channels.old channels.new }
 {
-    channels[consumer.channel as usize].note(core, queue, consumer)
+    for place in 0..channels.len() {
+        channels[place].leave(core);
+    }
 }
 
 /// This consumer's waiter in this queue's round, which is listed, sleeps from now on; it stands at this place of the round.
@@ -354,8 +323,9 @@ impl Model for ConnectionSleepers {
 }
 
 impl ConnectionSleepers {
-    ghost use Rattle.std.specs.Prelude.{◌≡◌, [], ℕ, true, OnOk};
-    ghost use Rattle.broker.specs.Rounds.{listing, listings_on, is_listed_there, Listing, IsNotedOn, IsListedOn, SleepMore};
+    ghost use Rattle.std.specs.Prelude.{◌≡◌, [], ℕ, OnOk, filter};
+    ghost use Rattle.broker.specs.Rounds.{listing, listings_on, is_listed_there, Listing, HasListRoom, CanListOn, AreBelow};
+    ghost use Rattle.broker.specs.Rounds.{AddsListing, IsNotedOn, IsListedOn, KeepListingsOn, SleepMore};
 
     /// No list. It takes no memory.
     fn new(alloc: Global) -> ConnectionSleepers
@@ -366,20 +336,30 @@ impl ConnectionSleepers {
         }
     }
 
-    /// This consumer's waiter is listed on its channel from now on. Where memory is wanting it may not be.
-    fn note(
-        &mut self,
-        alloc: Global,
-        core: &Core,
-        queue: usize,
-        consumer: Pick,
-    ) -> Result<(), AllocError>
-        ensures noted { OnOk result (IsNotedOn self.new (listing queue consumer)) }
-        ensures stay { (l : Listing) → is_listed_there core.now l ≡ true → IsNotedOn self.old l → IsNotedOn self.new l }
-        ensures asleep { (l : Listing) → is_listed_there core.now l ≡ true → IsListedOn self.old l → IsListedOn self.new l }
+    /// There is room for one waiter more on this channel from now on. All are listed as before.
+    fn reserve(&mut self, alloc: Global, channel: u16) -> Result<(), AllocError>
+        ensures room { OnOk result (HasListRoom (listings_on self.new channel)) }
+        ensures same { (h : ℕ) → SleepMore (listings_on self.old h) (listings_on self.new h) }
     {
-        grow(&mut self.channels, alloc, consumer.channel as usize + 1)?;
-        note_on(&mut self.channels, core, queue, consumer)
+        grow(&mut self.channels, alloc, channel as usize + 1)?;
+        reserve_on(&mut self.channels, channel)
+    }
+
+    /// This consumer's waiter in this queue's round is listed on its channel from now on. It takes no memory.
+    fn join(&mut self, queue: usize, consumer: Pick)
+        requires { CanListOn self.old consumer }
+        ensures noted { IsNotedOn self.new (listing queue consumer) }
+        ensures adds { (h : ℕ) → AddsListing (listing queue consumer) h (listings_on self.old h) (listings_on self.new h) }
+    {
+        join_on(&mut self.channels, queue, consumer);
+    }
+
+    /// The waiters whose consumer is gone are gone too. It takes no memory.
+    fn leave(&mut self, core: &Core)
+        ensures all { (h : ℕ) → (listings_on self.new h).all ≡ filter (is_listed_there core.now) (listings_on self.old h).all }
+        ensures kept { KeepListingsOn core.now self.old self.new }
+    {
+        leave_each(&mut self.channels, core);
     }
 
     /// This consumer's waiter in this queue's round, which is listed, sleeps from now on; it stands at this place of the round.
@@ -392,29 +372,54 @@ impl ConnectionSleepers {
     }
 }
 
-/// This consumer's waiter in this queue's round is listed from now on. Where memory is wanting it may not be.
-pub(crate) fn note_waiter(
+/// There is room for this consumer's waiter on its channel, where none of as great a number is listed. All are listed as before.
+pub(crate) fn reserve_listing(
     sleepers: &mut Sleepers,
     alloc: Global,
-    core: &Core,
-    queue: usize,
     consumer: Pick,
 ) -> Result<(), AllocError>
-    ensures noted { OnOk result (IsNoted sleepers.new.entries (listing queue consumer)) }
-    ensures stay { (l : Listing) → is_listed_there core.now l ≡ true → IsNoted sleepers.old.entries l → IsNoted sleepers.new.entries l }
-    ensures asleep { (l : Listing) → is_listed_there core.now l ≡ true → IsListed sleepers.old.entries l → IsListed sleepers.new.entries l }
+    requires { AreBelow (listed_on sleepers.old.entries consumer.connection consumer.channel) consumer.number }
+    ensures room { OnOk result (CanList sleepers.new.entries consumer) }
+    ensures noted { NotesStay sleepers.old.entries sleepers.new.entries }
+    ensures asleep { ListsStay sleepers.old.entries sleepers.new.entries }
+    ensures same { SameListed sleepers.old.entries sleepers.new.entries }
     ensures others { (c : ℕ) → (c ≡ consumer.connection → ⊥) → HasNoList sleepers.old.entries c → HasNoList sleepers.new.entries c }
 {
     match sleepers.get_mut(&consumer.connection) {
-        Some(channels) => channels.note(alloc, core, queue, consumer),
+        Some(channels) => channels.reserve(alloc, consumer.channel),
         None => {
             let mut channels = ConnectionSleepers::new(alloc);
-            channels.note(alloc, core, queue, consumer)?;
+            channels.reserve(alloc, consumer.channel)?;
             match sleepers.insert(consumer.connection, channels) {
                 Ok(_) => Ok(()),
                 Err(_) => Err(AllocError),
             }
         }
+    }
+}
+
+/// This consumer's waiter in this queue's round is listed from now on. It takes no memory.
+pub(crate) fn join_listing(sleepers: &mut Sleepers, queue: usize, consumer: Pick)
+    requires { CanList sleepers.old.entries consumer }
+    ensures noted { IsNoted sleepers.new.entries (listing queue consumer) }
+    ensures stay { NotesStay sleepers.old.entries sleepers.new.entries }
+    ensures asleep { ListsStay sleepers.old.entries sleepers.new.entries }
+    ensures one { ListsOneMore (listing queue consumer) sleepers.old.entries sleepers.new.entries }
+    ensures none { MakesNoList sleepers.old.entries sleepers.new.entries }
+{
+    if let Some(channels) = sleepers.get_mut(&consumer.connection) {
+        channels.join(queue, consumer);
+    }
+}
+
+/// The waiters of this connection's consumers that are gone are listed no longer. It takes no memory.
+pub(crate) fn leave_lists(sleepers: &mut Sleepers, core: &Core, connection: u64)
+    ensures kept { KeepLists core.now sleepers.old.entries sleepers.new.entries }
+    ensures left { ListingsLeave core.now connection sleepers.old.entries sleepers.new.entries }
+    ensures none { MakesNoList sleepers.old.entries sleepers.new.entries }
+{
+    if let Some(channels) = sleepers.get_mut(&connection) {
+        channels.leave(core);
     }
 }
 
@@ -433,6 +438,7 @@ pub(crate) fn mark_waiter(sleepers: &mut Sleepers, queue: usize, consumer: Pick,
 /// Nothing is listed any more of this connection, which runs no more.
 pub(crate) fn forget_connection(sleepers: &mut Sleepers, connection: u64)
     ensures kept { (k : Kept) → (broker_of k).connection connection ≡ None → KeepLists k sleepers.old.entries sleepers.new.entries }
+    ensures left { (k : Kept) → ListingsLeave k connection sleepers.old.entries sleepers.new.entries }
     ensures gone { HasNoList sleepers.new.entries connection }
     ensures none { MakesNoList sleepers.old.entries sleepers.new.entries }
 {

@@ -1,8 +1,8 @@
 //! Waiters that sleep are woken.
 
 ghost use Rattle.std.specs.Prelude.{◌≡◌, ◌≤◌, ◌*◌, ℕ, true, false, length};
-ghost use Rattle.broker.specs.Rounds.{is_on_channel, listings_on, Listing, IsAt, IsAsleepIn, IsListedOn, IsNotedOn, IsListed, IsWoken, WakesListed};
-ghost use Rattle.broker.specs.Rounds.{NotesStay, MakesNoList, AllWaken};
+ghost use Rattle.broker.specs.Rounds.{is_on_channel, listings_of, listings_on, Listing, IsAt, IsAsleepIn, IsListedOn, IsNotedOn, IsListed, IsWoken};
+ghost use Rattle.broker.specs.Rounds.{WakesListed, NotesStay, SameListed, MakesNoList, AllWaken};
 
 use crate::rounds::queue_rounds::QueueRounds;
 use crate::rounds::sleepers::{ChannelSleepers, ConnectionSleepers, Listed, Sleepers};
@@ -27,7 +27,7 @@ impl Listed {
 fn wake_listed(listed: &[Listed], asleep: &mut PlaceMarks, rounds: &mut QueueRounds)
     requires { length listed.now ≤ length asleep.old * 64 }
     ensures size { length asleep.new ≡ length asleep.old }
-    ensures woken { WakesListed (record { all = listed.now; asleep = asleep.old }) rounds.old rounds.new }
+    ensures woken { WakesListed (listings_of listed.now asleep.old) rounds.old rounds.new }
     ensures wakens { AllWaken rounds.old rounds.new }
     ensures len { length rounds.new ≡ length rounds.old }
 {
@@ -87,6 +87,7 @@ fn wake_each(channels: &mut [ChannelSleepers], rounds: &mut QueueRounds)
 fn wake_on(channels: &mut [ChannelSleepers], rounds: &mut QueueRounds, channel: Option<u16>)
     ensures others { (l : Listing) → is_on_channel channel l.consumer ≡ false → IsListedOn channels.old l → IsListedOn channels.new l }
     ensures noted { (l : Listing) → IsNotedOn channels.old l → IsNotedOn channels.new l }
+    ensures same { (h : ℕ) → (listings_on channels.new h).all ≡ (listings_on channels.old h).all }
     ensures woken { (l : Listing) → is_on_channel channel l.consumer ≡ true → IsListedOn channels.old l → IsWoken rounds.old rounds.new l }
     ensures wakens { AllWaken rounds.old rounds.new }
     ensures len { length rounds.new ≡ length rounds.old }
@@ -98,13 +99,14 @@ fn wake_on(channels: &mut [ChannelSleepers], rounds: &mut QueueRounds, channel: 
 }
 
 impl ConnectionSleepers {
-    ghost use Rattle.std.specs.Prelude.{◌≡◌, true, false, length};
-    ghost use Rattle.broker.specs.Rounds.{is_on_channel, Listing, IsListedOn, IsNotedOn, IsWoken, AllWaken};
+    ghost use Rattle.std.specs.Prelude.{◌≡◌, ℕ, true, false, length};
+    ghost use Rattle.broker.specs.Rounds.{is_on_channel, listings_on, Listing, IsListedOn, IsNotedOn, IsWoken, AllWaken};
 
     /// Its waiters that sleep on this channel, or on any where none is named, are awake from now on.
     fn wake(&mut self, rounds: &mut QueueRounds, channel: Option<u16>)
         ensures others { (l : Listing) → is_on_channel channel l.consumer ≡ false → IsListedOn self.old l → IsListedOn self.new l }
         ensures noted { (l : Listing) → IsNotedOn self.old l → IsNotedOn self.new l }
+        ensures same { (h : ℕ) → (listings_on self.new h).all ≡ (listings_on self.old h).all }
         ensures woken { (l : Listing) → is_on_channel channel l.consumer ≡ true → IsListedOn self.old l → IsWoken rounds.old rounds.new l }
         ensures wakens { AllWaken rounds.old rounds.new }
         ensures len { length rounds.new ≡ length rounds.old }
@@ -123,6 +125,7 @@ pub(crate) fn wake_connection(
 )
     ensures others { (l : Listing) → (IsAt connection channel l.consumer → ⊥) → IsListed sleepers.old.entries l → IsListed sleepers.new.entries l }
     ensures noted { NotesStay sleepers.old.entries sleepers.new.entries }
+    ensures same { SameListed sleepers.old.entries sleepers.new.entries }
     ensures woken { (l : Listing) → IsAt connection channel l.consumer → IsListed sleepers.old.entries l → IsWoken rounds.old rounds.new l }
     ensures none { MakesNoList sleepers.old.entries sleepers.new.entries }
     ensures wakens { AllWaken rounds.old rounds.new }

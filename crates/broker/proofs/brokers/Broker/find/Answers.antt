@@ -1,4 +1,4 @@
-use Rattle.std.proofs.Common.{◌∙◌, ℕ, refl, sym, ap, subst}
+use Rattle.std.proofs.Common.{ℕ, refl, sym, subst}
 use Rattle.model.specs.Consuming.{CanDeliver}
 use Rattle.broker.specs.Rounds.{Rounds, HasConsumer, PicksFirst}
 use Rattle.broker.specs.Turns as seen
@@ -10,7 +10,7 @@ use Rattle.commands.proofs.Picking.{pick_from}
 use Rattle.broker.proofs.Outcomes.{if_some, told_some}
 use Rattle.broker.proofs.Joined.{holds, serves, serves_kept, notes_keep, running_still}
 use Rattle.broker.specs.Waiting.{IsToldInTurn}
-use Rattle.broker.proofs.Staying.{own_picked}
+use Rattle.broker.proofs.Staying.{own_picked, listed_same}
 use Rattle.broker.proofs.Turning.{told_in_turn}
 use Rattle.broker.proofs.brokers.Broker.find.Goals as goal
 
@@ -35,6 +35,7 @@ invariant_of-self c =
     (serves_kept kept before after c.pick-self-inside.ensures.kept (notes_keep kept before.lists after.lists c.pick-self-inside.ensures.noted) c.pick-self-inside.ensures.len (holds kept before c.self.invariant))
     (running_still (broker_of kept) (broker_of kept) before.lists after.lists (λ d none. none) c.pick-self-inside.ensures.no_list c.self.invariant.running)
     (own_picked kept before after c.pick-self-inside.result c.pick-self-inside.ensures.told c.pick-self-inside.ensures.on c.self.invariant.own)
+    (listed_same kept before.lists after.lists c.pick-self-inside.ensures.same c.self.invariant.listed)
 
 pub returns-clause-in_turn : goal.returns-clause-in_turn
 returns-clause-in_turn c =

@@ -6,7 +6,7 @@ use Rattle.commands.proofs.Ending.{loss_ended}
 use Rattle.broker.proofs.Joined.{holds, was_there, serves, serves_asleep, serves_kept, running_but}
 use Rattle.broker.specs.Turns.{WithTurn, with_turn}
 use Rattle.broker.specs.Waiting.{NoneIsLater}
-use Rattle.broker.proofs.Staying.{others_stay, own_left}
+use Rattle.broker.proofs.Staying.{others_stay, own_left, listed_left, none_listed}
 use Rattle.broker.proofs.Turning.{none_later, round_same, round_left}
 use Rattle.broker.proofs.brokers.Broker.lose.Goals as goal
 
@@ -27,6 +27,7 @@ invariant_of-self c =
     (serves_asleep c.brokers_stay_agreed.ensures.acts c.consumers_are_made.ensures (topology_kept old) old new (Lose c.args.connection) [] [] before c.lose.ensures.acts (λ p. refl) refl refl c.lose.ensures.topology (holds old before c.self.invariant)))
     (running_but (broker_of old) (broker_of new) before.lists after.lists c.args.connection ended.1 (λ none. c.leave.ensures.gone refl) c.leave.ensures.none c.self.invariant.running)
     (own_left old new c.args.connection before.rounds after.rounds c.lose.ensures.topology (others_stay (topology_kept old) (broker_of old) (broker_of new) (Lose c.args.connection) [] [] c.lose.ensures.acts) c.self.invariant.own c.leave.ensures.lines)
+    (listed_left old new c.args.connection before.lists before.lists after.lists c.lose.ensures.topology (others_stay (topology_kept old) (broker_of old) (broker_of new) (Lose c.args.connection) [] [] c.lose.ensures.acts) c.self.invariant.listed (none_listed new before.lists) c.leave.ensures.left)
 
 pub returns-clause-later : goal.returns-clause-later
 returns-clause-later c =

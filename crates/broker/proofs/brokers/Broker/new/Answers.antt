@@ -1,4 +1,4 @@
-use Rattle.std.proofs.Common.{◌≡◌, ◌∙◌, ◌≤◌, ℕ, List, None, Some, length, refl, sym, ap, subst, arith}
+use Rattle.std.proofs.Common.{◌≡◌, ◌∙◌, ◌≤◌, ℕ, List, Some, length, refl, sym, ap, subst, arith}
 use Rattle.std.specs.Prelude.{is_some, count_by}
 use Rattle.std.proofs.lemmas.Bool.{false≢true}
 use Rattle.model.specs.Topology.{Topology, IsIn}
@@ -8,9 +8,10 @@ use Rattle.model.specs.Entries.{is_held_as}
 use Rattle.model.specs.Step.{Is}
 use Rattle.model.specs.declared.messages.Entry.{Entry}
 use Rattle.commands.specs.State.{Kept, broker_of, topology_kept, nothing}
-use Rattle.broker.specs.Rounds.{Rounds, Lists, HasNoList}
+use Rattle.broker.specs.Rounds.{Rounds, Lists, listed_on, AreItsListings, HasNoList}
 use Rattle.broker.proofs.Joined.{serves, serves_none}
 use Rattle.broker.proofs.Reloading.{own_empty}
+use Rattle.broker.proofs.Rising.{rises_none}
 use Rattle.broker.proofs.brokers.Broker.new.Goals as goal
 
 no_channel : (b : Broker) → Is nothing b → (c h : ℕ) (ch : Channel) → b.channel c h ≡ Some ch → ⊥
@@ -34,3 +35,4 @@ invariant_of-result c =
     let long : length rounds.rounds ≡ length (topology_kept core).queues = c.in_ok-rounds.ensures.rounds ∙ ap length c.queues.ensures ∙ ap (λ (t : Topology). length t.queues) (sym c.in_ok-core.ensures.topology) in
     serves core rounds (serves_none core rounds (nothing_agreed (broker_of core) c.in_ok-core.ensures.empty) long (λ d h. c.in_ok-core.ensures.empty.channels d h))
     (λ d none. subst (λ (ls : Lists). HasNoList ls d) (sym c.in_ok-rounds.ensures.lists) refl) (own_empty core rounds.rounds c.in_ok-rounds.ensures.empty)
+    (λ d h. subst (λ (ls : Lists). AreItsListings core d h (listed_on ls d h)) (sym c.in_ok-rounds.ensures.lists) (record { there = λ l i. absurd i; once = rises_none }))

@@ -1,5 +1,4 @@
-use Rattle.std.proofs.Common.{◌≡◌, [], refl, sym, subst}
-use Rattle.std.proofs.lemmas.Bool.{false≢true}
+use Rattle.std.proofs.Common.{[], refl, sym, subst}
 use Rattle.model.specs.Step.{Acts}
 use Rattle.model.specs.declared.events.Event.TheVariants.{Running}
 use Rattle.broker.specs.Rounds.{Rounds, IsServing}
@@ -8,7 +7,7 @@ use Rattle.commands.proofs.Ending.{opening_runs}
 use Rattle.broker.proofs.Joined.{holds, was_there, serves, serves_asleep, serves_kept, running_still}
 use Rattle.broker.specs.Turns.{WithTurn, with_turn}
 use Rattle.broker.specs.Waiting.{NoneIsLater}
-use Rattle.broker.proofs.Staying.{others_stay, own_left}
+use Rattle.broker.proofs.Staying.{others_stay, own_left, listed_left, none_listed}
 use Rattle.broker.proofs.Turning.{none_later, round_same, round_left}
 use Rattle.broker.proofs.brokers.Broker.open.Goals as goal
 
@@ -29,6 +28,7 @@ invariant_of-self-2 c =
     (serves_asleep c.brokers_stay_agreed.ensures.acts c.consumers_are_made.ensures (topology_kept old) old new (Running c.args.connection c.args.channel_max c.args.channels) [] [] before acts (λ p. refl) refl refl c.open.ensures.topology (holds old before c.self.invariant)))
     (running_still (broker_of old) (broker_of new) before.lists after.lists (opening_runs (topology_kept old) (broker_of old) (broker_of new) [] [] c.args.connection c.args.channel_max c.args.channels acts) c.leave.ensures.none c.self.invariant.running)
     (own_left old new c.args.connection before.rounds after.rounds c.open.ensures.topology (others_stay (topology_kept old) (broker_of old) (broker_of new) (Running c.args.connection c.args.channel_max c.args.channels) [] [] acts) c.self.invariant.own c.leave.ensures.lines)
+    (listed_left old new c.args.connection before.lists before.lists after.lists c.open.ensures.topology (others_stay (topology_kept old) (broker_of old) (broker_of new) (Running c.args.connection c.args.channel_max c.args.channels) [] [] acts) c.self.invariant.listed (none_listed new before.lists) c.leave.ensures.left)
 
 pub returns-clause-later : goal.returns-clause-later
 returns-clause-later c =

@@ -7,7 +7,7 @@ use Rattle.commands.proofs.Remaining.{same_stay}
 use Rattle.broker.proofs.Joined.{holds, was_there, serves, serves_asleep, running_still}
 use Rattle.broker.specs.Turns.{WithTurn, with_turn}
 use Rattle.broker.specs.Waiting.{NoneIsLater}
-use Rattle.broker.proofs.Staying.{own_stays}
+use Rattle.broker.proofs.Staying.{own_stays, listed_stays}
 use Rattle.broker.proofs.Turning.{none_later, round_same}
 use Rattle.broker.proofs.brokers.Broker.pause.Goals as goal
 
@@ -20,6 +20,7 @@ invariant_of-self c =
     (serves_asleep c.brokers_stay_agreed.ensures.acts c.consumers_are_made.ensures (topology_kept old) old new (Pause c.args.connection) [] [] rounds c.pause.ensures.acts (λ p. refl) refl refl c.pause.ensures.topology (holds old rounds c.self.invariant))
     (running_still (broker_of old) (broker_of new) rounds.lists rounds.lists (pause_runs (topology_kept old) (broker_of old) (broker_of new) [] [] c.args.connection c.pause.ensures.acts) (λ d none. none) c.self.invariant.running)
     (own_stays old new rounds.rounds c.pause.ensures.topology (same_stay (broker_of old) (broker_of new) c.pause.ensures.acts.left.channels) c.self.invariant.own)
+    (listed_stays old new rounds.lists c.pause.ensures.topology (same_stay (broker_of old) (broker_of new) c.pause.ensures.acts.left.channels) c.self.invariant.listed)
 
 pub returns-clause-later : goal.returns-clause-later
 returns-clause-later c =

@@ -8,7 +8,7 @@ use Rattle.commands.specs.State.{Kept, broker_of, topology_kept}
 use Rattle.commands.proofs.Ending.{delivery_runs}
 use Rattle.broker.proofs.Joined.{holds, was_there, serves, serves_asleep, running_still}
 use Rattle.broker.specs.Waiting.{NoneIsLater}
-use Rattle.broker.proofs.Staying.{delivery_stays, own_stays}
+use Rattle.broker.proofs.Staying.{delivery_stays, own_stays, listed_stays}
 use Rattle.broker.proofs.Turning.{none_later, round_same}
 use Rattle.broker.proofs.Waits.{serves_soon}
 use Rattle.broker.proofs.brokers.Broker.pump.Goals as goal
@@ -31,6 +31,7 @@ invariant_of-self-2 c =
     (serves_asleep c.brokers_stay_agreed.ensures.acts c.consumers_are_made.ensures (topology_kept old) old new (Deliver c.args.pick.connection) _ _ rounds acts (λ p. refl) refl refl c.deliver.ensures.topology (holds old rounds c.self.invariant))
     (running_still (broker_of old) (broker_of new) rounds.lists rounds.lists (delivery_runs (topology_kept old) (broker_of old) (broker_of new) _ _ c.args.pick.connection acts) (λ d none. none) c.self.invariant.running)
     (own_stays old new rounds.rounds c.deliver.ensures.topology (delivery_stays (broker_of old) (broker_of new) c.args.pick.connection _ _ c.in_ok-step.ensures.ok) c.self.invariant.own)
+    (listed_stays old new rounds.lists c.deliver.ensures.topology (delivery_stays (broker_of old) (broker_of new) c.args.pick.connection _ _ c.in_ok-step.ensures.ok) c.self.invariant.listed)
 
 pub returns-clause-addressed : goal.returns-clause-addressed
 returns-clause-addressed c = rw (← c.self.view_is) c.in_ok-step.ensures.addressed

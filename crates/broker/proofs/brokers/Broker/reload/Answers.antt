@@ -3,7 +3,7 @@ use Rattle.model.specs.Topology.{Topology, queue_names}
 use Rattle.model.specs.Reloading.{NoneIsStranded}
 use Rattle.depot.specs.Moving.{AreMoved}
 use Rattle.depot.proofs.Naming.{names-length}
-use Rattle.commands.specs.State.{Kept, topology_kept, names_of}
+use Rattle.commands.specs.State.{Kept, broker_of, topology_kept, names_of}
 use Rattle.broker.specs.Rounds.{Rounds}
 use Rattle.broker.specs.Moving.{ArePlacesApart, RoundsAreMoved, LinesCome, ListsAreMoved}
 use Rattle.broker.specs.Turns as seen
@@ -34,6 +34,7 @@ invariant_of-self-2 c =
     let is : topology_kept new ≡ c.args.topology = c.in_ok-places.ensures.topology in
     let count : length c.replace-old.new.dest.rounds ≡ length c.args.topology.queues = ap (λ (r : Rounds). length r.rounds) c.replace-old.ensures.after ∙ c.in_ok-empty.ensures.rounds ∙ ap length c.queues.ensures in
     serves_moved old new places c.is_kept-2.ensures.whole c.is_kept.ensures.placed (subst (λ (x : Topology). AreMoved (names_of old) (queue_names x.queues) places) (sym is) c.in_ok-places.ensures.moved) c.in_ok-places.ensures.stood
+    (subst (λ (x : Topology). NoneIsStranded (topology_kept old) x (broker_of old)) (sym is) (subst (λ (b : WithTurn). NoneIsStranded (seen.topology_kept b) c.args.topology (seen.broker_of b)) (sym c.self.view_is) c.requires))
     before c.in_ok-empty.empty left c.self.invariant
     (subst (λ (r : Rounds). RoundsAreMoved places r.rounds left.rounds) c.replace-old.ensures.value (subst (λ (ps : List ℕ). RoundsAreMoved ps c.replace-old.result.rounds left.rounds) c.deref.ensures.value c.take_over.ensures.moved))
     (subst (λ (r : Rounds). LinesCome places r.rounds c.in_ok-empty.empty.rounds left.rounds) c.replace-old.ensures.value

@@ -8,7 +8,7 @@ use Rattle.commands.proofs.Remaining.{same_stay}
 use Rattle.broker.proofs.Joined.{Holds, holds, was_there, serves, serves_still, serves_kept, notes_keep, keeps_all, running_still}
 use Rattle.broker.specs.Turns.{WithTurn, with_turn}
 use Rattle.broker.specs.Waiting.{NoneIsLater}
-use Rattle.broker.proofs.Staying.{own_same, own_stays}
+use Rattle.broker.proofs.Staying.{own_same, own_stays, listed_same, listed_stays}
 use Rattle.broker.proofs.Turning.{none_later, round_same}
 use Rattle.broker.proofs.brokers.Broker.resume.Goals as goal
 
@@ -25,6 +25,7 @@ invariant_of-self c =
     (λ place p woken has. c.wake.ensures.woken p (eqb-true p.connection c.args.connection woken, refl) (broker_of old) place (c.self.invariant.joined place p has)) refl refl c.resume.ensures.topology held)
     (running_still (broker_of old) (broker_of new) before.lists after.lists (resume_runs (topology_kept old) (broker_of old) (broker_of new) [] [] c.args.connection c.resume.ensures.acts) c.wake.ensures.none c.self.invariant.running)
     (own_stays old new after.rounds c.resume.ensures.topology (same_stay (broker_of old) (broker_of new) c.resume.ensures.acts.left.channels) (own_same old before.rounds after.rounds c.wake.ensures.on.same c.self.invariant.own))
+    (listed_stays old new after.lists c.resume.ensures.topology (same_stay (broker_of old) (broker_of new) c.resume.ensures.acts.left.channels) (listed_same old before.lists after.lists c.wake.ensures.same c.self.invariant.listed))
 
 pub returns-clause-later : goal.returns-clause-later
 returns-clause-later c =

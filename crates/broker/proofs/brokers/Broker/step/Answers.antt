@@ -6,6 +6,7 @@ use Rattle.commands.specs.declared.acted.Ends.{Ends}
 use Rattle.replies.specs.Sent.{connection_of_event}
 use Rattle.broker.proofs.Outcomes.{on_err}
 use Rattle.broker.proofs.Joined.{holds, came_there}
+use Rattle.broker.proofs.Staying.{listed_same}
 use Rattle.broker.proofs.Stepped.{goes, serving_on, round_then, has_ended, own_held, serving_held, own_left_then, serving_left}
 use Rattle.broker.specs.Turns.{WithTurn, with_turn}
 use Rattle.broker.specs.Waiting.{OneComesIn}
@@ -18,15 +19,19 @@ returns-in-Nothing-clause-addressed c = rw (← c.self.view_is) c.in_ok-acted.en
 pub returns-in_default-clause-addressed : goal.returns-in_default-clause-addressed
 returns-in_default-clause-addressed c = rw (← c.self.view_is) c.in_ok-acted.ensures.addressed
 
+-- what is listed is listed of consumers that are there
+pub expect_next-requires-clause-listed : goal.expect_next-requires-clause-listed
+expect_next-requires-clause-listed c = listed_same c.self.inside.core c.self.inside.rounds.lists c.wake_for.new.self.lists c.wake_for.ensures.same c.self.invariant.listed
+
 -- where memory is wanting for the newcomer
 pub invariant_of-self : goal.invariant_of-self
-invariant_of-self c = serving_on c.self.inside.core c.self.inside.rounds c.wake_for.new.self c.expect_next.new.self c.args.event.now c.self.invariant c.wake_for.ensures.kept c.wake_for.ensures.noted c.wake_for.ensures.none c.wake_for.ensures.on c.expect_next.ensures.kept c.expect_next.ensures.noted c.expect_next.ensures.running c.expect_next.ensures.on
+invariant_of-self c = serving_on c.self.inside.core c.self.inside.rounds c.wake_for.new.self c.expect_next.new.self c.args.event.now c.self.invariant c.wake_for.ensures.kept c.wake_for.ensures.noted c.wake_for.ensures.none c.wake_for.ensures.on c.expect_next.ensures.kept c.expect_next.ensures.noted c.expect_next.ensures.running c.expect_next.ensures.on c.wake_for.ensures.same c.expect_next.ensures.same
 
 -- where it is wanting for the step
 pub invariant_of-self-in_err-acted : goal.invariant_of-self-in_err-acted
 invariant_of-self-in_err-acted c =
     subst (λ (k : Kept). IsServing k c.expect_next.new.self) (sym c.in_err-acted.ensures.err)
-    (serving_on c.self.inside.core c.self.inside.rounds c.wake_for.new.self c.expect_next.new.self c.args.event.now c.self.invariant c.wake_for.ensures.kept c.wake_for.ensures.noted c.wake_for.ensures.none c.wake_for.ensures.on c.expect_next.ensures.kept c.expect_next.ensures.noted c.expect_next.ensures.running c.expect_next.ensures.on)
+    (serving_on c.self.inside.core c.self.inside.rounds c.wake_for.new.self c.expect_next.new.self c.args.event.now c.self.invariant c.wake_for.ensures.kept c.wake_for.ensures.noted c.wake_for.ensures.none c.wake_for.ensures.on c.expect_next.ensures.kept c.expect_next.ensures.noted c.expect_next.ensures.running c.expect_next.ensures.on c.wake_for.ensures.same c.expect_next.ensures.same)
 
 -- where the step is made, and nothing ended
 pub invariant_of-self-in-Nothing : goal.invariant_of-self-in-Nothing
@@ -35,8 +40,8 @@ invariant_of-self-in-Nothing c =
     let new : Kept = c.step.new.self in
     let runs = subst (λ (e : Ends). TellsEnd (connection_of_event c.args.event.now) e (broker_of old) (broker_of new)) c.in-Nothing.is c.in_ok-acted.ensures.ended in
     let stay = subst (λ (e : Ends). TellsStay e (broker_of old) (broker_of new)) c.in-Nothing.is c.in_ok-acted.ensures.stay in
-    serving_held c.self.inside.core c.self.inside.rounds c.wake_for.new.self c.expect_next.new.self c.args.event.now c.self.invariant c.wake_for.ensures.kept c.wake_for.ensures.noted c.wake_for.ensures.none c.wake_for.ensures.on c.expect_next.ensures.kept c.expect_next.ensures.noted c.expect_next.ensures.running c.expect_next.ensures.on
-    c.brokers_stay_agreed.ensures.acts c.consumers_are_made.ensures c.step.new.self c.join.new.self c.in_ok-newcomer.newcomer _ _ c.in_ok-acted.ensures.ok c.step.ensures.topology c.wake_for.ensures.woken c.expect_next.ensures.wakens c.in_ok-newcomer.ensures.expected c.join.ensures.joined c.join.ensures.kept c.join.ensures.lists c.join.ensures.len
+    serving_held c.self.inside.core c.self.inside.rounds c.wake_for.new.self c.expect_next.new.self c.args.event.now c.self.invariant c.wake_for.ensures.kept c.wake_for.ensures.noted c.wake_for.ensures.none c.wake_for.ensures.on c.expect_next.ensures.kept c.expect_next.ensures.noted c.expect_next.ensures.running c.expect_next.ensures.on c.wake_for.ensures.same c.expect_next.ensures.same
+    c.brokers_stay_agreed.ensures.acts c.consumers_are_made.ensures c.step.new.self c.join.new.self c.in_ok-newcomer.newcomer _ _ c.in_ok-acted.ensures.ok c.step.ensures.topology c.wake_for.ensures.woken c.expect_next.ensures.wakens c.in_ok-newcomer.ensures.expected c.join.ensures.joined c.join.ensures.kept c.join.ensures.noted c.join.ensures.listed c.join.ensures.none c.join.ensures.len
     runs stay c.join.ensures.adds
 
 -- and where something did
@@ -51,18 +56,18 @@ pub invariant_of-self-in_default : goal.invariant_of-self-in_default
 invariant_of-self-in_default c =
     let old : Kept = c.self.inside.core in
     let new : Kept = c.step.new.self in
-    serving_left c.self.inside.core c.self.inside.rounds c.wake_for.new.self c.expect_next.new.self c.args.event.now c.self.invariant c.wake_for.ensures.kept c.wake_for.ensures.noted c.wake_for.ensures.none c.wake_for.ensures.on c.expect_next.ensures.kept c.expect_next.ensures.noted c.expect_next.ensures.running c.expect_next.ensures.on
-    c.brokers_stay_agreed.ensures.acts c.consumers_are_made.ensures c.step.new.self c.join.new.self c.in_ok-newcomer.newcomer _ _ c.in_ok-acted.ensures.ok c.step.ensures.topology c.wake_for.ensures.woken c.expect_next.ensures.wakens c.in_ok-newcomer.ensures.expected c.join.ensures.joined c.join.ensures.kept c.join.ensures.lists c.join.ensures.len
+    serving_left c.self.inside.core c.self.inside.rounds c.wake_for.new.self c.expect_next.new.self c.args.event.now c.self.invariant c.wake_for.ensures.kept c.wake_for.ensures.noted c.wake_for.ensures.none c.wake_for.ensures.on c.expect_next.ensures.kept c.expect_next.ensures.noted c.expect_next.ensures.running c.expect_next.ensures.on c.wake_for.ensures.same c.expect_next.ensures.same
+    c.brokers_stay_agreed.ensures.acts c.consumers_are_made.ensures c.step.new.self c.join.new.self c.in_ok-newcomer.newcomer _ _ c.in_ok-acted.ensures.ok c.step.ensures.topology c.wake_for.ensures.woken c.expect_next.ensures.wakens c.in_ok-newcomer.ensures.expected c.join.ensures.joined c.join.ensures.kept c.join.ensures.noted c.join.ensures.listed c.join.ensures.none c.join.ensures.len
     c.connection_of.result c.connection_of.ensures c.leave.new.self c.join.ensures.adds c.leave.ensures.lines c.in_ok-acted.acted.ends
     (subst (λ (d : ℕ). TellsEnd d c.in_ok-acted.acted.ends (broker_of old) (broker_of new)) (sym c.connection_of.ensures) c.in_ok-acted.ensures.ended)
-    c.leave.ensures.kept c.leave.ensures.noted c.leave.ensures.gone c.leave.ensures.none c.leave.ensures.len
+    c.leave.ensures.kept c.leave.ensures.noted c.leave.ensures.gone c.leave.ensures.none c.leave.ensures.left c.leave.ensures.len
 
 -- all go on as before
 pub returns-in_err-newcomer-clause-err : goal.returns-in_err-newcomer-clause-err
 returns-in_err-newcomer-clause-err c =
     on_err c.from_residual.result
     (same_turns c.self.inside.core c.self.inside.rounds c.expect_next.new.self c.self.inside.turn
-    (goes c.self.inside.core c.self.inside.rounds c.wake_for.new.self c.expect_next.new.self c.args.event.now c.self.invariant c.wake_for.ensures.kept c.wake_for.ensures.noted c.wake_for.ensures.none c.wake_for.ensures.on c.expect_next.ensures.kept c.expect_next.ensures.noted c.expect_next.ensures.running c.expect_next.ensures.on)
+    (goes c.self.inside.core c.self.inside.rounds c.wake_for.new.self c.expect_next.new.self c.args.event.now c.self.invariant c.wake_for.ensures.kept c.wake_for.ensures.noted c.wake_for.ensures.none c.wake_for.ensures.on c.expect_next.ensures.kept c.expect_next.ensures.noted c.expect_next.ensures.running c.expect_next.ensures.on c.wake_for.ensures.same c.expect_next.ensures.same)
     ∙ c.self.view_is)
 
 pub returns-in_err-acted-clause-err : goal.returns-in_err-acted-clause-err
@@ -70,7 +75,7 @@ returns-in_err-acted-clause-err c =
     on_err c.from_residual-in_err-acted.result
     (ap (λ (k : Kept). with_turn k c.expect_next.new.self c.self.inside.turn) c.in_err-acted.ensures.err
     ∙ same_turns c.self.inside.core c.self.inside.rounds c.expect_next.new.self c.self.inside.turn
-    (goes c.self.inside.core c.self.inside.rounds c.wake_for.new.self c.expect_next.new.self c.args.event.now c.self.invariant c.wake_for.ensures.kept c.wake_for.ensures.noted c.wake_for.ensures.none c.wake_for.ensures.on c.expect_next.ensures.kept c.expect_next.ensures.noted c.expect_next.ensures.running c.expect_next.ensures.on)
+    (goes c.self.inside.core c.self.inside.rounds c.wake_for.new.self c.expect_next.new.self c.args.event.now c.self.invariant c.wake_for.ensures.kept c.wake_for.ensures.noted c.wake_for.ensures.none c.wake_for.ensures.on c.expect_next.ensures.kept c.expect_next.ensures.noted c.expect_next.ensures.running c.expect_next.ensures.on c.wake_for.ensures.same c.expect_next.ensures.same)
     ∙ c.self.view_is)
 
 -- nobody's turn is further off, whether something ended or not
@@ -82,13 +87,13 @@ returns-in-Nothing-clause-later c =
     let after : Rounds = c.join.new.self in
     let runs = subst (λ (e : Ends). TellsEnd (connection_of_event c.args.event.now) e (broker_of old) (broker_of new)) c.in-Nothing.is c.in_ok-acted.ensures.ended in
     let stay = subst (λ (e : Ends). TellsStay e (broker_of old) (broker_of new)) c.in-Nothing.is c.in_ok-acted.ensures.stay in
-    let on = goes c.self.inside.core c.self.inside.rounds c.wake_for.new.self c.expect_next.new.self c.args.event.now c.self.invariant c.wake_for.ensures.kept c.wake_for.ensures.noted c.wake_for.ensures.none c.wake_for.ensures.on c.expect_next.ensures.kept c.expect_next.ensures.noted c.expect_next.ensures.running c.expect_next.ensures.on in
+    let on = goes c.self.inside.core c.self.inside.rounds c.wake_for.new.self c.expect_next.new.self c.args.event.now c.self.invariant c.wake_for.ensures.kept c.wake_for.ensures.noted c.wake_for.ensures.none c.wake_for.ensures.on c.expect_next.ensures.kept c.expect_next.ensures.noted c.expect_next.ensures.running c.expect_next.ensures.on c.wake_for.ensures.same c.expect_next.ensures.same in
     subst (λ (b : WithTurn). OneComesIn c.args.event.now b (with_turn new after c.self.inside.turn)) c.self.view_is
     (one_comes old new before after c.self.inside.turn c.self.inside.turn c.step.ensures.topology (holds old before c.self.invariant) c.self.invariant.own
-    (own_held c.self.inside.core c.self.inside.rounds c.wake_for.new.self c.expect_next.new.self c.args.event.now c.self.invariant c.wake_for.ensures.kept c.wake_for.ensures.noted c.wake_for.ensures.none c.wake_for.ensures.on c.expect_next.ensures.kept c.expect_next.ensures.noted c.expect_next.ensures.running c.expect_next.ensures.on
-    c.brokers_stay_agreed.ensures.acts c.consumers_are_made.ensures c.step.new.self c.join.new.self c.in_ok-newcomer.newcomer _ _ c.in_ok-acted.ensures.ok c.step.ensures.topology c.wake_for.ensures.woken c.expect_next.ensures.wakens c.in_ok-newcomer.ensures.expected c.join.ensures.joined c.join.ensures.kept c.join.ensures.lists c.join.ensures.len
+    (own_held c.self.inside.core c.self.inside.rounds c.wake_for.new.self c.expect_next.new.self c.args.event.now c.self.invariant c.wake_for.ensures.kept c.wake_for.ensures.noted c.wake_for.ensures.none c.wake_for.ensures.on c.expect_next.ensures.kept c.expect_next.ensures.noted c.expect_next.ensures.running c.expect_next.ensures.on c.wake_for.ensures.same c.expect_next.ensures.same
+    c.brokers_stay_agreed.ensures.acts c.consumers_are_made.ensures c.step.new.self c.join.new.self c.in_ok-newcomer.newcomer _ _ c.in_ok-acted.ensures.ok c.step.ensures.topology c.wake_for.ensures.woken c.expect_next.ensures.wakens c.in_ok-newcomer.ensures.expected c.join.ensures.joined c.join.ensures.kept c.join.ensures.noted c.join.ensures.listed c.join.ensures.none c.join.ensures.len
     runs stay c.join.ensures.adds)
-    (round_then c.self.inside.core c.self.inside.rounds c.wake_for.new.self c.expect_next.new.self c.args.event.now c.self.invariant c.wake_for.ensures.kept c.wake_for.ensures.noted c.wake_for.ensures.none c.wake_for.ensures.on c.expect_next.ensures.kept c.expect_next.ensures.noted c.expect_next.ensures.running c.expect_next.ensures.on new after c.join.ensures.lines)
+    (round_then c.self.inside.core c.self.inside.rounds c.wake_for.new.self c.expect_next.new.self c.args.event.now c.self.invariant c.wake_for.ensures.kept c.wake_for.ensures.noted c.wake_for.ensures.none c.wake_for.ensures.on c.expect_next.ensures.kept c.expect_next.ensures.noted c.expect_next.ensures.running c.expect_next.ensures.on c.wake_for.ensures.same c.expect_next.ensures.same new after c.join.ensures.lines)
     c.args.event.now (c.join.ensures.next ∙ on.next)
     (came_there c.consumers_are_made.ensures (topology_kept old) old (broker_of new) c.args.event.now _ _ c.in_ok-acted.ensures.ok))
 
@@ -99,14 +104,14 @@ returns-in_default-clause-later c =
     let before : Rounds = c.self.inside.rounds in
     let after : Rounds = c.join.new.self in
     let left : Rounds = c.leave.new.self in
-    let on = goes c.self.inside.core c.self.inside.rounds c.wake_for.new.self c.expect_next.new.self c.args.event.now c.self.invariant c.wake_for.ensures.kept c.wake_for.ensures.noted c.wake_for.ensures.none c.wake_for.ensures.on c.expect_next.ensures.kept c.expect_next.ensures.noted c.expect_next.ensures.running c.expect_next.ensures.on in
+    let on = goes c.self.inside.core c.self.inside.rounds c.wake_for.new.self c.expect_next.new.self c.args.event.now c.self.invariant c.wake_for.ensures.kept c.wake_for.ensures.noted c.wake_for.ensures.none c.wake_for.ensures.on c.expect_next.ensures.kept c.expect_next.ensures.noted c.expect_next.ensures.running c.expect_next.ensures.on c.wake_for.ensures.same c.expect_next.ensures.same in
     subst (λ (b : WithTurn). OneComesIn c.args.event.now b (with_turn new left c.self.inside.turn)) c.self.view_is
     (one_comes old new before left c.self.inside.turn c.self.inside.turn c.step.ensures.topology (holds old before c.self.invariant) c.self.invariant.own
-    (own_left_then c.self.inside.core c.self.inside.rounds c.wake_for.new.self c.expect_next.new.self c.args.event.now c.self.invariant c.wake_for.ensures.kept c.wake_for.ensures.noted c.wake_for.ensures.none c.wake_for.ensures.on c.expect_next.ensures.kept c.expect_next.ensures.noted c.expect_next.ensures.running c.expect_next.ensures.on
-    c.brokers_stay_agreed.ensures.acts c.consumers_are_made.ensures c.step.new.self c.join.new.self c.in_ok-newcomer.newcomer _ _ c.in_ok-acted.ensures.ok c.step.ensures.topology c.wake_for.ensures.woken c.expect_next.ensures.wakens c.in_ok-newcomer.ensures.expected c.join.ensures.joined c.join.ensures.kept c.join.ensures.lists c.join.ensures.len
+    (own_left_then c.self.inside.core c.self.inside.rounds c.wake_for.new.self c.expect_next.new.self c.args.event.now c.self.invariant c.wake_for.ensures.kept c.wake_for.ensures.noted c.wake_for.ensures.none c.wake_for.ensures.on c.expect_next.ensures.kept c.expect_next.ensures.noted c.expect_next.ensures.running c.expect_next.ensures.on c.wake_for.ensures.same c.expect_next.ensures.same
+    c.brokers_stay_agreed.ensures.acts c.consumers_are_made.ensures c.step.new.self c.join.new.self c.in_ok-newcomer.newcomer _ _ c.in_ok-acted.ensures.ok c.step.ensures.topology c.wake_for.ensures.woken c.expect_next.ensures.wakens c.in_ok-newcomer.ensures.expected c.join.ensures.joined c.join.ensures.kept c.join.ensures.noted c.join.ensures.listed c.join.ensures.none c.join.ensures.len
     c.connection_of.result c.connection_of.ensures left c.join.ensures.adds c.leave.ensures.lines)
     (round_left new c.connection_of.result before.rounds after.rounds left.rounds
-    (round_then c.self.inside.core c.self.inside.rounds c.wake_for.new.self c.expect_next.new.self c.args.event.now c.self.invariant c.wake_for.ensures.kept c.wake_for.ensures.noted c.wake_for.ensures.none c.wake_for.ensures.on c.expect_next.ensures.kept c.expect_next.ensures.noted c.expect_next.ensures.running c.expect_next.ensures.on new after c.join.ensures.lines) c.leave.ensures.lines)
+    (round_then c.self.inside.core c.self.inside.rounds c.wake_for.new.self c.expect_next.new.self c.args.event.now c.self.invariant c.wake_for.ensures.kept c.wake_for.ensures.noted c.wake_for.ensures.none c.wake_for.ensures.on c.expect_next.ensures.kept c.expect_next.ensures.noted c.expect_next.ensures.running c.expect_next.ensures.on c.wake_for.ensures.same c.expect_next.ensures.same new after c.join.ensures.lines) c.leave.ensures.lines)
     c.args.event.now (c.leave.ensures.next ∙ c.join.ensures.next ∙ on.next)
     (came_there c.consumers_are_made.ensures (topology_kept old) old (broker_of new) c.args.event.now _ _ c.in_ok-acted.ensures.ok))
 

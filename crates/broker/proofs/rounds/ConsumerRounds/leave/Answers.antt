@@ -1,6 +1,6 @@
 use Rattle.std.proofs.Common.{sym, subst}
 use Rattle.commands.specs.State.{broker_of}
-use Rattle.broker.specs.Rounds.{Rounds, IsInItsRound, KeepLists, LeaveLines}
+use Rattle.broker.specs.Rounds.{Rounds, IsInItsRound, KeepLists, ListingsLeave, LeaveLines}
 use Rattle.broker.proofs.Stepped.{lists_kept}
 use Rattle.broker.proofs.rounds.ConsumerRounds.leave.Goals as goal
 
@@ -20,7 +20,11 @@ returns-in-Connection-clause-lines c = subst (λ (r : Rounds). LeaveLines c.args
 -- and where it does
 pub returns-in_default-clause-kept : goal.returns-in_default-clause-kept
 returns-in_default-clause-kept c = λ place p i has.
-    c.leave.ensures.kept place c.self.inside.sleepers.entries p (subst (λ (r : Rounds). IsInItsRound (broker_of c.args.core.now) r place p) (sym c.self.view_is) i) has
+    lists_kept c.args.core.now c.self.inside.sleepers.entries c.leave_lists.new.sleepers.entries c.leave.new.self c.leave_lists.ensures.kept place p
+    (c.leave.ensures.kept place c.self.inside.sleepers.entries p (subst (λ (r : Rounds). IsInItsRound (broker_of c.args.core.now) r place p) (sym c.self.view_is) i) has) has
 
 pub returns-in_default-clause-lines : goal.returns-in_default-clause-lines
 returns-in_default-clause-lines c = subst (λ (r : Rounds). LeaveLines c.args.core.now c.args.connection r.rounds c.leave.new.self) c.self.view_is c.leave.ensures.lines
+
+pub returns-in-Connection-clause-left : goal.returns-in-Connection-clause-left
+returns-in-Connection-clause-left c = subst (λ (r : Rounds). ListingsLeave c.args.core.now c.args.connection r.lists c.forget_connection.new.sleepers.entries) c.self.view_is (c.forget_connection.ensures.left c.args.core.now)

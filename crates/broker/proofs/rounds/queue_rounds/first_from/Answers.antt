@@ -1,4 +1,4 @@
-use Rattle.std.proofs.Common.{◌∙◌, ◌<◌, inl, inr, refl, arith}
+use Rattle.std.proofs.Common.{◌<◌, inl, inr, refl, arith}
 use Rattle.std.proofs.lemmas.Bool.Decides.{leb_tells}
 use Rattle.broker.specs.Rounds.{rounds_of, NoneBetween, NonePassed, PicksFrom}
 use Rattle.broker.proofs.Orders.{queues_on, queues_back, picks_since}

@@ -1,4 +1,4 @@
-use Rattle.std.proofs.Common.{◌∙◌, [], set, sym, ap, subst, arith}
+use Rattle.std.proofs.Common.{[], sym, subst}
 use Rattle.std.proofs.lemmas.List.{get_or-set_same}
 use Rattle.channels.proofs.Setting.{same_default}
 use Rattle.broker.specs.Rounds.{Waiters, round_at, IsAwake, KeepsRound, LeaveLine}

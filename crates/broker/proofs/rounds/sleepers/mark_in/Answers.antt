@@ -1,6 +1,6 @@
 use Rattle.std.proofs.Common.{◌∙◌, List, set, sym, ap, subst}
 use Rattle.std.proofs.lemmas.List.{set-get_or}
-use Rattle.broker.specs.Rounds.{Listing, listing, IsAsleepIn}
+use Rattle.broker.specs.Rounds.{listings_of, Listing, listing, IsAsleepIn}
 use Rattle.broker.proofs.Listed.{asleep_more}
 use Rattle.broker.proofs.rounds.sleepers.mark_in.Goals as goal
 
@@ -11,7 +11,7 @@ returns-in-Some-clause-same c = ap (λ (l : Listing). set c.args.listed.now c.in
 pub returns-in-Some-clause-marked : goal.returns-in-Some-clause-marked
 returns-in-Some-clause-marked c =
     let l = listing c.args.queue c.args.consumer in
-    subst (λ (ls : List Listing). IsAsleepIn (record { all = ls; asleep = c.set.new.self }) l) (sym (returns-in-Some-clause-same c)) (
+    subst (λ (ls : List Listing). IsAsleepIn (listings_of ls c.set.new.self) l) (sym (returns-in-Some-clause-same c)) (
       c.in-Some.at,
       record {
         within = c.in-Some.ensures.some.within;
@@ -22,7 +22,7 @@ returns-in-Some-clause-marked c =
 
 pub returns-in-Some-clause-stay : goal.returns-in-Some-clause-stay
 returns-in-Some-clause-stay c = λ l i.
-    subst (λ (ls : List Listing). IsAsleepIn (record { all = ls; asleep = c.set.new.self }) l) (sym (returns-in-Some-clause-same c))
+    subst (λ (ls : List Listing). IsAsleepIn (listings_of ls c.set.new.self) l) (sym (returns-in-Some-clause-same c))
     (asleep_more c.args.listed.now c.args.asleep.now c.set.new.self c.in-Some.at c.set.ensures.set l i)
 
 pub returns-in-None-clause-marked : goal.returns-in-None-clause-marked

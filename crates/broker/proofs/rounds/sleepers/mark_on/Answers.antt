@@ -1,7 +1,7 @@
 use Rattle.std.proofs.Common.{[], List, sym, subst, arith}
 use Rattle.model.specs.Topology.{IsIn}
 use Rattle.channels.proofs.Setting.{same_default}
-use Rattle.broker.specs.Rounds.{Listing, Listings, listing, listings_on, IsAsleepIn, SleepMore}
+use Rattle.broker.specs.Rounds.{listings_of, Listing, Listings, listing, listings_on, IsAsleepIn, SleepMore}
 use Rattle.broker.proofs.Listed.{on_same, on_each, past_end, more_same}
 use Rattle.broker.proofs.rounds.sleepers.mark_on.Goals as goal
 
@@ -11,7 +11,7 @@ returns-then-at-channels-clause-marked c =
 
 pub returns-then-at-channels-clause-more : goal.returns-then-at-channels-clause-more
 returns-then-at-channels-clause-more c =
-    let none : Listings = record { all = []; asleep = [] } in
+    let none : Listings = listings_of [] [] in
     on_each c.args.channels.now c.args.consumer.channel c.mark.new.self c.if-at-channels.true SleepMore
     (subst (λ (s : Listings). SleepMore s c.mark.new.self) (sym (same_default c.args.channels.now c.args.consumer.channel none c.index-channels-at.result c.if-at-channels.true)) c.mark.ensures.more) (λ h. more_same (listings_on c.args.channels.now h))
 

@@ -1,7 +1,7 @@
 use Rattle.std.proofs.Common.{◌∙◌, List, length, sym, ap, subst, arith}
 use Rattle.std.proofs.lemmas.List.{take_at}
 use Rattle.model.specs.Topology.{IsIn}
-use Rattle.broker.specs.Rounds.{Listing, Listings, listing, NumbersRise, IsAsleepIn}
+use Rattle.broker.specs.Rounds.{listings_of, Listing, Listings, listing, NumbersRise, IsAsleepIn}
 use Rattle.broker.proofs.rounds.sleepers.ChannelSleepers.mark.Goals as goal
 
 pub mark_in-requires-clause-noted : goal.mark_in-requires-clause-noted
@@ -14,17 +14,17 @@ mark_in-requires-clause-rising c = subst (λ (ls : List Listing). NumbersRise ls
 pub returns-clause-marked : goal.returns-clause-marked
 returns-clause-marked c =
     let back = take_at c.mark_in.new.listed _ c.self.inside.listed.len (c.mark_in.auto.listed ∙ c.deref_mut.ensures.len) in
-    subst (λ (ls : List Listing). IsAsleepIn (record { all = ls; asleep = c.mark_in.new.asleep }) (listing c.args.queue c.args.consumer)) (sym back) c.mark_in.ensures.marked
+    subst (λ (ls : List Listing). IsAsleepIn (listings_of ls c.mark_in.new.asleep) (listing c.args.queue c.args.consumer)) (sym back) c.mark_in.ensures.marked
 
 pub returns-clause-more : goal.returns-clause-more
 returns-clause-more c =
     let back = take_at c.mark_in.new.listed _ c.self.inside.listed.len (c.mark_in.auto.listed ∙ c.deref_mut.ensures.len) in
-    let was = ap (λ (ls : List Listing). record { all = ls; asleep = c.self.inside.asleep }) c.deref_mut.ensures.value ∙ c.self.view_is in
+    let was = c.deref_mut.ensures.value in
     record {
-      same = back ∙ c.mark_in.ensures.same ∙ ap (λ (s : Listings). s.all) was;
+      same = back ∙ c.mark_in.ensures.same ∙ was ∙ ap (λ (s : Listings). s.all) c.self.view_is;
       stay = λ l i.
-          subst (λ (ls : List Listing). IsAsleepIn (record { all = ls; asleep = c.mark_in.new.asleep }) l) (sym back)
-          (c.mark_in.ensures.stay l (subst (λ (s : Listings). IsAsleepIn s l) (sym was) i));
+          subst (λ (ls : List Listing). IsAsleepIn (listings_of ls c.mark_in.new.asleep) l) (sym back)
+          (c.mark_in.ensures.stay l (subst (λ (ls : List Listing). IsAsleepIn (listings_of ls c.self.inside.asleep) l) (sym was) (subst (λ (s : Listings). IsAsleepIn s l) (sym c.self.view_is) i)));
     }
 
 pub invariant_of-self : goal.invariant_of-self
@@ -34,5 +34,4 @@ invariant_of-self c =
     let long = ap (λ (ls : List Listing). length ls) same in
     let marks = c.mark_in.ensures.len in
     let room = c.self.invariant.0 in
-    let few = c.self.invariant.2 in
-    (omega (arith, long, marks, room), subst (λ (ls : List Listing). NumbersRise ls) (sym same) c.self.invariant.1, omega (arith, long, few))
+    (omega (arith, long, marks, room), subst (λ (ls : List Listing). NumbersRise ls) (sym same) c.self.invariant.1)

@@ -13,5 +13,4 @@ invariant_of-self c =
     let same = back ∙ c.move_listed.ensures ∙ ap (map (listing_moved places)) c.deref_mut.ensures.value in
     let long = ap (λ (ls : List Listing). length ls) same ∙ length-map items (listing_moved places) in
     let room = c.self.invariant.0 in
-    let few = c.self.invariant.2 in
-    (omega (arith, long, room), subst (λ (ls : List Listing). NumbersRise ls) (sym same) (rises_moved places items c.self.invariant.1), omega (arith, long, few))
+    (omega (arith, long, room), subst (λ (ls : List Listing). NumbersRise ls) (sym same) (rises_moved places items c.self.invariant.1))

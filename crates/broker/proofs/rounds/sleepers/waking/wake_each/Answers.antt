@@ -2,7 +2,7 @@ use Rattle.std.proofs.Common.{◌≡◌, ◌∙◌, ◌+◌, [], List, length, g
 use Rattle.std.proofs.lemmas.Bool.Decides.{leb_tells}
 use Rattle.std.proofs.lemmas.List.{get_or-set_other}
 use Rattle.channels.proofs.Setting.{same_default}
-use Rattle.broker.specs.Rounds.{Listing, Listings, listings_on, IsAsleepIn}
+use Rattle.broker.specs.Rounds.{listings_of, Listing, Listings, listings_on, IsAsleepIn}
 use Rattle.broker.proofs.Listed.{on_each, past_end}
 use Rattle.broker.proofs.Sleeping.{waken_on, woken_still, woken_one}
 use Rattle.broker.proofs.rounds.sleepers.waking.wake_each.Goals as goal
@@ -15,7 +15,7 @@ loop-place-preserved c =
     let one = c.index-channels-place.result in
     let inside = c.loop-place-test.true in
     let long = c.loop-place.auto.channels in
-    let none : Listings = record { all = []; asleep = [] } in
+    let none : Listings = listings_of [] [] in
     let here : listings_on c.loop-place.channels c.loop-place.place ≡ get_or c.loop-place.channels c.loop-place.place one = same_default c.loop-place.channels c.loop-place.place none one (omega (arith, inside, long)) in
     record {
       len = c.wake.ensures.len ∙ c.loop-place.invariant.len;

@@ -1,6 +1,6 @@
 use Rattle.std.proofs.Common.{◌≡◌, ◌∙◌, ◌+◌, ℕ, inl, inr, sym, ap, subst, arith, get_or}
 use Rattle.std.proofs.lemmas.Bool.Decides.{leb_tells}
-use Rattle.broker.specs.Rounds.{Listings, IsWoken}
+use Rattle.broker.specs.Rounds.{listings_of, Listings, IsWoken}
 use Rattle.broker.proofs.Listed.{woken_gap}
 use Rattle.broker.proofs.Sleeping.{waken_on, woken_still, woken_one}
 use Rattle.broker.proofs.rounds.sleepers.waking.wake_listed.Goals as goal
@@ -10,7 +10,7 @@ marked-preserved c =
     let old = c.args.rounds.now in
     let mid = c.marked.rounds in
     let new = c.wake.new.rounds in
-    let s : Listings = record { all = c.args.listed.now; asleep = c.args.asleep.now } in
+    let s : Listings = listings_of c.args.listed.now c.args.asleep.now in
     let size = c.clear.ensures.size in
     let was = c.marked.invariant.size in
     let least = c.in-Some.ensures.some.least in
@@ -36,10 +36,10 @@ pub returns-then-at-listed-clause-woken : goal.returns-then-at-listed-clause-wok
 returns-then-at-listed-clause-woken c = λ m slept.
     let past = c.if-at-listed.true in
     let lt = slept.1.within in
-    woken_gap (record { all = c.args.listed.now; asleep = c.args.asleep.now }) c.marked.asleep c.args.rounds.now c.marked.rounds c.marked.next c.in-Some.at c.marked.invariant.woken c.marked.invariant.behind c.in-Some.ensures.some.before
+    woken_gap (listings_of c.args.listed.now c.args.asleep.now) c.marked.asleep c.args.rounds.now c.marked.rounds c.marked.next c.in-Some.at c.marked.invariant.woken c.marked.invariant.behind c.in-Some.ensures.some.before
     slept.0 m (omega (arith, past, lt)) slept.1
 
 pub returns-clause-woken : goal.returns-clause-woken
 returns-clause-woken c = λ m slept.
-    woken_gap (record { all = c.args.listed.now; asleep = c.args.asleep.now }) c.marked.asleep c.args.rounds.now c.marked.rounds c.marked.next (slept.0 + 1) c.marked.invariant.woken c.marked.invariant.behind
+    woken_gap (listings_of c.args.listed.now c.args.asleep.now) c.marked.asleep c.args.rounds.now c.marked.rounds c.marked.next (slept.0 + 1) c.marked.invariant.woken c.marked.invariant.behind
     (λ k le lt. c.in_default.ensures.none k le) slept.0 m (omega arith) slept.1

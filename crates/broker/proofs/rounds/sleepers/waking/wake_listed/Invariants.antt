@@ -10,7 +10,7 @@ invariant-marked l = record {
   len : length l.rounds ≡ length l.fn.rounds;
   wakens : AllWaken l.fn.rounds l.rounds;
   behind : (i : ℕ) → l.next ≤ i → bit_of l.asleep i ≡ bit_of l.fn.asleep i;
-  woken : (i : ℕ) (m : Listing) → i < l.next → IsAsleepAt (record { all = l.listed; asleep = l.fn.asleep }) i m → IsWoken l.fn.rounds l.rounds m;
+  woken : (i : ℕ) (m : Listing) → i < l.next → IsAsleepAt l.listed l.fn.asleep i m → IsWoken l.fn.rounds l.rounds m;
 }
 
 abbrev pub decreases-marked : goal.decreases-marked

@@ -1,0 +1,7 @@
+use Rattle.std.proofs.Common.{List, sym, subst}
+use Rattle.broker.specs.Rounds.{Listing, is_listed_there, NumbersRise}
+use Rattle.broker.proofs.Rising.{rises_swept}
+use Rattle.broker.proofs.rounds.sleepers.ChannelSleepers.leave.Goals as goal
+
+pub invariant_of-self : goal.invariant_of-self
+invariant_of-self c = (c.let_go.ensures.marks, subst (λ (ls : List Listing). NumbersRise ls) (sym c.let_go.ensures.all) (rises_swept (is_listed_there c.args.core.now) c.self.inside.listed.items c.self.invariant.1))
