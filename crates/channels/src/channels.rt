@@ -1,8 +1,8 @@
 //! What is kept of an open channel.
 
-ghost use Rattle.std.specs.Prelude.{◌≡◌, ◌+◌, ◌*◌, ◌<◌, ◌≤◌, List, length, None, Some, true, false, IfSome, OnOk, OnErr, option_map};
+ghost use Rattle.std.specs.Prelude.{◌≡◌, ◌+◌, ◌*◌, ◌<◌, ◌≤◌, List, length, None, Some, true, false, IfSome, OnOk, OnErr, option_map, nat_lt};
 ghost use Rattle.model.specs.Words.{Text as Name};
-ghost use Rattle.model.specs.Consuming.{without_consumer};
+ghost use Rattle.model.specs.Consuming.{is_in_use, without_consumer};
 ghost use Rattle.model.specs.Step.{started, next_of, is_spent};
 ghost use Rattle.model.specs.Prefetch.{has_tag_left};
 ghost use Rattle.model.specs.Placed.{waiting};
@@ -192,6 +192,20 @@ impl Channel {
         ensures one { IfSome result (λ k. IsOne self.now number k.now) }
     {
         self.deliveries.consumer(number)
+    }
+
+    /// Whether it has a consumer.
+    pub fn has_consumers(&self) -> bool
+        ensures { result ≡ nat_lt 0 (length self.now.given.consumers) }
+    {
+        self.deliveries.has_consumers()
+    }
+
+    /// Whether one of its consumers has this tag.
+    pub fn has_tagged(&self, tag: &[u8]) -> bool
+        ensures { (names : List Name) → result ≡ is_in_use tag.now (open_in names self.now).consumers }
+    {
+        self.deliveries.has_tagged(tag)
     }
 
     /// How many of its consumers take from the queue at this place.

@@ -44,7 +44,8 @@ impl Model for Deliveries {
 }
 
 impl Deliveries {
-    ghost use Rattle.std.specs.Prelude.{◌≡◌, ◌<◌, ◌≤◌, ◌+◌, ◌-◌, ◌*◌, [], length, true, filter, count_by, not, option_map, OnOk, OnErr};
+    ghost use Rattle.std.specs.Prelude.{◌≡◌, ◌<◌, ◌≤◌, ◌+◌, ◌-◌, ◌*◌, [], length, true, filter, count_by, nat_lt, not, option_map, OnOk, OnErr};
+    ghost use Rattle.std.specs.List.{list_any};
     ghost use Rattle.model.specs.Settling.{kept};
     ghost use Rattle.model.specs.Prefetch.{has_tag_left};
     ghost use Rattle.channels.specs.Outstanding.{tag_of};
@@ -204,6 +205,20 @@ impl Deliveries {
         ensures numbered { AreNumbered self.now.next_number self.now.consumers }
     {
         self.seats.numbered(number)
+    }
+
+    /// Whether there is a consumer.
+    pub fn has_consumers(&self) -> bool
+        ensures { result ≡ nat_lt 0 (length self.now.consumers) }
+    {
+        self.seats.len() > 0
+    }
+
+    /// Whether some consumer has this tag.
+    pub fn has_tagged(&self, tag: &[u8]) -> bool
+        ensures { result ≡ list_any (is_named tag.now) self.now.consumers }
+    {
+        self.seats.has(tag)
     }
 
     /// How many of the consumers take from the queue at this place.
