@@ -7,10 +7,9 @@ use Rattle.model.specs.Broker.{Connection, Broker, with_one}
 use Rattle.model.specs.Step.{Is, Acts, with_gone, paused}
 use Rattle.model.specs.declared.events.Send.{Send}
 use Rattle.model.specs.declared.events.Event.TheVariants.{Running, Lose, Pause, Resume, Deliver}
-use Rattle.model.specs.declared.methods.Method.{Method}
 use Rattle.model.specs.declared.notes.Note.{Note}
 use Rattle.commands.specs.declared.acted.Ends.TheVariants as ends
-use Rattle.commands.specs.Ended.{AllRunStill, OthersRunStill, TellsEnd, ends_of, keeps_consumers}
+use Rattle.commands.specs.Ended.{AllRunStill, OthersRunStill, TellsEnd, ends_of}
 
 module _ (old new : Broker) where
   -- where connections are as they were, each runs still that ran
@@ -44,13 +43,10 @@ module _ (old new : Broker) where
   paused_run v None e = refl
   paused_run v (Some conn) e = absurd (false≢true (sym (ap is_some e)))
 
--- a command that is performed on its channel alone ends no connection
-pub performed_runs : (c : ℕ) (old new : Broker) (m : Method) → AllRunStill old new → TellsEnd c (ends_of m) old new
-performed_runs c old new m runs = go (keeps_consumers m)
-  where
-    go : (v : Bool) → TellsEnd c (if v then ends.Nothing else ends.Consumers) old new
-    go true = runs
-    go false = runs
+-- where consumers leave, or do not, no connection ends
+pub leaving_runs : (c : ℕ) (old new : Broker) (leaves : Bool) → AllRunStill old new → TellsEnd c (ends_of leaves) old new
+leaving_runs c old new true runs = runs
+leaving_runs c old new false runs = runs
 
 -- a loss ends no other connection; an opening, a pause and its end, and a delivery end none
 module _ (t : Topology) (old new : Broker) (sends : List Send) (notes : List Note) where

@@ -1,13 +1,17 @@
--- Consumers that are there still.
-use Rattle.std.proofs.Common.{◌≡◌, ◌∙◌, ℕ, List, [], ◌∷◌, ◌++◌, Bool, true, false, Option, Some, None, inl, inr, refl, sym, subst, Result, Ok}
-use Rattle.std.specs.Prelude.{◌==◌, ◌&&◌, if◌then◌else◌}
-use Rattle.std.proofs.lemmas.Bool.{eqb-true, false≢true}
+-- Consumers that are there still, and those that leave.
+use Rattle.std.proofs.Common.{◌≡◌, ◌∙◌, ℕ, List, [], ◌∷◌, ◌++◌, filter, not, cond, Bool, true, false, Option, Some, None, inl, inr, refl, sym, ap, subst, Result, Ok, Err, arith}
+use Rattle.std.specs.Prelude.{◌==◌, ◌&&◌, ◌||◌, if◌then◌else◌, is_some, option_map, nat_lt, length, IfOk, OnOk}
+use Rattle.std.specs.declared.alloc.AllocError.{AllocError}
+use Rattle.std.proofs.lemmas.Bool.{eqb-true, eq-eqb, lt-ltb, false≢true}
+use Rattle.model.specs.Words.{Text}
 use Rattle.model.specs.Topology.{Topology, IsIn}
-use Rattle.model.specs.Broker.{Consumer, Channel, Broker, new_channel, with_pair}
-use Rattle.model.specs.Consuming.{consumer_of}
+use Rattle.model.specs.Broker.{Consumer, Channel, Broker, new_channel, with_pair, with_row}
+use Rattle.model.specs.Consuming.{consumer_of, is_tagged, is_in_use, without_consumer}
 use Rattle.model.specs.Deliveries.{first_ready}
-use Rattle.model.specs.Step.{Is, Does, Gets, Performs, channel_or_new, with_channel}
+use Rattle.model.specs.Entries.{by_channel}
+use Rattle.model.specs.Step.{Is, Acts, Does, Gets, Performs, after_close, channel_or_new, with_channel, with_closing, with_freed, with_gone}
 use Rattle.model.specs.declared.contents.Content.{Content}
+use Rattle.model.specs.declared.events.Event.TheVariants.{Running, Command, TooLarge, Fault}
 use Rattle.model.specs.declared.events.Send.{Send}
 use Rattle.model.specs.declared.messages.Entry.{Entry}
 use Rattle.model.specs.declared.methods.Get.{Get}
@@ -16,44 +20,157 @@ use Rattle.model.specs.declared.methods.Method.{Method}
 use Rattle.model.specs.declared.methods.Method.TheVariants.{ConnectionClose, ChannelOpen, ChannelFlow, ChannelClose, ChannelCloseOk, ExchangeDeclare, QueueDeclare, QueuePurge, BasicQos, BasicConsume, BasicCancel, BasicPublish, BasicGet, BasicAck, BasicReject, BasicNack, BasicRecover, ConfirmSelect}
 use Rattle.model.specs.declared.notes.Note.{Note}
 use Rattle.laws.specs.Consumers.{WasConsumer}
+use Rattle.channels.specs.Open.{open_in}
+use Rattle.channels.specs.RunningConnections as running
+use Rattle.channels.specs.RunningConnections.{running_in, channel_at, connection_at}
 use Rattle.replies.specs.declared.steps.Step.{Step}
 use Rattle.commands.specs.declared.commands.Done.TheVariants.{Performed}
 use Rattle.commands.specs.Commands.{AnswersOn}
+use Rattle.commands.specs.declared.acted.Acted.{Acted}
+use Rattle.commands.specs.declared.acted.Ends.{Ends}
 use Rattle.commands.specs.declared.acted.Ends.TheVariants as ended
-use Rattle.commands.specs.Ended.{AllConsumersStay, TellsStay, keeps_consumers, ends_of}
-use Rattle.commands.specs.State.{Kept, broker_of, topology_kept}
+use Rattle.commands.specs.Ended.{AllConsumersStay, OtherConsumersStay, LeavesChannel, TellsStayOn, TellsStay, has_consumers, cancels_one, ends_of}
+use Rattle.commands.specs.Judged.{opens_or_closes}
+use Rattle.commands.specs.State.{Kept, broker_of, channel_on, names_of, topology_kept}
 
--- ---- channels
+-- ---- lists of consumers
 
-module _ (old new : Broker) where
-  -- no channel changed
-  pub same_stay : ((c h : ℕ) → new.channel c h ≡ old.channel c h) → AllConsumersStay old new
-  same_stay is c h k (ch, at, i) = (ch, is c h ∙ at, i)
+-- one of those that there are
+some_in : (ks : List Consumer) → nat_lt 0 (length ks) ≡ true → (k : Consumer) × IsIn k ks
+some_in [] e = absurd (false≢true e)
+some_in (k ∷ ks) e = (k, inl refl)
 
-  -- one is this now, which has those that it had
-  pub one_stays : (c h : ℕ) (x : Channel) → ((d l : ℕ) → new.channel d l ≡ with_pair old.channel c h (Some x) d l) → ((k : Consumer) → IsIn k (channel_or_new (old.channel c h)).consumers → IsIn k x.consumers)
-      → AllConsumersStay old new
-  one_stays c h x is has d l k (ch, at, i) = go (d == c) (l == h) refl refl (sym (is d l))
-    where
-      go : (v w : Bool) → (d == c) ≡ v → (l == h) ≡ w → (if v && w then Some x else old.channel d l) ≡ new.channel d l → WasConsumer new d l k
-      go true true first second e =
-          let here : old.channel c h ≡ Some ch = subst (λ (n : ℕ). old.channel n h ≡ Some ch) (eqb-true d c first) (subst (λ (n : ℕ). old.channel d n ≡ Some ch) (eqb-true l h second) at) in
-          (x, sym e, has k (subst (λ (o : Option Channel). IsIn k (channel_or_new o).consumers) (sym here) i))
-      go true false first second e = (ch, sym e ∙ at, i)
-      go false w first second e = (ch, sym e ∙ at, i)
-
-  -- one that was not there is there
-  pub opened_stay : (c h : ℕ) → old.channel c h ≡ None → Is (with_channel old c h (Some new_channel)) new → AllConsumersStay old new
-  opened_stay c h none is = one_stays c h new_channel is.channels (λ k i. absurd (subst (λ (o : Option Channel). IsIn k (channel_or_new o).consumers) none i))
-
--- ---- commands
+none_in : (ks : List Consumer) (k : Consumer) → nat_lt 0 (length ks) ≡ false → IsIn k ks → ⊥
+none_in [] k e i = i
+none_in (x ∷ ks) k e i = false≢true (sym e ∙ lt-ltb 0 (length (x ∷ ks)) (omega arith))
 
 in_front : (k : Consumer) (ks more : List Consumer) → IsIn k ks → IsIn k (ks ++ more)
 in_front k [] more i = absurd i
 in_front k (x ∷ ks) more (inl e) = inl e
 in_front k (x ∷ ks) more (inr i) = inr (in_front k ks more i)
 
--- a command that keeps its consumers is performed
+-- where a tag is in use, one of them has it
+record IsTagged (tag : Text) (ks : List Consumer) : Type 0 where
+  consumer : Consumer
+  among : IsIn consumer ks
+  tagged : is_tagged tag consumer ≡ true
+
+tagged_in : (tag : Text) (ks : List Consumer) → is_in_use tag ks ≡ true → IsTagged tag ks
+tagged_in tag [] e = absurd (false≢true e)
+tagged_in tag (x ∷ ks) e = go (is_tagged tag x) refl (tagged_in tag ks) e
+  where
+    go : (b : Bool) → is_tagged tag x ≡ b → (is_in_use tag ks ≡ true → IsTagged tag ks) → (b || is_in_use tag ks) ≡ true → IsTagged tag (x ∷ ks)
+    go true t more e = record { consumer = x; among = inl refl; tagged = t }
+    go false t more e = let one = more e in record { consumer = one.consumer; among = inr one.among; tagged = one.tagged }
+
+abbrev untagged : Text → List Consumer → List Consumer
+untagged tag ks = filter (λ k. not (is_tagged tag k)) ks
+
+-- it is not among those that are left
+tagged_gone : (tag : Text) (ks : List Consumer) (k : Consumer) → is_tagged tag k ≡ true → IsIn k (untagged tag ks) → ⊥
+tagged_gone tag [] k t i = i
+tagged_gone tag (x ∷ ks) k t i = go (is_tagged tag x) refl (tagged_gone tag ks k t) i
+  where
+    go : (b : Bool) → is_tagged tag x ≡ b → (IsIn k (untagged tag ks) → ⊥) → IsIn k (cond (not b) (x ∷ untagged tag ks) (untagged tag ks)) → ⊥
+    go true is more i = more i
+    go false is more (inl e) = false≢true (sym is ∙ ap (is_tagged tag) (sym e) ∙ t)
+    go false is more (inr i) = more i
+
+-- and where none has it each is left
+untagged_left : (tag : Text) (ks : List Consumer) (k : Consumer) → is_in_use tag ks ≡ false → IsIn k ks → IsIn k (untagged tag ks)
+untagged_left tag [] k none i = i
+untagged_left tag (x ∷ ks) k none i = go (is_tagged tag x) (untagged_left tag ks k) none i
+  where
+    go : (b : Bool) → (is_in_use tag ks ≡ false → IsIn k ks → IsIn k (untagged tag ks)) → (b || is_in_use tag ks) ≡ false → IsIn k (x ∷ ks) → IsIn k (cond (not b) (x ∷ untagged tag ks) (untagged tag ks))
+    go true more none i = absurd (false≢true (sym none))
+    go false more none (inl e) = inl e
+    go false more none (inr i) = inr (more none i)
+
+-- ---- channels
+
+both : (p q : Bool) → (p && q) ≡ true → (p ≡ true) × (q ≡ true)
+both true true e = (refl, refl)
+both true false e = absurd (false≢true e)
+both false q e = absurd (false≢true e)
+
+-- what is told where it is known whether one leaves
+tells_on : (c h : ℕ) (old new : Broker) (v : Bool) → (v ≡ true → LeavesChannel c h old new) → (v ≡ false → AllConsumersStay old new) → TellsStayOn c h (ends_of v) old new
+tells_on c h old new true leaves stay = leaves refl
+tells_on c h old new false leaves stay = stay refl
+
+module _ (old new : Broker) where
+  -- no channel changed
+  pub same_stay : ((c h : ℕ) → new.channel c h ≡ old.channel c h) → AllConsumersStay old new
+  same_stay is c h k (ch, at, i) = (ch, is c h ∙ at, i)
+
+  -- the channels of one connection changed
+  pub row_stays : (c : ℕ) (row : ℕ → Option Channel) → ((d l : ℕ) → new.channel d l ≡ with_row old.channel c row d l) → OtherConsumersStay c old new
+  row_stays c row is d l k apart (ch, at, i) = (ch, is d l ∙ ap (λ (v : Bool). if v then row l else old.channel d l) apart ∙ at, i)
+
+  -- a connection is gone
+  pub gone_stay : (c : ℕ) → Is (with_gone old c) new → OtherConsumersStay c old new
+  gone_stay c is = row_stays c (λ h. None) is.channels
+
+  -- one channel changed
+  module _ (c h : ℕ) (x : Option Channel) (is : (d l : ℕ) → new.channel d l ≡ with_pair old.channel c h x d l) where
+    others_stay : (d l : ℕ) (k : Consumer) → (d == c && l == h) ≡ false → WasConsumer old d l k → WasConsumer new d l k
+    others_stay d l k apart (ch, at, i) = (ch, is d l ∙ ap (λ (v : Bool). if v then x else old.channel d l) apart ∙ at, i)
+
+    is_now : new.channel c h ≡ x
+    is_now = is c h ∙ ap (λ (v : Bool). if v && h == h then x else old.channel c h) (eq-eqb c c refl) ∙ ap (λ (v : Bool). if v then x else old.channel c h) (eq-eqb h h refl)
+
+    -- so all stay where its own do
+    own_stay : ((k : Consumer) → WasConsumer old c h k → WasConsumer new c h k) → AllConsumersStay old new
+    own_stay own d l k was = go (d == c && l == h) refl
+      where
+        go : (v : Bool) → (d == c && l == h) ≡ v → WasConsumer new d l k
+        go true at =
+            let same = both (d == c) (l == h) at in
+            let d_is = eqb-true d c same.0 in
+            let l_is = eqb-true l h same.1 in
+            subst (λ (n : ℕ). WasConsumer new n l k) (sym d_is) (subst (λ (n : ℕ). WasConsumer new c n k) (sym l_is) (own k (subst (λ (n : ℕ). WasConsumer old c n k) l_is (subst (λ (n : ℕ). WasConsumer old n l k) d_is was))))
+        go false apart = others_stay d l k apart was
+
+    -- one leaves that it has no more
+    one_leaves : (k : Consumer) → WasConsumer old c h k → (IsIn k (channel_or_new x).consumers → ⊥) → LeavesChannel c h old new
+    one_leaves k was none = record {
+      consumer = k;
+      was = was;
+      gone = λ now. none (subst (λ (o : Option Channel). IsIn k (channel_or_new o).consumers) (sym now.1 ∙ is_now) now.2);
+      others = others_stay;
+    }
+
+    -- it has none now: those that it had leave
+    pub emptied_tells : (v : Bool) → (channel_or_new x).consumers ≡ [] → v ≡ has_consumers (channel_or_new (old.channel c h)) → TellsStayOn c h (ends_of v) old new
+    emptied_tells v none e = tells_on c h old new v (λ t. leave (old.channel c h) refl (sym e ∙ t)) (λ f. stay (sym e ∙ f))
+      where
+        leave : (o : Option Channel) → old.channel c h ≡ o → has_consumers (channel_or_new o) ≡ true → LeavesChannel c h old new
+        leave None at t = absurd (false≢true t)
+        leave (Some ch) at t =
+            let one = some_in ch.consumers t in
+            one_leaves one.0 (ch, at, one.1) (λ i. subst (λ (ks : List Consumer). IsIn one.0 ks) none i)
+
+        stay : has_consumers (channel_or_new (old.channel c h)) ≡ false → AllConsumersStay old new
+        stay f = own_stay (λ k was. absurd (none_in was.0.consumers k (ap (λ (o : Option Channel). has_consumers (channel_or_new o)) (sym was.1) ∙ f) was.2))
+
+  -- one is this now, which has those that it had
+  pub one_stays : (c h : ℕ) (x : Channel) → ((d l : ℕ) → new.channel d l ≡ with_pair old.channel c h (Some x) d l) → ((k : Consumer) → IsIn k (channel_or_new (old.channel c h)).consumers → IsIn k x.consumers)
+      → AllConsumersStay old new
+  one_stays c h x is has = own_stay c h (Some x) is (λ k was. (x, is_now c h (Some x) is, has k (subst (λ (o : Option Channel). IsIn k (channel_or_new o).consumers) (sym was.1) was.2)))
+
+  -- one that was not there is there
+  pub opened_stay : (c h : ℕ) → old.channel c h ≡ None → Is (with_channel old c h (Some new_channel)) new → AllConsumersStay old new
+  opened_stay c h none is = one_stays c h new_channel is.channels (λ k i. absurd (subst (λ (o : Option Channel). IsIn k (channel_or_new o).consumers) none i))
+
+  -- the client closes one
+  pub answered_tells : (c h : ℕ) (v : Bool) → (channel_or_new (old.channel c h)).is_closing ≡ false → v ≡ has_consumers (channel_or_new (old.channel c h)) → Is (after_close old c h (channel_or_new (old.channel c h))) new
+      → TellsStayOn c h (ends_of v) old new
+  answered_tells c h v runs e is =
+      let left = subst (λ (b : Bool). Is (if b then old else with_freed (with_channel old c h None) (by_channel c h)) new) runs is in
+      emptied_tells c h None left.channels v refl e
+
+-- ---- commands
+
 module _ (t : Topology) (old new : Broker) (c h : ℕ) (content : Option Content) (sends : List Send) (notes : List Note) where
   abbrev mine : Channel
   mine = channel_or_new (old.channel c h)
@@ -66,31 +183,93 @@ module _ (t : Topology) (old new : Broker) (c h : ℕ) (content : Option Content
   limits wanted m true p = one_stays old new c h _ p.left.channels (λ k i. i)
   limits wanted m false p = one_stays old new c h _ p.left.channels (λ k i. i)
 
-  pub performed_stay : (m : Method) → keeps_consumers m ≡ true → Performs t old c h mine m content sends notes new → AllConsumersStay old new
-  performed_stay (ConfirmSelect no_wait) keeps p = one_stays old new c h _ p.left.channels (λ k i. i)
-  performed_stay (BasicPublish m) keeps p = one_stays old new c h _ p.left.channels (λ k i. i)
-  performed_stay (ChannelOpen reserved) keeps p = absurd (false≢true keeps)
-  performed_stay (ChannelFlow active) keeps p = same_stay old new p.left.channels
-  performed_stay (ChannelClose m) keeps p = absurd (false≢true keeps)
-  performed_stay ChannelCloseOk keeps p = absurd (false≢true keeps)
-  performed_stay (ConnectionClose m) keeps p = absurd (false≢true keeps)
-  performed_stay (ExchangeDeclare m) keeps p = same_stay old new p.left.channels
-  performed_stay (QueueDeclare m) keeps p = same_stay old new p.does.left.channels
-  performed_stay (BasicQos m) keeps p = limits _ m m.global p
-  performed_stay (BasicConsume m) keeps p = one_stays old new c h _ p.left.channels (λ k i. in_front k mine.consumers (consumer_of mine m ∷ []) i)
-  performed_stay (BasicCancel m) keeps p = absurd (false≢true keeps)
-  performed_stay (BasicGet m) keeps p = gets m (first_ready (old.queue m.queue)) p
-  performed_stay (BasicAck m) keeps p = one_stays old new c h _ p.channels (λ k i. i)
-  performed_stay (BasicReject m) keeps p = one_stays old new c h _ p.channels (λ k i. i)
-  performed_stay (BasicNack m) keeps p = one_stays old new c h _ p.channels (λ k i. i)
-  performed_stay (BasicRecover requeue) keeps p = one_stays old new c h _ p.channels (λ k i. i)
-  performed_stay (QueuePurge m) keeps p = same_stay old new p.left.channels
-  performed_stay _ keeps p = absurd p
+  -- a command that cancels no consumer is performed
+  performed_stay : (m : Method) → opens_or_closes m ≡ false → cancels_one mine m ≡ false → Performs t old c h mine m content sends notes new → AllConsumersStay old new
+  performed_stay (ConfirmSelect no_wait) here none p = one_stays old new c h _ p.left.channels (λ k i. i)
+  performed_stay (BasicPublish m) here none p = one_stays old new c h _ p.left.channels (λ k i. i)
+  performed_stay (ChannelOpen reserved) here none p = absurd (false≢true (sym here))
+  performed_stay (ChannelFlow active) here none p = same_stay old new p.left.channels
+  performed_stay (ChannelClose m) here none p = absurd (false≢true (sym here))
+  performed_stay ChannelCloseOk here none p = absurd (false≢true (sym here))
+  performed_stay (ConnectionClose m) here none p = absurd (false≢true (sym here))
+  performed_stay (ExchangeDeclare m) here none p = same_stay old new p.left.channels
+  performed_stay (QueueDeclare m) here none p = same_stay old new p.does.left.channels
+  performed_stay (BasicQos m) here none p = limits _ m m.global p
+  performed_stay (BasicConsume m) here none p = one_stays old new c h _ p.left.channels (λ k i. in_front k mine.consumers (consumer_of mine m ∷ []) i)
+  performed_stay (BasicCancel m) here none p = one_stays old new c h (without_consumer mine m.consumer_tag) p.left.channels (λ k i. untagged_left m.consumer_tag mine.consumers k none i)
+  performed_stay (BasicGet m) here none p = gets m (first_ready (old.queue m.queue)) p
+  performed_stay (BasicAck m) here none p = one_stays old new c h _ p.channels (λ k i. i)
+  performed_stay (BasicReject m) here none p = one_stays old new c h _ p.channels (λ k i. i)
+  performed_stay (BasicNack m) here none p = one_stays old new c h _ p.channels (λ k i. i)
+  performed_stay (BasicRecover requeue) here none p = one_stays old new c h _ p.channels (λ k i. i)
+  performed_stay (QueuePurge m) here none p = same_stay old new p.left.channels
+  performed_stay _ here none p = absurd p
 
--- that is told of one that is performed on its channel alone
-pub performed_tells : (old new : Kept) (c h : ℕ) (m : Method) (content : Option Content) (s : Step) → AnswersOn old c h m content (Some (Ok (Performed s))) new → TellsStay (ends_of m) (broker_of old) (broker_of new)
-performed_tells old new c h m content s (conn, at, judged) = go (keeps_consumers m) refl
+  -- a cancel of one that is there is performed
+  cancelled_leaves : (tag : Text) → is_in_use tag mine.consumers ≡ true → ((d l : ℕ) → new.channel d l ≡ with_pair old.channel c h (Some (without_consumer mine tag)) d l) → LeavesChannel c h old new
+  cancelled_leaves tag used is =
+      let one = tagged_in tag mine.consumers used in
+      one_leaves old new c h (Some (without_consumer mine tag)) is one.consumer (there (old.channel c h) refl one.consumer one.among) (tagged_gone tag mine.consumers one.consumer one.tagged)
+    where
+      there : (o : Option Channel) → old.channel c h ≡ o → (k : Consumer) → IsIn k (channel_or_new o).consumers → WasConsumer old c h k
+      there None at k i = absurd i
+      there (Some ch) at k i = (ch, at, i)
+
+  performed_leaves : (m : Method) → cancels_one mine m ≡ true → Performs t old c h mine m content sends notes new → LeavesChannel c h old new
+  performed_leaves (BasicCancel m) used p = cancelled_leaves m.consumer_tag used p.left.channels
+  performed_leaves _ used p = absurd (false≢true used)
+
+-- what is told of one that is performed on its channel alone
+pub performed_tells : (old new : Kept) (c h : ℕ) (m : Method) (content : Option Content) (s : Step) (v : Bool) → (opens_or_closes m ≡ true → ⊥) → v ≡ cancels_one (channel_on old c h) m
+    → AnswersOn old c h m content (Some (Ok (Performed s))) new → TellsStayOn c h (ends_of v) (broker_of old) (broker_of new)
+performed_tells old new c h m content s v apart e (conn, at, judged) =
+    tells_on c h (broker_of old) (broker_of new) v
+    (λ t. performed_leaves (topology_kept old) (broker_of old) (broker_of new) c h content s.sends.items s.notes.items m (sym e ∙ t) judged.1)
+    (λ f. performed_stay (topology_kept old) (broker_of old) (broker_of new) c h content s.sends.items s.notes.items m (here (opens_or_closes m) refl) (sym e ∙ f) judged.1)
   where
-    go : (v : Bool) → keeps_consumers m ≡ v → TellsStay (if v then ended.Nothing else ended.Consumers) (broker_of old) (broker_of new)
-    go true keeps = performed_stay (topology_kept old) (broker_of old) (broker_of new) c h content s.sends.items s.notes.items m keeps judged.1
-    go false keeps = tt
+    here : (b : Bool) → opens_or_closes m ≡ b → opens_or_closes m ≡ false
+    here true t = absurd (apart t)
+    here false f = f
+
+-- ---- events
+
+-- what is told on a channel is told of its event
+pub command_tells : (c h : ℕ) (m : Method) (content : Option Content) (ends : Ends) (old new : Broker) → TellsStayOn c h ends old new → TellsStay (Command c h m content) ends old new
+command_tells c h m content ended.Nothing old new p = p
+command_tells c h m content ended.Consumers old new p = p
+command_tells c h m content ended.Connection old new p = p
+
+pub large_tells : (c h : ℕ) (ends : Ends) (old new : Broker) → TellsStayOn c h ends old new → TellsStay (TooLarge c h) ends old new
+large_tells c h ended.Nothing old new p = p
+large_tells c h ended.Consumers old new p = p
+large_tells c h ended.Connection old new p = p
+
+-- a connection that doesn't run has no channel
+none_open : (kept : Kept) (c h : ℕ) → is_some ((broker_of kept).connection c) ≡ false → (broker_of kept).channel c h ≡ None
+none_open kept c h = go (running_in kept.connections c)
+  where
+    go : (o : Option running.Running) → is_some (connection_at o) ≡ false → option_map (open_in (names_of kept)) (channel_at o h) ≡ None
+    go None e = refl
+    go (Some l) e = absurd (false≢true (sym e))
+
+-- a connection begins to run
+pub opening_tells : (t : Topology) (old : Kept) (new : Broker) (sends : List Send) (notes : List Note) (c max n : ℕ) (v : Bool) → v ≡ is_some ((broker_of old).connection c)
+    → Acts t (broker_of old) (Running c max n) sends notes new → TellsStay (Running c max n) (ends_of v) (broker_of old) new
+opening_tells t old new sends notes c max n true e p = (sym e, row_stays (broker_of old) new c _ p.left.channels)
+opening_tells t old new sends notes c max n false e p = stay
+  where
+    stay : AllConsumersStay (broker_of old) new
+    stay d l k was = go (d == c) refl
+      where
+        go : (b : Bool) → (d == c) ≡ b → WasConsumer new d l k
+        go true at = absurd (false≢true (ap is_some (sym (none_open old c l (sym e)) ∙ ap (λ (x : ℕ). (broker_of old).channel x l) (sym (eqb-true d c at)) ∙ was.1)))
+        go false apart = row_stays (broker_of old) new c _ p.left.channels d l k apart was
+
+-- a connection is closed, which is told
+pub closed_tells : (c h : ℕ) (old new : Broker) (r : Result Acted AllocError) → IfOk r (λ a. a.ends ≡ ended.Connection) → OnOk r (OtherConsumersStay c old new) → IfOk r (λ a. TellsStayOn c h a.ends old new)
+closed_tells c h old new (Ok a) whole stay = subst (λ (e : Ends). TellsStayOn c h e old new) (sym whole) stay
+closed_tells c h old new (Err e) whole stay = tt
+
+pub fault_tells : (c code : ℕ) (old new : Broker) (r : Result Acted AllocError) → IfOk r (λ a. a.ends ≡ ended.Connection) → OnOk r (OtherConsumersStay c old new) → IfOk r (λ a. TellsStay (Fault c code) a.ends old new)
+fault_tells c code old new (Ok a) whole stay = subst (λ (e : Ends). TellsStay (Fault c code) e old new) (sym whole) stay
+fault_tells c code old new (Err e) whole stay = tt

@@ -160,6 +160,12 @@ UnlessPerformed (Ok (Performed s)) Stays = Unit {0}
 UnlessPerformed (Ok (Left l)) Stays = Stays
 UnlessPerformed (Err stop) Stays = Stays
 
+-- the command was not performed
+abbrev pub IsNotPerformed : Result Done Stop → Type 0
+IsNotPerformed (Ok (Performed s)) = ⊥
+IsNotPerformed (Ok (Left l)) = Unit {0}
+IsNotPerformed (Err stop) = Unit {0}
+
 -- what a command sends that was performed has the address of its connection
 abbrev pub IsAddressedBy : ℕ → Result Done Stop → Type 0
 IsAddressedBy c (Ok (Performed s)) = AreAddressed c s.sends.items

@@ -1,9 +1,13 @@
 -- Which connections run still, and which consumers are there still.
-use Rattle.std.specs.Prelude.{◌≡◌, ◌==◌, ℕ, Bool, true, false, None, if◌then◌else◌}
-use Rattle.model.specs.Broker.{Consumer, Broker}
+use Rattle.std.specs.Prelude.{◌≡◌, ◌==◌, ◌<◌, ◌&&◌, ℕ, Bool, true, false, Option, Some, None, IsSome, nat_lt, length, if◌then◌else◌}
+use Rattle.model.specs.Broker.{Channel, Consumer, Broker}
+use Rattle.model.specs.Consuming.{is_in_use}
 use Rattle.model.specs.declared.methods.Method.{Method}
-use Rattle.model.specs.declared.methods.Method.TheVariants.{ConnectionClose, ChannelOpen, ChannelClose, ChannelCloseOk, BasicCancel}
+use Rattle.model.specs.declared.methods.Method.TheVariants.{BasicCancel}
+use Rattle.model.specs.declared.events.Event.{Event}
+use Rattle.model.specs.declared.events.Event.TheVariants.{Running, Command, TooLarge}
 use Rattle.laws.specs.Consumers.{WasConsumer}
+use Rattle.replies.specs.Sent.{connection_of_event}
 use Rattle.commands.specs.declared.acted.Ends.{Ends}
 use Rattle.commands.specs.declared.acted.Ends.TheVariants.{Nothing, Consumers, Connection}
 
@@ -27,21 +31,45 @@ TellsEnd c Nothing old new = AllRunStill old new
 abbrev pub AllConsumersStay : Broker → Broker → Type 0
 AllConsumersStay old new = (c h : ℕ) (k : Consumer) → WasConsumer old c h k → WasConsumer new c h k
 
--- it is told where each is
-abbrev pub TellsStay : Ends → Broker → Broker → Type 0
-TellsStay Nothing old new = AllConsumersStay old new
-TellsStay Consumers old new = Unit {0}
-TellsStay Connection old new = Unit {0}
+-- each consumer of another connection is there still
+abbrev pub OtherConsumersStay : ℕ → Broker → Broker → Type 0
+OtherConsumersStay c old new = (d h : ℕ) (k : Consumer) → (d == c) ≡ false → WasConsumer old d h k → WasConsumer new d h k
 
--- so each is behind a command that is performed, but for a cancel and what opens or closes a channel or closes the connection
-abbrev pub keeps_consumers : Method → Bool
-keeps_consumers (BasicCancel m) = false
-keeps_consumers (ChannelOpen reserved) = false
-keeps_consumers (ChannelClose m) = false
-keeps_consumers ChannelCloseOk = false
-keeps_consumers (ConnectionClose m) = false
-keeps_consumers _ = true
+-- A consumer of this channel is gone, and each that is not on it is there still.
+pub record LeavesChannel (c h : ℕ) (old new : Broker) : Type 0 where
+  pub consumer : Consumer
+  pub was : WasConsumer old c h consumer
+  pub gone : WasConsumer new c h consumer → ⊥
+  pub others : (d l : ℕ) (k : Consumer) → (d == c && l == h) ≡ false → WasConsumer old d l k → WasConsumer new d l k
 
--- what a command ends that is performed on its channel alone
-abbrev pub ends_of : Method → Ends
-ends_of m = if keeps_consumers m then Nothing else Consumers
+-- It is told what becomes of consumers at an event of this channel: each stays; or one of the channel leaves; or its connection ends.
+abbrev pub TellsStayOn : ℕ → ℕ → Ends → Broker → Broker → Type 0
+TellsStayOn c h Nothing old new = AllConsumersStay old new
+TellsStayOn c h Consumers old new = LeavesChannel c h old new
+TellsStayOn c h Connection old new = OtherConsumersStay c old new
+
+-- Consumers may be gone at this event: one of its channel is, or its connection ran and begins anew. Those elsewhere are there still.
+abbrev pub MayLeave : Event → Broker → Broker → Type 0
+MayLeave (Running c max k) old new = IsSome (old.connection c) × OtherConsumersStay c old new
+MayLeave (Command c h m content) old new = LeavesChannel c h old new
+MayLeave (TooLarge c h) old new = LeavesChannel c h old new
+MayLeave e old new = ⊥
+
+-- It is told what becomes of consumers at this event: each is there still; or some may be gone; or those of its connection are.
+abbrev pub TellsStay : Event → Ends → Broker → Broker → Type 0
+TellsStay e Nothing old new = AllConsumersStay old new
+TellsStay e Consumers old new = MayLeave e old new
+TellsStay e Connection old new = OtherConsumersStay (connection_of_event e) old new
+
+-- the channel has a consumer
+abbrev pub has_consumers : Channel → Bool
+has_consumers ch = nat_lt 0 (length ch.consumers)
+
+-- the command cancels one that the channel has
+abbrev pub cancels_one : Channel → Method → Bool
+cancels_one ch (BasicCancel m) = is_in_use m.consumer_tag ch.consumers
+cancels_one ch _ = false
+
+-- what is ended that ends no connection, where consumers leave or not
+abbrev pub ends_of : Bool → Ends
+ends_of leaves = if leaves then Consumers else Nothing

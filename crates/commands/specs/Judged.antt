@@ -80,6 +80,14 @@ is_taken (method.BasicRecover requeue) = true
 is_taken (method.ConfirmSelect no_wait) = true
 is_taken _ = false
 
+-- a command that opens or closes a channel, or closes its connection
+abbrev pub opens_or_closes : Method → Bool
+opens_or_closes (method.ChannelOpen reserved) = true
+opens_or_closes (method.ChannelClose m) = true
+opens_or_closes method.ChannelCloseOk = true
+opens_or_closes (method.ConnectionClose m) = true
+opens_or_closes _ = false
+
 -- a rejection that requeues
 abbrev pub is_requeueing : Method → Bool
 is_requeueing (method.BasicReject m) = m.requeue

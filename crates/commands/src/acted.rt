@@ -1,9 +1,5 @@
 //! What an event comes to.
 
-ghost use Rattle.std.specs.Prelude.{◌≡◌};
-ghost use Rattle.commands.specs.Ended.{keeps_consumers, ends_of};
-
-use model::Method;
 use replies::Step;
 
 /// What an event ends.
@@ -11,7 +7,8 @@ use replies::Step;
 pub enum Ends {
     /// Nothing: each connection that ran runs still, and each consumer that was there is there still.
     Nothing,
-    /// Some consumers of its connection, if it had any. Each connection that ran runs still.
+    /// One consumer of its channel, or more; or, where a connection that ran begins anew, all that it had. Each connection that
+    /// ran runs still.
     Consumers,
     /// Its connection, with its consumers. Each other that ran runs still.
     Connection,
@@ -24,31 +21,6 @@ pub struct Acted {
     pub step: Step,
     /// What it ends.
     pub ends: Ends,
-}
-
-/// Whether each consumer is there still behind a command of this method that is performed.
-fn keeps_consumers(method: &Method) -> bool
-    ensures { result ≡ keeps_consumers method.now }
-{
-    !matches!(
-        method,
-        Method::BasicCancel(_)
-            | Method::ChannelOpen { .. }
-            | Method::ChannelClose(_)
-            | Method::ChannelCloseOk
-            | Method::ConnectionClose(_)
-    )
-}
-
-/// What a command of this method ends that is performed on its channel alone.
-fn ends_of(method: &Method) -> Ends
-    ensures { result ≡ ends_of method.now }
-{
-    if keeps_consumers(method) {
-        Ends::Nothing
-    } else {
-        Ends::Consumers
-    }
 }
 
 impl Acted {
@@ -66,23 +38,15 @@ impl Acted {
         }
     }
 
-    /// This is sent and noted, and each connection that ran runs still; consumers may be gone.
-    pub(crate) fn running(step: Step) -> Acted
-        ensures { result ≡ record { step = step; ends = ended.Consumers } }
+    /// This is sent and noted, and each connection that ran runs still; consumers leave, or do not.
+    pub(crate) fn leaving(step: Step, leaves: bool) -> Acted
+        ensures { result ≡ record { step = step; ends = ends_of leaves } }
     {
-        Acted {
-            step,
-            ends: Ends::Consumers,
-        }
-    }
-
-    /// This is sent and noted by a command of this method that is performed on its channel alone.
-    pub(crate) fn performed(step: Step, method: &Method) -> Acted
-        ensures { result ≡ record { step = step; ends = ends_of method.now } }
-    {
-        Acted {
-            step,
-            ends: ends_of(method),
-        }
+        let ends = if leaves {
+            Ends::Consumers
+        } else {
+            Ends::Nothing
+        };
+        Acted { step, ends }
     }
 }

@@ -6,8 +6,8 @@ ghost use Rattle.model.specs.Step.{refusal};
 ghost use Rattle.model.specs.Topology.{Topology as Handed};
 ghost use Rattle.model.specs.declared.contents.Content.{Content as Whole};
 ghost use Rattle.channels.specs.Placed.{IsPlaced};
-ghost use Rattle.commands.specs.Judged.{is_requeueing};
-ghost use Rattle.commands.specs.Commands.{CanCommand, Answers, AnswersHere, UnlessPerformed, IsAddressedBy, WantsNone, HasSpelling};
+ghost use Rattle.commands.specs.Judged.{is_requeueing, opens_or_closes};
+ghost use Rattle.commands.specs.Commands.{CanCommand, Answers, AnswersHere, UnlessPerformed, IsNotPerformed, IsAddressedBy, WantsNone, HasSpelling};
 ghost use Rattle.commands.specs.Commands.{done_of, left_of};
 
 mod asking;
@@ -67,7 +67,7 @@ fn left<'a>(asked: Result<Left<'a>, Refusal>) -> Result<Done<'a>, Stop>
 }
 
 /// A command on a channel that is open, of a connection with this greatest channel number: on one that awaits close-ok all is
-/// ignored but a close and close-ok.
+/// ignored but a close and close-ok. What opens or closes is not performed here, but left to be done.
 pub(crate) fn on_channel<'a>(
     alloc: Global,
     id: ChannelId,
@@ -84,6 +84,7 @@ pub(crate) fn on_channel<'a>(
     ensures placed { IsPlaced depot.old.topology channel.new }
     ensures kept { UnlessPerformed result ((depot.new ≡ depot.old) × (channel.new ≡ channel.old)) }
     ensures quiet { is_requeueing method.now ≡ true → WantsNone result }
+    ensures elsewhere { opens_or_closes method.now ≡ true → IsNotPerformed result }
 {
     if channel.is_closing() {
         return left(while_closing(method));
@@ -125,6 +126,7 @@ pub(crate) fn on_none(channel_max: u16, number: u16, method: &Method) -> Result<
         → Answers (refusal t b conn number method.now None) t b c number None method.now content result new }
     ensures addressed { (c : ℕ) → IsAddressedBy c result }
     ensures quiet { WantsNone result }
+    ensures elsewhere { IsNotPerformed result }
 {
     if number == 0 {
         return left(on_zero(method));

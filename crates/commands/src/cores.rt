@@ -3,6 +3,7 @@
 mod closing;
 mod declaring;
 mod delivering;
+mod leaving;
 mod obstacles;
 mod opening;
 mod reloads;
@@ -64,10 +65,10 @@ impl Core {
     ghost use Rattle.model.specs.declared.methods.Method.{Method as Seen};
     ghost use Rattle.commands.specs.State.{broker_of, topology_kept, nothing};
     ghost use Rattle.commands.specs.Steps.{PerformsOn};
-    ghost use Rattle.commands.specs.Commands.{AnswersOn, IsAddressedBy, UnlessPerformed, WantsNone};
+    ghost use Rattle.commands.specs.Commands.{AnswersOn, IsAddressedBy, IsNotPerformed, UnlessPerformed, WantsNone};
     ghost use Rattle.commands.specs.Commands.{AsksLeft, CanFinish};
-    ghost use Rattle.commands.specs.Ended.{AllRunStill, TellsEnd, TellsStay};
-    ghost use Rattle.commands.specs.Judged.{is_requeueing, IsAsked, IsRequeued, IsIgnored, IsLargeIgnored, WantsNoMemory, JudgesLarge};
+    ghost use Rattle.commands.specs.Ended.{AllRunStill, TellsEnd, TellsStay, TellsStayOn};
+    ghost use Rattle.commands.specs.Judged.{is_requeueing, opens_or_closes, IsAsked, IsRequeued, IsIgnored, IsLargeIgnored, WantsNoMemory, JudgesLarge};
     ghost use Rattle.replies.specs.Sent.{AreAddressed, connection_of_event};
 
     /// The broker of this topology: its queues are empty, and no connection runs.
@@ -82,7 +83,7 @@ impl Core {
     }
 
     /// What becomes of a command whose connection runs: that, and its channel, are found once. What a command does on its channel
-    /// alone is done then; what else it asks for is told.
+    /// alone is done then; what else it asks for is told, and what opens or closes is such.
     fn decide<'a>(
         &mut self,
         alloc: Global,
@@ -97,6 +98,7 @@ impl Core {
         ensures running { AllRunStill (broker_of self.old) (broker_of self.new) }
         ensures kept { IfSome result (λ r. UnlessPerformed r (self.new ≡ self.old)) }
         ensures quiet { is_requeueing method.now ≡ true → IfSome result WantsNone }
+        ensures elsewhere { opens_or_closes method.now ≡ true → IfSome result IsNotPerformed }
     {
         lent_channels_are_put();
         let running = self.connections.running_mut(id.connection)?;
@@ -137,7 +139,7 @@ impl Core {
             → AsksLeft (topology_kept self.old) ((broker_of self.old).channel id.connection id.number) m left.entry
             → IsMethod m → AreCarried (broker_of self.old) → AreAddressed id.connection a.step.sends.items) }
         ensures ended { IfOk result (λ a. TellsEnd id.connection a.ends (broker_of self.old) (broker_of self.new)) }
-        ensures stay { IfOk result (λ a. TellsStay a.ends (broker_of self.old) (broker_of self.new)) }
+        ensures stay { IfOk result (λ a. TellsStayOn id.connection id.number a.ends (broker_of self.old) (broker_of self.new)) }
         ensures topology { topology_kept self.new ≡ topology_kept self.old }
         ensures err { OnErr result (self.new ≡ self.old) }
     {
@@ -148,16 +150,18 @@ impl Core {
                 Ok(Acted::staying(step))
             }
             Left::AnswerClose => {
+                let leaves = self.has_consumers(id);
                 let step = self.answer_close(alloc, connection, number)?;
-                Ok(Acted::running(step))
+                Ok(Acted::leaving(step, leaves))
             }
             Left::AnswerClosing => {
                 let step = self.answer_closing(alloc, connection, number)?;
                 Ok(Acted::staying(step))
             }
             Left::EndChannel => {
+                let leaves = self.has_consumers(id);
                 let step = self.end_channel(alloc, connection, number);
-                Ok(Acted::running(step))
+                Ok(Acted::leaving(step, leaves))
             }
             Left::CloseConnection => {
                 self.close_connection(alloc, connection, connection_close_ok(connection))
@@ -187,13 +191,14 @@ impl Core {
         ensures addressed { IfOk result (λ a. IsMethod method.now → AreCarried (broker_of self.old)
             → AreAddressed id.connection a.step.sends.items) }
         ensures ended { IfOk result (λ a. TellsEnd id.connection a.ends (broker_of self.old) (broker_of self.new)) }
-        ensures stay { IfOk result (λ a. TellsStay a.ends (broker_of self.old) (broker_of self.new)) }
+        ensures stay { IfOk result (λ a. TellsStayOn id.connection id.number a.ends (broker_of self.old) (broker_of self.new)) }
         ensures topology { topology_kept self.new ≡ topology_kept self.old }
         ensures err { OnErr result (self.new ≡ self.old) }
     {
+        let cancels = self.cancels(id, method);
         match self.decide(alloc, id, method, content) {
             None => Ok(Acted::staying(Step::nothing(alloc))),
-            Some(Ok(Done::Performed(step))) => Ok(Acted::performed(step, method)),
+            Some(Ok(Done::Performed(step))) => Ok(Acted::leaving(step, cancels)),
             Some(Ok(Done::Left(left))) => self.finish(alloc, id, left),
             Some(Err(Stop::Refused(refusal))) => {
                 self.refuse(alloc, id.connection, id.number, method.ids(), refusal)
@@ -215,7 +220,7 @@ impl Core {
         ensures ignored { IsLargeIgnored (broker_of self.old) connection channel ((broker_of self.old).connection connection) → IsOk result }
         ensures addressed { IfOk result (λ a. AreAddressed connection a.step.sends.items) }
         ensures ended { IfOk result (λ a. TellsEnd connection a.ends (broker_of self.old) (broker_of self.new)) }
-        ensures stay { IfOk result (λ a. TellsStay a.ends (broker_of self.old) (broker_of self.new)) }
+        ensures stay { IfOk result (λ a. TellsStayOn connection channel a.ends (broker_of self.old) (broker_of self.new)) }
         ensures topology { topology_kept self.new ≡ topology_kept self.old }
         ensures err { OnErr result (self.new ≡ self.old) }
     {
@@ -225,10 +230,10 @@ impl Core {
         }
     }
 
-    /// One event: what it sends, what it notes, the state after it, whether its connection runs no more, and whether each consumer is
-    /// there still. Where the event's method has a spelling, each send is for the event's own connection, by a method with a spelling.
-    /// Where memory is wanting, nothing has changed; an opening, a loss, a pause and its end, a command that is ignored, and a rejection
-    /// that requeues want none.
+    /// One event: what it sends, what it notes, the state after it, whether its connection runs no more, and whether consumers left.
+    /// That is told only where one of its channel did, or where a connection that ran begins anew. Where the event's method has a
+    /// spelling, each send is for the event's own connection, by a method with a spelling. Where memory is wanting, nothing has changed;
+    /// an opening, a loss, a pause and its end, a command that is ignored, and a rejection that requeues want none.
     pub fn step(&mut self, alloc: Global, event: &Event) -> Result<Acted, AllocError>
         requires agreed { IsAgreed (broker_of self.old) }
         requires asked { IsAsked event.now }
@@ -237,7 +242,7 @@ impl Core {
         ensures addressed { IfOk result (λ a. IsSaid event.now → AreCarried (broker_of self.old)
             → AreAddressed (connection_of_event event.now) a.step.sends.items) }
         ensures ended { IfOk result (λ a. TellsEnd (connection_of_event event.now) a.ends (broker_of self.old) (broker_of self.new)) }
-        ensures stay { IfOk result (λ a. TellsStay a.ends (broker_of self.old) (broker_of self.new)) }
+        ensures stay { IfOk result (λ a. TellsStay event.now a.ends (broker_of self.old) (broker_of self.new)) }
         ensures topology { topology_kept self.new ≡ topology_kept self.old }
         ensures err { OnErr result (self.new ≡ self.old) }
         ensures quiet { WantsNoMemory (topology_kept self.old) (broker_of self.old) event.now → IsOk result }
@@ -249,8 +254,9 @@ impl Core {
                 channel_max,
                 channels,
             } => {
+                let ran = self.runs(*connection);
                 self.open(alloc, *connection, *channel_max, *channels)?;
-                Ok(Acted::running(Step::nothing(alloc)))
+                Ok(Acted::leaving(Step::nothing(alloc), ran))
             }
             Event::Command {
                 connection,

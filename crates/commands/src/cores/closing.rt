@@ -9,7 +9,7 @@ use replies::{Step, channel_close, channel_close_ok, connection_close};
 use std::alloc::{AllocError, Global};
 
 impl Core {
-    ghost use Rattle.std.specs.Prelude.{◌≡◌, ◌∷◌, [], None, Some, true, false, IsSome, IfOk, IsOk, OnErr, option_map};
+    ghost use Rattle.std.specs.Prelude.{◌≡◌, ◌∷◌, [], None, Some, true, false, IsSome, IfOk, IsOk, OnOk, OnErr, option_map};
     ghost use Rattle.model.specs.Agreement.{IsAgreed};
     ghost use Rattle.model.specs.Grammar.{ids};
     ghost use Rattle.model.specs.Sending.{IsAddressed};
@@ -20,11 +20,12 @@ impl Core {
     ghost use Rattle.commands.specs.State.{broker_of, channel_on, topology_kept, names_of};
     ghost use Rattle.commands.specs.Steps.{PerformsOn};
     ghost use Rattle.channels.specs.Open.{Open, open_in};
-    ghost use Rattle.commands.specs.Ended.{TellsEnd, TellsStay};
+    ghost use Rattle.commands.specs.Ended.{OtherConsumersStay, TellsEnd, TellsStayOn};
+    ghost use Rattle.commands.specs.declared.acted.Ends.TheVariants as ended;
     ghost use Rattle.commands.specs.Judged.{refusal_seen, HasChannel};
     ghost use Rattle.replies.specs.Sent.{AreAddressed};
 
-    /// This close, or answer to a close, is sent, and the connection runs no more.
+    /// This close, or answer to a close, is sent, and the connection runs no more, which is told. Consumers of others stay.
     pub(crate) fn close_connection(
         &mut self,
         alloc: Global,
@@ -37,7 +38,8 @@ impl Core {
             (with_gone (broker_of self.old) connection)) }
         ensures addressed { IfOk result (λ a. AreAddressed connection a.step.sends.items) }
         ensures ended { IfOk result (λ a. TellsEnd connection a.ends (broker_of self.old) (broker_of self.new)) }
-        ensures stay { IfOk result (λ a. TellsStay a.ends (broker_of self.old) (broker_of self.new)) }
+        ensures told { IfOk result (λ a. a.ends ≡ ended.Connection) }
+        ensures stay { OnOk result (OtherConsumersStay connection (broker_of self.old) (broker_of self.new)) }
         ensures topology { topology_kept self.new ≡ topology_kept self.old }
         ensures err { OnErr result (self.new ≡ self.old) }
     {
@@ -150,16 +152,20 @@ impl Core {
         ensures ignored { refusal_seen refusal ≡ said.Ignored → IsOk result }
         ensures addressed { IfOk result (λ a. AreAddressed connection a.step.sends.items) }
         ensures ended { IfOk result (λ a. TellsEnd connection a.ends (broker_of self.old) (broker_of self.new)) }
-        ensures stay { IfOk result (λ a. TellsStay a.ends (broker_of self.old) (broker_of self.new)) }
+        ensures stay { IfOk result (λ a. TellsStayOn connection channel a.ends (broker_of self.old) (broker_of self.new)) }
         ensures topology { topology_kept self.new ≡ topology_kept self.old }
         ensures err { OnErr result (self.new ≡ self.old) }
     {
         match refusal {
             Refusal::Ignored => Ok(Acted::staying(Step::nothing(alloc))),
             Refusal::Channel(code) => {
+                let leaves = self.has_consumers(ChannelId {
+                    connection,
+                    number: channel,
+                });
                 let send = channel_close(connection, channel, code, cause);
                 let step = self.close_channel(alloc, connection, channel, send)?;
-                Ok(Acted::running(step))
+                Ok(Acted::leaving(step, leaves))
             }
             Refusal::Connection(code) => {
                 let send = connection_close(connection, code, cause);

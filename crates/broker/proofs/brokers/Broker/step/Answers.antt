@@ -39,7 +39,7 @@ invariant_of-self-in-Nothing c =
     let old : Kept = c.self.inside.core in
     let new : Kept = c.step.new.self in
     let runs = subst (λ (e : Ends). TellsEnd (connection_of_event c.args.event.now) e (broker_of old) (broker_of new)) c.in-Nothing.is c.in_ok-acted.ensures.ended in
-    let stay = subst (λ (e : Ends). TellsStay e (broker_of old) (broker_of new)) c.in-Nothing.is c.in_ok-acted.ensures.stay in
+    let stay = subst (λ (e : Ends). TellsStay c.args.event.now e (broker_of old) (broker_of new)) c.in-Nothing.is c.in_ok-acted.ensures.stay in
     serving_held c.self.inside.core c.self.inside.rounds c.wake_for.new.self c.expect_next.new.self c.args.event.now c.self.invariant c.wake_for.ensures.kept c.wake_for.ensures.noted c.wake_for.ensures.none c.wake_for.ensures.on c.expect_next.ensures.kept c.expect_next.ensures.noted c.expect_next.ensures.running c.expect_next.ensures.on c.wake_for.ensures.same c.expect_next.ensures.same
     c.brokers_stay_agreed.ensures.acts c.consumers_are_made.ensures c.step.new.self c.join.new.self c.in_ok-newcomer.newcomer _ _ c.in_ok-acted.ensures.ok c.step.ensures.topology c.wake_for.ensures.woken c.expect_next.ensures.wakens c.in_ok-newcomer.ensures.expected c.join.ensures.joined c.join.ensures.kept c.join.ensures.noted c.join.ensures.listed c.join.ensures.none c.join.ensures.len
     runs stay c.join.ensures.adds
@@ -86,7 +86,7 @@ returns-in-Nothing-clause-later c =
     let before : Rounds = c.self.inside.rounds in
     let after : Rounds = c.join.new.self in
     let runs = subst (λ (e : Ends). TellsEnd (connection_of_event c.args.event.now) e (broker_of old) (broker_of new)) c.in-Nothing.is c.in_ok-acted.ensures.ended in
-    let stay = subst (λ (e : Ends). TellsStay e (broker_of old) (broker_of new)) c.in-Nothing.is c.in_ok-acted.ensures.stay in
+    let stay = subst (λ (e : Ends). TellsStay c.args.event.now e (broker_of old) (broker_of new)) c.in-Nothing.is c.in_ok-acted.ensures.stay in
     let on = goes c.self.inside.core c.self.inside.rounds c.wake_for.new.self c.expect_next.new.self c.args.event.now c.self.invariant c.wake_for.ensures.kept c.wake_for.ensures.noted c.wake_for.ensures.none c.wake_for.ensures.on c.expect_next.ensures.kept c.expect_next.ensures.noted c.expect_next.ensures.running c.expect_next.ensures.on c.wake_for.ensures.same c.expect_next.ensures.same in
     subst (λ (b : WithTurn). OneComesIn c.args.event.now b (with_turn new after c.self.inside.turn)) c.self.view_is
     (one_comes old new before after c.self.inside.turn c.self.inside.turn c.step.ensures.topology (holds old before c.self.invariant) c.self.invariant.own

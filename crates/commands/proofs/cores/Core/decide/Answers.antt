@@ -45,6 +45,7 @@ returns-in-Some c =
       running = subst (λ (k : Kept). AllRunStill (broker_of k) (broker_of new)) c.self.view_is (same_run (broker_of old) (broker_of new) lent.put.connections);
       kept = unless _ (new ≡ c.args.self.now) c.on_channel.result c.on_channel.ensures.kept (λ same. lent_same old new c.args.id.connection c.args.id.number running c.in-Some.channel.now ch lent same.0 same.1 ∙ c.self.view_is);
       quiet = c.on_channel.ensures.quiet;
+      elsewhere = c.on_channel.ensures.elsewhere;
     }
 
 pub invariant_of-self-in-None : goal.invariant_of-self-in-None
@@ -71,4 +72,5 @@ returns-in-None c =
       running = subst (λ (k : Kept). AllRunStill (broker_of c.args.self.now) (broker_of k)) (sym same) (λ d none. none);
       kept = always (new ≡ c.args.self.now) c.on_none.result same;
       quiet = λ requeues. c.on_none.ensures.quiet;
+      elsewhere = λ opens. c.on_none.ensures.elsewhere;
     }
