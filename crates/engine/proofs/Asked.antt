@@ -34,6 +34,14 @@ pub on_err : {T F : Type 0} (r : Result T F) (P : Type 0) → P → OnErr r P
 on_err (Ok x) P p = tt
 on_err (Err e) P p = p
 
+pub err_map : {T F : Type 0} (r : Result T F) (P Q : Type 0) → (P → Q) → OnErr r P → OnErr r Q
+err_map (Ok x) P Q f p = tt
+err_map (Err e) P Q f p = f p
+
+pub both_err : {T F : Type 0} (r : Result T F) (P Q : Type 0) → OnErr r P → OnErr r Q → OnErr r (P × Q)
+both_err (Ok x) P Q p q = tt
+both_err (Err e) P Q p q = (p, q)
+
 pub is_same : (b : Broker) → Is b b
 is_same b = record { counted = refl; queues = λ q. refl; connections = λ c. refl; channels = λ c h. refl }
 

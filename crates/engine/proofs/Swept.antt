@@ -1,20 +1,25 @@
 -- A connection that changed in its place, and is taken out where it is gone.
-use Rattle.std.proofs.Common.{◌≡◌, ◌<◌, ℕ, zero, suc, List, [], ◌∷◌, true, cond, Result, Ok, Err, get_or, set, length, remove, refl, sym, ap, subst, ◌∙◌, arith, Option}
-use Rattle.std.specs.Prelude.{IsOk, IfOk, OnOk, OnErr}
+use Rattle.std.proofs.Common.{◌≡◌, ◌<◌, ℕ, zero, suc, List, [], ◌∷◌, Bool, true, false, cond, Result, Ok, Err, get_or, set, length, remove, refl, sym, ap, subst, ◌∙◌, arith, Option}
+use Rattle.std.specs.Prelude.{◌&&◌, not, nat_lt, IsOk, IfOk, OnOk, OnErr}
+use Rattle.std.specs.List.{AllByRecursion}
+use Rattle.std.proofs.lemmas.Bool.{false≢true}
 use Rattle.std.proofs.lemmas.List.{set-get_or, get_or_default}
 use Rattle.engine.specs.Performing.{Rules, rules_of}
 use Rattle.model.specs.Topology.{Topology}
 use Rattle.model.specs.Arrivals.{is_ended}
+use Rattle.model.specs.Phases.{Session}
 use Rattle.model.specs.declared.messages.User.{User}
 use Rattle.model.specs.declared.events.Event.{Event}
 use Rattle.model.specs.Broker.{Broker}
 use Rattle.assembly.specs.Held.{Held, stream_of}
 use Rattle.engine.specs.Reading.{IsKeptEvent, HasMore, kept_of}
-use Rattle.engine.specs.Turning.{ConnectionTook, ConnectionWaits, MayTurn}
-use Rattle.engine.specs.World.{is_connection_gone}
-use Rattle.engine.specs.Engines.{Changes, IsSwept, ConnectionTookOr, ConnectionSent, ConnectionFed, ConnectionsTook, ConnectionsSent, ConnectionsFed}
+use Rattle.engine.specs.Turning.{ConnectionTook, ConnectionWaits, MayTurn, has_performed}
+use Rattle.engine.specs.World.{is_connection_gone, IsConnection}
+use Rattle.engine.specs.Engines.{Changes, IsSwept, IsStanding, ConnectionTookOr, ConnectionSent, ConnectionFed, ConnectionsTook, ConnectionsSent, ConnectionsFed}
 use Rattle.engine.specs.declared.connection.Connection.{Connection}
 use Rattle.engine.specs.declared.turning.Turn.{Turn}
+use Rattle.engine.specs.declared.turning.Turn.TheVariants as turn
+use Rattle.engine.proofs.Numbered.{all_at}
 
 at_set : (ls : List Connection) (i : ℕ) (x d : Connection) → i < length ls → get_or (set ls i x) i d ≡ x
 at_set [] i x d lt = absurd (omega (arith, lt))
@@ -38,6 +43,36 @@ changes_swept ls i old new new_ls lt here number kept swept =
       left = s.left ∙ ap (λ (z : List Connection). cond (is_connection_gone new) z (set ls i new)) (remove_set ls i new lt);
       over = s.over;
     }
+
+-- one that is not gone is left where it stands
+pub swept_standing : (ls : List Connection) (i : ℕ) (l : Connection) → is_connection_gone l ≡ false → IsSwept ls i l ls
+swept_standing ls i l stands = record {
+  left = ap (λ (b : Bool). cond b (remove ls i) ls) (sym stands);
+  over = λ gone. absurd (false≢true (sym stands ∙ gone));
+}
+
+gone_same : (old new : Connection) → new.session ≡ old.session → new.output.bytes ≡ old.output.bytes → is_connection_gone new ≡ is_connection_gone old
+gone_same old new session output =
+    ap (λ (s : Session). is_ended s.phase && not (nat_lt 0 (length new.output.bytes))) session ∙ ap (λ (o : List ℕ). is_ended old.session.phase && not (nat_lt 0 (length o))) output
+
+gone_waits : (b new_b : Broker) (old new : Connection) → ConnectionWaits b old new_b new → is_connection_gone new ≡ is_connection_gone old
+gone_waits b new_b old new waits = gone_same old new waits.session waits.output
+
+-- a turn that performs nothing leaves its connection as far as it was
+unperformed : {E : Type 0} (what : Result Turn E) (r : Rules) (b : Broker) (old : Connection) (new_b : Broker) (new : Connection) → IfOk what (λ x. ConnectionTook r b old x new_b new)
+    → OnErr what (ConnectionWaits b old new_b new) → has_performed what ≡ false → is_connection_gone new ≡ is_connection_gone old
+unperformed (Ok (turn.Did notes)) r b old new_b new took waits none = absurd (false≢true (sym none))
+unperformed (Ok turn.Idle) r b old new_b new took waits none = gone_waits b new_b old new took.1.waits
+unperformed (Ok turn.Paused) r b old new_b new took waits none = ap is_connection_gone took.2.connection
+unperformed (Ok turn.Over) r b old new_b new took waits none = ap is_connection_gone took.1.connection
+unperformed (Err e) r b old new_b new took waits none = gone_waits b new_b old new waits
+
+-- so it is not gone by then
+pub stands_after : {E : Type 0} (what : Result Turn E) (r : Rules) (b : Broker) (given : ℕ) (ls : List Connection) (i : ℕ) (old new : Connection) (new_b : Broker)
+    → AllByRecursion (IsConnection given) ls → i < length ls → get_or ls i old ≡ old → IfOk what (λ x. ConnectionTook r b old x new_b new) → OnErr what (ConnectionWaits b old new_b new)
+    → has_performed what ≡ false → IsStanding (set ls i new) i
+stands_after what r b given ls i old new new_b all lt here took waits none l there =
+    ap is_connection_gone (sym there ∙ at_set ls i new l lt) ∙ unperformed what r b old new_b new took waits none ∙ (all_at (IsConnection given) ls i old all lt here).here
 
 pub took_or : {E : Type 0} (r : Result Turn E) (t : Rules) (b : Broker) (old : Connection) (new_b : Broker) (new : Connection) → IfOk r (λ x. ConnectionTook t b old x new_b new) → OnErr r (ConnectionWaits b old new_b new) → OnErr r (MayTurn old)
     → OnErr r (HasMore (kept_of old.kept) (stream_of old.stream)) → ConnectionTookOr t b old r new_b new

@@ -1,6 +1,8 @@
 -- What is read next of one connection, and one turn of it.
 use Rattle.std.proofs.Common.{◌≡◌, ◌<◌, ◌≤◌, ◌+◌, ◌++◌, inl, inr, ℕ, List, true, false, Option, Some, None, length, refl, sym, ap, subst, ◌∙◌, arith}
 use Rattle.std.specs.List.{AllByRecursion}
+use Rattle.std.specs.Prelude.{is_some, Result, Ok, Err, IfOk, OnErr, IfSome, IsSome}
+use Rattle.std.proofs.lemmas.Bool.{false≢true}
 use Rattle.model.specs.Broker.{Broker}
 use Rattle.model.specs.Topology.{Topology}
 use Rattle.model.specs.Spelling.{receiver, spelling, IsSpelled}
@@ -20,7 +22,8 @@ use Rattle.assembly.specs.Front.{HasFront}
 use Rattle.assembly.proofs.Fronts.{ends_front, yields_front}
 use Rattle.engine.specs.Reading.{kept_of, kept_for, IsEventMade, IsKeptEvent, HasMore, HasCommand, ComesNext, to_read}
 use Rattle.engine.specs.Performing.{Rules, DecidesByPhase, IsAskedBy, PausesOr}
-use Rattle.engine.specs.Turning.{Performed, DidEvent, ConnectionStays, ConnectionTook, ConnectionWaits, OnIdle}
+use Rattle.broker.specs.Turns.{WithTurn, broker_of}
+use Rattle.engine.specs.Turning.{Performed, DidEvent, DidNext, ConnectionStays, ConnectionTook, ConnectionWaits, OnIdle}
 use Rattle.outputs.specs.Waiting.{HoldsNone, WaitingBytes}
 use Rattle.engine.specs.declared.connection.Connection.{Connection}
 use Rattle.engine.specs.declared.turning.Turn.{Turn}
@@ -47,14 +50,14 @@ kept_made : (c : ℕ) (e : Event) (is : IsEventMade c e) → kept_of (Some e) �
 kept_made c e is = ap (λ (x : Event). kept_of (Some x)) is.made ∙ kept_is c is.command
 
 -- a command is kept where it could not be performed
-kept_as : (c : ℕ) (m : Command) → kept_for (event_of c m) ≡ Some (event_of c m)
+kept_as : (c : ℕ) (m : Command) → kept_for (Some (event_of c m)) ≡ Some (event_of c m)
 kept_as c (Head bytes) = refl
 kept_as c (Plain h m) = refl
 kept_as c (Full h p content) = refl
 kept_as c (TooLarge h) = refl
 
-made_kept : (c : ℕ) (e : Event) → IsEventMade c e → kept_for e ≡ Some e
-made_kept c e is = subst (λ (x : Event). kept_for x ≡ Some x) (sym is.made) (kept_as c is.command)
+made_kept : (c : ℕ) (e : Event) → IsEventMade c e → kept_for (Some e) ≡ Some e
+made_kept c e is = subst (λ (x : Event). kept_for (Some x) ≡ Some x) (sym is.made) (kept_as c is.command)
 
 asks_command : (c : ℕ) (m : Command) → IsAskedBy c (event_of c m)
 asks_command c (Head bytes) = refl
@@ -63,17 +66,22 @@ asks_command c (Full h p content) = refl
 asks_command c (TooLarge h) = refl
 
 -- a command that was kept is the next
-pub kept_has : (c : ℕ) (k : Option Event) (e : Event) (broke : Option ℕ) (s : Stream) → k ≡ Some e → IsKeptEvent c k broke → HasCommand c k s e broke s
-kept_has c k e broke s is own = subst (λ (o : Option Event). HasCommand c o s e broke s) (sym is) (one (subst (λ (o : Option Event). IsKeptEvent c o broke) is own))
-  where
-    one : IsEventMade c e × (broke ≡ None) → HasCommand c (Some e) s e broke s
-    one (made, whole) = record {
-      made = made;
-      whole = whole;
-      read = subst (λ (o : Option Command). Reads c o s e s) (sym (kept_made c e made)) (subst (λ (x : Event). Reads c (Some made.command) s x s) (sym made.made) again);
-      same = subst (λ (o : Option Command). SameToCome o s o s) (sym (kept_made c e made)) still;
-      fewer = subst (λ (o : Option Command). to_read None s < to_read o s) (sym (kept_made c e made)) (omega arith);
-    }
+kept_has : (c : ℕ) (e : Event) (broke : Option ℕ) (s : Stream) → IsKeptEvent c (Some e) broke → HasCommand c (Some e) s e broke s
+kept_has c e broke s (made, whole) = record {
+  made = made;
+  whole = whole;
+  read = subst (λ (o : Option Command). Reads c o s e s) (sym (kept_made c e made)) (subst (λ (x : Event). Reads c (Some made.command) s x s) (sym made.made) again);
+  same = subst (λ (o : Option Command). SameToCome o s o s) (sym (kept_made c e made)) still;
+  fewer = subst (λ (o : Option Command). to_read None s < to_read o s) (sym (kept_made c e made)) (omega arith);
+}
+
+pub kept_next : (c : ℕ) (k : Option Event) (broke : Option ℕ) (s : Stream) → is_some k ≡ true → IsKeptEvent c k broke → ComesNext c k s k broke s
+kept_next c None broke s some is = absurd (false≢true some)
+kept_next c (Some e) broke s some is = inl (kept_has c e broke s is)
+
+pub not_some : (k : Option Event) → is_some k ≡ false → k ≡ None
+not_some None none = refl
+not_some (Some e) none = absurd (false≢true (sym none))
 
 -- and so is one that was read
 pub read_has : (c : ℕ) (k : Option Event) (e : Event) (m : Command) (broke : Option ℕ) (s new : Stream) → k ≡ None → e ≡ event_of c m → Yields s m new → IsCommand m → length new.unread + 8 ≤ length s.unread → broke ≡ None
@@ -187,22 +195,21 @@ did_next t b new_b old mid new e what open_still below read (inr h) did =
     (subst (λ (x : Event). DidEvent t b mid x what new_b new) (h.is ∙ ap (λ (c : ℕ). event.Fault c h.code) (sym read.number)) did)
 
 -- the same is still to come
-coming_next : (c : ℕ) (k : Option Event) (s : Stream) (e : Event) (broke : Option ℕ) (new : Stream) → ComesNext c k s (Some e) broke new → SameToCome (kept_of k) s (kept_of (kept_for e)) new
-coming_next c k s e broke new (inl h) = subst (λ (o : Option Event). SameToCome (kept_of k) s (kept_of o) new) (sym (made_kept c e h.made)) h.same
-coming_next c k s e broke new (inr h) = coming_on k (kept_for e) s new h.none_kept (ap kept_for h.is) h.on
+coming_next : (c : ℕ) (k : Option Event) (s : Stream) (left : Option Event) (broke : Option ℕ) (new : Stream) → ComesNext c k s left broke new → SameToCome (kept_of k) s (kept_of (kept_for left)) new
+coming_next c k s (Some e) broke new (inl h) = subst (λ (o : Option Event). SameToCome (kept_of k) s (kept_of o) new) (sym (made_kept c e h.made)) h.same
+coming_next c k s (Some e) broke new (inr h) = coming_on k (kept_for (Some e)) s new h.none_kept (ap (λ (x : Event). kept_for (Some x)) h.is) h.on
+coming_next c k s None broke new (none, ends, on) = coming_on k None s new none refl on
 
-keeps_next : (c : ℕ) (k : Option Event) (s : Stream) (e : Event) (broke : Option ℕ) (new : Stream) → ComesNext c k s (Some e) broke new → IsKeptEvent c (kept_for e) broke
-keeps_next c k s e broke new (inl h) = subst (λ (o : Option Event). IsKeptEvent c o broke) (sym (made_kept c e h.made)) (h.made, h.whole)
-keeps_next c k s e broke new (inr h) = subst (λ (o : Option Event). IsKeptEvent c o broke) (sym (ap kept_for h.is)) tt
+keeps_next : (c : ℕ) (k : Option Event) (s : Stream) (left : Option Event) (broke : Option ℕ) (new : Stream) → ComesNext c k s left broke new → IsKeptEvent c (kept_for left) broke
+keeps_next c k s (Some e) broke new (inl h) = subst (λ (o : Option Event). IsKeptEvent c o broke) (sym (made_kept c e h.made)) (h.made, h.whole)
+keeps_next c k s (Some e) broke new (inr h) = subst (λ (o : Option Event). IsKeptEvent c o broke) (sym (ap (λ (x : Event). kept_for (Some x)) h.is)) tt
+keeps_next c k s None broke new h = tt
 
 -- it is asked for by the connection, and has a spelling
-pub next_asked : (c : ℕ) (k : Option Event) (s : Stream) (e : Event) (broke : Option ℕ) (new : Stream) → ComesNext c k s (Some e) broke new → IsAskedBy c e
-next_asked c k s e broke new (inl h) = subst (λ (x : Event). IsAskedBy c x) (sym h.made.made) (asks_command c h.made.command)
-next_asked c k s e broke new (inr h) = subst (λ (x : Event). IsAskedBy c x) (sym h.is) refl
-
-pub next_said : (c : ℕ) (k : Option Event) (s : Stream) (e : Event) (broke : Option ℕ) (new : Stream) → ComesNext c k s (Some e) broke new → IsSaid e
-next_said c k s e broke new (inl h) = says_made c e h.made
-next_said c k s e broke new (inr h) = subst (λ (x : Event). IsSaid x) (sym h.is) tt
+pub next_known : (c : ℕ) (k : Option Event) (s : Stream) (left : Option Event) (broke : Option ℕ) (new : Stream) → ComesNext c k s left broke new → IfSome left (λ e. IsAskedBy c e × IsSaid e)
+next_known c k s (Some e) broke new (inl h) = (subst (λ (x : Event). IsAskedBy c x) (sym h.made.made) (asks_command c h.made.command), says_made c e h.made)
+next_known c k s (Some e) broke new (inr h) = (subst (λ (x : Event). IsAskedBy c x) (sym h.is) refl, subst (λ (x : Event). IsSaid x) (sym h.is) tt)
+next_known c k s None broke new h = tt
 
 -- and read, with what follows it
 pub next_read : (c : ℕ) (k : Option Event) (s : Stream) (e : Event) (broke : Option ℕ) (new : Stream) → ComesNext c k s (Some e) broke new → (next : Stream) × Reads c (kept_of k) s e next
@@ -213,8 +220,9 @@ next_read c k s e broke new (inr h) = (
 )
 
 -- it stays where memory was refused
-pub stays_refused : (l : Connection) (s : Session) (o : WaitingBytes) → s ≡ l.session → o.bytes ≡ l.output.bytes → HoldsNone o → ConnectionStays l (record l { session = s; output = o })
-stays_refused l s o session bytes none = record { rest = λ i. record { number = l.number; session = session i; stream = l.stream; kept = l.kept; output = o }; bytes = bytes; none = none }
+pub stays_refused : (l : Connection) (s : Session) (k : Option Event) (o : WaitingBytes) → s ≡ l.session → k ≡ kept_for l.kept → o.bytes ≡ l.output.bytes → HoldsNone o
+    → ConnectionStays l (record l { session = s; kept = k; output = o })
+stays_refused l s k o session left bytes none = record { rest = λ i. record { number = l.number; session = session i; stream = l.stream; kept = left i; output = o }; bytes = bytes; none = none }
 
 -- ---- what is read was there
 
@@ -226,13 +234,9 @@ reads_more (fault e) = ends_front e
 pub front_more : (k : Option Event) (s : Stream) → k ≡ None → HasFront s → HasMore (kept_of k) s
 front_more k s none front = subst (λ (o : Option Event). HasMore (kept_of o) s) (sym none) front
 
--- ---- by the answer
-
-pub comes : (c : ℕ) (k : Option Event) (s : Stream) (n : Option Event) (e : Event) (broke : Option ℕ) (new : Stream) → n ≡ Some e → ComesNext c k s n broke new → ComesNext c k s (Some e) broke new
-comes c k s n e broke new is h = subst (λ (x : Option Event). ComesNext c k s x broke new) is h
-
-pub ends : (c : ℕ) (k : Option Event) (s : Stream) (n : Option Event) (broke : Option ℕ) (new : Stream) → n ≡ None → ComesNext c k s n broke new → (k ≡ None) × Ends s None × GoesOn s new
-ends c k s n broke new is h = subst (λ (x : Option Event). ComesNext c k s x broke new) is h
+pub reads_next : (c : ℕ) (k : Option Event) (s : Stream) (left : Option Event) (broke : Option ℕ) (new : Stream) → IsSome left → ComesNext c k s left broke new → HasMore (kept_of k) s
+reads_next c k s (Some e) broke new some h = reads_more (next_read c k s e broke new h).1
+reads_next c k s None broke new some h = absurd (false≢true some)
 
 -- ---- what a turn leaves
 
@@ -249,36 +253,65 @@ did_something t b new_b mid new e turn.Idle did = absurd did
 did_something t b new_b mid new e turn.Paused did = absurd did
 did_something t b new_b mid new e turn.Over did = absurd did
 
--- where memory was refused what came next is kept, if it is a command, and is still to come
-pub waits_next : (b new_b : Broker) (old mid left : Connection) (k : Option Event) (e : Event) → IsRead old mid → ComesNext old.number old.kept (stream_of old.stream) (Some e) mid.stream.fault (stream_of mid.stream)
-    → new_b ≡ b → ConnectionStays mid left → k ≡ kept_for e → ConnectionWaits b old new_b (record left { kept = k })
-waits_next b new_b old mid left k e read h broker was keeps = record {
-  broker = broker;
+-- where it stays, it is as it was read
+read_stays : (old mid new : Connection) → IsRead old mid → ConnectionStays mid new → IsRead old new
+read_stays old mid new read was = record {
   number = ap (λ (z : Connection). z.number) was.rest ∙ read.number;
   session = ap (λ (z : Connection). z.session) was.rest ∙ read.session;
   output = was.bytes ∙ read.output;
-  coming = subst (λ (z : Connection). SameToCome (kept_of old.kept) (stream_of old.stream) (kept_of k) (stream_of z.stream)) (sym was.rest)
-      (subst (λ (o : Option Event). SameToCome (kept_of old.kept) (stream_of old.stream) (kept_of o) (stream_of mid.stream)) (sym keeps) (coming_next old.number old.kept (stream_of old.stream) e mid.stream.fault (stream_of mid.stream) h));
 }
 
-pub still_kept : (old mid left : Connection) (k : Option Event) (e : Event) → IsRead old mid → ComesNext old.number old.kept (stream_of old.stream) (Some e) mid.stream.fault (stream_of mid.stream)
-    → ConnectionStays mid left → k ≡ kept_for e → IsKeptEvent left.number k left.stream.fault
-still_kept old mid left k e read h was keeps =
-    subst (λ (z : Connection). IsKeptEvent z.number k z.stream.fault) (sym was.rest)
-    (subst (λ (c : ℕ). IsKeptEvent c k mid.stream.fault) (sym read.number)
-    (subst (λ (o : Option Event). IsKeptEvent old.number o mid.stream.fault) (sym keeps) (keeps_next old.number old.kept (stream_of old.stream) e mid.stream.fault (stream_of mid.stream) h)))
+-- what is kept then is a command
+still_kept : (old mid new : Connection) → IsRead old mid → ComesNext old.number old.kept (stream_of old.stream) mid.kept mid.stream.fault (stream_of mid.stream) → ConnectionStays mid new
+    → IsKeptEvent new.number new.kept new.stream.fault
+still_kept old mid new read h was =
+    subst (λ (z : Connection). IsKeptEvent z.number z.kept z.stream.fault) (sym was.rest)
+    (subst (λ (c : ℕ). IsKeptEvent c (kept_for mid.kept) mid.stream.fault) (sym read.number) (keeps_next old.number old.kept (stream_of old.stream) mid.kept mid.stream.fault (stream_of mid.stream) h))
 
-pub after_nothing : (t : Rules) (b : Broker) (old mid : Connection) → is_ended old.session.phase ≡ false → IsRead old mid
-    → mid.kept ≡ None → (old.kept ≡ None) × Ends (stream_of old.stream) None × GoesOn (stream_of old.stream) (stream_of mid.stream)
-    → ConnectionTook t b old turn.Idle b mid
-after_nothing t b old mid open_still read none h = (
-  open_still,
-  record {
-    waits = record { broker = refl; number = read.number; session = read.session; output = read.output; coming = coming_on old.kept mid.kept (stream_of old.stream) (stream_of mid.stream) h.0 none h.2 };
-    none_kept = h.0;
-    ends = h.1;
-  },
-)
+-- and the same is still to come
+pub waits_next : (b new_b : Broker) (old mid new : Connection) → IsRead old mid → ComesNext old.number old.kept (stream_of old.stream) mid.kept mid.stream.fault (stream_of mid.stream)
+    → new_b ≡ b → ConnectionStays mid new → ConnectionWaits b old new_b new
+waits_next b new_b old mid new read h broker was =
+    let is = read_stays old mid new read was in
+    record {
+      broker = broker;
+      number = is.number;
+      session = is.session;
+      output = is.output;
+      coming = subst (λ (z : Connection). SameToCome (kept_of old.kept) (stream_of old.stream) (kept_of z.kept) (stream_of z.stream)) (sym was.rest)
+          (coming_next old.number old.kept (stream_of old.stream) mid.kept mid.stream.fault (stream_of mid.stream) h);
+    }
+
+-- nothing was read
+after_nothing : (r : Rules) (b : Broker) (old mid new : Connection) → is_ended old.session.phase ≡ false → IsRead old mid
+    → ComesNext old.number old.kept (stream_of old.stream) mid.kept mid.stream.fault (stream_of mid.stream) → mid.kept ≡ None → ConnectionStays mid new → ConnectionTook r b old turn.Idle b new
+after_nothing r b old mid new open_still read h none was =
+    let found = subst (λ (k : Option Event). ComesNext old.number old.kept (stream_of old.stream) k mid.stream.fault (stream_of mid.stream)) none h in
+    (open_still, record { waits = waits_next b b old mid new read h refl was; none_kept = found.0; ends = found.1 })
+
+-- what was read was performed, or nothing was
+pub took_next : (r : Rules) (b new_b : WithTurn) (old mid new : Connection) (left : Option Event) (what : Turn) → is_ended old.session.phase ≡ false → is_past_bound old.output.bytes ≡ false → IsRead old mid
+    → mid.kept ≡ left → ComesNext old.number old.kept (stream_of old.stream) mid.kept mid.stream.fault (stream_of mid.stream) → DidNext r b mid left what new_b new
+    → ConnectionTook r (broker_of b) old what (broker_of new_b) new
+took_next r b new_b old mid new (Some e) what open_still below read is h did =
+    did_next r (broker_of b) (broker_of new_b) old mid new e what open_still below read
+    (subst (λ (k : Option Event). ComesNext old.number old.kept (stream_of old.stream) k mid.stream.fault (stream_of mid.stream)) is h) did.0
+took_next r b new_b old mid new None what open_still below read is h did =
+    subst (λ (t : Turn). ConnectionTook r (broker_of b) old t (broker_of new_b) new) (sym did.idle)
+    (subst (λ (x : WithTurn). ConnectionTook r (broker_of b) old turn.Idle (broker_of x) new) (sym did.broker) (after_nothing r (broker_of b) old mid new open_still read h is did.connection))
+
+-- where nothing was, its output holds no storage
+pub idle_next : (r : Rules) (b new_b : WithTurn) (mid new : Connection) (left : Option Event) (what : Turn) → DidNext r b mid left what new_b new → OnIdle what (HoldsNone new.output)
+idle_next r b new_b mid new (Some e) what did = did_something r (broker_of b) (broker_of new_b) mid new e what did.0
+idle_next r b new_b mid new None what did = subst (λ (t : Turn). OnIdle t (HoldsNone new.output)) (sym did.idle) did.connection.none
+
+-- what is kept after a turn is a command of the connection
+pub keeps_after : {E : Type 0} (result : Result Turn E) (r : Rules) (b new_b : WithTurn) (old mid new : Connection) (left : Option Event) → IsRead old mid → mid.kept ≡ left
+    → ComesNext old.number old.kept (stream_of old.stream) mid.kept mid.stream.fault (stream_of mid.stream)
+    → IfOk result (λ t. DidNext r b mid left t new_b new) → OnErr result (ConnectionStays mid new) → IsKeptEvent new.number new.kept new.stream.fault × (new.number ≡ old.number)
+keeps_after (Ok what) r b new_b old mid new (Some e) read is h did was = let kept = did_keeps r (broker_of b) (broker_of new_b) mid new e what did.0 in (kept.0, kept.1 ∙ read.number)
+keeps_after (Ok what) r b new_b old mid new None read is h did was = (still_kept old mid new read h did.connection, (read_stays old mid new read did.connection).number)
+keeps_after (Err x) r b new_b old mid new left read is h did was = (still_kept old mid new read h was, (read_stays old mid new read was).number)
 
 pub same_coming : (k : Option Command) (s : Stream) → SameToCome k s k s
 same_coming None s = waits stays

@@ -1,24 +1,28 @@
 -- What the calls of an engine leave of turns to be served.
-use Rattle.std.proofs.Common.{◌≡◌, ◌∙◌, ◌<◌, ℕ, List, Bool, false, Some, None, Result, Ok, Err, get_or, length, refl, sym, ap, subst, arith}
+use Rattle.std.proofs.Common.{◌≡◌, ◌∙◌, ◌<◌, ℕ, List, Bool, false, Option, Some, None, Result, Ok, Err, get_or, length, refl, sym, ap, subst, arith}
 use Rattle.std.specs.Prelude.{IfOk}
 use Rattle.std.proofs.lemmas.Option.{same_Some}
 use Rattle.model.specs.Broker.{Broker}
 use Rattle.model.specs.Commands.{Stream}
 use Rattle.model.specs.Arrivals.{Wire, Reads, is_ended}
+use Rattle.model.specs.declared.events.Command.{Command}
 use Rattle.model.specs.declared.events.Event.{Event}
+use Rattle.assembly.specs.Held.{stream_of}
 use Rattle.commands.specs.Picked.{IsPick, IsPickFrom}
 use Rattle.commands.specs.declared.picks.Pick.{Pick}
 use Rattle.broker.specs.Turns.{WithTurn, topology_kept, broker_of}
 use Rattle.broker.specs.Waiting.{NoneIsLater, OneComesIn, IsToldInTurn, IsPassedOver, ServesSoon}
 use Rattle.broker.specs.Waiting.Waits.{passed, other}
 use Rattle.engine.specs.Performing.{Rules, rules_of}
-use Rattle.engine.specs.Turning.{DidEvent}
+use Rattle.engine.specs.Reading.{kept_of, ComesNext}
+use Rattle.engine.specs.Turning.{DidEvent, DidNext}
 use Rattle.engine.specs.World.{Parts, connection_in, wire_in, wire_of, world_of, IsEngine}
 use Rattle.engine.specs.Engines.{IsConnectionPlace, ConnectionsTook}
 use Rattle.engine.specs.Waiting.{KeepsTurns, PerformsNext, TurnLeaves, KeepsTold, ServesOne}
 use Rattle.engine.specs.declared.connection.Connection.{Connection}
 use Rattle.engine.specs.declared.turning.Turn.{Turn}
 use Rattle.engine.specs.declared.turning.Turn.TheVariants as turn
+use Rattle.engine.proofs.Turned.{next_read}
 use Rattle.engine.proofs.Swept.{same_at}
 use Rattle.engine.proofs.Tooks.{found_at, number_is}
 
@@ -73,6 +77,15 @@ did_leaves c w next e r l l' (turn.Did notes) old new read did same topology lat
 did_leaves c w next e r l l' turn.Idle old new read did same topology later = absurd did
 did_leaves c w next e r l l' turn.Paused old new read did same topology later = absurd did
 did_leaves c w next e r l l' turn.Over old new read did same topology later = absurd did
+
+-- what was read was performed, or nothing was
+pub next_leaves : (w : Wire) (r : Rules) (old new : WithTurn) (l mid l' : Connection) (left : Option Event) (what : Turn) → w.kept ≡ kept_of l.kept → w.stream ≡ stream_of l.stream
+    → ComesNext l.number l.kept (stream_of l.stream) left mid.stream.fault (stream_of mid.stream) → DidNext r old mid left what new l' → new.turn ≡ old.turn → topology_kept new ≡ topology_kept old
+    → TurnLeaves l.number w old what new
+next_leaves w r old new l mid l' (Some e) what kept stream h did same topology =
+    let read = next_read l.number l.kept (stream_of l.stream) e mid.stream.fault (stream_of mid.stream) h in
+    did_leaves l.number w read.0 e r mid l' what old new (subst (λ (k : Option Command). Reads l.number k w.stream e read.0) (sym kept) (subst (λ (s : Stream). Reads l.number (kept_of l.kept) s e read.0) (sym stream) read.1)) did.0 same topology did.1
+next_leaves w r old new l mid l' None what kept stream h did same topology = subst (λ (t : Turn). TurnLeaves l.number w old t new) (sym did.idle) did.broker
 
 -- what one that is not over has to say is what its wire has
 wire_found : (p : Parts) (c : ℕ) (l : Connection) → connection_in p.connections c ≡ Some l → is_ended l.session.phase ≡ false → wire_in false l ≡ (world_of p).wire c

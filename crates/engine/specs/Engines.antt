@@ -82,6 +82,10 @@ IsConnectionPlace ls c (Some i) = (i < length ls) × ((l : Connection) → (get_
 abbrev pub put_back : List Connection → ℕ → Connection → List Connection
 put_back ls i l = if is_connection_gone l then remove ls i else set ls i l
 
+-- the connection at this place is not gone
+abbrev pub IsStanding : List Connection → ℕ → Type 0
+IsStanding ls i = (l : Connection) → get_or ls i l ≡ l → is_connection_gone l ≡ false
+
 -- the connection at this place is taken out where it is gone; of a gone one no limits are kept
 pub record IsSwept (ls : List Connection) (i : ℕ) (l : Connection) (new_ls : List Connection) : Type 0 where
   pub left : new_ls ≡ (if is_connection_gone l then remove ls i else ls)

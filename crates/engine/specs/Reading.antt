@@ -75,7 +75,7 @@ abbrev pub ComesNext : ℕ → Option Event → Stream → Option Event → (fau
 ComesNext c kept old (Some e) broke new = HasCommand c kept old e broke new ⊎ HasFault c kept old e new
 ComesNext c kept old None broke new = (kept ≡ None) × Ends old None × GoesOn old new
 
--- what is kept of an event that could not be performed: a command, for the stream answers a fault again
-abbrev pub kept_for : Event → Option Event
-kept_for (event.Fault c code) = None
-kept_for e = Some e
+-- what stays kept where memory is refused: a command, for the stream answers a fault again
+abbrev pub kept_for : Option Event → Option Event
+kept_for (Some (event.Fault c code)) = None
+kept_for kept = kept

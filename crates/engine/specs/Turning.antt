@@ -1,5 +1,5 @@
 -- What a turn does to the broker and to one connection.
-use Rattle.std.specs.Prelude.{◌≡◌, ◌⊎◌, ◌≤◌, ◌<◌, ◌++◌, ℕ, List, true, false, None}
+use Rattle.std.specs.Prelude.{◌≡◌, ◌⊎◌, ◌≤◌, ◌<◌, ◌++◌, ℕ, List, Bool, true, false, Option, Some, None, Result, Ok, Err}
 use Rattle.std.specs.List.{AllByRecursion}
 use Rattle.model.specs.Broker.{Broker}
 use Rattle.model.specs.Phases.{Session}
@@ -9,10 +9,12 @@ use Rattle.model.specs.Arrivals.{Reads, SameToCome, IsSaid, is_ended, is_past_bo
 use Rattle.model.specs.declared.events.Send.{Send}
 use Rattle.model.specs.declared.events.Event.{Event}
 use Rattle.model.specs.declared.notes.Note.{Note}
+use Rattle.broker.specs.Turns.{WithTurn, broker_of}
+use Rattle.broker.specs.Waiting.{OneComesIn}
 use Rattle.assembly.specs.Held.{stream_of}
 use Rattle.outputs.specs.Waiting.{HoldsNone}
 use Rattle.engine.specs.Performing.{Rules, DecidesByPhase, PausesOr}
-use Rattle.engine.specs.Reading.{kept_of, to_read}
+use Rattle.engine.specs.Reading.{kept_of, kept_for, to_read}
 use Rattle.engine.specs.declared.connection.Connection.{Connection}
 use Rattle.engine.specs.declared.turning.Turn.{Turn}
 use Rattle.engine.specs.declared.turning.Turn.TheVariants as turn
@@ -56,11 +58,22 @@ pub record ConnectionWaits (b : Broker) (old : Connection) (new_b : Broker) (new
   pub output : new.output.bytes ≡ old.output.bytes
   pub coming : SameToCome (kept_of old.kept) (stream_of old.stream) (kept_of new.kept) (stream_of new.stream)
 
--- The connection is as before, but that its output holds no storage where nothing waits in it.
+-- The connection is as before, but that a fault is kept no more, and that its output holds no storage where nothing waits in it.
 pub record ConnectionStays (old new : Connection) : Type 0 where
-  pub rest : new ≡ record old { output = new.output }
+  pub rest : new ≡ record old { kept = kept_for old.kept; output = new.output }
   pub bytes : new.output.bytes ≡ old.output.bytes
   pub none : HoldsNone new.output
+
+-- Nothing was there to perform.
+pub record DidNothing (b : WithTurn) (old : Connection) (what : Turn) (new_b : WithTurn) (new : Connection) : Type 0 where
+  pub idle : what ≡ turn.Idle
+  pub broker : new_b ≡ b
+  pub connection : ConnectionStays old new
+
+-- the turn performed what was kept, if something was
+abbrev pub DidNext : Rules → WithTurn → Connection → (kept : Option Event) → Turn → WithTurn → Connection → Type 0
+DidNext r b old (Some event) what new_b new = DidEvent r (broker_of b) old event what (broker_of new_b) new × OneComesIn event b new_b
+DidNext r b old None what new_b new = DidNothing b old what new_b new
 
 -- What was read was performed; nothing is kept, and what follows is what the stream says next, in frames as large as the session allows.
 pub record ConnectionDid (r : Rules) (b : Broker) (old : Connection) (notes : List Note) (new_b : Broker) (new : Connection) : Type 0 where
@@ -100,3 +113,11 @@ OnIdle turn.Idle P = P
 OnIdle (turn.Did notes) P = Unit {0}
 OnIdle turn.Paused P = Unit {0}
 OnIdle turn.Over P = Unit {0}
+
+-- something was performed
+abbrev pub has_performed : {E : Type 0} → Result Turn E → Bool
+has_performed (Ok (turn.Did notes)) = true
+has_performed (Ok turn.Idle) = false
+has_performed (Ok turn.Paused) = false
+has_performed (Ok turn.Over) = false
+has_performed (Err e) = false

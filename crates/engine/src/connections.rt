@@ -6,6 +6,7 @@ ghost use Rattle.std.specs.Prelude.{
   length,
   get_or,
   true,
+  false,
   IfSome,
   Some,
   IsOk,
@@ -17,12 +18,14 @@ ghost use Rattle.broker.specs.Turns.{topology_kept, broker_of};
 ghost use Rattle.broker.specs.Waiting.{NoneIsLater};
 ghost use Rattle.outputs.specs.Waiting.{HoldsNone};
 ghost use Rattle.engine.specs.World.{AreRising};
-ghost use Rattle.engine.specs.Engines.{HasConnection, IsConnectionPlace, ConnectionSent, ConnectionFed, IsSwept};
+ghost use Rattle.engine.specs.Turning.{has_performed as performs};
+ghost use Rattle.engine.specs.Engines.{HasConnection, IsConnectionPlace, ConnectionSent, ConnectionFed, IsSwept, IsStanding};
 ghost use Rattle.engine.specs.declared.connection.Connection as seen;
 
 use crate::connection::{BOUND, Connection};
 use crate::performing::resume_if;
 use crate::places::Places;
+use crate::turning::{Turn, has_performed};
 use broker::Broker;
 use outputs::Spares;
 use std::alloc::AllocError;
@@ -91,6 +94,22 @@ pub(crate) fn sweep(places: &mut Places, connections: &mut Vec<Connection>, plac
     if connections[place].is_gone() {
         connections.remove(place);
         places.learn_from(connections, place);
+    }
+}
+
+/// Sweeps after this turn of the connection at this place, where it performed something. Where it did not, the connection is not gone.
+pub(crate) fn sweep_after(
+    turn: &Result<Turn, AllocError>,
+    places: &mut Places,
+    connections: &mut Vec<Connection>,
+    place: usize,
+)
+    requires within { place < length connections.old.items }
+    requires stands { performs turn.now ≡ false → IsStanding connections.old.items place }
+    ensures { (l : seen.Connection) → get_or connections.old.items place l ≡ l → IsSwept connections.old.items place l connections.new.items }
+{
+    if has_performed(turn) {
+        sweep(places, connections, place);
     }
 }
 

@@ -1,8 +1,9 @@
 //! What a connection's bytes ask for next.
 
-ghost use Rattle.std.specs.Prelude.{◌≡◌, None, IfOk, OnErr};
+ghost use Rattle.std.specs.Prelude.{◌≡◌, None, OnOk, OnErr};
 ghost use Rattle.model.specs.Commands.{IsCommand};
 ghost use Rattle.model.specs.Arrivals.{event_of as event_of_command, SameToCome};
+ghost use Rattle.model.specs.declared.events.Event.TheVariants as happens;
 ghost use Rattle.assembly.specs.Held.{stream_of};
 ghost use Rattle.engine.specs.Reading.{IsKeptEvent, ComesNext, HasMore, kept_of, kept_for};
 
@@ -10,41 +11,63 @@ use assembly::{Fault, Stream};
 use model::{Command, Event, Method};
 use std::alloc::AllocError;
 
-/// Reads what is next of the connection `number`: the command that is kept, which is kept no more, the next that its bytes spell, or
-/// the fault that they end in.
+/// Reads what is next of the connection `number`, if no command is kept: the next command that its bytes spell, or the fault that they
+/// end in. It is kept from then on.
 pub(crate) fn read_next(
     number: u64,
     stream: &mut Stream,
     kept: &mut Option<Event>,
-) -> Result<Option<Event>, AllocError>
+) -> Result<(), AllocError>
     requires { IsKeptEvent number kept.old stream.old.fault }
-    ensures ok { IfOk result (λ e. ComesNext number kept.old (stream_of stream.old) e stream.new.fault (stream_of stream.new)) }
+    ensures ok { OnOk result (ComesNext number kept.old (stream_of stream.old) kept.new stream.new.fault (stream_of stream.new)) }
     ensures err { OnErr result (SameToCome (kept_of kept.old) (stream_of stream.old) None (stream_of stream.new)) }
     ensures wants { OnErr result (HasMore (kept_of kept.old) (stream_of stream.old)) }
-    ensures none { kept.new ≡ None }
+    ensures none { OnErr result (kept.new ≡ None) }
 {
-    if let Some(event) = kept.take() {
-        return Ok(Some(event));
+    if kept.is_some() {
+        return Ok(());
     }
     match stream.next() {
-        Ok(Some(command)) => Ok(Some(event_of(number, command))),
-        Ok(None) => Ok(None),
-        Err(Fault::Broken(code)) => Ok(Some(Event::Fault {
-            connection: number,
-            code,
-        })),
+        Ok(Some(command)) => {
+            keep(kept, number, command);
+            Ok(())
+        }
+        Ok(None) => Ok(()),
+        Err(Fault::Broken(code)) => {
+            keep_fault(kept, number, code);
+            Ok(())
+        }
         Err(Fault::Memory) => Err(AllocError),
     }
 }
 
-/// Keeps this event, which could not be performed, where none is kept. A fault is not kept, for the stream answers it again.
-pub(crate) fn keep(kept: &mut Option<Event>, event: Event)
-    requires { kept.old ≡ None }
-    ensures { kept.new ≡ kept_for event }
+/// Keeps this command of a connection.
+fn keep(kept: &mut Option<Event>, connection: u64, command: Command)
+    ensures { kept.new ≡ Some (event_of_command connection command) }
 {
-    match event {
-        Event::Fault { .. } => drop(event),
-        command => drop(kept.replace(command)),
+    *kept = Some(event_of(connection, command));
+}
+
+/// Keeps the fault of a connection.
+fn keep_fault(kept: &mut Option<Event>, connection: u64, code: u16)
+    ensures { kept.new ≡ Some (happens.Fault connection code) }
+{
+    *kept = Some(Event::Fault { connection, code });
+}
+
+/// Keeps nothing any more.
+pub(crate) fn forget(kept: &mut Option<Event>)
+    ensures { kept.new ≡ None }
+{
+    *kept = None;
+}
+
+/// Keeps a fault no more, for the stream answers it again. A command stays.
+pub(crate) fn forget_fault(kept: &mut Option<Event>)
+    ensures { kept.new ≡ kept_for kept.old }
+{
+    if let Some(Event::Fault { .. }) = kept {
+        forget(kept);
     }
 }
 

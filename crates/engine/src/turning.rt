@@ -1,6 +1,6 @@
 //! One turn of one connection.
 
-ghost use Rattle.std.specs.Prelude.{◌≡◌, ◌≤◌, ◌<◌, ◌++◌, None, false, IfOk, OnOk, OnErr};
+ghost use Rattle.std.specs.Prelude.{◌≡◌, ◌≤◌, ◌<◌, ◌++◌, false, IfOk, OnOk, OnErr, IfSome, IsSome};
 ghost use Rattle.std.specs.List.{AllByRecursion};
 ghost use Rattle.model.specs.Arrivals.{IsSaid, is_ended, is_past_bound, under_session};
 ghost use Rattle.model.specs.Phases.{is_running as runs};
@@ -11,14 +11,14 @@ ghost use Rattle.broker.specs.Waiting.{NoneIsLater, OneComesIn};
 ghost use Rattle.assembly.specs.Held.{stream_of};
 ghost use Rattle.engine.specs.Reading.{IsKeptEvent, HasMore, kept_of};
 ghost use Rattle.engine.specs.Performing.{IsAskedBy, PausesOr, rules_of};
-ghost use Rattle.engine.specs.Turning.{DidEvent, ConnectionStays, ConnectionTook, ConnectionWaits, MayTurn, OnIdle};
+ghost use Rattle.engine.specs.Turning.{has_performed as performs, Performed, DidNext, ConnectionStays, ConnectionTook, ConnectionWaits, MayTurn, OnIdle};
 ghost use Rattle.engine.specs.World.{wire_in};
 ghost use Rattle.engine.specs.Waiting.{TurnLeaves};
 ghost use Rattle.outputs.specs.Waiting.{HoldsNone};
 
 use crate::connection::{BOUND, Connection};
 use crate::performing::{pause_if, perform};
-use crate::reading::{keep, read_next};
+use crate::reading::{forget, forget_fault, read_next};
 use assembly::Stream;
 use broker::Broker;
 use model::{Event, Note, Phase, Send, User};
@@ -37,6 +37,13 @@ pub enum Turn {
     Paused,
     /// The connection is over, or gone.
     Over,
+}
+
+/// Whether a turn performed something.
+pub(crate) fn has_performed(turn: &Result<Turn, AllocError>) -> bool
+    ensures { result ≡ performs turn.now }
+{
+    matches!(turn, Ok(Turn::Did(_)))
 }
 
 /// Puts out what is sent to the connection `c` at one event, for which there is room, and tells the broker of the pause
@@ -65,30 +72,34 @@ pub(crate) fn put_out(
     pause_if(broker, c, is_past);
 }
 
-/// Performs this event of the connection, where none is kept. Room for what it sends is made first. Where memory is refused an output
-/// in which nothing waits holds no storage.
-fn do_event(
+/// Performs what is kept of the connection, which is so no more then, with room for what it sends; nothing where nothing is. Where memory
+/// is refused a command stays kept, and an output in which nothing waits holds no storage.
+fn do_next(
     alloc: Global,
     users: &[User],
     broker: &mut Broker,
     scratch: &mut Scratch,
     spares: &mut Spares,
     connection: &mut Connection,
-    event: &Event,
 ) -> Result<Turn, AllocError>
-    requires asked { IsAskedBy connection.old.number event.now }
-    requires said { IsSaid event.now }
-    requires kept { connection.old.kept ≡ None }
+    requires next { IfSome connection.old.kept (λ e. IsAskedBy connection.old.number e × IsSaid e) }
     requires carried { AreCarried (broker_of broker.old) }
-    ensures ok { IfOk result (λ t. DidEvent (rules_of (topology_kept broker.old) users.now) (broker_of broker.old)
-        connection.old event.now t (broker_of broker.new) connection.new) }
+    ensures ok { IfOk result (λ t. DidNext (rules_of (topology_kept broker.old) users.now) broker.old
+        connection.old connection.old.kept t broker.new connection.new) }
+    ensures wants { OnErr result (IsSome connection.old.kept) }
     ensures broker_kept { OnErr result (broker.new ≡ broker.old) }
     ensures connection_kept { OnErr result (ConnectionStays connection.old connection.new) }
     ensures topology { topology_kept broker.new ≡ topology_kept broker.old }
     ensures turn { broker.new.turn ≡ broker.old.turn }
-    ensures later { OnOk result (OneComesIn event.now broker.old broker.new) }
 {
-    make_room(spares, &mut connection.output)?;
+    let Some(event) = &connection.kept else {
+        spares.take_back(&mut connection.output);
+        return Ok(Turn::Idle);
+    };
+    if let Err(error) = make_room(spares, &mut connection.output) {
+        forget_fault(&mut connection.kept);
+        return Err(error);
+    }
     let number = connection.number;
     let max = connection.session.frame_max();
     match perform(number, alloc, users, broker, &mut connection.session, event) {
@@ -101,10 +112,12 @@ fn do_event(
                 max,
                 &step.sends,
             );
+            forget(&mut connection.kept);
             follow(&mut connection.stream, &connection.session);
             Ok(Turn::Did(step.notes))
         }
         Err(error) => {
+            forget_fault(&mut connection.kept);
             spares.take_back(&mut connection.output);
             Err(error)
         }
@@ -178,22 +191,7 @@ pub(crate) fn turn_connection(
         &mut connection.stream,
         &mut connection.kept,
     ) {
-        Ok(Some(event)) => {
-            match do_event(alloc, users, broker, scratch, spares, connection, &event) {
-                Ok(turn) => {
-                    drop(event);
-                    Ok(turn)
-                }
-                Err(error) => {
-                    keep(&mut connection.kept, event);
-                    Err(error)
-                }
-            }
-        }
-        Ok(None) => {
-            spares.take_back(&mut connection.output);
-            Ok(Turn::Idle)
-        }
+        Ok(()) => do_next(alloc, users, broker, scratch, spares, connection),
         Err(error) => {
             spares.take_back(&mut connection.output);
             Err(error)

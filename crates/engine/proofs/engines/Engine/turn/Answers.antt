@@ -4,10 +4,19 @@ use Rattle.broker.specs.Turns.{topology_kept, broker_of}
 use Rattle.engine.specs.World.{Parts, world_of}
 use Rattle.engine.specs.Engines.{IsConnectionPlace}
 use Rattle.engine.specs.Waiting.{TurnLeaves}
-use Rattle.engine.proofs.Swept.{connections_took}
+use Rattle.engine.specs.Performing.{rules_of}
+use Rattle.engine.proofs.Swept.{connections_took, stands_after}
 use Rattle.engine.proofs.Tooks.{took, took_engine, not_there}
 use Rattle.engine.proofs.Waiting.{leaves_at, leaves_here}
 use Rattle.engine.proofs.engines.Engine.turn.Goals as goal
+
+pub sweep_after-requires-clause-stands : goal.sweep_after-requires-clause-stands
+sweep_after-requires-clause-stands c =
+    let i = c.self.inside in
+    let l = c.index_mut.result.now in
+    let did = c.turn_connection-turn.ensures in
+    stands_after c.turn_connection-turn.result (rules_of (topology_kept i.broker) c.as_slice.result.now) (broker_of i.broker) i.given i.connections.items c.in-Some.place l c.turn_connection-turn.new.connection (broker_of c.turn_connection-turn.new.broker)
+    c.self.invariant.connections.each (rw (← c.deref.ensures.value) c.in-Some.ensures.within) (sym c.index_mut.ensures.value) did.ok did.err
 
 pub invariant_of-self : goal.invariant_of-self
 invariant_of-self c =
@@ -18,8 +27,8 @@ invariant_of-self c =
     let here : get_or i.connections.items c.in-Some.place l ≡ l = sym c.index_mut.ensures.value in
     took_engine (record { broker = i.broker; guarantees = i.guarantees.items; users = i.users.items; given = i.given; connections = i.connections.items }) _ c.in-Some.place c.turn_connection-turn.result c.self.invariant
     (record { topology = did.topology; guarantees = refl; users = refl; given = refl })
-    (connections_took c.turn_connection-turn.result (topology_kept i.broker) c.as_slice.result.now i.users.items (broker_of i.broker) i.connections.items c.in-Some.place l c.turn_connection-turn.new.connection (broker_of c.turn_connection-turn.new.broker) c.sweep.new.connections.items
-    c.as_slice.ensures.value place.0 here did.number did.kept c.sweep.ensures did.ok did.err did.awake did.more)
+    (connections_took c.turn_connection-turn.result (topology_kept i.broker) c.as_slice.result.now i.users.items (broker_of i.broker) i.connections.items c.in-Some.place l c.turn_connection-turn.new.connection (broker_of c.turn_connection-turn.new.broker) c.sweep_after.new.connections.items
+    c.as_slice.ensures.value place.0 here did.number did.kept c.sweep_after.ensures did.ok did.err did.awake did.more)
 
 pub returns : goal.returns
 returns c =
@@ -27,11 +36,11 @@ returns c =
     let l = c.index_mut.result.now in
     let did = c.turn_connection-turn.ensures in
     let old : Parts = record { broker = i.broker; guarantees = i.guarantees.items; users = i.users.items; given = i.given; connections = i.connections.items } in
-    let new : Parts = record { broker = c.turn_connection-turn.new.broker; guarantees = i.guarantees.items; users = i.users.items; given = i.given; connections = c.sweep.new.connections.items } in
+    let new : Parts = record { broker = c.turn_connection-turn.new.broker; guarantees = i.guarantees.items; users = i.users.items; given = i.given; connections = c.sweep_after.new.connections.items } in
     let place : IsConnectionPlace i.connections.items c.args.c (Some c.in-Some.place) = rw (← c.deref.ensures.value) c.in-Some.ensures.place in
     let here : get_or i.connections.items c.in-Some.place l ≡ l = sym c.index_mut.ensures.value in
-    let connections = connections_took c.turn_connection-turn.result (topology_kept i.broker) c.as_slice.result.now i.users.items (broker_of i.broker) i.connections.items c.in-Some.place l c.turn_connection-turn.new.connection (broker_of c.turn_connection-turn.new.broker) c.sweep.new.connections.items
-    c.as_slice.ensures.value place.0 here did.number did.kept c.sweep.ensures did.ok did.err did.awake did.more in
+    let connections = connections_took c.turn_connection-turn.result (topology_kept i.broker) c.as_slice.result.now i.users.items (broker_of i.broker) i.connections.items c.in-Some.place l c.turn_connection-turn.new.connection (broker_of c.turn_connection-turn.new.broker) c.sweep_after.new.connections.items
+    c.as_slice.ensures.value place.0 here did.number did.kept c.sweep_after.ensures did.ok did.err did.awake did.more in
     let out = took old new c.args.c c.in-Some.place c.turn_connection-turn.result c.self.invariant (record { topology = did.topology; guarantees = refl; users = refl; given = refl }) place connections in
     record {
       ok = rw (← c.self.view_is) out.ok;
@@ -40,7 +49,7 @@ returns c =
       awake = rw (← c.self.view_is) out.awake;
       more = rw (← c.self.view_is) out.more;
       turns = subst (λ (p : Parts). IfOk c.turn_connection-turn.result (λ t. TurnLeaves c.args.c ((world_of p).wire c.args.c) p.broker t c.turn_connection-turn.new.broker)) c.self.view_is
-          (leaves_at c.turn_connection-turn.result old c.args.c c.in-Some.place (broker_of c.turn_connection-turn.new.broker) c.sweep.new.connections.items c.turn_connection-turn.new.broker c.self.invariant place connections
+          (leaves_at c.turn_connection-turn.result old c.args.c c.in-Some.place (broker_of c.turn_connection-turn.new.broker) c.sweep_after.new.connections.items c.turn_connection-turn.new.broker c.self.invariant place connections
           (leaves_here c.turn_connection-turn.result i.connections.items c.in-Some.place l i.broker c.turn_connection-turn.new.broker place.0 here did.turns));
       broker = subst (λ (p : Parts). OnErr c.turn_connection-turn.result (c.turn_connection-turn.new.broker ≡ p.broker)) c.self.view_is did.broker_kept;
     }

@@ -1,0 +1,6 @@
+use Rattle.std.proofs.Common.{sym}
+use Rattle.engine.proofs.Swept.{swept_standing}
+use Rattle.engine.proofs.connections.sweep_after.Goals as goal
+
+pub returns-else-has_performed : goal.returns-else-has_performed
+returns-else-has_performed c = λ l there. swept_standing c.args.connections.now.items c.args.place l (c.requires.stands (sym c.if-has_performed.ensures) l there)

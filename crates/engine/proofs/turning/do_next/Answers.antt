@@ -1,0 +1,43 @@
+use Rattle.std.proofs.Common.{◌≡◌, ◌∙◌, ◌++◌, ℕ, List, Option, Some, None, refl, sym, ap, subst}
+use Rattle.std.specs.Prelude.{IfSome}
+use Rattle.model.specs.Arrivals.{IsSaid}
+use Rattle.model.specs.Spelling.{spelling}
+use Rattle.model.specs.declared.events.Event.{Event}
+use Rattle.broker.specs.Turns.{topology_kept, broker_of}
+use Rattle.engine.specs.Performing.{IsAskedBy, rules_of}
+use Rattle.engine.specs.Turning.{Performed, DidNext}
+use Rattle.engine.specs.declared.connection.Connection.{Connection}
+use Rattle.engine.specs.declared.turning.Turn.TheVariants as turn
+use Rattle.engine.proofs.Turned.{performed_put, stays_refused}
+use Rattle.engine.proofs.Waiting.{one_then}
+use Rattle.engine.proofs.turning.do_next.Goals as goal
+
+pub perform-requires-clause-asked : goal.perform-requires-clause-asked
+perform-requires-clause-asked c = (subst (λ (k : Option Event). IfSome k (λ e. IsAskedBy c.args.connection.now.number e × IsSaid e)) c.in-Some.is c.requires.next).0
+
+pub perform-requires-clause-said : goal.perform-requires-clause-said
+perform-requires-clause-said c = (subst (λ (k : Option Event). IfSome k (λ e. IsAskedBy c.args.connection.now.number e × IsSaid e)) c.in-Some.is c.requires.next).1
+
+pub returns-in-Ok : goal.returns-in-Ok
+returns-in-Ok c =
+    let b = c.args.broker.now in
+    let mid = c.perform.new.broker in
+    let l = c.args.connection.now in
+    let event = c.in-Some.event in
+    let step = c.in-Ok.step in
+    let max = c.frame_max-max.ensures in
+    let put = c.put_out.ensures in
+    let output : c.put_out.new.output.bytes ≡ l.output.bytes ++ spelling c.frame_max-max.result c.deref.result.now = put.bytes ∙ ap (λ (o : List ℕ). o ++ spelling c.frame_max-max.result c.deref.result.now) c.make_room.ensures.bytes in
+    let performed : Performed (rules_of (topology_kept b) c.args.users.now) (broker_of b) l.number l.session l.output.bytes event step.notes.items (broker_of c.put_out.new.broker) c.perform.new.session c.put_out.new.output.bytes =
+    performed_put (rules_of (topology_kept b) c.args.users.now) (broker_of b) (broker_of mid) (broker_of c.put_out.new.broker) l.number l.session c.perform.new.session l.output.bytes c.put_out.new.output.bytes event
+    step.notes.items c.deref.result.now step.sends.items c.frame_max-max.result (topology_kept mid) c.deref.ensures.value max.value max.most c.in-Ok.ensures.ok put.own put.spelled output c.perform.ensures.topology put.pauses in
+    let new : Connection = record { number = l.number; session = c.perform.new.session; stream = c.follow.new.stream; kept = c.forget.new.kept; output = c.put_out.new.output } in
+    record {
+      ok = subst (λ (k : Option Event). DidNext (rules_of (topology_kept b) c.args.users.now) b l k (turn.Did step.notes) c.put_out.new.broker new) (sym c.in-Some.is)
+          (record { performed = performed; number = refl; none_kept = c.forget.ensures; stream = c.follow.ensures }, one_then event b mid c.put_out.new.broker c.in-Ok.ensures.later put.later);
+      wants = tt;
+      broker_kept = tt;
+      connection_kept = tt;
+      topology = put.topology ∙ c.perform.ensures.topology;
+      turn = put.turn ∙ c.perform.ensures.turn;
+    }
