@@ -17,7 +17,9 @@ ghost use Rattle.engine.specs.Opening.{Numbers, OpenedNew, OpenedReady};
 ghost use Rattle.engine.specs.InForce.{in_force};
 
 use crate::connection::Connection;
-use crate::connections::{connection_place, feed_connection, known_place, sweep, sweep_after, take_from};
+use crate::connections::{
+    connection_place, feed_connection, known_place, sweep, sweep_after, take_from,
+};
 use crate::places::Places;
 use crate::pumping::pump_connection;
 use crate::turning::{Turn, turn_connection};
