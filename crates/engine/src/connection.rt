@@ -21,7 +21,7 @@ pub(crate) struct Connection {
     pub(crate) number: u64,
     pub(crate) session: Session,
     pub(crate) stream: Stream,
-    /// A command that was read and could not be performed for want of memory.
+    /// What was read and is not performed yet: between turns a command for which memory was wanting.
     pub(crate) kept: Option<Event>,
     pub(crate) output: Output,
 }
