@@ -77,9 +77,15 @@ class Depths(unittest.TestCase):
         self.assertEqual(sorted(gauges), sorted({line.partition("{")[0].split()[0] for line in wanted}))
 
     def test_each_second(self):
+        # as started at a terminal, and as a shell without job control starts it in the background
+        for interrupt in (signal.SIG_DFL, signal.SIG_IGN):
+            with self.subTest(interrupt=interrupt):
+                self.show_each_second(lambda: signal.signal(signal.SIGINT, interrupt))
+
+    def show_each_second(self, before):
         with broker() as server:
             words = [sys.executable, TOOL, f"till@127.0.0.1:{server.port}", self.file]
-            with subprocess.Popen(words, stdout=subprocess.PIPE, stderr=subprocess.PIPE, text=True, env=LOGIN) as shown:
+            with subprocess.Popen(words, stdout=subprocess.PIPE, stderr=subprocess.PIPE, text=True, env=LOGIN, preexec_fn=before) as shown:
                 first = [shown.stdout.readline() for _ in range(7)]
                 server.queues["audit"].ready.clear()
                 second = [shown.stdout.readline() for _ in range(7)]
