@@ -66,5 +66,5 @@ class Trial:
 
     def run(self, tool, *words):
         running = self.start(tool, *words)
-        out, said = running.communicate(timeout=60)
+        out, said = running.communicate(timeout=120)
         return running.returncode, out, said

@@ -41,7 +41,7 @@ class Depths(unittest.TestCase):
             file.write(data)
 
     def run_tool(self, server, *words, **more):
-        done = subprocess.run([sys.executable, TOOL, server, self.file, *words], capture_output=True, text=True, timeout=20, env=LOGIN, **more)
+        done = subprocess.run([sys.executable, TOOL, server, self.file, *words], capture_output=True, text=True, timeout=120, env=LOGIN, **more)
         return done.returncode, done.stdout, done.stderr
 
     def asked(self, *words):
@@ -90,7 +90,7 @@ class Depths(unittest.TestCase):
                 server.queues["audit"].ready.clear()
                 second = [shown.stdout.readline() for _ in range(7)]
                 shown.send_signal(signal.SIGINT)
-                self.assertEqual((shown.wait(20), shown.stderr.read()), (130, ""))
+                self.assertEqual((shown.wait(120), shown.stderr.read()), (130, ""))
         self.assertIn(["7", "2", '"audit"'], [it.split() for it in first])
         self.assertIn(["0", "-7", "2", '"audit"'], [it.split() for it in second])
 

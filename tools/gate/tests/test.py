@@ -36,7 +36,7 @@ class Gate(unittest.TestCase):
     def run_gate(self, *words, jobs="3"):
         environment = {"PATH": f"{self.trial.root}/bin", **({"RT_JOBS": jobs} if jobs else {})}
         command = [sys.executable, f"{self.trial.root}/tools/gate", *words]
-        done = subprocess.run(command, env=environment, capture_output=True, text=True, timeout=60)
+        done = subprocess.run(command, env=environment, capture_output=True, text=True, timeout=120)
         return done.returncode, done.stdout.splitlines(), done.stderr
 
     def test_the_last_line_counts_both(self):

@@ -33,7 +33,7 @@ class Serves(unittest.TestCase):
                 running = trial.start("look", "--listen", "127.0.0.1:0", interrupt=interrupt)
                 self.assertIn("for ten minutes", running.stdout.readline())
                 running.send_signal(number)
-                _, said = running.communicate(timeout=10)
+                _, said = running.communicate(timeout=120)
                 self.assertEqual(running.returncode, 128 + number)
                 self.assertNotIn("Traceback", said)
 
