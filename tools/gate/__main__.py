@@ -5,6 +5,7 @@ refused. The last line is `N passed, M failed`, both counted. RT_JOBS in the env
 import os
 import re
 import shutil
+import signal
 import subprocess
 import sys
 
@@ -14,7 +15,7 @@ from machine import checks_at_once, free_memory, processors  # noqa: E402
 from words import Parser  # noqa: E402
 
 ROOT = os.path.dirname(os.path.dirname(HERE))
-STATUSES = "Status: 0 all passed; 1 something failed; 2 rt judged nothing; 3 rt or the command line is at fault."
+STATUSES = "Status: 0 all passed; 1 something failed; 2 rt judged nothing; 3 rt or the command line is at fault; 130, 143 broken off."
 PASSED, FAILED, REFUSED = 0, 1, 3
 SUM = re.compile(r"(\d+) passed, (\d+) failed\n?")
 REFUSALS = os.path.join(ROOT, "examples/refusals/run")
@@ -45,10 +46,14 @@ def followed(command, **how):
     """Runs a command and prints its lines as they come, but for the sum at its end; its status and that sum, if there is one."""
     counts, last = None, None
     with subprocess.Popen(command, cwd=ROOT, stdin=subprocess.DEVNULL, stdout=subprocess.PIPE, **how) as running:
-        for line in running.stdout:
-            if last is not None:
-                show(last)
-            last = line
+        try:
+            for line in running.stdout:
+                if last is not None:
+                    show(last)
+                last = line
+        except (KeyboardInterrupt, SystemExit):
+            running.terminate()
+            raise
     if last is not None:
         found = SUM.fullmatch(last.decode("utf-8", "replace"))
         counts = found and [int(it) for it in found.groups()]
@@ -89,8 +94,11 @@ def gate():
 
 def main():
     Parser(prog="gate", description=__doc__, epilog=STATUSES).parse_args()
+    signal.signal(signal.SIGTERM, lambda number, _: sys.exit(128 + number))
     try:
         return gate()
+    except KeyboardInterrupt:
+        return 128 + signal.SIGINT
     except FileNotFoundError as error:
         print(f"gate: {error.filename} does not start: {error.strerror} (README, \"Toolchain\")", file=sys.stderr)
         return REFUSED

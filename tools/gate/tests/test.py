@@ -4,6 +4,7 @@
 """
 
 import os
+import signal
 import subprocess
 import sys
 import unittest
@@ -33,11 +34,16 @@ class Gate(unittest.TestCase):
         for name in ("warren", "memory_refusals"):
             self.trial.write(f"crates/{name}/out/{name}", "")
 
-    def run_gate(self, *words, jobs="3"):
+    def start_gate(self, *words, jobs="3"):
         environment = {"PATH": f"{self.trial.root}/bin", **({"RT_JOBS": jobs} if jobs else {})}
         command = [sys.executable, f"{self.trial.root}/tools/gate", *words]
-        done = subprocess.run(command, env=environment, capture_output=True, text=True, timeout=120)
-        return done.returncode, done.stdout.splitlines(), done.stderr
+        how = {"preexec_fn": lambda: signal.signal(signal.SIGINT, signal.SIG_DFL), "stdout": subprocess.PIPE, "stderr": subprocess.PIPE, "text": True}
+        return subprocess.Popen(command, env=environment, **how)
+
+    def run_gate(self, *words, jobs="3"):
+        running = self.start_gate(*words, jobs=jobs)
+        told, said = running.communicate(timeout=120)
+        return running.returncode, told.splitlines(), said
 
     def test_the_last_line_counts_both(self):
         told = ["gate: RT_JOBS=3, as set", "a line", "jobs 3", "refused: one", "16 passed, 0 failed"]
@@ -81,6 +87,16 @@ class Gate(unittest.TestCase):
         self.assertEqual(status, 0)
         self.assertRegex(told[0], r"^gate: .*\d+ processors, \d+ GB free$")
         self.assertIn(told[2], ("jobs ", *(f"jobs {it}" for it in range(2, (checks or 1) + 2))))
+
+    def test_it_is_ended_with_what_it_runs(self):
+        self.trial.rt("echo begun; echo $$; exec /bin/sleep 120")
+        for number in (signal.SIGTERM, signal.SIGINT):
+            running = self.start_gate()
+            self.assertEqual([running.stdout.readline() for _ in range(2)], ["gate: RT_JOBS=3, as set\n", "begun\n"])
+            running.send_signal(number)
+            # rt holds standard output open until it has ended
+            _, said = running.communicate(timeout=60)
+            self.assertEqual((running.returncode, said), (128 + number, ""))
 
     def test_one_line_each(self):
         self.assertEqual(self.run_gate("more")[0], 3)
