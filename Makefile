@@ -184,4 +184,4 @@ manual: warren
 	@python3 tools/manual --program $(WARREN)
 
 test: same tools
-	@rt ci
+	@python3 tools/gate

@@ -1,6 +1,6 @@
 """Serves a scripted client while one growth of memory is refused, or one call of a socket or of the poll fails.
 
-    serve.py WARREN LIBRARY [few]
+    serve.py WARREN LIBRARY [few | one]
 
 At each place in turn: at most one connection is lost, nothing that was acked is gone, and a later client is served."""
 import errno
@@ -118,7 +118,11 @@ class Server:
         environment = dict(os.environ, LD_PRELOAD=library, REFUSE_REPORT=self.report, **told)
         words = [warren, "serve", "definitions.json", "guarantees.json", "certificates.json", "--listen", "127.0.0.1:0"]
         self.process = subprocess.Popen(words, cwd=LOAD, env=environment, stdout=subprocess.PIPE)
-        self.port = int(self.process.stdout.readline().rsplit(b":", 1)[1])
+        told = self.process.stdout.readline()
+        if not told.startswith(b"warren: listening on "):
+            self.stop()
+            sys.exit(f"serve: {warren} does not listen")
+        self.port = int(told.rsplit(b":", 1)[1])
 
     def stop(self):
         self.process.kill()
@@ -158,24 +162,30 @@ def trial(warren, library, folder, account, queue, **told):
         server.stop()
 
 
+def places(how):
+    """What is refused or fails, run by run: every place, one in ten, or a few growths and each call with one error."""
+    growths, calls, errors = {"few": (10, 10, ERRORS), "one": (40, 20, ERRORS[:1])}.get(how, (1, 1, ERRORS))
+    for place in range(1, 240, growths):
+        yield dict(REFUSE_AT=str(place))
+    for name in CALLS:
+        for error in errors:
+            for place in range(1, 27, calls):
+                yield dict(FAIL_CALL=name, FAIL_AT=str(place), FAIL_ERROR=str(error))
+
+
 def main():
     warren, library = os.path.realpath(sys.argv[1]), os.path.realpath(sys.argv[2])
-    step = 10 if sys.argv[3:] == ["few"] else 1
     account, queue = ("till", "till"), "one"
-    wrong = places = 0
+    wrong = tried = 0
     with tempfile.TemporaryDirectory() as folder:
-        tries = [dict(REFUSE_AT=str(place)) for place in range(1, 240, step)]
-        for name in CALLS:
-            for error in ERRORS:
-                tries += [dict(FAIL_CALL=name, FAIL_AT=str(place), FAIL_ERROR=str(error)) for place in range(1, 27, step)]
-        for told in tries:
-            places += 1
+        for told in places(sys.argv[3] if sys.argv[3:] else "all"):
+            tried += 1
             what = trial(warren, library, folder, account, queue, **told)
             if what:
                 wrong += 1
                 print(f"{told}: {what}", flush=True)
-    print(f"serve: {places} places, {wrong} wrong")
-    sys.exit(1 if wrong else 0)
+    print(f"serve: {tried} places, {wrong} wrong", flush=True)
+    sys.exit(1 if wrong or not tried else 0)
 
 
 if __name__ == "__main__":

@@ -3,6 +3,7 @@
 import argparse
 import getpass
 import os
+import signal
 import sys
 
 from .client import Client
@@ -71,6 +72,8 @@ def tell(name, text):
 
 def run(name, work):
     """Does the work and returns its status. Whatever is wrong is one line on standard error."""
+    # a shell without job control has what it starts in the background ignore SIGINT
+    signal.signal(signal.SIGINT, signal.default_int_handler)
     for stream in (sys.stdout, sys.stderr):
         stream.reconfigure(encoding="utf-8", errors="backslashreplace")
     try:

@@ -3,7 +3,7 @@
 import os
 import sys
 
-sys.path.append(os.path.dirname(os.path.dirname(os.path.abspath(__file__))))
+sys.path[:0] = [os.path.dirname(os.path.dirname(os.path.abspath(__file__)))]
 from amqp.wire import content, method, short_text  # noqa: E402
 
 PUBLISH = (60, 40)

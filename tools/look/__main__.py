@@ -82,6 +82,8 @@ def told(seconds):
 
 def main():
     signal.signal(signal.SIGTERM, lambda number, _: sys.exit(128 + number))
+    # a shell without job control has what it starts in the background ignore SIGINT
+    signal.signal(signal.SIGINT, signal.default_int_handler)
     given = words()
     why = why_not(given.listen)
     if why:

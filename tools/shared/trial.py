@@ -2,6 +2,7 @@
 
 import os
 import shutil
+import signal
 import subprocess
 import sys
 import tempfile
@@ -55,12 +56,15 @@ class Trial:
         except FileNotFoundError:
             return []
 
-    def start(self, tool, *words):
+    def start(self, tool, *words, interrupt=signal.SIG_DFL):
+        """Starts the tool, in which SIGINT is handled so at first."""
         path = f"{self.root}/bin:{os.environ['PATH']}"
         command = [sys.executable, f"{self.root}/tools/{tool}", *words]
-        return subprocess.Popen(command, env={**os.environ, "PATH": path}, stdin=subprocess.DEVNULL, stdout=subprocess.PIPE, stderr=subprocess.PIPE, text=True)
+        how = {"stdin": subprocess.DEVNULL, "stdout": subprocess.PIPE, "stderr": subprocess.PIPE, "text": True}
+        how["preexec_fn"] = lambda: signal.signal(signal.SIGINT, interrupt)
+        return subprocess.Popen(command, env={**os.environ, "PATH": path}, **how)
 
     def run(self, tool, *words):
         running = self.start(tool, *words)
-        out, said = running.communicate(timeout=60)
+        out, said = running.communicate(timeout=120)
         return running.returncode, out, said

@@ -5,7 +5,7 @@ import socket
 import struct
 import threading
 
-SECONDS = 5
+SECONDS = 60
 
 # AMQP 0-9-1, 4.2: type, channel, size, payload, CE. Written by hand from the XML of the standard.
 PROTOCOL = bytes.fromhex("414d5150 00000901")

@@ -41,7 +41,7 @@ class Depths(unittest.TestCase):
             file.write(data)
 
     def run_tool(self, server, *words, **more):
-        done = subprocess.run([sys.executable, TOOL, server, self.file, *words], capture_output=True, text=True, timeout=20, env=LOGIN, **more)
+        done = subprocess.run([sys.executable, TOOL, server, self.file, *words], capture_output=True, text=True, timeout=120, env=LOGIN, **more)
         return done.returncode, done.stdout, done.stderr
 
     def asked(self, *words):
@@ -77,14 +77,20 @@ class Depths(unittest.TestCase):
         self.assertEqual(sorted(gauges), sorted({line.partition("{")[0].split()[0] for line in wanted}))
 
     def test_each_second(self):
+        # as started at a terminal, and as a shell without job control starts it in the background
+        for interrupt in (signal.SIG_DFL, signal.SIG_IGN):
+            with self.subTest(interrupt=interrupt):
+                self.show_each_second(lambda: signal.signal(signal.SIGINT, interrupt))
+
+    def show_each_second(self, before):
         with broker() as server:
             words = [sys.executable, TOOL, f"till@127.0.0.1:{server.port}", self.file]
-            with subprocess.Popen(words, stdout=subprocess.PIPE, stderr=subprocess.PIPE, text=True, env=LOGIN) as shown:
+            with subprocess.Popen(words, stdout=subprocess.PIPE, stderr=subprocess.PIPE, text=True, env=LOGIN, preexec_fn=before) as shown:
                 first = [shown.stdout.readline() for _ in range(7)]
                 server.queues["audit"].ready.clear()
                 second = [shown.stdout.readline() for _ in range(7)]
                 shown.send_signal(signal.SIGINT)
-                self.assertEqual((shown.wait(20), shown.stderr.read()), (130, ""))
+                self.assertEqual((shown.wait(120), shown.stderr.read()), (130, ""))
         self.assertIn(["7", "2", '"audit"'], [it.split() for it in first])
         self.assertIn(["0", "-7", "2", '"audit"'], [it.split() for it in second])
 

@@ -44,7 +44,7 @@ class Together(unittest.TestCase):
 
     def run_tool(self, tool, server, *words, **more):
         words = [sys.executable, tool, f"till@127.0.0.1:{server if isinstance(server, int) else server.port}", *words]
-        done = subprocess.run(words, capture_output=True, text=True, timeout=20, env=LOGIN, stdin=subprocess.DEVNULL, **more)
+        done = subprocess.run(words, capture_output=True, text=True, timeout=120, env=LOGIN, stdin=subprocess.DEVNULL, **more)
         self.assertNotIn("Traceback", done.stderr)
         self.assertEqual((done.stdout, done.stderr.count("\n")), ("", 1), done.stderr)
         return done.returncode, done.stderr.rstrip("\n").replace(self.folder + "/", "")

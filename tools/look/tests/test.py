@@ -27,13 +27,13 @@ class Serves(unittest.TestCase):
             self.assertEqual(said, f"serve {shop} --listen 127.0.0.1:0\n")
 
     def test_it_is_ended(self):
-        for number in (signal.SIGTERM, signal.SIGINT):
+        for number, interrupt in ((signal.SIGTERM, signal.SIG_DFL), (signal.SIGINT, signal.SIG_DFL), (signal.SIGINT, signal.SIG_IGN)):
             with Trial("look") as trial:
                 trial.program(SERVES)
-                running = trial.start("look", "--listen", "127.0.0.1:0")
+                running = trial.start("look", "--listen", "127.0.0.1:0", interrupt=interrupt)
                 self.assertIn("for ten minutes", running.stdout.readline())
                 running.send_signal(number)
-                _, said = running.communicate(timeout=10)
+                _, said = running.communicate(timeout=120)
                 self.assertEqual(running.returncode, 128 + number)
                 self.assertNotIn("Traceback", said)
 

@@ -40,7 +40,7 @@ Options:
 
 
 def run(*words):
-    done = subprocess.run([sys.executable, TOOL, *words], capture_output=True, text=True, timeout=30)
+    done = subprocess.run([sys.executable, TOOL, *words], capture_output=True, text=True, timeout=120)
     return done.returncode, done.stdout, done.stderr
 
 
@@ -103,7 +103,7 @@ class Manual(unittest.TestCase):
     def test_it_is_read_without_a_warning(self):
         setting = {**os.environ, "LC_ALL": "C.UTF-8", "MANWIDTH": "80"}
         command = ["man", "--warnings", "-E", "UTF-8", "-l", os.path.join(MADE, "warren.1")]
-        done = subprocess.run(command, capture_output=True, text=True, env=setting, timeout=30)
+        done = subprocess.run(command, capture_output=True, text=True, env=setting, timeout=120)
         self.assertEqual((done.returncode, done.stderr), (0, ""))
         lines = [line.strip() for line in done.stdout.splitlines()]
         self.assertIn("warren serve [OPTIONS] --listen IP:PORT DEFS GUARANTEES CERTS", lines)
@@ -123,7 +123,7 @@ class Bash(unittest.TestCase):
         """What is offered for the last of these words."""
         script = 'source "$1"; shift; COMP_WORDS=("$@"); COMP_CWORD=$(($# - 1)); _warren; printf "%s\\n" "${COMPREPLY[@]}"'
         command = ["bash", "-c", script, "bash", os.path.join(MADE, "warren.bash"), "warren", *words]
-        done = subprocess.run(command, capture_output=True, text=True, cwd=self.folder, timeout=30)
+        done = subprocess.run(command, capture_output=True, text=True, cwd=self.folder, timeout=120)
         self.assertEqual((done.returncode, done.stderr), (0, ""))
         return done.stdout.split()
 
@@ -149,7 +149,7 @@ class Bash(unittest.TestCase):
 @unittest.skipUnless(shutil.which("zsh"), "no zsh here")
 class Zsh(unittest.TestCase):
     def test_it_is_a_script(self):
-        done = subprocess.run(["zsh", "-n", os.path.join(MADE, "_warren")], capture_output=True, text=True, timeout=30)
+        done = subprocess.run(["zsh", "-n", os.path.join(MADE, "_warren")], capture_output=True, text=True, timeout=120)
         self.assertEqual((done.returncode, done.stderr), (0, ""))
 
 

@@ -42,7 +42,7 @@ class Packages(unittest.TestCase):
         os.chmod(self.program, 0o755)
 
     def run_tool(self, *words):
-        done = subprocess.run([sys.executable, TOOL, *words], capture_output=True, text=True, timeout=60, env={**os.environ, "SOURCE_DATE_EPOCH": "1700000000"})
+        done = subprocess.run([sys.executable, TOOL, *words], capture_output=True, text=True, timeout=120, env={**os.environ, "SOURCE_DATE_EPOCH": "1700000000"})
         return done.returncode, done.stdout, done.stderr
 
     @unittest.skipUnless(shutil.which("dpkg-deb"), "no dpkg-deb here")
@@ -79,7 +79,7 @@ class Packages(unittest.TestCase):
     def test_the_files_let_nobody_in(self):
         """from_rabbitmq finds nothing in the definitions that warren refuses, and they name no user."""
         command = [sys.executable, os.path.join(TOP, "tools/from_rabbitmq"), "--check", "-"]
-        done = subprocess.run(command, input=FILES["definitions.json"], capture_output=True, text=True, timeout=30)
+        done = subprocess.run(command, input=FILES["definitions.json"], capture_output=True, text=True, timeout=120)
         self.assertEqual(done.returncode, 0, done.stdout)
         self.assertEqual(json.loads(FILES["definitions.json"])["users"], [])
         self.assertEqual((json.loads(FILES["guarantees.json"]), json.loads(FILES["certificates.json"])), ({"guarantees": []}, []))

@@ -92,7 +92,7 @@ class Reloads(unittest.TestCase):
 
     def run_tool(self, *words, env=LOGIN):
         words = [sys.executable, TOOL, self.link, *words, "--warren", self.program]
-        done = subprocess.run(words, capture_output=True, text=True, timeout=20, env=env, stdin=subprocess.DEVNULL)
+        done = subprocess.run(words, capture_output=True, text=True, timeout=120, env=env, stdin=subprocess.DEVNULL)
         self.assertEqual((done.stderr[:8], done.stderr.count("\n")), ("reload: ", 1), done.stderr)
         return done.returncode, done.stdout, done.stderr[8:].rstrip("\n").replace(self.top + "/", "")
 

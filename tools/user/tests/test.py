@@ -22,7 +22,7 @@ from entries import hash_of  # noqa: E402
 
 
 def run(*words, given=b"secret\n"):
-    done = subprocess.run([sys.executable, TOOL, *words], input=given, capture_output=True, timeout=20)
+    done = subprocess.run([sys.executable, TOOL, *words], input=given, capture_output=True, timeout=120)
     return done.returncode, done.stdout.decode(), done.stderr.decode()
 
 

@@ -1,0 +1,108 @@
+#!/usr/bin/env python3
+"""Runs the gate: `rt ci`, with as many checks side by side as processors and memory allow, and then the proved programs with growths of memory
+refused. The last line is `N passed, M failed`, both counted. RT_JOBS in the environment sets the number of checks."""
+
+import os
+import re
+import shutil
+import signal
+import subprocess
+import sys
+
+HERE = os.path.dirname(os.path.abspath(__file__))
+sys.path[:0] = [HERE, os.path.join(HERE, "../shared")]
+from machine import checks_at_once, free_memory, processors  # noqa: E402
+from words import Parser  # noqa: E402
+
+ROOT = os.path.dirname(os.path.dirname(HERE))
+STATUSES = "Status: 0 all passed; 1 something failed; 2 rt judged nothing; 3 rt or the command line is at fault; 130, 143 broken off."
+PASSED, FAILED, REFUSED = 0, 1, 3
+SUM = re.compile(r"(\d+) passed, (\d+) failed\n?")
+REFUSALS = os.path.join(ROOT, "examples/refusals/run")
+PROGRAMS = [os.path.join(ROOT, f"crates/{name}/out/{name}") for name in ("warren", "memory_refusals")]
+
+
+def tell(line):
+    print(line, flush=True)
+
+
+def environment():
+    """The environment of `rt ci`, with RT_JOBS set if rt would leave processors idle for want of memory that its checks do not take."""
+    given = dict(os.environ)
+    if "RT_JOBS" in given:
+        tell(f"gate: RT_JOBS={given['RT_JOBS']}, as set")
+        return given
+    found, memory = processors(), free_memory()
+    checks = checks_at_once(found, memory)
+    machine = f"{found} processors, {memory / 1e9:.0f} GB free"
+    if checks:
+        tell(f"gate: RT_JOBS={checks}: {machine}")
+        return {**given, "RT_JOBS": str(checks)}
+    tell(f"gate: rt chooses how many checks run at once: {machine}")
+    return given
+
+
+def followed(command, **how):
+    """Runs a command and prints its lines as they come, but for the sum at its end; its status and that sum, if there is one."""
+    counts, last = None, None
+    with subprocess.Popen(command, cwd=ROOT, stdin=subprocess.DEVNULL, stdout=subprocess.PIPE, **how) as running:
+        try:
+            for line in running.stdout:
+                if last is not None:
+                    show(last)
+                last = line
+        except (KeyboardInterrupt, SystemExit):
+            running.terminate()
+            raise
+    if last is not None:
+        found = SUM.fullmatch(last.decode("utf-8", "replace"))
+        counts = found and [int(it) for it in found.groups()]
+        if not counts:
+            show(last)
+    return running.returncode, counts
+
+
+def show(line):
+    sys.stdout.buffer.write(line)
+    sys.stdout.flush()
+
+
+def refusals():
+    """How many lists of refused growths passed and failed, of the programs that `rt ci` left."""
+    if not shutil.which("cc"):
+        tell("gate: no growth of memory is refused to the programs: that wants cc, the C compiler, which is not here")
+        return 0, 0
+    missing = next((it for it in PROGRAMS if not os.path.exists(it)), None)
+    if missing:
+        tell(f"gate: {os.path.relpath(missing, ROOT)} is not there: no growth of memory was refused to it")
+        return 0, 1
+    status, counts = followed([sys.executable, REFUSALS, *PROGRAMS, "one"])
+    return counts if counts and bool(status) == bool(counts[1]) else (0, 1)
+
+
+def gate():
+    status, counts = followed(["rt", "ci"], env=environment())
+    if status or not counts:
+        # what rt could not judge counts as one that failed
+        passed, failed = counts or (0, 1)
+        tell(f"{passed} passed, {max(failed, 1)} failed")
+        return status or FAILED
+    passed, failed = (sum(it) for it in zip(counts, refusals()))
+    tell(f"{passed} passed, {failed} failed")
+    return FAILED if failed else PASSED
+
+
+def main():
+    Parser(prog="gate", description=__doc__, epilog=STATUSES).parse_args()
+    signal.signal(signal.SIGTERM, lambda number, _: sys.exit(128 + number))
+    try:
+        return gate()
+    except KeyboardInterrupt:
+        return 128 + signal.SIGINT
+    except FileNotFoundError as error:
+        print(f"gate: {error.filename} does not start: {error.strerror} (README, \"Toolchain\")", file=sys.stderr)
+        return REFUSED
+
+
+if __name__ == "__main__":
+    sys.exit(main())
