@@ -14,6 +14,7 @@ mod names;
 mod pending;
 mod running;
 mod seats;
+mod settled;
 mod slots;
 mod spans;
 mod tags;
@@ -23,4 +24,5 @@ pub use connections::{RunningConnections, lent_channels_are_put, moves_are_unsee
 pub use consumers::{Consumer, CountedConsumer, SeatRefusal, Unseated};
 pub use deliveries::Deliveries;
 pub use running::RunningConnection;
+pub use settled::Settled;
 pub use spans::Span;
