@@ -23,6 +23,7 @@ pub use channels::Channel;
 pub use connections::{RunningConnections, lent_channels_are_put, moves_are_unseen};
 pub use consumers::{Consumer, CountedConsumer, SeatRefusal, Unseated};
 pub use deliveries::Deliveries;
+pub use model::Delivery as Outstanding;
 pub use running::RunningConnection;
 pub use settled::Settled;
 pub use spans::Span;
