@@ -14,7 +14,7 @@ use Rattle.depot.proofs.Changes.{entries_of-length, changed_write}
 use Rattle.depot.proofs.Lending.{lent_entries, lent_queue}
 use Rattle.depot.proofs.Planned.{name_there}
 use Rattle.depot.proofs.Purged.{purged_by, if_ok, on_err, same_store}
-use Rattle.depot.proofs.depots.Depot.purge.Goals as goal
+use Rattle.depot.proofs.depots.Depot.purge_at.Goals as goal
 
 pub returns-clause-ok : goal.returns-clause-ok
 returns-clause-ok c =

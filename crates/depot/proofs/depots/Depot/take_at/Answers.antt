@@ -3,7 +3,7 @@ use Rattle.model.specs.Broker.{is_ready}
 use Rattle.model.specs.declared.messages.Entry.{Entry}
 use Rattle.depot.specs.Givings.{CanGive, TellsArrival, given_notes, given_so}
 use Rattle.depot.proofs.Lending.{lent_queue, store_changed}
-use Rattle.depot.proofs.depots.Depot.take.Goals as goal
+use Rattle.depot.proofs.depots.Depot.take_at.Goals as goal
 
 pub give-arrival-requires-clause-free : goal.give-arrival-requires-clause-free
 give-arrival-requires-clause-free c =
