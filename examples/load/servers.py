@@ -2,22 +2,22 @@
 
 import contextlib
 import glob
+import json
 import os
-import secrets
 import subprocess
-import tempfile
+import sys
 import time
 
 from client import Client
 
 HERE = os.path.dirname(os.path.realpath(__file__))
+sys.path.append(os.path.join(HERE, "../../tools/shared"))
+from rabbit import Rabbit, RabbitFault  # noqa: E402
+
 FILES = [os.path.join(HERE, it) for it in ("definitions.json", "guarantees.json", "certificates.json")]
 QUEUES = ("one", "two", "three", "full")
 
-RABBITMQ = "/usr/lib/rabbitmq/bin"
 PORT, DISTRIBUTION = 26072, 26073
-STARTS_WITHIN = 60
-"""How many seconds a RabbitMQ may take to start."""
 
 
 class NotStarted(Exception):
@@ -71,68 +71,14 @@ def warren(path):
         process.wait()
 
 
-def settings(folder):
-    """The environment of a RabbitMQ that keeps all its files in a folder, and listens on the loopback alone."""
-    plugins, cookie = os.path.join(folder, "plugins"), os.path.join(folder, ".erlang.cookie")
-    with open(plugins, "w") as file:
-        file.write("[].\n")
-    with open(cookie, "w") as file:
-        file.write(secrets.token_hex(16))
-    os.chmod(cookie, 0o400)
-    return {
-        **os.environ,
-        "HOME": folder,
-        "RABBITMQ_NODENAME": "shares@localhost",
-        "RABBITMQ_NODE_PORT": str(PORT),
-        "RABBITMQ_NODE_IP_ADDRESS": "127.0.0.1",
-        "RABBITMQ_DIST_PORT": str(DISTRIBUTION),
-        "RABBITMQ_SERVER_ADDITIONAL_ERL_ARGS": "-kernel inet_dist_use_interface {127,0,0,1}",
-        "ERL_EPMD_ADDRESS": "127.0.0.1",
-        "RABBITMQ_MNESIA_BASE": os.path.join(folder, "mnesia"),
-        "RABBITMQ_LOG_BASE": os.path.join(folder, "log"),
-        "RABBITMQ_ENABLED_PLUGINS_FILE": plugins,
-    }
-
-
-def control(environment, *words):
-    """Runs `rabbitmqctl`, and returns what it printed."""
-    done = subprocess.run([f"{RABBITMQ}/rabbitmqctl", "-q", *words], env=environment, capture_output=True, text=True)
-    if done.returncode:
-        raise NotStarted(f"rabbitmqctl {words[0]}: {(done.stderr or done.stdout).strip().splitlines()[-1]}")
-    return done.stdout.strip()
-
-
-def await_startup(environment, process):
-    """Waits until the RabbitMQ serves."""
-    until = time.monotonic() + STARTS_WITHIN
-    while True:
-        try:
-            return control(environment, "await_startup", "--timeout", str(STARTS_WITHIN))
-        except NotStarted:
-            if process.poll() is not None or time.monotonic() > until:
-                raise
-        time.sleep(0.5)
-
-
 @contextlib.contextmanager
 def rabbitmq():
-    """Serves the definitions of this folder by a RabbitMQ of its own."""
-    with tempfile.TemporaryDirectory() as folder:
-        environment = settings(folder)
-        with open(os.path.join(folder, "said"), "w") as said:
-            try:
-                process = subprocess.Popen([f"{RABBITMQ}/rabbitmq-server"], env=environment, stdin=subprocess.DEVNULL, stdout=said, stderr=said)
-            except OSError as error:
-                raise NotStarted(f"{RABBITMQ}/rabbitmq-server: {error.strerror}") from None
-        try:
-            await_startup(environment, process)
-            control(environment, "import_definitions", FILES[0])
-            yield Server(PORT, int(control(environment, "eval", "os:getpid().").strip('"')))
-        finally:
-            with contextlib.suppress(NotStarted):
-                control(environment, "stop")
-            with contextlib.suppress(subprocess.TimeoutExpired):
-                process.wait(STARTS_WITHIN)
-            if process.poll() is None:
-                process.kill()
-                process.wait()
+    """Serves the definitions of this folder by a RabbitMQ of its own, which collects no statistics."""
+    with open(FILES[0], encoding="utf-8") as file:
+        definitions = json.load(file)
+    try:
+        with Rabbit("shares", PORT, distribution=DISTRIBUTION, configuration="management_agent.disable_metrics_collector = true") as rabbit:
+            rabbit.import_definitions(definitions)
+            yield Server(rabbit.port, rabbit.pid)
+    except RabbitFault as error:
+        raise NotStarted(str(error)) from None
