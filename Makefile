@@ -1,7 +1,7 @@
 # `make` alone lists the targets.
 SHELL := bash
 .SHELLFLAGS := -o pipefail -c
-.PHONY: help try look run shop verdicts serve clients libraries deploy reload load refusals cases same promise edits widths map prose tools pictures examples bench install package manual test
+.PHONY: help try look run shop verdicts serve clients libraries deploy reload load refusals cases same promise edits widths map prose tools pictures examples bench install package manual statuses test
 
 # where `make install` puts the program
 PREFIX ?= /usr/local
@@ -24,7 +24,9 @@ help:
 	@echo "  make cases     runs the cases of crates/cases, and tells of one that its list lacks"
 	@echo "  make pictures  draws the shop anew, whole and broken, with Graphviz"
 	@echo "  make examples  replays the examples, and compares them with their outputs and with the cases"
+	@echo "  make statuses  looks at each exit status of the proved program"
 	@echo "  make bench     prints what publishes, deliveries, routes, large files and files at the limits cost"
+	@echo "  make around    tries warren beside a RabbitMQ of its own, and with other packages of Debian           10 minutes"
 	@echo "  make install   puts the proved program into $(PREFIX)/bin, with its manual page and completions"
 	@echo "  make package   makes a Debian package of the proved program, and prints its SHA-256"
 	@echo "  make manual    makes the manual page and the completions anew, of the program's help"
@@ -73,7 +75,7 @@ verdicts: warren
 	@$(WARREN) verify $(BRANCHES_FILES) $(OUT)/branches.json
 	@echo "the shop with one binding key changed, from orders.# to orders.*.#:"
 	@sed 's/"orders\.#"/"orders.*.#"/' $(SHOP)/definitions.json > $(CHANGED)
-	@$(WARREN) check $(CHANGED) $(SHOP)/guarantees.json || [ $$? -eq 1 ]
+	@$(WARREN) check $(CHANGED) $(SHOP)/guarantees.json; [ $$? -eq 1 ]
 
 serve: warren
 	@$(WARREN) serve $(SHOP_FILES) $(SHOP)/certificates.json --listen 127.0.0.1:5672
@@ -104,6 +106,7 @@ cases:
 	@cd crates/cases/data && find . -name '*.words' | sed 's|^\./||; s|\.words$$||' | LC_ALL=C sort | diff ../stdin -
 
 CASES = crates/cases/data/examples
+CASES_OF_FILES = crates/cases/data/definitions
 
 # the examples' texts are cases, which the gate runs; so are the calls of a queue that a script makes
 same:
@@ -147,7 +150,7 @@ pictures: warren
 	@sed 's/"orders\.#"/"orders.*.#"/' $(SHOP)/definitions.json > $(CHANGED)
 	@python3 tools/draw $(SHOP)/definitions.json > $(SHOP)/topology.dot
 	@python3 tools/draw $(SHOP)/definitions.json --svg $(SHOP)/topology.svg
-	@$(WARREN) check $(CHANGED) $(SHOP)/guarantees.json > $(OUT)/verdicts || [ $$? -eq 1 ]
+	@$(WARREN) check $(CHANGED) $(SHOP)/guarantees.json > $(OUT)/verdicts; [ $$? -eq 1 ]
 	@python3 tools/draw $(CHANGED) $(BROKEN) > $(SHOP)/broken.dot
 	@python3 tools/draw $(CHANGED) $(BROKEN) --svg $(SHOP)/broken.svg
 
@@ -162,9 +165,19 @@ examples: same warren
 	@cmp $(OUT)/branches.json $(BRANCHES)/certificates.json
 	@$(WARREN) verify $(BRANCHES_FILES) $(OUT)/branches.json | diff $(BRANCHES)/verified -
 	@sed 's/"orders\.#"/"orders.*.#"/' $(SHOP)/definitions.json > $(CHANGED)
-	@$(WARREN) check $(CHANGED) $(SHOP)/guarantees.json > $(OUT)/verdicts || [ $$? -eq 1 ]
+	@$(WARREN) check $(CHANGED) $(SHOP)/guarantees.json > $(OUT)/verdicts; [ $$? -eq 1 ]
 	@python3 tools/draw $(CHANGED) $(BROKEN) | cmp - $(SHOP)/broken.dot
 	@python3 tools/manual --check --program $(WARREN)
+
+# beside a RabbitMQ, and with other Debian packages: each target says in a line what is not installed, and is passed over
+# a target more is a line more here
+AROUND += rabbit
+
+.PHONY: around $(AROUND)
+around: $(AROUND)
+
+rabbit:
+	@python3 tools/shared/tests/with_rabbitmq.py
 
 bench: warren
 	@$(PROVED) benchmarks > /dev/null
@@ -183,5 +196,15 @@ package: warren
 manual: warren
 	@python3 tools/manual --program $(WARREN)
 
+# each exit status, as the system has it: 0 to 4 (docs/OPERATIONS.md, "Statuses and messages")
+statuses: warren
+	@$(WARREN) check $(SHOP_FILES) > $(OUT)/verdicts; [ $$? -eq 0 ]
+	@$(WARREN) check $(CASES_OF_FILES)/one_key.json crates/cases/data/guarantees/orders_to_audit.json > $(OUT)/verdicts; [ $$? -eq 1 ]
+	@$(WARREN) check $(CASES_OF_FILES)/no_binding.json crates/cases/data/guarantees/long_to_q.json > $(OUT)/verdicts; [ $$? -eq 2 ]
+	@$(WARREN) check $(SHOP)/guarantees.json $(SHOP)/guarantees.json > $(OUT)/verdicts 2> $(OUT)/refused; [ $$? -eq 3 ]
+	@$(WARREN) check $(OUT)/nowhere.json $(SHOP)/guarantees.json > $(OUT)/verdicts 2> $(OUT)/refused; [ $$? -eq 4 ]
+
+# the program that the gate leaves is the one whose statuses are looked at
 test: same tools
 	@python3 tools/gate
+	@$(MAKE) -s statuses
