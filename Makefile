@@ -170,12 +170,18 @@ examples: same warren
 # beside a RabbitMQ, and with other Debian packages: each target says in a line what is not installed, and is passed over
 # a target more is a line more here
 AROUND += rabbit
+AROUND += exports
 
 .PHONY: around $(AROUND)
 around: $(AROUND)
 
 rabbit:
 	@python3 tools/shared/tests/with_rabbitmq.py
+
+# what tools/from_rabbitmq makes of a RabbitMQ's exports, and the limits that its policies and operator policies set
+exports:
+	@python3 tools/from_rabbitmq/tests/with_rabbitmq.py
+	@python3 tools/from_rabbitmq/tests/with_rabbitmq_limits.py
 
 bench: warren
 	@$(PROVED) benchmarks > /dev/null
