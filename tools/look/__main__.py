@@ -97,6 +97,7 @@ def main():
         tell(f"look: {error}")
         return REFUSED
     except KeyboardInterrupt:
+        tell("look: ended by Ctrl-C, and what it started with it")
         return 128 + signal.SIGINT
 
 
