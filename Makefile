@@ -99,6 +99,20 @@ reload: warren
 load: warren
 	@examples/load/run $(WARREN)
 
+# these want packages of Debian, and say in one line what is not here; `make around` has them
+AROUND += metrics parts shovel
+.PHONY: metrics parts shovel
+
+metrics: warren
+	@examples/metrics/run $(WARREN)
+
+parts: warren
+	@python3 tools/split/tests/with_warren.py $(WARREN)
+	@examples/parts/run $(WARREN)
+
+shovel: warren
+	@examples/shovel/run $(WARREN)
+
 refusals: warren
 	@$(PROVED) memory_refusals > /dev/null
 	@cd crates/memory_refusals && out/memory_refusals < stdin | diff stdout -
