@@ -9,11 +9,11 @@ PREFIX ?= /usr/local
 help:
 	@echo "without a proof, for a look:"
 	@echo "  make try       checks the guarantees of examples/shop, or of your files: DEFS=.. GUARANTEES=..     2 to 4 minutes, then a second"
-	@echo "  make look      serves the shop, or your files, at 127.0.0.1:5672 for ten minutes                   the same build"
+	@echo "  make look      serves the shop, or your files, at 127.0.0.1:5672 or LISTEN=.. for ten minutes      the same build"
 	@echo "with all proofs, which the first of these makes:                                           up to an hour, then seconds"
 	@echo "  make run       replays examples/first_publish: a publish and its ack"
 	@echo "  make verdicts  checks the guarantees of examples/shop; then one binding is changed, and a key breaks one"
-	@echo "  make serve     serves the shop under its guarantees at 127.0.0.1:5672"
+	@echo "  make serve     serves the shop, or your files, under their guarantees: DEFS=.. GUARANTEES=.. LISTEN=.."
 	@echo "  make shop      replays examples/shop over its definitions file"
 	@echo "  make clients   serves the shop, and publishes to it, takes and consumes from it with pika"
 	@echo "  make libraries serves the shop, and has six other client libraries publish to it and take from it"
@@ -36,12 +36,17 @@ help:
 	@echo "  make prose     tells how long sentences are, page by page, and looks for dead links"
 	@echo "  make tools     runs the tests of tools/ and checks the names in docs/PROMISE.md               a minute"
 
-# one's own files: make try DEFS=definitions.json GUARANTEES=guarantees.json. A guarantee that does not hold fails nothing here.
+# one's own files: make try DEFS=definitions.json GUARANTEES=guarantees.json, and another address: LISTEN=127.0.0.1:5673. Names may have blanks.
+export DEFS GUARANTEES LISTEN
+OWN_FILES = $${DEFS:+"$$DEFS"} $${GUARANTEES:+"$$GUARANTEES"}
+OWN_ADDRESS = $${LISTEN:+--listen "$$LISTEN"}
+
+# a guarantee that does not hold fails nothing here
 try:
-	@python3 tools/try $(DEFS) $(GUARANTEES) || [ $$? -le 2 ]
+	@python3 tools/try $(OWN_FILES) || [ $$? -le 2 ]
 
 look:
-	@python3 tools/look $(DEFS) $(GUARANTEES)
+	@python3 tools/look $(OWN_FILES) $(OWN_ADDRESS)
 
 # the proved program of a crate, made by `rt run` if its sources are newer: what one target proved, the others take; `make test` leaves it too
 PROVED = python3 tools/program proved
@@ -78,8 +83,8 @@ verdicts: warren
 	@sed 's/"orders\.#"/"orders.*.#"/' $(SHOP)/definitions.json > $(CHANGED)
 	@$(WARREN) check $(CHANGED) $(SHOP)/guarantees.json; [ $$? -eq 1 ]
 
-serve: warren
-	@$(WARREN) serve $(SHOP_FILES) $(SHOP)/certificates.json --listen 127.0.0.1:5672
+serve:
+	@python3 tools/look --proved $(OWN_FILES) $(OWN_ADDRESS)
 
 clients: warren
 	@examples/clients/run $(WARREN)
@@ -95,6 +100,20 @@ reload: warren
 
 load: warren
 	@examples/load/run $(WARREN)
+
+# these want packages of Debian, and say in one line what is not here; `make around` has them
+AROUND += metrics parts shovel
+.PHONY: metrics parts shovel
+
+metrics: warren
+	@examples/metrics/run $(WARREN)
+
+parts: warren
+	@python3 tools/split/tests/with_warren.py $(WARREN)
+	@examples/parts/run $(WARREN)
+
+shovel: warren
+	@examples/shovel/run $(WARREN)
 
 refusals: warren
 	@$(PROVED) memory_refusals > /dev/null
