@@ -113,14 +113,15 @@ pub tells_one : (old mid : WithTurn) (told : Pick) → mid.kept ≡ old.kept →
     → ((p : Pick) → old.turn ≡ Some p → IsPick (broker_of old) p → Some told ≡ Some p) → TellsOne old mid
 tells_one old mid told kept turns has again = record { told = told; again = told_again old told again; turn = has; kept = kept; in_turn = turns }
 
-pub serves_one : (old mid new : WithTurn) (tells : TellsOne old mid) → NoneIsLater mid new → topology_kept new ≡ topology_kept mid → new.turn ≡ None → ServesSoon mid tells.told
-    → ServesOne old tells.told.connection new
-serves_one old mid new tells later topology over soon = record {
+pub serves_one : (old mid new : WithTurn) (told : Pick) → mid.kept ≡ old.kept → IsToldInTurn old told mid → mid.turn ≡ Some told
+    → ((p : Pick) → old.turn ≡ Some p → IsPick (broker_of old) p → Some told ≡ Some p) → NoneIsLater mid new → topology_kept new ≡ topology_kept mid → new.turn ≡ None → ServesSoon mid told
+    → ServesOne old told.connection new
+serves_one old mid new told kept turns has again later topology over soon = record {
   mid = mid;
-  told = tells;
+  told = record { told = told; again = told_again old told again; turn = has; kept = kept; in_turn = turns };
   its = refl;
   over = over;
-  topology = topology ∙ ap core.topology_kept tells.kept;
+  topology = topology ∙ ap core.topology_kept kept;
   later = later;
   soon = soon;
 }

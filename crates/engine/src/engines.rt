@@ -18,7 +18,7 @@ ghost use Rattle.engine.specs.InForce.{in_force};
 
 use crate::connection::Connection;
 use crate::connections::{
-    connection_place, feed_connection, known_place, sweep, sweep_after, take_from,
+    connection_place, feed_connection, known_place, remove_lost, sweep, sweep_after, take_from,
 };
 use crate::places::Places;
 use crate::pumping::pump_connection;
@@ -265,7 +265,7 @@ impl Engine {
     {
         if let Some(place) = connection_place(&self.connections, &self.places, c) {
             self.broker.lose(c);
-            self.connections.remove(place);
+            remove_lost(&mut self.spares, &mut self.connections, place);
             self.places.learn_from(&self.connections, place);
         }
     }

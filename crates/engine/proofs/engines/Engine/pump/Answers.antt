@@ -79,7 +79,7 @@ pub returns-clause-in_turn : goal.returns-clause-in_turn
 returns-clause-in_turn c =
     let now : WithTurn = c.pump_connection.new.broker in
     subst (λ (p : Parts). ServesOne p.broker c.in-Some.pick.connection now) c.self.view_is
-    (serves_one c.self.inside.broker c.pick.new.self now (tells_one c.self.inside.broker c.pick.new.self c.in-Some.pick c.in-Some.ensures.kept c.in-Some.ensures.in_turn c.in-Some.ensures.turn c.in-Some.ensures.again)
+    (serves_one c.self.inside.broker c.pick.new.self now c.in-Some.pick c.in-Some.ensures.kept c.in-Some.ensures.in_turn c.in-Some.ensures.turn c.in-Some.ensures.again
     c.in_ok-notes.ensures.later c.pump_connection.ensures.topology c.in_ok-notes.ensures.over c.in_ok-notes.ensures.soon)
 
 pub invariant_of-self : goal.invariant_of-self
