@@ -136,11 +136,7 @@ pub(crate) fn take_from(
 
 /// Takes the connection at this place out. The storage of its output is spare from now on, whatever waits there, unless 16 are spare or it
 /// has grown past 1,125,536 bytes.
-pub(crate) fn remove_lost(
-    spares: &mut Spares,
-    connections: &mut Vec<Connection>,
-    place: usize,
-)
+pub(crate) fn remove_lost(spares: &mut Spares, connections: &mut Vec<Connection>, place: usize)
     requires { place < length connections.old.items }
     ensures left { connections.new.items ≡ remove connections.old.items place }
     ensures kept { (l : seen.Connection) → get_or connections.old.items place l ≡ l → IsSpared spares.old l spares.new }
