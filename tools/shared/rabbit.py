@@ -136,6 +136,9 @@ class Rabbit:
         try:
             if threading.current_thread() is threading.main_thread():
                 self._before = signal.signal(signal.SIGTERM, lambda *_: sys.exit(128 + signal.SIGTERM))
+                # a shell without job control has what it starts in the background ignore SIGINT
+                if signal.getsignal(signal.SIGINT) is signal.SIG_IGN:
+                    signal.signal(signal.SIGINT, signal.default_int_handler)
             self._write_files()
             self._epmd = self._run("epmd", "-address", LOOPBACK, "-port", str(self._epmd_port))
             self.start()
