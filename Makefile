@@ -25,6 +25,7 @@ help:
 	@echo "  make pictures  draws the shop anew, whole and broken, with Graphviz"
 	@echo "  make examples  replays the examples, and compares them with their outputs and with the cases"
 	@echo "  make bench     prints what publishes, deliveries, routes, large files and files at the limits cost"
+	@echo "  make around    tries warren beside a RabbitMQ of its own, and with other packages of Debian           10 minutes"
 	@echo "  make install   puts the proved program into $(PREFIX)/bin, with its manual page and completions"
 	@echo "  make package   makes a Debian package of the proved program, and prints its SHA-256"
 	@echo "  make manual    makes the manual page and the completions anew, of the program's help"
@@ -165,6 +166,16 @@ examples: same warren
 	@$(WARREN) check $(CHANGED) $(SHOP)/guarantees.json > $(OUT)/verdicts || [ $$? -eq 1 ]
 	@python3 tools/draw $(CHANGED) $(BROKEN) | cmp - $(SHOP)/broken.dot
 	@python3 tools/manual --check --program $(WARREN)
+
+# beside a RabbitMQ, and with other Debian packages: each target says in a line what is not installed, and is passed over
+# a target more is a line more here
+AROUND += rabbit
+
+.PHONY: around $(AROUND)
+around: $(AROUND)
+
+rabbit:
+	@python3 tools/shared/tests/with_rabbitmq.py
 
 bench: warren
 	@$(PROVED) benchmarks > /dev/null
