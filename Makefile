@@ -26,6 +26,7 @@ help:
 	@echo "  make examples  replays the examples, and compares them with their outputs and with the cases"
 	@echo "  make bench     prints what publishes, deliveries, routes, large files and files at the limits cost"
 	@echo "  make around    tries warren beside a RabbitMQ of its own, and with other packages of Debian           10 minutes"
+	@echo "  make agree     compares warren with a RabbitMQ over 500 topologies made at random                      2 minutes"
 	@echo "  make install   puts the proved program into $(PREFIX)/bin, with its manual page and completions"
 	@echo "  make package   makes a Debian package of the proved program, and prints its SHA-256"
 	@echo "  make manual    makes the manual page and the completions anew, of the program's help"
@@ -167,15 +168,22 @@ examples: same warren
 	@python3 tools/draw $(CHANGED) $(BROKEN) | cmp - $(SHOP)/broken.dot
 	@python3 tools/manual --check --program $(WARREN)
 
-# beside a RabbitMQ, and with other Debian packages: each target says in a line what is not installed, and is passed over
-# a target more is a line more here
+# Each of these wants a RabbitMQ or another package of Debian. What isn't installed is said in one line, and passed over. A target more is a line more.
 AROUND += rabbit
+AROUND += agree
 
 .PHONY: around $(AROUND)
 around: $(AROUND)
 
+# without a RabbitMQ no program is made for the targets that compare with one
+BESIDE_RABBITMQ = $(if $(wildcard /usr/lib/rabbitmq/bin/rabbitmq-server),warren)
+
 rabbit:
 	@python3 tools/shared/tests/with_rabbitmq.py
+
+# 500 topologies at random, each with 40 publishes: what warren answers, and what is in its queues, is what RabbitMQ answers and has
+agree: $(BESIDE_RABBITMQ)
+	@python3 tools/agree $(WARREN)
 
 bench: warren
 	@$(PROVED) benchmarks > /dev/null
