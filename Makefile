@@ -171,6 +171,7 @@ examples: same warren
 # Each of these wants a RabbitMQ or another package of Debian. What isn't installed is said in one line, and passed over. A target more is a line more.
 AROUND += rabbit
 AROUND += agree
+AROUND += exports
 
 .PHONY: around $(AROUND)
 around: $(AROUND)
@@ -184,6 +185,11 @@ rabbit:
 # 500 topologies at random, each with 40 publishes: what warren answers, and what is in its queues, is what RabbitMQ answers and has
 agree: $(BESIDE_RABBITMQ)
 	@python3 tools/agree $(WARREN)
+
+# what tools/from_rabbitmq makes of a RabbitMQ's exports, and the limits that its policies and operator policies set
+exports:
+	@python3 tools/from_rabbitmq/tests/with_rabbitmq.py
+	@python3 tools/from_rabbitmq/tests/with_rabbitmq_limits.py
 
 bench: warren
 	@$(PROVED) benchmarks > /dev/null
