@@ -159,7 +159,7 @@ def lines_in(name):
 
 
 def answered(given, definitions, guarantees):
-    """Each guarantee that is asked for, by its number, with its status and what is said of it."""
+    """Each guarantee that is asked for: its number, its sentence, its status, and what is said of it."""
     program = None if given.alone else given.warren or program_here()
     warren = Warren(program, given.definitions) if program else None
     lines = lines_in(given.verdicts) if given.verdicts else warren.check(given.guarantees) if warren else []
@@ -167,7 +167,7 @@ def answered(given, definitions, guarantees):
     answers = Answers(Topology(definitions), warren, given.states)
     for number, it in enumerate(guarantees, 1):
         if given.only in (None, number):
-            yield f"{number}: {promise(it)}", *answers.of(it, verdicts.get(number))
+            yield number, promise(it), *answers.of(it, verdicts.get(number))
 
 
 def why(given, cases):
@@ -183,10 +183,10 @@ def why(given, cases):
     if given.certificates is not None:
         read_certificates(given.certificates)
     status = HOLDS
-    for name, one, said in answered(given, definitions, guarantees):
-        print(f"{name}: {said}", flush=True)
+    for number, sentence, one, said in answered(given, definitions, guarantees):
+        print(f"{number}: {sentence}: {said}", flush=True)
         kind = {BROKEN: "broken", UNDECIDED: "undecided"}.get(one, "")
-        cases.append(Case(given.definitions, name, FAILURE if kind else PASSED, kind, said if kind else ""))
+        cases.append(Case(given.definitions, sentence, FAILURE if kind else PASSED, kind, said if kind else ""))
         status = worse(status, one)
     return status
 

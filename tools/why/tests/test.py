@@ -227,6 +227,7 @@ class Junit(unittest.TestCase):
         self.assertEqual((suites.tag, [it.tag for it in suites]), ("testsuites", ["testsuite"]))
         counts = [[it.get(of) for of in ("tests", "failures", "errors", "skipped")] for it in (suites, suites[0])]
         self.assertEqual(*counts)
+        self.assertEqual({it.get("classname") for it in suites[0]}, {os.path.splitext(os.path.basename(words[0]))[0]})
         cases = [(case.get("name"), [(it.tag, it.get("type"), it.get("message"), it.text) for it in case]) for case in suites[0]]
         return status, said, ":".join(counts[0]), cases
 
@@ -236,12 +237,12 @@ class Junit(unittest.TestCase):
         with written(definitions, guarantees, '1 yes states 2\n2 no key ""\n3 no key "c" path "X" "r" "X" "q"\n4 undecided key\n') as names:
             status, said, counts, cases = self.report(*names)
         self.assertEqual((status, said, counts), (1, "", "4:3:0:0"))
-        missed = ("2: everything of `X` reaches `q`", "NO: the empty key goes nowhere")
-        entered = ("3: nothing under `c` of `X` comes to `q`", "NO: `c` goes from `X` to `r`; rejected there, it goes on as `b.c` to `X` and so to `q`")
+        missed = ("everything of `X` reaches `q`", "NO: the empty key goes nowhere")
+        entered = ("nothing under `c` of `X` comes to `q`", "NO: `c` goes from `X` to `r`; rejected there, it goes on as `b.c` to `X` and so to `q`")
         undecided = "UNDECIDED: only keys of more than 255 bytes, which no client can send, were found to break it; take a shorter pattern"
-        open_one = ("4: nothing under `d` of `X` comes to `q`", undecided)
+        open_one = ("nothing under `d` of `X` comes to `q`", undecided)
         failed = [(name, [("failure", kind, why, f"{name}: {why}")]) for (name, why), kind in ((missed, "broken"), (entered, "broken"), (open_one, "undecided"))]
-        self.assertEqual(cases, [("1: every `a.#` of `X` reaches `q`", []), *failed])
+        self.assertEqual(cases, [("every `a.#` of `X` reaches `q`", []), *failed])
 
     def test_a_file_that_is_refused_and_one_that_is_taken(self):
         definitions = topology({"X": "topic"}, {"q": None}, [("X", "a..b", "q")])
