@@ -193,6 +193,8 @@ examples: same warren
 AROUND += rabbit
 AROUND += agree
 AROUND += exports
+AROUND += takeover
+AROUND += unmodified
 
 .PHONY: around $(AROUND)
 around: $(AROUND)
@@ -211,6 +213,14 @@ agree: $(BESIDE_RABBITMQ)
 exports:
 	@python3 tools/from_rabbitmq/tests/with_rabbitmq.py
 	@python3 tools/from_rabbitmq/tests/with_rabbitmq_limits.py
+
+# a part of a RabbitMQ's queues comes to warren, and goes back
+takeover: warren
+	@python3 examples/takeover/run.py $(WARREN)
+
+# clients with the defaults of their libraries, with RabbitMQ and with warren through tools/front
+unmodified: warren
+	@python3 examples/clients/libraries/unmodified/run.py $(WARREN)
 
 bench: warren
 	@$(PROVED) benchmarks > /dev/null

@@ -6,6 +6,7 @@ import os
 import signal
 import ssl
 import sys
+import time
 from collections import Counter
 from datetime import datetime, timezone
 
@@ -64,9 +65,17 @@ class House:
     def __init__(self, file, given):
         self.file, self.heartbeat, self.most, self.server = file, given.heartbeat, given.most, given.to
         self._open = Counter()
+        self._last_fault = 0.0, ""
 
     def note(self, line):
         say(f"{datetime.now(timezone.utc):%Y-%m-%dT%H:%M:%SZ} {line}")
+
+    def fault(self, line):
+        """Notes what is against a socket, once a second: without a descriptor left asyncio says it for each client that waits."""
+        now = time.monotonic()
+        if line != self._last_fault[1] or now - self._last_fault[0] >= 1:
+            self._last_fault = now, line
+            self.note(line)
 
     def enter(self, address):
         """Counts a connection of an address, unless there are as many as may be."""
@@ -89,8 +98,15 @@ def tls_of(given):
     return context
 
 
+def fault_of(context):
+    """What asyncio has against a connection or a socket, in one line: no descriptor is left, or a client's TLS is refused."""
+    what, error = context.get("message", "fault"), context.get("exception")
+    return " ".join(f"{what}: {error}".split()) if error else what
+
+
 async def serve(house, given, tls, session):
     loop, ended = asyncio.get_running_loop(), asyncio.Event()
+    loop.set_exception_handler(lambda _, context: house.fault(fault_of(context)))
     for it in (signal.SIGINT, signal.SIGTERM):
         loop.add_signal_handler(it, ended.set)
     handshake = {"ssl": tls, "ssl_handshake_timeout": TLS_SECONDS} if tls else {}

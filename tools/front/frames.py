@@ -18,6 +18,8 @@ AROUND = HEADER.size + 1
 # no frame is longer, whatever was agreed upon
 MOST_PAYLOAD = 131_072
 PROTOCOL_HEADER_SIZE = 8
+# of 0-9-1; and of 0-9, which RabbitMQ takes for 0-9-1, too
+PROTOCOL_HEADERS = (b"AMQP\0\0\x09\x01", b"AMQP\x01\x01\0\x09")
 HEARTBEAT_FRAME = HEADER.pack(HEARTBEAT, 0, 0) + FRAME_END
 NO_ARGUMENTS = bytes(4)
 PASSIVE, NO_WAIT = 1, 16

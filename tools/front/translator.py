@@ -69,13 +69,20 @@ class Translator:
 
     def from_client(self, data):
         """Takes bytes of the client; returns what the client and what the server is to be sent."""
-        if len(self._opening) < frames.PROTOCOL_HEADER_SIZE:
-            missing = frames.PROTOCOL_HEADER_SIZE - len(self._opening)
-            self._opening += data[:missing]
-            self._to_server.append(data[:missing])
-            data = data[missing:]
-            self._raw = not b"AMQP\0\0\x09\x01".startswith(self._opening)
+        if not self._raw and len(self._opening) < frames.PROTOCOL_HEADER_SIZE:
+            data = self._open(data)
         return self._pass(data, self._client, self._client_rules, self._to_server)
+
+    def _open(self, data):
+        """Takes the protocol header, of which no part is handed on; the bytes that are still to be handed on."""
+        missing = frames.PROTOCOL_HEADER_SIZE - len(self._opening)
+        self._opening += data[:missing]
+        if not any(it.startswith(self._opening) for it in frames.PROTOCOL_HEADERS):
+            self._raw = True
+            return self._opening + data[missing:]
+        if len(self._opening) == frames.PROTOCOL_HEADER_SIZE:
+            self._to_server.append(frames.PROTOCOL_HEADERS[0])
+        return data[missing:]
 
     def from_server(self, data):
         """Takes bytes of the server; returns what the client and what the server is to be sent."""

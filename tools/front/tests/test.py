@@ -32,11 +32,14 @@ except ImportError:
     print("Ran nothing: pamqp is not installed (apt-get install python3-pamqp)")
     sys.exit(0)
 
+import fake  # noqa: E402
 from amqp.client import Client, Message, Refused  # noqa: E402
 from definitions import DefinitionsFile  # noqa: E402
 from fake import CHANNEL_OK, OPEN, OPEN_OK, PROTOCOL, START, TUNE, TUNE_OK, Broker, Queue, Scripted  # noqa: E402
 from translator import Translator  # noqa: E402
 
+# the front starts meanwhile, on a machine that may have other work
+fake.SECONDS = 60
 HEARTBEAT_FRAME = bytes.fromhex("08 0000 00000000 ce")
 # tune and tune-ok as in fake.py, with a heartbeat of 60 and of 30
 TUNE_60 = bytes.fromhex("01 0000 0000000c 000a 001e 00ff 00001000 003c ce")
@@ -255,6 +258,12 @@ class Passing(Bytes):
             self.assertEqual(b"".join(front.from_client(data[at : at + 3])[1] for at in range(0, len(data), 3)), data)
         self.to_client(PROTOCOL, PROTOCOL)
 
+    def test_the_header_of_0_9_becomes_that_of_0_9_1(self):
+        for header in (PROTOCOL, b"AMQP\1\1\0\x09"):
+            front = Translator(DefinitionsFile(SHOP, self.said.append), 60, self.said.append)
+            data = header + method(1, 20, 10, b"\0")
+            self.assertEqual(b"".join(front.from_client(data[at : at + 3])[1] for at in range(0, len(data), 3)), PROTOCOL + method(1, 20, 10, b"\0"))
+
     def test_methods_that_cannot_be_read_go_on_as_they_are(self):
         for it in (method(1, 50, 10, b"\0\0\xff"), method(1, 40, 10), method(1, 50, 20, bytes(2) + b"\1\xff" * 3 + bytes(5)), method(0, 10, 11, b"\xff\xff\xff\xff")):
             self.to_server(it, it)
@@ -302,11 +311,13 @@ class Serving(unittest.TestCase):
         self.port = int(re.match(r"front: listening on 127\.0\.0\.1:(\d+)", running.stdout.readline()).group(1))
         return running
 
-    def ended(self, running):
+    def ended(self, running, count):
+        """Ends the front once it has logged so many lines; these lines, without time and address."""
+        lines = [running.stdout.readline() for _ in range(count)]
         running.send_signal(signal.SIGTERM)
-        out, said = running.communicate(timeout=20)
-        self.assertEqual((running.returncode, said), (0, ""))
-        return [it.split(" ", 2)[2] for it in out.splitlines()]
+        out, said = running.communicate(timeout=60)
+        self.assertEqual((running.returncode, out, said), (0, "", ""))
+        return [it.rstrip("\n").split(" ", 2)[2] for it in lines]
 
     def test_a_client_publishes_and_takes(self):
         with Broker({"audit": Queue()}, {"shop": {"orders.new": ["audit"]}}) as broker:
@@ -321,7 +332,7 @@ class Serving(unittest.TestCase):
                 self.assertEqual(settled, [(it + 1, True) for it in range(300)])
                 self.assertEqual(client.queue("audit").ready, 300)
                 self.assertRaises(Refused, client.queue, "none")
-            lines = self.ended(running)
+            lines = self.ended(running, 2)
         self.assertEqual(lines, ["login of 'till': in", "end"])
         self.assertEqual(len(broker.queues["audit"].ready), 300)
 
@@ -330,7 +341,7 @@ class Serving(unittest.TestCase):
         login = start_ok("PLAIN", b"\0till\0secret")
         with UntilTheEnd(PROTOCOL, ("sends", START), login, ("sends", TUNE), TUNE_OK, OPEN, ("sends", OPEN_OK)) as server:
             running = self.front(server.port, "--heartbeat", "1")
-            with socket.create_connection(("127.0.0.1", self.port), 10) as client, client.makefile("rb") as incoming:
+            with socket.create_connection(("127.0.0.1", self.port), 60) as client, client.makefile("rb") as incoming:
                 client.sendall(PROTOCOL)
                 incoming.read(len(START) + 9)
                 client.sendall(login)
@@ -342,41 +353,39 @@ class Serving(unittest.TestCase):
                     while more := incoming.read(len(HEARTBEAT_FRAME)):
                         beats += more
                 took = time.monotonic() - begun
-            lines = self.ended(running)
-        self.assertIn(beats.count(HEARTBEAT_FRAME), range(2, 7))
+            lines = self.ended(running, 3)
+        self.assertGreaterEqual(beats.count(HEARTBEAT_FRAME), 1)
         self.assertEqual(beats.replace(HEARTBEAT_FRAME, b""), b"")
-        self.assertTrue(1.5 < took < 5, took)
+        self.assertGreater(took, 1.5)
         self.assertEqual(lines, ["login of 'till': in", "closed: not heard of for 2 seconds", "end"])
 
     def test_a_client_that_sends_heartbeats_stays(self):
         login = start_ok("PLAIN", b"\0till\0secret")
         with UntilTheEnd(PROTOCOL, ("sends", START), login, ("sends", TUNE), TUNE_OK, OPEN, ("sends", OPEN_OK)) as server:
             running = self.front(server.port, "--heartbeat", "1")
-            with socket.create_connection(("127.0.0.1", self.port), 10) as client:
+            with socket.create_connection(("127.0.0.1", self.port), 60) as client:
                 client.sendall(PROTOCOL + login + TUNE[:10] + b"\x1f" + TUNE[11:-3] + b"\0\1\xce" + OPEN)
                 for _ in range(8):
                     time.sleep(0.5)
                     client.sendall(HEARTBEAT_FRAME)
-            time.sleep(0.5)
-            lines = self.ended(running)
+            lines = self.ended(running, 2)
         self.assertEqual(lines, ["login of 'till': in", "end"])
 
     def test_a_limit_by_address(self):
         with Broker({}) as broker:
             running = self.front(broker.port, "--most", "2")
-            first, second = (socket.create_connection(("127.0.0.1", self.port), 10) for _ in range(2))
-            third = socket.create_connection(("127.0.0.1", self.port), 10)
+            first, second = (socket.create_connection(("127.0.0.1", self.port), 60) for _ in range(2))
+            third = socket.create_connection(("127.0.0.1", self.port), 60)
             self.assertEqual(self.read(third), b"")
             first.close()
-            time.sleep(0.5)
+            third.close()
+            closed = [running.stdout.readline().split(" ", 2)[2] for _ in range(2)]
             with Client("127.0.0.1", self.port, "till", "secret"):
                 pass
-            for it in (second, third):
-                it.close()
-            time.sleep(0.5)
-            lines = self.ended(running)
-        self.assertEqual(lines[0], "closed: 2 connections of this address are open")
-        self.assertEqual(sorted(lines[1:]), ["end", "end", "end", "login of 'till': in"])
+            second.close()
+            lines = self.ended(running, 3)
+        self.assertEqual(closed, ["closed: 2 connections of this address are open\n", "end\n"])
+        self.assertEqual(sorted(lines), ["end", "end", "login of 'till': in"])
 
     def read(self, client):
         try:
@@ -388,11 +397,10 @@ class Serving(unittest.TestCase):
         with socket.create_server(("127.0.0.1", 0)) as taken:
             port = taken.getsockname()[1]
         running = self.front(port)
-        with socket.create_connection(("127.0.0.1", self.port), 10) as client:
+        with socket.create_connection(("127.0.0.1", self.port), 60) as client:
             client.sendall(PROTOCOL)
             self.assertEqual(self.read(client), b"")
-        time.sleep(0.5)
-        self.assertIn(f"closed: no way to 127.0.0.1:{port}: ", self.ended(running)[0])
+        self.assertIn(f"closed: no way to 127.0.0.1:{port}: ", self.ended(running, 2)[0])
 
     @unittest.skipUnless(shutil.which("openssl"), "openssl is not installed")
     def test_over_tls(self):
@@ -403,7 +411,7 @@ class Serving(unittest.TestCase):
             running = self.front(broker.port, "--certificate", certificate, "--key", key)
             context = ssl.create_default_context(cafile=certificate)
             context.check_hostname = False
-            with socket.create_connection(("127.0.0.1", self.port), 10) as raw, context.wrap_socket(raw) as client:
+            with socket.create_connection(("127.0.0.1", self.port), 60) as raw, context.wrap_socket(raw) as client:
                 client.sendall(PROTOCOL)
                 # start with both mechanisms, 9 bytes more than without
                 self.assertEqual(client.makefile("rb").read(len(START) + 9)[:7], bytes.fromhex("01 0000 00000025"))
