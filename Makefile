@@ -19,6 +19,8 @@ help:
 	@echo "  make libraries serves the shop, and has six other client libraries publish to it and take from it"
 	@echo "  make deploy    serves the shop, and publishes and takes over TLS, by stunnel"
 	@echo "  make reload    serves while its files are replaced, and looks at what clients and the operator see"
+	@echo "  make metrics   has an exporter and a Prometheus watch the shop; make parts serves it by processes behind HAProxy;"
+	@echo "  make shovel    has RabbitMQ's shovels take messages from warren and back: each says what it wants of Debian"
 	@echo "  make load      loads a server over sockets, and prints what a message costs it               4 minutes"
 	@echo "  make refusals  refuses each growth of memory of the proved programs in turn, and compares          15 minutes"
 	@echo "  make cases     runs the cases of crates/cases, and tells of one that its list lacks"
