@@ -25,6 +25,8 @@ help:
 	@echo "  make pictures  draws the shop anew, whole and broken, with Graphviz"
 	@echo "  make examples  replays the examples, and compares them with their outputs and with the cases"
 	@echo "  make bench     prints what publishes, deliveries, routes, large files and files at the limits cost"
+	@echo "  make takeover  takes over a part of a RabbitMQ of its own, and goes back (part of make around)             a minute"
+	@echo "  make unmodified runs clients as they are, with a RabbitMQ and through tools/front (part of make around)     two minutes"
 	@echo "  make around    tries warren beside a RabbitMQ of its own, and with other packages of Debian           10 minutes"
 	@echo "  make install   puts the proved program into $(PREFIX)/bin, with its manual page and completions"
 	@echo "  make package   makes a Debian package of the proved program, and prints its SHA-256"
