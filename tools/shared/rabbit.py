@@ -35,7 +35,7 @@ PLUGINS = ("rabbitmq_management",)
 PORTS = range(20_000, 32_000)
 LOOPBACK = "127.0.0.1"
 # seconds for a start, an answer of the management interface, and a stop
-START, ANSWER, STOP = 180, 60, 60
+START, ANSWER, STOP = 180, 600, 60
 REST = 0.1
 PROTOCOL_HEADER = b"AMQP\0\0\x09\x01"
 KERNEL = "-kernel inet_dist_use_interface {127,0,0,1}"
@@ -104,7 +104,7 @@ def _ended(process, seconds):
 def _answers(port):
     """Whether a broker answers the protocol header at this port."""
     try:
-        with socket.create_connection((LOOPBACK, port), ANSWER) as client:
+        with socket.create_connection((LOOPBACK, port), STOP) as client:
             client.sendall(PROTOCOL_HEADER)
             return len(client.recv(1)) == 1
     except OSError:
@@ -255,7 +255,7 @@ class Rabbit:
     def _manages(self):
         try:
             self.api("overview")
-        except (OSError, http.client.HTTPException, RabbitFault):
+        except RabbitFault:
             return False
         return True
 
@@ -268,6 +268,8 @@ class Rabbit:
             connection.request(method, f"/api/{path}", None if body is None else json.dumps(body), headers)
             answer = connection.getresponse()
             said = answer.read().decode("utf-8", "replace")
+        except (OSError, http.client.HTTPException) as error:
+            raise RabbitFault(f"RabbitMQ does not answer {method} /api/{path}: {error}") from None
         finally:
             connection.close()
         if answer.status >= 300:
