@@ -28,6 +28,8 @@ help:
 	@echo "  make examples  replays the examples, and compares them with their outputs and with the cases"
 	@echo "  make statuses  looks at each exit status of the proved program"
 	@echo "  make bench     prints what publishes, deliveries, routes, large files and files at the limits cost"
+	@echo "  make takeover  takes over a part of a RabbitMQ of its own, and goes back (part of make around)             a minute"
+	@echo "  make unmodified runs clients as they are, with a RabbitMQ and through tools/front (part of make around)     two minutes"
 	@echo "  make around    tries warren beside a RabbitMQ of its own, and with other packages of Debian           10 minutes"
 	@echo "  make agree     compares warren with a RabbitMQ over 500 topologies made at random                      2 minutes"
 	@echo "  make install   puts the proved program into $(PREFIX)/bin, with its manual page and completions"

@@ -156,6 +156,6 @@ def main(warren):
 
 
 if __name__ == "__main__":
-    if len(sys.argv) != 2:
+    if len(sys.argv) != 2 or not os.access(sys.argv[1], os.X_OK):
         sys.exit("run.py takes the program warren as its one word")
     main(os.path.abspath(sys.argv[1]))

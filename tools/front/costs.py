@@ -163,6 +163,6 @@ def main(warren):
 
 
 if __name__ == "__main__":
-    if len(sys.argv) != 2:
+    if len(sys.argv) != 2 or not os.access(sys.argv[1], os.X_OK):
         sys.exit("costs.py takes the program warren as its one word")
     main(sys.argv[1])

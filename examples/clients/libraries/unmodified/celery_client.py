@@ -1,5 +1,6 @@
 """Starts a worker of Celery for celery_tasks.py, calls its task, and prints what that wrote: the Debian package celery."""
 
+import contextlib
 import os
 import subprocess
 import sys
@@ -25,6 +26,9 @@ with tempfile.TemporaryDirectory() as folder:
                 time.sleep(0.1)
             time.sleep(0.1)
             with open(file, encoding="utf-8") as told:
-                print(told.read())
+                print(told.read(), flush=True)
         finally:
             worker.terminate()
+            with contextlib.suppress(subprocess.TimeoutExpired):
+                worker.wait(SECONDS)
+            worker.kill()

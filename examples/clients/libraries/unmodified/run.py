@@ -11,6 +11,7 @@ import contextlib
 import json
 import os
 import re
+import signal
 import subprocess
 import sys
 import tempfile
@@ -24,7 +25,7 @@ from rabbit import NotHere, Rabbit  # noqa: E402
 PYTHON = "/usr/bin/python3"
 JARS = "/usr/share/java/amqp-client.jar:/usr/share/java/slf4j-api.jar"
 GO = {"GO111MODULE": "off", "GOPATH": "/usr/share/gocode"}
-SECONDS = 120
+SECONDS = 180
 
 # by name: the Debian package, what makes its program in a folder, and the program
 CLIENTS = {
@@ -36,6 +37,8 @@ CLIENTS = {
     "Go": ("golang-github-rabbitmq-amqp091-go-dev", ["go", "build", "-o", "{}/go_client", "go_client.go"], ["{}/go_client"]),
     "Celery": ("celery", None, [PYTHON, "celery_client.py"]),
 }
+# what a program wants else, which its file sets
+WANTS = {"Celery": "its worker wants no gossip, no mingle and no remote control, which make queues of their own"}
 
 
 def version_of(package):
@@ -78,11 +81,18 @@ def run(command, folder, *words):
     """Whether a program of this folder ended well, and what it printed."""
     command = [it.replace("{}", folder) for it in command] + list(words)
     environment = {**os.environ, **GO, "GOCACHE": os.path.join(folder, "cache"), "PYTHONDONTWRITEBYTECODE": "1"}
+    pipes = {"stdout": subprocess.PIPE, "stderr": subprocess.PIPE, "text": True, "start_new_session": True}
     try:
-        done = subprocess.run(command, cwd=HERE, env=environment, capture_output=True, text=True, timeout=SECONDS)
+        with subprocess.Popen(command, cwd=HERE, env=environment, **pipes) as running:
+            try:
+                out, said = running.communicate(timeout=SECONDS)
+            finally:
+                # with all that it started
+                with contextlib.suppress(ProcessLookupError):
+                    os.killpg(running.pid, signal.SIGKILL)
     except (OSError, subprocess.TimeoutExpired) as error:
         return False, str(error)
-    return done.returncode == 0, done.stdout.strip() if done.returncode == 0 else done.stderr[-2_000:]
+    return running.returncode == 0, out.strip() if running.returncode == 0 else said[-2_000:]
 
 
 def try_client(name, servers, folder):
@@ -98,7 +108,8 @@ def try_client(name, servers, folder):
         done, said = run(command, folder, str(port))
         if not done or said != f"by {name}":
             wrong.append(f"with {server}: {said}")
-    print(f"{name} {version}: {'NOT as expected, ' + '; '.join(wrong) if wrong else 'as expected, with ' + ' and '.join(servers)}", flush=True)
+    told = "NOT as expected, " + "; ".join(wrong) if wrong else "as expected, with " + " and ".join(servers)
+    print(f"{name} {version}: {told}{'; ' + WANTS[name] if name in WANTS else ''}", flush=True)
     return not wrong
 
 
@@ -116,6 +127,6 @@ def main(warren):
 
 
 if __name__ == "__main__":
-    if len(sys.argv) != 2:
+    if len(sys.argv) != 2 or not os.access(sys.argv[1], os.X_OK):
         sys.exit("run.py takes the program warren as its one word")
     sys.exit(main(os.path.abspath(sys.argv[1])))
