@@ -82,8 +82,8 @@ def tell_left_out(number, guarantee, parts):
     print(f"guarantee {number} ({sentence_of(guarantee)}) is in no file. It holds: its exchange is in part{exchange}, and its queue in part{queue}.")
 
 
-def write(path, text):
-    with open(path, "w", encoding="utf-8") as file:
+def write(path, text, mode=0o666):
+    with open(path, "w", encoding="utf-8", opener=lambda name, flags: os.open(name, flags, mode)) as file:
         file.write(text)
 
 
@@ -91,8 +91,8 @@ def write_part(given, definitions, guarantees, name, part):
     folder = os.path.join(given.folder, name)
     os.mkdir(folder)
     file = os.path.join(folder, "definitions.json")
-    write(file, text_of(definitions_of(definitions, part)))
-    # it has password hashes, so the same users may read it as before
+    # it has password hashes, so nobody may read it who could not read the file of before
+    write(file, text_of(definitions_of(definitions, part)), 0o600)
     shutil.copymode(given.definitions, file)
     write(os.path.join(folder, "guarantees.json"), text_of({"guarantees": guarantees}))
 
@@ -140,7 +140,7 @@ def main():
     except Failed as error:
         print(f"split: {error}", file=sys.stderr)
     except OSError as error:
-        print(f"split: {error.filename}: {error.strerror}", file=sys.stderr)
+        print(f"split: {error.filename}: {error.strerror}" if error.filename else f"split: {error.strerror}", file=sys.stderr)
     return FAILED
 
 
