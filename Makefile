@@ -1,7 +1,7 @@
 # `make` alone lists the targets.
 SHELL := bash
 .SHELLFLAGS := -o pipefail -c
-.PHONY: help try look run shop verdicts serve clients libraries deploy reload load refusals cases same promise edits widths map prose tools pictures examples bench install package manual test
+.PHONY: help try look run shop verdicts serve clients libraries deploy reload load refusals cases same promise edits widths map prose tools pictures examples bench install package manual statuses test
 
 # where `make install` puts the program
 PREFIX ?= /usr/local
@@ -9,11 +9,11 @@ PREFIX ?= /usr/local
 help:
 	@echo "without a proof, for a look:"
 	@echo "  make try       checks the guarantees of examples/shop, or of your files: DEFS=.. GUARANTEES=..     2 to 4 minutes, then a second"
-	@echo "  make look      serves the shop, or your files, at 127.0.0.1:5672 for ten minutes                   the same build"
+	@echo "  make look      serves the shop, or your files, at 127.0.0.1:5672 or LISTEN=.. for ten minutes      the same build"
 	@echo "with all proofs, which the first of these makes:                                           up to an hour, then seconds"
 	@echo "  make run       replays examples/first_publish: a publish and its ack"
 	@echo "  make verdicts  checks the guarantees of examples/shop; then one binding is changed, and a key breaks one"
-	@echo "  make serve     serves the shop under its guarantees at 127.0.0.1:5672"
+	@echo "  make serve     serves the shop, or your files, under their guarantees: DEFS=.. GUARANTEES=.. LISTEN=.."
 	@echo "  make shop      replays examples/shop over its definitions file"
 	@echo "  make clients   serves the shop, and publishes to it, takes and consumes from it with pika"
 	@echo "  make libraries serves the shop, and has six other client libraries publish to it and take from it"
@@ -24,7 +24,10 @@ help:
 	@echo "  make cases     runs the cases of crates/cases, and tells of one that its list lacks"
 	@echo "  make pictures  draws the shop anew, whole and broken, with Graphviz"
 	@echo "  make examples  replays the examples, and compares them with their outputs and with the cases"
+	@echo "  make statuses  looks at each exit status of the proved program"
 	@echo "  make bench     prints what publishes, deliveries, routes, large files and files at the limits cost"
+	@echo "  make around    tries warren beside a RabbitMQ of its own, and with other packages of Debian           10 minutes"
+	@echo "  make agree     compares warren with a RabbitMQ over 500 topologies made at random                      2 minutes"
 	@echo "  make install   puts the proved program into $(PREFIX)/bin, with its manual page and completions"
 	@echo "  make package   makes a Debian package of the proved program, and prints its SHA-256"
 	@echo "  make manual    makes the manual page and the completions anew, of the program's help"
@@ -33,12 +36,17 @@ help:
 	@echo "  make prose     tells how long sentences are, page by page, and looks for dead links"
 	@echo "  make tools     runs the tests of tools/ and checks the names in docs/PROMISE.md               a minute"
 
-# one's own files: make try DEFS=definitions.json GUARANTEES=guarantees.json. A guarantee that does not hold fails nothing here.
+# one's own files: make try DEFS=definitions.json GUARANTEES=guarantees.json, and another address: LISTEN=127.0.0.1:5673. Names may have blanks.
+export DEFS GUARANTEES LISTEN
+OWN_FILES = $${DEFS:+"$$DEFS"} $${GUARANTEES:+"$$GUARANTEES"}
+OWN_ADDRESS = $${LISTEN:+--listen "$$LISTEN"}
+
+# a guarantee that does not hold fails nothing here
 try:
-	@python3 tools/try $(DEFS) $(GUARANTEES) || [ $$? -le 2 ]
+	@python3 tools/try $(OWN_FILES) || [ $$? -le 2 ]
 
 look:
-	@python3 tools/look $(DEFS) $(GUARANTEES)
+	@python3 tools/look $(OWN_FILES) $(OWN_ADDRESS)
 
 # the proved program of a crate, made by `rt run` if its sources are newer: what one target proved, the others take; `make test` leaves it too
 PROVED = python3 tools/program proved
@@ -73,10 +81,10 @@ verdicts: warren
 	@$(WARREN) verify $(BRANCHES_FILES) $(OUT)/branches.json
 	@echo "the shop with one binding key changed, from orders.# to orders.*.#:"
 	@sed 's/"orders\.#"/"orders.*.#"/' $(SHOP)/definitions.json > $(CHANGED)
-	@$(WARREN) check $(CHANGED) $(SHOP)/guarantees.json || [ $$? -eq 1 ]
+	@$(WARREN) check $(CHANGED) $(SHOP)/guarantees.json; [ $$? -eq 1 ]
 
-serve: warren
-	@$(WARREN) serve $(SHOP_FILES) $(SHOP)/certificates.json --listen 127.0.0.1:5672
+serve:
+	@python3 tools/look --proved $(OWN_FILES) $(OWN_ADDRESS)
 
 clients: warren
 	@examples/clients/run $(WARREN)
@@ -93,6 +101,20 @@ reload: warren
 load: warren
 	@examples/load/run $(WARREN)
 
+# these want packages of Debian, and say in one line what is not here; `make around` has them
+AROUND += metrics parts shovel
+.PHONY: metrics parts shovel
+
+metrics: warren
+	@examples/metrics/run $(WARREN)
+
+parts: warren
+	@python3 tools/split/tests/with_warren.py $(WARREN)
+	@examples/parts/run $(WARREN)
+
+shovel: warren
+	@examples/shovel/run $(WARREN)
+
 refusals: warren
 	@$(PROVED) memory_refusals > /dev/null
 	@cd crates/memory_refusals && out/memory_refusals < stdin | diff stdout -
@@ -104,6 +126,7 @@ cases:
 	@cd crates/cases/data && find . -name '*.words' | sed 's|^\./||; s|\.words$$||' | LC_ALL=C sort | diff ../stdin -
 
 CASES = crates/cases/data/examples
+CASES_OF_FILES = crates/cases/data/definitions
 
 # the examples' texts are cases, which the gate runs; so are the calls of a queue that a script makes
 same:
@@ -147,7 +170,7 @@ pictures: warren
 	@sed 's/"orders\.#"/"orders.*.#"/' $(SHOP)/definitions.json > $(CHANGED)
 	@python3 tools/draw $(SHOP)/definitions.json > $(SHOP)/topology.dot
 	@python3 tools/draw $(SHOP)/definitions.json --svg $(SHOP)/topology.svg
-	@$(WARREN) check $(CHANGED) $(SHOP)/guarantees.json > $(OUT)/verdicts || [ $$? -eq 1 ]
+	@$(WARREN) check $(CHANGED) $(SHOP)/guarantees.json > $(OUT)/verdicts; [ $$? -eq 1 ]
 	@python3 tools/draw $(CHANGED) $(BROKEN) > $(SHOP)/broken.dot
 	@python3 tools/draw $(CHANGED) $(BROKEN) --svg $(SHOP)/broken.svg
 
@@ -162,9 +185,32 @@ examples: same warren
 	@cmp $(OUT)/branches.json $(BRANCHES)/certificates.json
 	@$(WARREN) verify $(BRANCHES_FILES) $(OUT)/branches.json | diff $(BRANCHES)/verified -
 	@sed 's/"orders\.#"/"orders.*.#"/' $(SHOP)/definitions.json > $(CHANGED)
-	@$(WARREN) check $(CHANGED) $(SHOP)/guarantees.json > $(OUT)/verdicts || [ $$? -eq 1 ]
+	@$(WARREN) check $(CHANGED) $(SHOP)/guarantees.json > $(OUT)/verdicts; [ $$? -eq 1 ]
 	@python3 tools/draw $(CHANGED) $(BROKEN) | cmp - $(SHOP)/broken.dot
 	@python3 tools/manual --check --program $(WARREN)
+
+# Each of these wants a RabbitMQ or another package of Debian. What isn't installed is said in one line, and passed over. A target more is a line more.
+AROUND += rabbit
+AROUND += agree
+AROUND += exports
+
+.PHONY: around $(AROUND)
+around: $(AROUND)
+
+# without a RabbitMQ no program is made for the targets that compare with one
+BESIDE_RABBITMQ = $(if $(wildcard /usr/lib/rabbitmq/bin/rabbitmq-server),warren)
+
+rabbit:
+	@python3 tools/shared/tests/with_rabbitmq.py
+
+# 500 topologies at random, each with 40 publishes: what warren answers, and what is in its queues, is what RabbitMQ answers and has
+agree: $(BESIDE_RABBITMQ)
+	@python3 tools/agree $(WARREN)
+
+# what tools/from_rabbitmq makes of a RabbitMQ's exports, and the limits that its policies and operator policies set
+exports:
+	@python3 tools/from_rabbitmq/tests/with_rabbitmq.py
+	@python3 tools/from_rabbitmq/tests/with_rabbitmq_limits.py
 
 bench: warren
 	@$(PROVED) benchmarks > /dev/null
@@ -183,5 +229,15 @@ package: warren
 manual: warren
 	@python3 tools/manual --program $(WARREN)
 
+# each exit status, as the system has it: 0 to 4 (docs/OPERATIONS.md, "Statuses and messages")
+statuses: warren
+	@$(WARREN) check $(SHOP_FILES) > $(OUT)/verdicts; [ $$? -eq 0 ]
+	@$(WARREN) check $(CASES_OF_FILES)/one_key.json crates/cases/data/guarantees/orders_to_audit.json > $(OUT)/verdicts; [ $$? -eq 1 ]
+	@$(WARREN) check $(CASES_OF_FILES)/no_binding.json crates/cases/data/guarantees/long_to_q.json > $(OUT)/verdicts; [ $$? -eq 2 ]
+	@$(WARREN) check $(SHOP)/guarantees.json $(SHOP)/guarantees.json > $(OUT)/verdicts 2> $(OUT)/refused; [ $$? -eq 3 ]
+	@$(WARREN) check $(OUT)/nowhere.json $(SHOP)/guarantees.json > $(OUT)/verdicts 2> $(OUT)/refused; [ $$? -eq 4 ]
+
+# the program that the gate leaves is the one whose statuses are looked at
 test: same tools
 	@python3 tools/gate
+	@$(MAKE) -s statuses

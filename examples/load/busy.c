@@ -1,12 +1,15 @@
 /* Publishers and consumers that never pause, in one process, so that the server is what limits them.
 
-     busy PORT SECONDS PUBLISHERS WINDOW CONSUMERS PREFETCH SIZE STYLE
+     busy PORT SECONDS PUBLISHERS WINDOW CONSUMERS PREFETCH SIZE STYLE [EXCHANGE KEY QUEUE]
 
-   Each publisher writes WINDOW confirmed publishes of SIZE bytes to the exchange `direct` under the key `new` at once, and the
-   next once all are acked. Each consumer takes from the queue `one`: with a prefetch it acknowledges each delivery by an ack of
-   its own, and with prefetch 0 it takes without acks. STYLE is `free`, or `awaited`, where the publishers wait for the
-   deliveries of their windows, too. Printed are how many publishes were acked and how many deliveries were taken in so many
-   seconds, after half a second in which none is counted. */
+   Each publisher writes WINDOW confirmed publishes of SIZE bytes to EXCHANGE under KEY at once (default: `direct` and `new`), and
+   the next WINDOW once all are acked or nacked. Each consumer takes from QUEUE (default: `one`): with a prefetch it acknowledges
+   each delivery by an ack of its own, and with prefetch 0 it takes without acks. If STYLE is `awaited`, the publishers also wait
+   for the deliveries of their windows; if it is `free`, they don't.
+
+   Prints `began` after half a second in which nothing is counted, and then the publishes acked or nacked and the deliveries taken,
+   each a second, over SECONDS. If SECONDS is 0, it prints both for each line on standard input, counted since the line before, and
+   ends with standard input. */
 #include <arpa/inet.h>
 #include <errno.h>
 #include <fcntl.h>
@@ -20,7 +23,7 @@
 #include <time.h>
 #include <unistd.h>
 
-enum { ROOM = 1 << 18, WARM_MS = 500 };
+enum { ROOM = 1 << 18, WARM = 500000 };
 
 typedef struct {
     int socket;
@@ -37,6 +40,7 @@ typedef struct {
 
 static uint64_t published, taken;
 static int window_size, prefetch, is_awaited;
+static const char *exchange = "direct", *key = "new", *queue = "one";
 
 static void fail(const char *what) {
     fprintf(stderr, "busy: %s\n", what);
@@ -121,7 +125,7 @@ static void consume(int socket) {
         say(socket, out, end_frame(out, put(put(put(method(out, 1, 60, 10), 0, 4), prefetch, 2), 0, 1)));
         expect(socket, 60, 11);
     }
-    at = put_short(put_short(put(method(out, 1, 60, 20), 0, 2), "one"), "busy");
+    at = put_short(put_short(put(method(out, 1, 60, 20), 0, 2), queue), "busy");
     at = put(put(at, prefetch > 0 ? 0 : 2, 1), 0, 4);
     say(socket, out, end_frame(out, at));
     expect(socket, 60, 21);
@@ -130,7 +134,7 @@ static void consume(int socket) {
 /* One publish, as its frames. */
 static unsigned char *publish(unsigned char *at, int size) {
     unsigned char *start = at;
-    at = put_short(put_short(put(method(at, 1, 60, 40), 0, 2), "direct"), "new");
+    at = put_short(put_short(put(method(at, 1, 60, 40), 0, 2), exchange), key);
     at = end_frame(start, put(at, 0, 1));
     start = at;
     at = put(put(put(put(at, 2, 1), 1, 2), 0, 4), 60, 2);
@@ -205,7 +209,7 @@ static void take_frames(Client *it) {
         size_t whole = number(frame + 3, 4) + 8;
         if (at + whole > it->kept) break;
         uint64_t named = frame[0] == 1 ? number(frame + 7, 4) : 0;
-        if (named == (60 << 16 | 80)) acked(it, frame + 11);
+        if (named == (60 << 16 | 80) || named == (60 << 16 | 120)) acked(it, frame + 11);
         else if (named == (60 << 16 | 60)) delivered(it, frame + 11);
         else if (named) fail("another method was to come");
         at += whole;
@@ -228,18 +232,23 @@ static void hear(Client *it) {
     } while ((size_t)some == room);
 }
 
-static uint64_t milliseconds(void) {
+static uint64_t microseconds(void) {
     struct timespec it;
     clock_gettime(CLOCK_MONOTONIC, &it);
-    return it.tv_sec * 1000 + it.tv_nsec / 1000000;
+    return it.tv_sec * 1000000 + it.tv_nsec / 1000;
 }
 
-static void serve_until(int poll, Client **all, int count, uint64_t end) {
+/* Serves the clients until END, or, if END is 0, until a line comes on standard input. Returns whether one came, or the end is over. */
+static int serve_until(int poll, Client **all, int count, uint64_t end) {
     struct epoll_event came[1024];
-    while (milliseconds() < end) {
+    while (end == 0 || microseconds() < end) {
         int some = epoll_wait(poll, came, 1024, 20);
         for (int i = 0; i < some; i++) {
             Client *it = came[i].data.ptr;
+            if (it == NULL) {
+                char line[64];
+                return read(0, line, sizeof line) > 0;
+            }
             if (came[i].events & EPOLLIN) hear(it);
             if (it->written < it->length) flush(it);
             if (!it->is_consumer) go_on(it);
@@ -247,13 +256,25 @@ static void serve_until(int poll, Client **all, int count, uint64_t end) {
         for (int i = 0; is_awaited && i < count; i++)
             if (!all[i]->is_consumer) go_on(all[i]);
     }
+    return 1;
+}
+
+/* Serves the clients until END, as above, and prints what was published and taken a second meanwhile. */
+static int counted(int poll, Client **all, int count, uint64_t span) {
+    uint64_t published_before = published, taken_before = taken, began = microseconds();
+    int goes_on = serve_until(poll, all, count, span ? began + span : 0);
+    double seconds = (microseconds() - began + 1) / 1e6;
+    if (goes_on) printf("%.0f %.0f\n", (published - published_before) / seconds, (taken - taken_before) / seconds);
+    fflush(stdout);
+    return goes_on;
 }
 
 int main(int words, char **word) {
-    if (words != 9) fail("busy PORT SECONDS PUBLISHERS WINDOW CONSUMERS PREFETCH SIZE free|awaited");
+    if (words != 9 && words != 12) fail("busy PORT SECONDS PUBLISHERS WINDOW CONSUMERS PREFETCH SIZE free|awaited [EXCHANGE KEY QUEUE]");
     int port = atoi(word[1]), publishers = atoi(word[3]), consumers = atoi(word[5]), size = atoi(word[7]);
-    uint64_t span = 1000 * atof(word[2]);
+    uint64_t span = 1e6 * atof(word[2]);
     window_size = atoi(word[4]), prefetch = atoi(word[6]), is_awaited = !strcmp(word[8], "awaited") && consumers > 0;
+    if (words == 12) exchange = word[9], key = word[10], queue = word[11];
     int count = publishers + consumers, poll = epoll_create1(0);
     Client **all = calloc(count, sizeof *all);
     for (int i = 0; i < count; i++) {
@@ -263,13 +284,16 @@ int main(int words, char **word) {
         struct epoll_event wanted = {.events = EPOLLIN | EPOLLOUT | EPOLLET, .data.ptr = all[i]};
         epoll_ctl(poll, EPOLL_CTL_ADD, all[i]->socket, &wanted);
     }
-    uint64_t start = milliseconds();
-    serve_until(poll, all, count, start + WARM_MS);
-    uint64_t published_before = published, taken_before = taken, began = milliseconds();
+    serve_until(poll, all, count, microseconds() + WARM);
     printf("began\n");
     fflush(stdout);
-    serve_until(poll, all, count, began + span);
-    double seconds = (milliseconds() - began) / 1000.0;
-    printf("%.0f %.0f\n", (published - published_before) / seconds, (taken - taken_before) / seconds);
+    if (span > 0) {
+        counted(poll, all, count, span);
+        return 0;
+    }
+    struct epoll_event line = {.events = EPOLLIN, .data.ptr = NULL};
+    epoll_ctl(poll, EPOLL_CTL_ADD, 0, &line);
+    while (counted(poll, all, count, 0)) {
+    }
     return 0;
 }

@@ -1,9 +1,10 @@
-"""Opens as many sockets as a server has room for, none of which logs in, and waits for their ends.
+"""Opens as many sockets as a server has room for, which stop answering before their login or after a close, and waits for their ends.
 
     silent.py WARREN
 
-First they say nothing, or a part of a login, and then a login that is refused, whose answer they never answer. Each is ended after 30
-seconds. Not so a client that logs in slowly, and one that has logged in and opens no channel; and a later one is served."""
+First they say nothing, or a part of a login, then a login that is refused, and then they log in and are sent connection.close for a
+channel that they open twice: they never answer that. Each is ended after 30 seconds. Not so a client that logs in slowly, and one that has
+logged in and opens no channel; and a later one is served."""
 import os
 import resource
 import select
@@ -143,10 +144,29 @@ def beside_refused(port):
     return wrong
 
 
+def closed_sockets(port):
+    """Sockets of clients that run and then open a channel that is open, and when each did so."""
+    found = {}
+    for one in [Client(port, ACCOUNT) for _ in range(ROOM - 1)]:
+        one.send(OPEN_CHANNEL)
+        found[one.socket] = time.monotonic()
+    return found
+
+
+def beside_closed(port):
+    """Sockets of clients that ran, were sent connection.close, and never answer it."""
+    began = time.monotonic()
+    closed = closed_sockets(port)
+    wrong = wrong_ends("closed connections", closed, ends_of(closed, began + LATEST))
+    if not is_served(port):
+        wrong.append("a later client is not served behind closed connections")
+    return wrong
+
+
 def trial(port):
     """What is wrong, as lines."""
     quiet = Quiet(port)
-    wrong = beside_parts(port) + beside_refused(port)
+    wrong = beside_parts(port) + beside_refused(port) + beside_closed(port)
     try:
         quiet.open()
     except Lost:

@@ -24,12 +24,12 @@ CHANNEL_CLOSE, CHANNEL_CLOSE_OK = (20, 40), (20, 41)
 EXCHANGE_DECLARE, EXCHANGE_DECLARE_OK, QUEUE_DECLARE, QUEUE_DECLARE_OK = (40, 10), (40, 11), (50, 10), (50, 11)
 QOS, QOS_OK, CONSUME, CONSUME_OK = (60, 10), (60, 11), (60, 20), (60, 21)
 PUBLISH, RETURN, DELIVER, GET, GET_OK, GET_EMPTY = (60, 40), (60, 50), (60, 60), (60, 70), (60, 71), (60, 72)
-ACK, NACK = (60, 80), (60, 120)
+ACK, REJECT, NACK = (60, 80), (60, 90), (60, 120)
 SELECT, SELECT_OK = (85, 10), (85, 11)
 WITH_CONTENT = (RETURN, DELIVER, GET_OK)
 PASSIVE = b"\x01"
 MANDATORY = b"\x01"
-NAMES = {CHANNEL_OPEN: "channel.open", SELECT: "confirm.select", QOS: "basic.qos", CONSUME: "basic.consume", ACK: "basic.ack"}
+NAMES = {CHANNEL_OPEN: "channel.open", SELECT: "confirm.select", QOS: "basic.qos", CONSUME: "basic.consume", ACK: "basic.ack", REJECT: "basic.reject"}
 
 Message = namedtuple("Message", "exchange key properties body")
 Delivery = namedtuple("Delivery", "tag redelivered message")
@@ -224,6 +224,11 @@ class Client:
         """Acknowledges a message, or all up to it. There is no answer: what is asked next is performed behind it."""
         self._what = NAMES[ACK]
         self._send(method(CHANNEL, ACK, struct.pack(">QB", tag, multiple)))
+
+    def give_back(self, tag):
+        """Rejects a message with requeue: it is ready again, in its place. There is no answer."""
+        self._what = NAMES[REJECT]
+        self._send(method(CHANNEL, REJECT, struct.pack(">QB", tag, True)))
 
     # ---- frames
 

@@ -8,7 +8,9 @@ import sys
 HERE = os.path.dirname(os.path.abspath(__file__))
 sys.path[:0] = [HERE, os.path.join(HERE, "../shared")]
 from causes import MOST_BYTES, NotJson, causes_in, causes_of, quoted, read_json  # noqa: E402
-from convert import NoFile, convert  # noqa: E402
+from convert import NoFile, convert, no_export  # noqa: E402
+from part import part_of  # noqa: E402
+from report import sections  # noqa: E402
 from words import Parser  # noqa: E402
 
 TAKEN, REFUSED, FAILED = 0, 1, 3
@@ -20,7 +22,13 @@ def words():
     parser.add_argument("file", nargs="?", help="the file to be written; without it, standard output")
     parser.add_argument("--check", action="store_true", help="write nothing, and tell all causes for which warren refuses the export as it is")
     parser.add_argument("--vhost", help="the virtual host to take; without it \"/\", or the only one")
-    return parser.parse_args()
+    parser.add_argument("--only", action="append", default=[], metavar="NAME", nargs="+", help="take these queues, and those behind these exchanges, and nothing else; * is any characters")
+    parser.add_argument("--all", action="store_true", help="tell each change by its entry, those too after which all is as before")
+    given = parser.parse_args()
+    given.only = [name for names in given.only for name in names]
+    if given.check and (given.only or given.all):
+        parser.error("--check is of the export as it is, without --only and --all")
+    return given
 
 
 def read(name):
@@ -39,7 +47,19 @@ def text_of(definitions):
     return "{\n" + ",\n".join(lists) + "\n}\n"
 
 
+def refuse_answer(data):
+    """Refuses what RabbitMQ answered in place of an export."""
+    try:
+        value = read_json(data)
+    except NotJson:
+        return
+    why = no_export(value) if isinstance(value, dict) else None
+    if why:
+        raise NoFile(why)
+
+
 def check(data):
+    refuse_answer(data)
     causes = causes_of(data)
     for it in sorted(causes, key=lambda it: it.number):
         print(f"refused {it.number}: {it.entry}: {it.what}")
@@ -71,24 +91,40 @@ def tell(text):
     print(text, file=sys.stderr)
 
 
-def make(data, file, vhost):
-    made, changes = convert(read_json(mended_bytes(data, tell)), vhost)
+def tell_changes(made, changes, lines, every):
+    for heading, them in sections(made, changes):
+        tell(heading) if heading else None
+        for it in them:
+            tell(f"  {it}" if heading else it)
+    if lines:
+        tell("between warren and what stays in RabbitMQ:")
+    for it in lines:
+        tell(f"  {it}")
+    if every:
+        tell("all changes:")
+    for it in changes if every else ():
+        tell(f"  {line(it)}")
+
+
+def make(data, given):
+    value = read_json(mended_bytes(data, tell))
+    part = part_of(value, given.vhost, given.only) if given.only else None
+    made, changes = convert(part.export, given.vhost, part.stays) if part else convert(value, given.vhost)
     left = causes_in(made)
     text = text_of(made).encode("utf-8")
-    for it in changes:
-        tell(line(it))
+    tell_changes(made, changes, part.lines if part else [], given.all)
     if left or len(text) > MOST_BYTES:
         for it in left:
             tell(f"NOT MENDED: {it.entry}: {it.what} (refused {it.number})")
-        raise NoFile("this has to be mended by hand")
-    if file is None:
+        raise NoFile("this has to be mended by hand" + ("; --only takes a part" if any(it.number == 10 for it in left) else ""))
+    if given.file is None:
         sys.stdout.buffer.write(text)
     else:
-        with open(file, "wb") as out:
+        with open(given.file, "wb") as out:
             out.write(text)
     counts = ", ".join(f"{name} {len(made[name])}" for name in ("exchanges", "queues", "bindings", "users"))
     graver = sum(1 for it in changes if it.meaning)
-    tell(f"written: {counts}; changes {len(changes)}, of these {graver} change the meaning. Messages are in memory alone, durable or not.")
+    tell(f"written: {counts}; changes {len(changes)}{'' if given.all else ' (--all tells each)'}, of these {graver} change the meaning. Messages are in memory alone, durable or not.")
     grew = list(dict.fromkeys(it.grew for it in changes if it.grew is not None))
     if grew:
         tell(f"RIGHTS GREW of user{'s' * (len(grew) > 1)} {', '.join(map(quoted, grew))}")
@@ -101,7 +137,7 @@ def main():
     given = words()
     try:
         data = read(given.export)
-        return check(data) if given.check else make(data, given.file, given.vhost)
+        return check(data) if given.check else make(data, given)
     except NotJson as error:
         tell(f"from_rabbitmq: {given.export} is not JSON (refused 1): {error}")
     except NoFile as error:

@@ -3,8 +3,7 @@
 Nothing here is proved. A file that is written has none of the causes of `causes.py`; whether warren takes it, warren says.
 """
 
-import re
-from collections import Counter, namedtuple
+from collections import namedtuple
 
 from causes import (
     BINDING,
@@ -25,12 +24,14 @@ from causes import (
     wrong_name,
     wrong_pattern,
 )
+from policies import APPLIES_TO_EXCHANGES, OF_QUEUES, OPERATOR_POLICY, applies_to, lesser, read_policies
 
 # how much a change of meaning weighs: who may do what, messages that no longer come to where they came, all else
 RIGHTS, LOST, REST = range(3)
 
 # number: the cause for which warren would have refused it; meaning: what is no longer as it was, or nothing; grew: the user who may do more
-Change = namedtuple("Change", "number entry what meaning weight grew", defaults=(None, REST, None))
+# kind: the change in a word or two, for the table; of: the queues and exchanges whose messages it is about, as ("queue" or "exchange", name)
+Change = namedtuple("Change", "number entry what meaning weight grew kind of", defaults=(None, REST, None, None, ()))
 
 # the user whom RabbitMQ lets in from its own machine alone (loopback_users)
 FROM_ITS_OWN_MACHINE = "guest"
@@ -55,6 +56,21 @@ LEFT_OUT = {
     "x-max-age": "messages no longer go with age",
     "x-stream-max-segment-size-bytes": None,
 }
+# the same in a word or two, for the table
+KINDS = {
+    "x-message-ttl": "expiry",
+    "x-expires": "queue expiry",
+    "x-max-priority": "priority",
+    "x-single-active-consumer": "single active consumer",
+    "x-delivery-limit": "delivery limit",
+    "x-dead-letter-strategy": "dead-letter strategy",
+    "x-queue-mode": "lazy",
+    "x-max-age": "age",
+}
+# that of a queue that is left out
+CANNOT = "cannot"
+# that of an export which is not the one to take
+SOURCE = "source"
 # those of them after which messages no longer come to where they came
 LOSES = ("x-dead-letter-strategy", "x-queue-mode", "x-queue-type")
 TYPE_LEFT_OUT = {
@@ -63,12 +79,6 @@ TYPE_LEFT_OUT = {
     "stream": "a message is gone once it is acknowledged, and nothing can be read again",
 }
 
-# settings of policies that are arguments of queues, and of exchanges
-OF_QUEUES = ("message-ttl", "expires", "max-length", "max-length-bytes", "overflow", "dead-letter-exchange", "dead-letter-routing-key")
-OF_QUEUES += ("delivery-limit", "queue-mode", "queue-version", "dead-letter-strategy", "max-age")
-# to what a policy applies, by the type of a queue; of a queue without a type, classic
-APPLIES_TO_QUEUES = {"classic": "classic_queues", "quorum": "quorum_queues", "stream": "streams"}
-APPLIES_TO_EXCHANGES = ("all", "exchanges")
 MOST_NAMED = 8
 
 # patterns of permissions that let nothing pass, and all
@@ -80,22 +90,37 @@ class NoFile(Exception):
     """No file can be made of this export; the text says why."""
 
 
+def no_export(value):
+    """Why this value is no export of RabbitMQ, if so: an answer that refuses one is an object, too."""
+    if not isinstance(value, dict):
+        return "the export is no JSON object"
+    if "error" in value:
+        said = ": ".join(it for it in (value["error"], value.get("reason")) if isinstance(it, str))
+        return f"no export: RabbitMQ said {quoted(said)}"
+    parts = ("queues", "exchanges", "bindings")
+    if not any(name in value for name in parts):
+        return f"no export: it has none of {', '.join(map(quoted, parts))}"
+    return None
+
+
 class Conversion:
     """What is being made of an export, and what was changed so far."""
 
-    def __init__(self, export, vhost=None):
-        if not isinstance(export, dict):
-            raise NoFile("the export is no JSON object")
+    def __init__(self, export, vhost=None, stays=frozenset()):
+        why = no_export(export)
+        if why:
+            raise NoFile(why)
         self.export = export
+        self.stays = stays  # exchanges that stay in RabbitMQ
         self.changes = []
         self.of_policies = {}  # by policy and setting that is left out: the queues that it matched, each with its dead-letter exchange
         self.lists = {name: self._entries(name) for name in ENTRIES}
         self.vhost = self._choose_vhost(vhost)
-        self.policies = self._policies()
+        self.policies = read_policies(self._of_vhost("policies"), self._of_vhost("parameters"), self._tell_unreadable)
         self.says_internal = self._says_internal()
 
-    def tell(self, number, entry, what, meaning=None, weight=REST, grew=None):
-        self.changes.append(Change(number, entry, what, meaning, weight, grew))
+    def tell(self, number, entry, what, meaning=None, weight=REST, grew=None, kind=None, of=()):
+        self.changes.append(Change(number, entry, what, meaning, weight, grew, kind, tuple(of)))
 
     def told(self):
         """The changes in the order in which they are told: those of meaning last, the gravest of them first."""
@@ -135,35 +160,27 @@ class Conversion:
         return wanted
 
     def _says_internal(self):
-        """Whether some exchange says whether it is internal. What rabbitmqctl writes says it of none."""
+        """Whether some exchange says whether it is internal. What rabbitmqctl writes says it of none, and lacks each that is."""
         here = [it for it in self.lists["exchanges"] if it.get("vhost", self.vhost) == self.vhost]
-        if not here or any("internal" in it for it in here):
+        by_control = "rabbitmq_version" in self.export and "product_name" not in self.export
+        if any("internal" in it for it in here) or not here and not by_control:
             return True
         lacks = "no exchange says whether it is internal, as in an export of rabbitmqctl, which also lacks each internal exchange"
-        self.changes.insert(0, Change(2, "file", f"{lacks}: take that of the management interface (GET /api/definitions)"))
-        self.tell(2, "file", f"{len(here)} exchanges are now not internal", "clients may publish to each, though it may have been internal", RIGHTS)
+        self.changes.insert(0, Change(2, "file", f"{lacks}: take that of the management interface (GET /api/definitions)", kind=SOURCE))
+        if here:
+            self.tell(2, "file", f"{len(here)} exchanges are now not internal", "clients may publish to each, though it may have been internal", RIGHTS)
         return False
 
-    def _policies(self):
-        policies = []
-        for it in self._array("policies"):
-            called = f"policy {quoted(it.get('name'))}"
-            if it.get("vhost", self.vhost) != self.vhost:
-                continue
-            try:
-                pattern = re.compile(it["pattern"])
-                settings = dict(it["definition"])
-            except (KeyError, TypeError, ValueError, re.error, RecursionError):
-                self.tell(7, called, "left out: its pattern or its settings cannot be read", "its settings are not there", LOST)
-                continue
-            priority = it.get("priority", 0)
-            priority = priority if isinstance(priority, (int, float)) else 0
-            policies.append((priority, called, pattern, it.get("apply-to", "all"), settings))
-        return sorted(policies, key=lambda it: -it[0])
+    def _tell_unreadable(self, called):
+        self.tell(7, called, "left out: its pattern or its settings cannot be read", "its settings are not there", LOST)
 
     def _array(self, name):
         entries = self.export.get(name)
         return [it for it in entries if isinstance(it, dict)] if isinstance(entries, list) else []
+
+    def _of_vhost(self, name):
+        """The entries of the chosen virtual host that have one, quietly."""
+        return [it for it in self._array(name) if it.get("vhost", self.vhost) == self.vhost]
 
     def _here(self, name):
         """The entries of the chosen virtual host, each with how it is called."""
@@ -214,7 +231,8 @@ class Conversion:
 
     def _stays(self, called, it, meaning):
         if self._truth(called, it, "auto_delete"):
-            self.tell(7, called, "auto_delete is now false", meaning)
+            of = [("queue", it["name"])] if called.startswith("queue ") else ()
+            self.tell(7, called, "auto_delete is now false", meaning, kind="auto-delete", of=of)
         return False
 
     def _other_members(self, called, it, members):
@@ -222,28 +240,17 @@ class Conversion:
             if name not in members and not (name == "type" and members is QUEUE):
                 self.tell(7, called, f"member {quoted(name)} is left out")
 
-    def _policy_of(self, name, applies):
-        for _, called, pattern, to, settings in self.policies:
-            if to in applies and pattern.search(name):
-                return called, settings
-        return None, {}
-
-    def _with_policy(self, called, name, arguments, applies, known, prefix):
-        """Adds to the arguments what the policy that matches this name sets and warren has; the policy, and what else it sets of these."""
-        policy, settings = self._policy_of(name, applies)
-        for setting, value in settings.items():
+    def _with_policies(self, called, settings, arguments, known, prefix):
+        """Adds to the arguments what the policies that match an entry set and warren has."""
+        for setting, (value, policy) in settings.items():
             argument = prefix + setting
             if setting not in known:
                 continue
             own = arguments.get(argument)
-            if own is None:
-                arguments[argument] = value
-            elif is_of(own, int) and is_of(value, int):
-                arguments[argument] = min(own, value)
-            else:
-                continue
-            self.tell(7, called, f"{argument} {quoted_value(arguments[argument])} is added, from {policy}")
-        return policy, settings
+            least = value if own is None else lesser(own, value)
+            if least is not None and least != own:
+                arguments[argument] = least
+                self.tell(7, called, f"{argument} {quoted_value(least)} is added, from {policy}")
 
     # ---- users
 
@@ -324,23 +331,25 @@ class Conversion:
         if kind in TYPES:
             return kind
         if kind == "x-delayed-message" and delayed in TYPES:
-            self.tell(6, called, f"type \"x-delayed-message\" is now {quoted(delayed)}", "messages are no longer delayed")
+            self.tell(6, called, f"type \"x-delayed-message\" is now {quoted(delayed)}", "messages are no longer delayed", kind="delay", of=[("exchange", it["name"])])
             return delayed
         self.tell(6, called, f"left out: its type is {quoted(kind)}", "it is not there, nor what it was bound to by this exchange", LOST)
         return None
 
     def _exchange(self, called, it, kind):
         arguments = self._arguments(called, it)
-        self._with_policy(called, it["name"], arguments, APPLIES_TO_EXCHANGES, ("alternate-exchange",), "")
+        settings = self.policies.settings_of(it["name"], APPLIES_TO_EXCHANGES)
+        self._with_policies(called, settings, arguments, ("alternate-exchange",), "")
         self._other_members(called, it, EXCHANGE)
         kept = {}
         for name, value in arguments.items():
             if name in EXCHANGE_ARGUMENTS and isinstance(value, str):
                 kept[name] = value
             elif name in EXCHANGE_ARGUMENTS:
-                self.tell(2, called, f"argument {quoted(name)} is left out: it is no text", "what it did is not done", LOST)
+                self.tell(2, called, f"argument {quoted(name)} is left out: it is no text", "what it did is not done", LOST, kind="routes")
             else:
-                self.tell(7, called, f"argument {quoted(name)} is left out", None if name == "x-delayed-type" else "what it did is not done")
+                meaning = None if name == "x-delayed-type" else "what it did is not done"
+                self.tell(7, called, f"argument {quoted(name)} is left out", meaning, kind=name, of=[("exchange", it["name"])])
         return {
             "name": it["name"],
             "vhost": "/",
@@ -356,9 +365,9 @@ class Conversion:
     def queues(self):
         kept = []
         for called, it in self._once("queues", self._here("queues")):
-            wrong = "it has no name" if not it["name"] else wrong_pattern(it["name"])
+            wrong = f"its name {wrong_pattern(it['name'])}" if wrong_pattern(it["name"]) else None if it["name"] else "it has no name"
             if wrong:
-                self.tell(9, called, f"left out: its name {wrong}" if it["name"] else "left out: it has no name", "it is not there", LOST)
+                self.tell(9, called, f"left out: {wrong}", "it is not there", LOST, kind=CANNOT, of=[("queue", it["name"])])
             else:
                 kept.append(self._queue(called, it))
         return kept
@@ -366,11 +375,12 @@ class Conversion:
     def _queue(self, called, it):
         arguments = self._arguments(called, it)
         if "type" in it:
-            told = "x-queue-type" in arguments
-            self.tell(7, called, f"member \"type\" {quoted_value(it['type'])} is left out", None if told else self._type_meaning(it["type"]), LOST)
+            meaning = None if "x-queue-type" in arguments else self._type_meaning(it["type"])
+            self.tell(7, called, f"member \"type\" {quoted_value(it['type'])} is left out", meaning, LOST, kind=kind_of_type(it["type"]), of=[("queue", it["name"])])
         known = [name for name in OF_QUEUES if f"x-{name}" in QUEUE_ARGUMENTS]
-        policy, settings = self._with_policy(called, it["name"], arguments, applies_to(it, arguments), known, "x-")
-        for setting, value in settings.items():
+        settings = self.policies.settings_of(it["name"], applies_to(it, arguments))
+        self._with_policies(called, settings, arguments, known, "x-")
+        for setting, (value, policy) in settings.items():
             if setting in OF_QUEUES and setting not in known:
                 self.of_policies.setdefault((policy, setting, quoted_value(value)), {})[it["name"]] = arguments.get("x-dead-letter-exchange")
         self._other_members(called, it, QUEUE)
@@ -379,29 +389,29 @@ class Conversion:
             "vhost": "/",
             "durable": self._truth(called, it, "durable"),
             "auto_delete": self._stays(called, it, "it is no longer deleted with its last consumer, and keeps its messages"),
-            "arguments": self._queue_arguments(called, arguments),
+            "arguments": self._queue_arguments(called, arguments, [("queue", it["name"])]),
         }
 
-    def _queue_arguments(self, called, arguments):
+    def _queue_arguments(self, called, arguments, of):
         kept = {}
         for name, value in arguments.items():
             if name in QUEUE_ARGUMENTS and is_of(value, QUEUE_ARGUMENTS[name]):
                 kept[name] = value
             elif name in LENGTH_LIMITS and type(value) is int and value > MOST_NUMBER:
                 kept[name] = MOST_NUMBER
-                self.tell(2, called, f"{name} {value} is now {MOST_NUMBER}", "the limit is lower")
+                self.tell(2, called, f"{name} {value} is now {MOST_NUMBER}", "the limit is lower", kind="limit", of=of)
             elif name in QUEUE_ARGUMENTS:
-                self.tell(2, called, f"argument {quoted(name)} is left out: it is of the wrong kind", "what it did is not done", LOST)
+                self.tell(2, called, f"argument {quoted(name)} is left out: it is of the wrong kind", "what it did is not done", LOST, kind=name, of=of)
             else:
-                self._leave_out(called, name, value, arguments.get("x-dead-letter-exchange"))
-        self._mend_overflow(called, kept)
-        self._mend_dead_letters(called, kept)
+                self._leave_out(called, name, value, arguments.get("x-dead-letter-exchange"), of)
+        self._mend_overflow(called, kept, of)
+        self._mend_dead_letters(called, kept, of)
         return kept
 
     def _type_meaning(self, kind):
         return TYPE_LEFT_OUT.get(kind, "the queue is like any other") if isinstance(kind, str) else None
 
-    def _leave_out(self, called, name, value, dead):
+    def _leave_out(self, called, name, value, dead, of):
         meaning, weight = LEFT_OUT.get(name, "what it did is not done"), LOST if name in LOSES else REST
         if name == "x-queue-type":
             meaning = self._type_meaning(value)
@@ -409,9 +419,10 @@ class Conversion:
             meaning = None
         elif name in GOES_ON and dead is not None:
             meaning, weight = f"{meaning}, so {nothing_goes_on(dead)}", LOST
-        self.tell(7, called, f"argument {quoted(name)} {quoted_value(value)} is left out", meaning, weight)
+        kind = kind_of_type(value) if name == "x-queue-type" else KINDS.get(name, name)
+        self.tell(7, called, f"argument {quoted(name)} {quoted_value(value)} is left out", meaning, weight, kind=kind, of=of)
 
-    def _mend_overflow(self, called, kept):
+    def _mend_overflow(self, called, kept, of):
         limited = any(limit in kept for limit in LENGTH_LIMITS)
         overflow, dead = kept.get("x-overflow"), kept.get("x-dead-letter-exchange")
         no_more = f"; {nothing_goes_on(dead)}" if dead is not None else ""
@@ -419,14 +430,14 @@ class Conversion:
             refuses = f"a full queue refuses what comes and keeps what it has{no_more}"
             if overflow == "reject-publish-dlx":
                 refuses = "what a full queue refuses makes no dead letter"
-            self.tell(7, called, f"x-overflow {quoted(overflow)} is now \"reject-publish\"", refuses if limited else None, LOST)
+            self.tell(7, called, f"x-overflow {quoted(overflow)} is now \"reject-publish\"", refuses if limited else None, LOST, kind=overflow, of=of)
             kept["x-overflow"] = "reject-publish"
         elif overflow is None and limited:
             meaning = f"a full queue refuses what comes and keeps what it has; RabbitMQ drops the oldest{no_more}"
-            self.tell(8, called, "x-overflow \"reject-publish\" is added", meaning, LOST)
+            self.tell(8, called, "x-overflow \"reject-publish\" is added", meaning, LOST, kind="drop-head", of=of)
             kept["x-overflow"] = "reject-publish"
 
-    def _mend_dead_letters(self, called, kept):
+    def _mend_dead_letters(self, called, kept, of):
         key = kept.get("x-dead-letter-routing-key")
         if key is None:
             return
@@ -434,7 +445,7 @@ class Conversion:
             self.tell(7, called, "x-dead-letter-routing-key is left out: there is no x-dead-letter-exchange")
             del kept["x-dead-letter-routing-key"]
         elif wrong_pattern(key):
-            self.tell(9, called, f"its dead letters are left out: their key {wrong_pattern(key)}", "what is rejected is gone", LOST)
+            self.tell(9, called, f"its dead letters are left out: their key {wrong_pattern(key)}", "what is rejected is gone", LOST, kind="dead letters", of=of)
             del kept["x-dead-letter-routing-key"], kept["x-dead-letter-exchange"]
 
     # ---- what names an exchange or a queue
@@ -463,13 +474,18 @@ class Conversion:
             other = it["arguments"].get("alternate-exchange")
             if other is not None and other not in names:
                 del it["arguments"]["alternate-exchange"]
-                self.tell(11, f"exchange {quoted(it['name'])}", f"its alternate exchange {quoted(other)} is left out: it is not there", "what no binding takes is gone", LOST)
+                what = f"its alternate exchange {quoted(other)} is left out: {self._where(other)}"
+                self.tell(11, f"exchange {quoted(it['name'])}", what, "what no binding takes is gone", LOST)
         for it in queues:
             dead = it["arguments"].get("x-dead-letter-exchange")
             if dead and dead not in names:
                 del it["arguments"]["x-dead-letter-exchange"]
                 it["arguments"].pop("x-dead-letter-routing-key", None)
-                self.tell(11, f"queue {quoted(it['name'])}", f"its dead-letter exchange {quoted(dead)} is left out: it is not there", "what is rejected is gone", LOST)
+                what = f"its dead-letter exchange {quoted(dead)} is left out: {self._where(dead)}"
+                self.tell(11, f"queue {quoted(it['name'])}", what, "what is rejected is gone", LOST, kind="dead letters", of=[("queue", it["name"])])
+
+    def _where(self, exchange):
+        return "it stays in RabbitMQ" if exchange in self.stays else "it is not there"
 
     def bindings(self, exchanges, queues):
         types = {it["name"]: it["type"] for it in exchanges}
@@ -478,7 +494,8 @@ class Conversion:
             wrong = self._against_binding(it, types, {q["name"] for q in queues})
             if wrong:
                 number, what, meaning = wrong
-                self.tell(number, called, f"left out: {what}", meaning, LOST)
+                to = [(it["destination_type"], it["destination"])] if isinstance(it.get("destination"), str) else ()
+                self.tell(number, called, f"left out: {what}", meaning, LOST, kind="routes", of=to)
                 continue
             for name in self._arguments(called, it):
                 self.tell(7, called, f"argument {quoted(name)} is left out")
@@ -518,15 +535,18 @@ class Conversion:
             weight = LOST if ended or argument in LOSES else REST
             if ended:
                 meaning += f", so nothing goes on any more from {named(ended)} to a dead-letter exchange but what is rejected"
-            self.tell(7, policy, f"{setting} {value} is left out, of {named(queues)}", meaning, weight)
+            of = [("queue", name) for name in queues]
+            self.tell(7, policy, f"{setting} {value} is left out, of {named(queues)}", meaning, weight, kind=KINDS.get(argument, argument), of=of)
 
     def tell_rest(self):
         self._tell_left_by_policies()
-        for _, called, _, _, settings in self.policies:
-            others = [name for name in settings if name not in OF_QUEUES and name != "alternate-exchange"]
+        for policy in self.policies:
+            others = [name for name in policy.settings if name not in OF_QUEUES and name != "alternate-exchange"]
             also = f", but not {', '.join(others)}" if others else ""
-            self.tell(7, called, f"left out: its settings are copied to each queue and exchange that it matches{also}", "those settings do nothing" if others else None)
+            self.tell(7, policy.called, f"left out: its settings are copied to each queue and exchange that it matches{also}", "those settings do nothing" if others else None)
         for it in self._array("parameters"):
+            if it.get("component") == OPERATOR_POLICY:
+                continue
             here = it.get("vhost", self.vhost) == self.vhost
             self.tell(7, f"parameter {quoted(it.get('name'))}", f"of {quoted(it.get('component'))}: left out", "what it did is not done" if here else None)
         for name in EMPTY_ARRAYS:
@@ -542,25 +562,24 @@ def nothing_goes_on(dead):
     return f"nothing goes on to {quoted(dead) if dead else 'the default exchange'} any more but what is rejected"
 
 
-def applies_to(queue, arguments):
-    """To what a policy has to apply that matches this queue."""
-    kinds = [it for it in (arguments.get("x-queue-type"), queue.get("type"), "classic") if isinstance(it, str)]
-    return ("all", "queues", APPLIES_TO_QUEUES.get(kinds[0]))
+def kind_of_type(kind):
+    return kind if kind in ("quorum", "stream") else "type"
 
 
-def named(names):
+def named(names, word="queue"):
+    """The names behind `word`, at most so many of them."""
     names = list(names)
     others = f" and {len(names) - MOST_NAMED} more" if len(names) > MOST_NAMED else ""
-    return ("queue " if len(names) == 1 else "queues ") + ", ".join(map(quoted, names[:MOST_NAMED])) + others
+    return f"{word}{'s' * (len(names) != 1)} " + ", ".join(map(quoted, names[:MOST_NAMED])) + others
 
 
 def quoted_value(value):
     return quoted(value) if isinstance(value, str) else str(value) if isinstance(value, (bool, int, float)) else "?"
 
 
-def convert(export, vhost=None):
-    """The definitions that warren is to take, and the changes that lead there."""
-    work = Conversion(export, vhost)
+def convert(export, vhost=None, stays=frozenset()):
+    """The definitions that warren is to take, and the changes that lead there. What is named in `stays` are exchanges that are in no export."""
+    work = Conversion(export, vhost, stays)
     users, permissions = work.users()
     queues = work.queues()
     exchanges = work.with_predeclared(work.exchanges(), queues)

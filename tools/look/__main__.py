@@ -1,19 +1,23 @@
 #!/usr/bin/env python3
-"""Serves by a build of warren that proves nothing, for ten minutes: the shop of examples/shop, or one's own files."""
+"""Serves the shop of examples/shop, or one's own files, for ten minutes by a build of warren that proves nothing; with --proved by the proved program,
+until it is ended. Certificates of one's own files are made first, in a folder for temporary files."""
 
 import os
 import signal
 import socket
 import subprocess
 import sys
+import tempfile
 
 HERE = os.path.dirname(os.path.abspath(__file__))
 sys.path[:0] = [os.path.join(HERE, "../shared")]
-from program import SHOP, UNPROVED, NotMade, unproved  # noqa: E402
+from program import SHOP, NotMade, proved, unproved  # noqa: E402
 from words import Parser  # noqa: E402
 
-STATUSES = "Status: 0 the time is over; that of warren, if it ends before; 3 there is no build; 4 the address is taken. Ctrl-C ends it."
+STATUSES = "Status: 0 the time is over; that of warren, if it ends before; 3 there is no program; 4 the address is taken. Ctrl-C ends it."
 ENDED, REFUSED, TAKEN = 0, 3, 4
+# what `warren check` ends with if a guarantee is broken or undecided
+NOT_ALL_HOLD = (1, 2)
 LISTENS = "warren: listening on "
 
 
@@ -22,10 +26,13 @@ def words():
     parser.add_argument("definitions", nargs="?", help="a definitions file")
     parser.add_argument("guarantees", nargs="?", help="a guarantees file, which is checked first")
     parser.add_argument("--listen", default="127.0.0.1:5672", metavar="IP:PORT", help="where it listens; without it, 127.0.0.1:5672")
-    parser.add_argument("--seconds", type=float, default=600, help="how long it serves; without it, 600")
+    parser.add_argument("--seconds", type=float, help="how long it serves; without it, 600, and with --proved until Ctrl-C")
+    parser.add_argument("--proved", action="store_true", help="by the proved program, which is made first if its sources are newer")
     given = parser.parse_args()
     if given.definitions and not given.guarantees:
         parser.error("definitions want guarantees")
+    if given.seconds is None and not given.proved:
+        given.seconds = 600
     return given
 
 
@@ -49,16 +56,24 @@ def why_not(address):
         return "it is no IP:PORT"
 
 
-def files_of(warren, given):
-    """The three files, the certificates made by `warren check`; or its status, once its lines were told."""
+def files_of(warren, given, folder):
+    """Returns the three files and 0; or, if one's own do not hold, the status of `warren check`, once its lines were told."""
     if not given.definitions:
         return [os.path.join(SHOP, f"{it}.json") for it in ("definitions", "guarantees", "certificates")], 0
-    certificates = os.path.join(os.path.dirname(UNPROVED), "certificates.json")
+    certificates, status = certified(warren, given, folder)
+    return [given.definitions, given.guarantees, certificates], status
+
+
+def certified(warren, given, folder):
+    """Has `warren check` write certificates into a folder. Returns their file, and its status, whose lines are told unless it is 0."""
+    certificates = os.path.join(folder, "certificates.json")
     checked = subprocess.run([warren, "check", given.definitions, given.guarantees, "--out", certificates], stdout=subprocess.PIPE)
     if checked.returncode:
         sys.stdout.write(checked.stdout.decode("utf-8", "replace"))
+        sys.stdout.flush()
+    if checked.returncode in NOT_ALL_HOLD:
         tell(f"look: not all of {given.guarantees} holds, and warren serves only what holds (tools/why tells more)")
-    return [given.definitions, given.guarantees, certificates], checked.returncode
+    return certificates, checked.returncode
 
 
 def serve(warren, files, given):
@@ -68,12 +83,16 @@ def serve(warren, files, given):
             line = running.stdout.readline()
             if not line.startswith(LISTENS):
                 return running.wait()
-            print(f"listening on {line.strip().removeprefix(LISTENS)} for {told(given.seconds)}, over nothing that was proved. `make serve` proves all of it first.", flush=True)
+            print(line.strip() if given.proved else looks(line.strip().removeprefix(LISTENS), given.seconds), flush=True)
             return running.wait(given.seconds)
         except subprocess.TimeoutExpired:
             return ENDED
         finally:
             running.kill()
+
+
+def looks(address, seconds):
+    return f"listening on {address} for {told(seconds)}, over nothing that was proved. `make serve` proves all of it first."
 
 
 def told(seconds):
@@ -90,13 +109,15 @@ def main():
         tell(f"look: {given.listen}: {why}")
         return TAKEN
     try:
-        warren = unproved(tell)
-        files, status = files_of(warren, given)
-        return status or serve(warren, files, given)
+        warren = proved("warren", tell) if given.proved else unproved(tell)
+        with tempfile.TemporaryDirectory(prefix="warren-") as folder:
+            files, status = files_of(warren, given, folder)
+            return status or serve(warren, files, given)
     except NotMade as error:
         tell(f"look: {error}")
         return REFUSED
     except KeyboardInterrupt:
+        tell("look: ended by Ctrl-C, and what it started with it")
         return 128 + signal.SIGINT
 
 

@@ -1,6 +1,7 @@
 #!/usr/bin/env python3
-"""Makes a Debian package of the program warren, with its manual page, completions, unit and /etc/warren, and prints the SHA-256 of the program
-and of the package. The program is taken as it is: `make package` gives the proved one. This wants dpkg-deb."""
+"""Makes a Debian package of the program warren, with its manual page, completions, unit and /etc/warren, and with the scripts, pages and examples in
+/usr/share/warren. Prints the SHA-256 of the program and of the package. The program is taken as it is: `make package` gives the proved one.
+This wants dpkg-deb."""
 
 import hashlib
 import os
@@ -12,7 +13,7 @@ HERE = os.path.dirname(os.path.abspath(__file__))
 sys.path[:0] = [HERE, os.path.dirname(HERE)]
 from amqp.program import DONE, Words, run  # noqa: E402
 from amqp.wire import Fault  # noqa: E402
-from tree import control, lay_out, version_of  # noqa: E402
+from tree import control, lay_out, package_version, share  # noqa: E402
 
 TOP = os.path.dirname(os.path.dirname(HERE))
 
@@ -28,7 +29,7 @@ def words():
 def answer(*command):
     """What a command prints; none if it is not there or fails."""
     try:
-        done = subprocess.run(command, capture_output=True, text=True, cwd=TOP)
+        done = subprocess.run(command, capture_output=True, text=True, cwd=TOP, env={**os.environ, "TZ": "UTC"})
     except OSError:
         return None
     return done.stdout.strip() if done.returncode == 0 else None
@@ -39,8 +40,21 @@ def sum_of(name):
         return hashlib.sha256(file.read()).hexdigest()
 
 
+def changelog():
+    with open(os.path.join(TOP, "CHANGELOG.md"), encoding="utf-8") as file:
+        return file.read()
+
+
+def commit():
+    """Returns the time and the name of the last commit, with a mark if files differ from it; none without git."""
+    found = answer("git", "log", "-1", "--format=%cd.%h", "--date=format-local:%Y%m%d%H%M%S", "--abbrev=8")
+    return found and found + (".changed" if answer("git", "status", "--porcelain") else "")
+
+
 def make(given):
-    version = version_of(given.program)
+    # folders of the package are readable by all, whatever this user's files are
+    os.umask(0o022)
+    version = package_version(given.program, changelog(), commit())
     architecture = answer("dpkg", "--print-architecture")
     if architecture is None:
         raise Fault("there is no dpkg here")
@@ -50,6 +64,7 @@ def make(given):
     with tempfile.TemporaryDirectory() as tree:
         os.chmod(tree, 0o755)
         lay_out(tree, given.program, os.path.join(TOP, "tools/manual/made"), os.path.join(TOP, "examples/deploy/warren.service"))
+        share(tree, TOP)
         control(tree, given.program, version, architecture, given.maintainer)
         command = ["dpkg-deb", "--root-owner-group", "-Zxz", "--build", tree, package]
         done = subprocess.run(command, capture_output=True, text=True, env={**os.environ, "SOURCE_DATE_EPOCH": moment})

@@ -9,6 +9,11 @@ from amqp.wire import Fault
 
 HERE = os.path.dirname(os.path.abspath(__file__))
 VERSION = re.compile(r"warren ([0-9][0-9.]*)\n")
+SHARE = "usr/share/warren"
+# what an operator reads and runs; the scripts that look after the repository itself stay there, and so do tests
+SHARED = ("README.md", "CHANGELOG.md", "docs", "examples", "tools")
+OF_THE_REPOSITORY = {f"tools/{it}" for it in ("edits", "look", "manual", "map", "package", "program", "promise", "prose", "stores", "try", "widths")}
+LEFT_OUT = ("tests", "__pycache__", "out")
 FIRST = "etc/warren/first"
 # a broker that nobody may log in to, and that has no queue
 FILES = {
@@ -31,6 +36,27 @@ def version_of(program):
         raise Fault(f"{program} does not say which version of warren it is") from None
 
 
+def released_in(changelog):
+    """Returns the version of the first release that a changelog has, and whether entries stand above it."""
+    above, _, rest = changelog.partition("\n## Unreleased\n")[2].partition("\n## ")
+    found = re.match(r"([0-9][0-9.]*) ", rest) if rest else re.search(r"^## ([0-9][0-9.]*) ", changelog, re.MULTILINE)
+    if found is None:
+        raise Fault("CHANGELOG.md has no release")
+    return found.group(1), bool(above.strip())
+
+
+def package_version(program, changelog, commit):
+    """Returns the version of a package: the changelog's, and behind it the time and the name of the commit if there are unreleased entries.
+
+    `commit` is both as `date.name`, or `None`. A later commit is a later version to apt, and each comes before the next release.
+    """
+    told = version_of(program)
+    released, is_ahead = released_in(changelog)
+    if told != released:
+        raise Fault(f"{program} says that it is {told}, and CHANGELOG.md that {released} is the last release")
+    return f"{released}+{f'git{commit}' if commit else 'unreleased'}" if is_ahead else released
+
+
 def put(tree, name, data, mode=0o644):
     path = os.path.join(tree, name)
     os.makedirs(os.path.dirname(path), mode=0o755, exist_ok=True)
@@ -47,6 +73,26 @@ def contents(name):
 def unit_of(data):
     """The unit of the repository for a program of a package, without the remarks at its top."""
     return data[data.index(b"[Unit]") :].replace(b"/usr/local/bin/", b"/usr/bin/")
+
+
+def shared_files(top):
+    """Yields the paths of the pages, scripts and examples that a package has, below the folder `top`."""
+    for name in SHARED:
+        if os.path.isfile(os.path.join(top, name)):
+            yield name
+        for at, folders, names in os.walk(os.path.join(top, name)):
+            here = os.path.relpath(at, top)
+            folders[:] = sorted(it for it in folders if it not in LEFT_OUT and f"{here}/{it}" not in OF_THE_REPOSITORY)
+            yield from (f"{here}/{it}" for it in sorted(names))
+
+
+def share(tree, top):
+    """Puts the pages, scripts and examples into the tree, with the same paths among each other as in the repository."""
+    for name in shared_files(top):
+        source = os.path.join(top, name)
+        put(tree, f"{SHARE}/{name}", contents(source), 0o755 if os.access(source, os.X_OK) else 0o644)
+    os.makedirs(os.path.join(tree, "usr/share/doc"), mode=0o755, exist_ok=True)
+    os.symlink("../warren", os.path.join(tree, "usr/share/doc/warren"))
 
 
 def lay_out(tree, program, made, unit):
@@ -75,6 +121,8 @@ def control(tree, program, version, architecture, maintainer):
         "Architecture": architecture,
         "Maintainer": maintainer,
         "Depends": f"{libraries_of(program)}, passwd",
+        "Recommends": "python3 (>= 3.9)",
+        "Suggests": "python3-prometheus-client, haproxy, stunnel4",
         "Section": "net",
         "Priority": "optional",
         "Description": ABOUT,

@@ -2,6 +2,7 @@
 """Makes a program if its sources are newer than it, and prints where it is: with all proofs, or at once without one."""
 
 import os
+import signal
 import sys
 
 HERE = os.path.dirname(os.path.abspath(__file__))
@@ -24,6 +25,7 @@ def tell(line):
 
 
 def main():
+    signal.signal(signal.SIGTERM, lambda number, _: sys.exit(128 + number))
     given = words()
     try:
         print(proved(given.name, tell) if given.how == "proved" else unproved(tell))
@@ -32,6 +34,9 @@ def main():
         tell(f"program: {error}")
     except OSError as error:
         tell(f"program: {error.filename}: {error.strerror}")
+    except KeyboardInterrupt:
+        tell("program: broken off, and what it started with it")
+        return 128 + signal.SIGINT
     return FAILED
 
 

@@ -7,6 +7,7 @@ import subprocess
 import sys
 import tempfile
 from collections import Counter
+from itertools import islice
 
 HERE = os.path.dirname(os.path.abspath(__file__))
 sys.path[:0] = [HERE, os.path.join(HERE, "../shared"), os.path.join(HERE, "../audit")]
@@ -14,13 +15,14 @@ from candidates import candidates  # noqa: E402
 from checker import Topology  # noqa: E402
 from files import Refused, read_definitions  # noqa: E402
 from guarantees import MOST_GUARANTEES  # noqa: E402
+from patterns import includes  # noqa: E402
 from program import program_here  # noqa: E402
 from search import search  # noqa: E402
 from words import Parser  # noqa: E402
 
 WRITTEN, REFUSED, FAILED = 0, 1, 3
 STATUSES = "Status: 0 it was written; 1 warren refuses the definitions file; 3 this could not be done."
-HOLDS, BROKEN, UNDECIDED, UNASKED = range(4)
+HOLDS, BROKEN, UNDECIDED, UNASKED, IMPLIED = range(5)
 
 
 class Failed(Exception):
@@ -66,39 +68,80 @@ def text_of(guarantees):
     return '{"guarantees": [\n' + lines + "\n]}\n" if guarantees else '{"guarantees": []}\n'
 
 
+def implies(one, other):
+    """Whether a guarantee that holds makes another hold: of the same exchange and queue, over all keys of the other."""
+    same = all(one[name] == other[name] for name in ("mode", "exchange", "queue"))
+    return same and includes(one["pattern"], other["pattern"])
+
+
+class Kept:
+    """Guarantees that hold, none of which implies another."""
+
+    def __init__(self):
+        self.all = []
+
+    def has(self, guarantee):
+        return any(implies(it, guarantee) for it in self.all)
+
+    def add(self, guarantee):
+        """Keeps a guarantee in place of those that it implies, and tells how many these are."""
+        stay = [it for it in self.all if not implies(guarantee, it)]
+        gone = len(self.all) - len(stay)
+        self.all = [*stay, guarantee]
+        return gone
+
+
+def holding(found, ask):
+    """Of these candidates those that hold, at most as many as a file may have and none that another implies; and how many are left out, by the reason."""
+    kept, answers, asked = Kept(), Counter(), 0
+    while len(kept.all) < MOST_GUARANTEES:
+        batch = list(islice(found, MOST_GUARANTEES))
+        if not batch:
+            break
+        some = [it for it in batch if not kept.has(it)]
+        answers[IMPLIED] += len(batch) - len(some)
+        if sys.stderr.isatty():
+            tell(f"checking {asked + 1} to {asked + len(batch)}")
+        asked += len(batch)
+        for it, answer in zip(some, ask(some) if some else ()):
+            if answer == HOLDS and kept.has(it):
+                answers[IMPLIED] += 1
+            elif answer == HOLDS:
+                answers[IMPLIED] += kept.add(it)
+            else:
+                answers[answer] += 1
+    answers[HOLDS] = len(kept.all[MOST_GUARANTEES:])
+    answers[UNASKED] = next(found, None) is not None
+    return kept.all[:MOST_GUARANTEES], answers
+
+
 def suggest(given):
     definitions = read_definitions(given.definitions)
     topology = Topology(definitions)
-    found = candidates(topology, definitions)
     program = None if given.alone else given.warren or program_here()
-    holding, answers = [], Counter()
-    for first in range(0, len(found), MOST_GUARANTEES):
-        if len(holding) >= MOST_GUARANTEES:
-            answers[UNASKED] = len(found) - first
-            break
-        some = found[first : first + MOST_GUARANTEES]
-        if sys.stderr.isatty():
-            tell(f"checking {first + 1} to {first + len(some)} of {len(found)} guarantees")
-        said = by_warren(program, given.definitions, some) if program else [by_matching(topology, it) for it in some]
-        answers.update(said)
-        holding += [it for it, answer in zip(some, said) if answer == HOLDS]
-    text = text_of(holding[:MOST_GUARANTEES])
+
+    def ask(some):
+        return by_warren(program, given.definitions, some) if program else [by_matching(topology, it) for it in some]
+
+    written, answers = holding(candidates(topology, definitions), ask)
+    text = text_of(written)
     if given.file is None:
         sys.stdout.write(text)
     else:
         with open(given.file, "w", encoding="utf-8") as file:
             file.write(text)
     by = "`warren check`" if program else "matching alone; `warren check` decides (make try)"
-    count = min(len(holding), MOST_GUARANTEES)
-    tell(f"{count} guarantee{' holds' if count == 1 else 's hold'}, by {by}. Strike out what you do not want to promise.")
-    for count, why in (
-        (answers[BROKEN], "do not hold"),
-        (answers[UNDECIDED], "are undecided"),
-        (len(holding[MOST_GUARANTEES:]), f"hold too, and a file has at most {MOST_GUARANTEES}"),
-        (answers[UNASKED], f"were not looked at, since a file has at most {MOST_GUARANTEES}"),
+    tell(f"{len(written)} guarantee{' holds' if len(written) == 1 else 's hold'}, by {by}. Strike out what you do not want to promise.")
+    for answer, why in (
+        (IMPLIED, "follow from those that are written"),
+        (BROKEN, "do not hold"),
+        (UNDECIDED, "are undecided"),
+        (HOLDS, f"hold too, and a file has at most {MOST_GUARANTEES}"),
     ):
-        if count:
-            tell(f"{count} more are left out: they {why}")
+        if answers[answer]:
+            tell(f"{answers[answer]} more are left out: they {why}")
+    if answers[UNASKED]:
+        tell(f"the rest was not looked at, since a file has at most {MOST_GUARANTEES}")
     return WRITTEN
 
 

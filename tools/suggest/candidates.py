@@ -1,12 +1,18 @@
-"""Guarantees that may hold of a topology today: of each binding, of each dead-letter way, and of each queue that nothing comes to."""
+"""Guarantees that may hold of a topology today: of each binding, of each dead-letter way, and of each queue that an exchange leads past."""
 
 import os
 import sys
+from collections import Counter, defaultdict
+from itertools import chain, zip_longest
 
 HERE = os.path.dirname(os.path.abspath(__file__))
-sys.path[:0] = [os.path.join(HERE, "../shared"), os.path.join(HERE, "../audit")]
-from causes import name_of, quoted  # noqa: E402
+sys.path[:0] = [HERE, os.path.join(HERE, "../shared"), os.path.join(HERE, "../audit")]
+from causes import name_of, quoted, wrong_pattern  # noqa: E402
 from checker import FAILS, UNKNOWN, words_of  # noqa: E402
+from patterns import meets  # noqa: E402
+
+# of one binding to an exchange, so many ways through exchanges are followed
+MOST_WAYS = 200
 
 
 def may_come_to(topology, exchange):
@@ -38,16 +44,45 @@ def guarantee(mode, exchange, pattern, queue, because):
     return {"mode": mode, "exchange": exchange, "pattern": pattern, "queue": queue, "because": because}
 
 
-def of_bindings(topology, definitions):
-    """Those of exchanges to which clients publish come first."""
-    for internal in (False, True):
+class Bindings:
+    """The bindings of each exchange, with the pattern of each."""
+
+    def __init__(self, topology, definitions):
+        self.topology = topology
+        self.of = defaultdict(list)
         for place, it in enumerate(definitions["bindings"]):
             pattern = pattern_of(topology, it)
-            if pattern is None or topology.exchanges[it["source"]]["internal"] != internal:
+            if pattern is not None:
+                self.of[it["source"]].append((pattern, (it["destination_type"], it["destination"]), name_of("binding", it, place)))
+
+    def narrower(self, exchange, pattern):
+        """Pairs of a queue and a pattern of keys that pass each binding of a way from `exchange` to it, of the keys that match `pattern`."""
+        waiting, ways = [(exchange, pattern, {exchange})], 0
+        for here, passed, seen in waiting:
+            onward = [(it, target) for it, target, _ in self.of[here]]
+            alternate = self.topology.alternate(here)
+            onward += [("#", ("exchange", alternate))] if alternate is not None else []
+            for its, (kind, name) in onward:
+                ways += 1
+                if ways > MOST_WAYS or name in seen and kind == "exchange":
+                    continue
+                for both in meets(passed, its):
+                    if kind == "queue":
+                        yield name, both
+                    else:
+                        waiting.append((name, both, {*seen, name}))
+
+    def reaches(self, exchange):
+        """Of each binding: its own pattern for each queue behind it, and what the bindings further on let pass of it."""
+        for pattern, (kind, name), because in self.of[exchange]:
+            if kind == "queue":
+                yield guarantee("reaches", exchange, pattern, name, because)
                 continue
-            queues = [it["destination"]] if it["destination_type"] == "queue" else may_come_to(topology, it["destination"])
-            for queue in queues:
-                yield guarantee("reaches", it["source"], pattern, queue, name_of("binding", it, place))
+            for queue in may_come_to(self.topology, name):
+                yield guarantee("reaches", exchange, pattern, queue, because)
+            for queue, both in self.narrower(name, pattern):
+                if not wrong_pattern(both):
+                    yield guarantee("reaches", exchange, both, queue, because)
 
 
 def of_dead_letters(topology, definitions):
@@ -63,23 +98,35 @@ def of_dead_letters(topology, definitions):
                     yield guarantee("reaches", dead, pattern, goal, f"dead letters of {quoted(queue)}")
 
 
-def of_no_way(topology):
-    """First of the queues to which no exchange leads at all, then of each exchange those to which it does not."""
-    exchanges = [name for name, it in topology.exchanges.items() if not it["internal"]]
-    comes = {name: {it[1] for it in topology.visited(name, lambda pattern: UNKNOWN) if it[0] == "queue"} for name in exchanges}
-    lonely = [queue for queue in topology.queues if not any(queue in it for it in comes.values())]
-    for queue in lonely:
-        for name in exchanges:
-            yield guarantee("never", name, "#", queue, f"nothing leads to {quoted(queue)} but its name")
-    for name in exchanges:
-        for queue in topology.queues:
-            if queue not in comes[name] and queue not in lonely:
-                yield guarantee("never", name, "#", queue, f"no way leads from {quoted(name)} to {quoted(queue)}")
+def of_no_way(topology, public):
+    """For each queue to which some exchange leads one exchange that does not, each exchange in turn. A queue to which none leads has none."""
+    comes = {name: {it[1] for it in topology.visited(name, lambda pattern: UNKNOWN) if it[0] == "queue"} for name in public}
+    counts = Counter()
+    for queue in topology.queues:
+        past = [name for name in public if queue not in comes[name]]
+        if past and len(past) < len(public):
+            name = min(past, key=lambda it: counts[it])
+            counts[name] += 1
+            yield guarantee("never", name, "#", queue, f"no way leads from {quoted(name)} to {quoted(queue)}")
+
+
+def in_turns(iterators):
+    """Yields the first of each iterator, then the second of each, and so on."""
+    for some in zip_longest(*iterators):
+        yield from (it for it in some if it is not None)
 
 
 def candidates(topology, definitions):
-    """Each once, the gravest first."""
-    found = {}
-    for it in [*of_bindings(topology, definitions), *of_dead_letters(topology, definitions), *of_no_way(topology)]:
-        found.setdefault(tuple(it[name] for name in ("mode", "exchange", "pattern", "queue")), it)
-    return list(found.values())
+    """Yields each once, exchanges in turn; those to which clients publish come first, and `never` last."""
+    bindings, letters = Bindings(topology, definitions), defaultdict(list)
+    for it in of_dead_letters(topology, definitions):
+        letters[it["exchange"]].append(it)
+    public = [name for name, it in topology.exchanges.items() if not it["internal"]]
+    internal = [name for name, it in topology.exchanges.items() if it["internal"]]
+    seen = set()
+    turns = (in_turns([chain(bindings.reaches(name), letters[name]) for name in names]) for names in (["", *public], internal))
+    for it in chain(*turns, of_no_way(topology, public)):
+        key = tuple(it[name] for name in ("mode", "exchange", "pattern", "queue"))
+        if key not in seen:
+            seen.add(key)
+            yield it

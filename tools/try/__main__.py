@@ -2,6 +2,7 @@
 """Checks guarantees by a build of warren that proves nothing, which is made once and kept; without words, those of examples/shop."""
 
 import os
+import signal
 import subprocess
 import sys
 
@@ -38,18 +39,25 @@ def tell(line):
 
 
 def main():
+    signal.signal(signal.SIGTERM, lambda number, _: sys.exit(128 + number))
     given = words()
     try:
         warren = unproved(tell)
     except NotMade as error:
         tell(f"try: {error}")
         return REFUSED
+    except KeyboardInterrupt:
+        tell("try: broken off, and the build with it")
+        return 128 + signal.SIGINT
     print(f"warren check {os.path.basename(given.definitions)} {os.path.basename(given.guarantees)}", flush=True)
     try:
         status = subprocess.run([warren, "check", given.definitions, given.guarantees]).returncode
     except OSError as error:
         tell(f"try: {warren}: {error.strerror}")
         return REFUSED
+    except KeyboardInterrupt:
+        tell("try: broken off")
+        return 128 + signal.SIGINT
     print(MEANINGS.get(status, f"It ended with status {status}."))
     return status
 

@@ -10,6 +10,7 @@ sys.path[:0] = [HERE, os.path.join(HERE, "../shared"), os.path.join(HERE, "../au
 from causes import EMPTY_ARRAYS, ENTRIES, name_of, quoted, read_json  # noqa: E402
 from checker import Topology, refutes  # noqa: E402
 from files import Refused, read_certificates, read_definitions, read_guarantees  # noqa: E402
+from junit import ERROR, FAILURE, PASSED, Case, write  # noqa: E402
 from places import lines_of  # noqa: E402
 from program import program_here  # noqa: E402
 from search import MOST_STATES, search  # noqa: E402
@@ -29,6 +30,7 @@ def words():
     parser.add_argument("--certificates", help="a certificates file, whose refusals are told too")
     parser.add_argument("--only", type=int, metavar="I", help="of guarantee I alone, counted from 1")
     parser.add_argument("--warren", metavar="PROGRAM", help="the program; without it, that of `make try`, a proved one, or the one on the path")
+    parser.add_argument("--junit", metavar="FILE", help="write a report in JUnit's form too, one test for each guarantee, for a pipeline to show")
     parser.add_argument("--alone", action="store_true", help="ask no program")
     parser.add_argument("--states", type=int, default=MOST_STATES, help=f"how far a search goes; without it, {MOST_STATES} states")
     return parser.parse_args()
@@ -54,14 +56,18 @@ def lines_by_entry(name):
 
 
 def tell_refusal(refused):
+    """Prints each cause for which a file is refused. Returns them as cases of a report."""
+    cases = []
     whole = refused.number in (1, 10)
     lines = {} if whole and refused.causes[0].entry == "file" else lines_by_entry(refused.name)
     for it in sorted(refused.causes, key=lambda it: it.number):
         places = lines.get(it.entry, [])
         at = f":{','.join(map(str, places))}" if places else ""
-        print(f"{refused.name}{at}: {it.entry}: {it.what} (refused {it.number})")
+        cases.append(Case(refused.name, f"{refused.name}{at}: {it.entry}", ERROR, f"refused {it.number}", f"{it.what} (refused {it.number})"))
+        print(f"{cases[-1].name}: {cases[-1].said}")
     count = len(refused.causes)
     print(f"{refused.name}: {count} cause{'s' * (count != 1)}; warren tells the least: refused {refused.number}")
+    return cases
 
 
 # ---- verdicts
@@ -98,16 +104,16 @@ class Warren:
         return all(quoted(end[1]) in self.queues(places[begin][1], places[begin][2] or key) for begin, end in zip(begins, ends))
 
 
+# a broken guarantee outweighs one that is undecided
+def worse(one, other):
+    return BROKEN if BROKEN in (one, other) else max(one, other)
+
+
 class Answers:
-    """What is said of each guarantee, and the status."""
+    """What is said of each guarantee, behind its status."""
 
     def __init__(self, topology, warren, most):
         self.topology, self.warren, self.most = topology, warren, most
-        self.status = HOLDS
-
-    def worse(self, status):
-        """A broken one outweighs one that is undecided."""
-        self.status = BROKEN if BROKEN in (status, self.status) else max(status, self.status)
 
     def of(self, guarantee, verdict):
         said = verdict.told if verdict else None
@@ -116,32 +122,27 @@ class Answers:
         if verdict.key is not None:
             return self.of_key(guarantee, verdict.key, verdict.path)
         if said == "undecided key":
-            self.worse(UNDECIDED)
-            return "UNDECIDED: only keys of more than 255 bytes, which no client can send, were found to break it; take a shorter pattern"
+            return UNDECIDED, "UNDECIDED: only keys of more than 255 bytes, which no client can send, were found to break it; take a shorter pattern"
         if said.startswith("fault "):
-            self.worse(BROKEN)
-            return f"its certificate does not show it: {fault(said)}"
+            return BROKEN, f"its certificate does not show it: {fault(said)}"
         if said != "ok" and not said.startswith("yes states "):
             raise BadFile(f"this is no line of warren check: {said[:80]}")
-        return "yes"
+        return HOLDS, "yes"
 
     def of_key(self, guarantee, key, path):
         if not refutes(self.topology, guarantee, key, path):
-            self.worse(UNDECIDED)
-            return f"the verdict is of other files: {told(key)} does not break it here"
-        self.worse(BROKEN)
-        return "NO: " + broken(self.topology, guarantee, key, path)
+            return UNDECIDED, f"the verdict is of other files: {told(key)} does not break it here"
+        return BROKEN, "NO: " + broken(self.topology, guarantee, key, path)
 
     def searched(self, guarantee, before):
         found = search(self.topology, guarantee, self.most)
         if found.key is not None:
-            self.worse(BROKEN)
-            return f"{before and 'UNDECIDED by `check`, but '}NO: {broken(self.topology, guarantee, found.key, found.path)}{self.witness(guarantee, found)}"
+            said = broken(self.topology, guarantee, found.key, found.path)
+            return BROKEN, f"{before and 'UNDECIDED by `check`, but '}NO: {said}{self.witness(guarantee, found)}"
         if found.all:
-            self.worse(UNDECIDED if before else HOLDS)
-            return f"{before}no key breaks it by matching alone" + (", and yet there is no certificate" if before else "; `warren check` decides")
-        self.worse(UNDECIDED)
-        return f"{before}no key was found that breaks it, in {found.states} states: it may hold or not"
+            rest = ", and yet there is no certificate" if before else "; `warren check` decides"
+            return UNDECIDED if before else HOLDS, f"{before}no key breaks it by matching alone{rest}"
+        return UNDECIDED, f"{before}no key was found that breaks it, in {found.states} states: it may hold or not"
 
     def witness(self, guarantee, found):
         if self.warren is None:
@@ -157,16 +158,8 @@ def lines_in(name):
         return file.read().splitlines()
 
 
-def why(given):
-    definitions = read_definitions(given.definitions)
-    if given.guarantees is None:
-        print(f"nothing stands against {given.definitions}: warren takes it")
-        return HOLDS
-    guarantees = read_guarantees(given.guarantees, definitions)
-    if given.only is not None and not 1 <= given.only <= len(guarantees):
-        raise BadFile(f"{given.guarantees}: there is no guarantee {given.only}")
-    if given.certificates is not None:
-        read_certificates(given.certificates)
+def answered(given, definitions, guarantees):
+    """Each guarantee that is asked for, by its number, with its status and what is said of it."""
     program = None if given.alone else given.warren or program_here()
     warren = Warren(program, given.definitions) if program else None
     lines = lines_in(given.verdicts) if given.verdicts else warren.check(given.guarantees) if warren else []
@@ -174,23 +167,59 @@ def why(given):
     answers = Answers(Topology(definitions), warren, given.states)
     for number, it in enumerate(guarantees, 1):
         if given.only in (None, number):
-            print(f"{number}: {promise(it)}: {answers.of(it, verdicts.get(number))}", flush=True)
-    return answers.status
+            yield f"{number}: {promise(it)}", *answers.of(it, verdicts.get(number))
+
+
+def why(given, cases):
+    """Prints what is to be said, adds a case for each guarantee, and returns the status."""
+    definitions = read_definitions(given.definitions)
+    if given.guarantees is None:
+        print(f"nothing stands against {given.definitions}: warren takes it")
+        cases.append(Case(given.definitions, "warren takes it"))
+        return HOLDS
+    guarantees = read_guarantees(given.guarantees, definitions)
+    if given.only is not None and not 1 <= given.only <= len(guarantees):
+        raise BadFile(f"{given.guarantees}: there is no guarantee {given.only}")
+    if given.certificates is not None:
+        read_certificates(given.certificates)
+    status = HOLDS
+    for name, one, said in answered(given, definitions, guarantees):
+        print(f"{name}: {said}", flush=True)
+        kind = {BROKEN: "broken", UNDECIDED: "undecided"}.get(one, "")
+        cases.append(Case(given.definitions, name, FAILURE if kind else PASSED, kind, said if kind else ""))
+        status = worse(status, one)
+    return status
+
+
+def run(given, cases):
+    """Does what is asked, and returns the status. What is wrong is a case, too."""
+    try:
+        return why(given, cases)
+    except Refused as refused:
+        cases += tell_refusal(refused)
+        return BROKEN
+    except BadFile as error:
+        wrong = str(error)
+    except OSError as error:
+        wrong = f"{error.filename}: {error.strerror}"
+    print(f"why: {wrong}", file=sys.stderr)
+    cases.append(Case(given.definitions, "this could not be told", ERROR, "failed", wrong))
+    return FAILED
 
 
 def main():
     for stream in (sys.stdout, sys.stderr):
         stream.reconfigure(encoding="utf-8", errors="backslashreplace")
+    given, cases = words(), []
+    status = run(given, cases)
+    if given.junit is None:
+        return status
     try:
-        return why(words())
-    except Refused as refused:
-        tell_refusal(refused)
-        return BROKEN
-    except BadFile as error:
-        print(f"why: {error}", file=sys.stderr)
+        write(given.junit, given.guarantees or given.definitions, cases)
+        return status
     except OSError as error:
-        print(f"why: {error.filename}: {error.strerror}", file=sys.stderr)
-    return FAILED
+        print(f"why: {given.junit}: {error.strerror}", file=sys.stderr)
+        return FAILED
 
 
 if __name__ == "__main__":

@@ -1,6 +1,6 @@
 -- A waiter is made, and those of consumers that are gone go: those who are there are gone round as before.
-use Rattle.std.proofs.Common.{◌≡◌, ◌∙◌, ◌≤◌, ◌+◌, ◌⊎◌, ◌++◌, ℕ, zero, suc, List, [], ◌∷◌, Bool, true, false, cond, length, take, drop, filter, min, inl, inr, refl, sym, ap, subst, arith}
-use Rattle.std.specs.Prelude.{count_by, not, ◌==◌, ◌&&◌, ◌||◌}
+use Rattle.std.proofs.Common.{◌≡◌, ◌∙◌, ◌≤◌, ◌+◌, ℕ, zero, suc, List, [], ◌∷◌, Bool, true, false, cond, length, take, drop, filter, min, inl, inr, refl, sym, ap, subst, arith}
+use Rattle.std.specs.Prelude.{count_by, not, ◌==◌, ◌||◌}
 use Rattle.std.proofs.lemmas.Bool.{false≢true}
 use Rattle.std.proofs.lemmas.List.{drop_min, take_min}
 use Rattle.std.proofs.lemmas.List.Elements.{filter-append}
@@ -10,13 +10,10 @@ use Rattle.model.specs.Topology.{IsIn}
 use Rattle.commands.specs.State.{Kept}
 use Rattle.commands.specs.declared.picks.Pick.{Pick}
 use Rattle.broker.specs.declared.rounds.waiters.Waiter.{Waiter}
-use Rattle.broker.specs.Lines.{turned, standing, AreDistinct}
-use Rattle.broker.specs.Rounds.{picks, is_consumer, is_of, remains}
-use Rattle.broker.proofs.Among.{one_consumer, same_consumer}
-use Rattle.broker.proofs.Lining.{in_either}
+use Rattle.broker.specs.Lines.{turned}
+use Rattle.broker.specs.Rounds.{picks, is_of, remains}
 use Rattle.broker.proofs.Picks.{of_waiter, picks_length, picks_swept}
-use Rattle.broker.proofs.Standing.{fewer, one_more, from_turned, in_turned}
-use Rattle.broker.proofs.Waking.{both, and}
+use Rattle.broker.proofs.Standing.{from_turned}
 
 -- ---- a sweep
 
@@ -124,29 +121,3 @@ of_remains kept queue c p its = go (p.connection == c) (is_of kept queue p) its
 -- and of this connection nobody else
 pub remains_of : (kept : Kept) (queue c : ℕ) (p : Pick) → remains kept queue c p ≡ true → (p.connection == c) ≡ true → is_of kept queue p ≡ true
 remains_of kept queue c p its here = subst (λ (u : Bool). (not u || is_of kept queue p) ≡ true) here its
-
--- ---- one more
-
--- where no two are one, and those who were there are gone round as before, this one comes in
-pub lets_in : (p : Pick) (was now : List Pick) (before after : Pick → Bool) → AreDistinct now → filter (λ (x : Pick). after x && before x) now ≡ filter (λ (x : Pick). after x && before x) was
-    → ((q : Pick) → after q ≡ true → (before q ≡ true) ⊎ (q ≡ p)) → (q : Pick) → after q ≡ true → standing (is_consumer q) (filter after now) ≤ standing (is_consumer q) (filter before was) + 1
-lets_in p was now before after apart keeps more q its =
-    let here : standing (is_consumer q) (filter after now) ≤ standing (is_consumer q) (filter left was) + 1 =
-    subst (λ (ps : List Pick). standing (is_consumer q) (filter after now) ≤ standing (is_consumer q) ps + 1) keeps
-    (one_more (is_consumer q) q (one_consumer q) (same_consumer q) p after left now (λ x a. elim (more x a) [ inl b ↦ inl (and (after x) (before x) a b) | inr e ↦ inr e ]) apart its) in
-    let there : standing (is_consumer q) (filter left was) ≤ standing (is_consumer q) (filter before was) =
-    fewer (is_consumer q) q (one_consumer q) (same_consumer q) left before was (λ x i t. (both (after x) (before x) t).1) (λ b. and (after q) (before q) its b) in
-    omega (arith, here, there)
-  where
-    -- who was there before and is there after
-    left : Pick → Bool
-    left x = after x && before x
-
--- whoever stands in a line behind which one came stood there, or is this one
-pub came_last : (p q : Pick) (next : ℕ) (ps : List Pick) → IsIn q (turned next (ps ++ p ∷ [])) → IsIn q (turned next ps) ⊎ (q ≡ p)
-came_last p q next ps i = go (in_either q ps (p ∷ []) (from_turned q (ps ++ p ∷ []) next i))
-  where
-    go : IsIn q ps ⊎ IsIn q (p ∷ []) → IsIn q (turned next ps) ⊎ (q ≡ p)
-    go (inl j) = inl (in_turned q ps next j)
-    go (inr (inl s)) = inr s
-    go (inr (inr none)) = absurd none

@@ -1,5 +1,6 @@
 mod Among
 mod Found
+mod Inserting
 mod Joined
 mod Later
 mod Lining

@@ -1,24 +1,22 @@
 -- Whoever could be told and is not is nearer to its turn.
-use Rattle.std.proofs.Common.{◌≡◌, ◌∙◌, ◌<◌, ◌≤◌, ◌+◌, ◌*◌, ◌⊎◌, ◌++◌, ℕ, suc, List, [], ◌∷◌, Bool, true, false, Option, Some, if◌then◌else◌, length, inl, inr, refl, sym, ap, subst, arith}
-use Rattle.std.specs.Prelude.{◌==◌}
-use Rattle.std.proofs.lemmas.Bool.{eqb-true, false≢true}
-use Rattle.std.proofs.Math.Nat.{mul-le-mul_right}
-use Rattle.model.specs.Topology.{IsIn}
+use Rattle.std.proofs.Common.{◌≡◌, ◌∙◌, ◌<◌, ◌+◌, ◌⊎◌, ◌++◌, ℕ, List, [], ◌∷◌, Bool, true, false, Option, Some, None, if◌then◌else◌, length, inl, inr, refl, sym, ap, subst, arith}
+use Rattle.std.specs.Prelude.{IfSome}
+use Rattle.std.proofs.lemmas.Bool.{false≢true}
+use Rattle.model.specs.Topology.{Topology, IsIn}
 use Rattle.model.specs.Broker.{Broker}
-use Rattle.commands.specs.State.{Kept, broker_of, topology_kept}
+use Rattle.commands.specs.State.{Kept}
 use Rattle.commands.specs.Picked.{IsPickFrom}
 use Rattle.commands.specs.declared.picks.Pick.{Pick}
 use Rattle.broker.specs.declared.rounds.waiters.Waiter.{Waiter}
 use Rattle.broker.specs.Lines.{ahead, standing, IsPassed}
-use Rattle.broker.specs.Rounds.{Waiters, Rounds, Lists, round_at, picks, order, awake_waiter, asleep_waiter, is_consumer, IsInRound, GoesLast, PicksFirst}
-use Rattle.broker.specs.Turns.{WithTurn, with_turn}
-use Rattle.broker.specs.Waiting.{line_at, standing_at, before, IsToldInTurn}
+use Rattle.broker.specs.Rounds.{Waiters, Rounds, Lists, picks, order, awake_waiter, asleep_waiter, is_consumer, IsInRound, GoesOn, PicksFirst}
+use Rattle.broker.specs.Turns.{WithTurn, with_turn, topology_kept}
+use Rattle.broker.specs.Waiting.{line_at, queues, standing_at, ahead_at, Stands, CanGive, IsFirst, IsToldInTurn, LinesStay}
 use Rattle.broker.proofs.Among.{one_consumer, same_consumer}
-use Rattle.broker.proofs.Lining.{in_either, in_place, ahead_nearer, ahead_last}
+use Rattle.broker.proofs.Lining.{in_either, in_place, ahead_nearer}
 use Rattle.broker.proofs.Picks.{picks_length, picks_at}
 use Rattle.broker.proofs.Present.{has_picked}
 use Rattle.broker.proofs.Joined.{Holds}
-use Rattle.broker.proofs.Sleeping.{apart}
 use Rattle.broker.proofs.Standing.{in_left, in_turned}
 use Rattle.broker.proofs.Takers.{order_at}
 
@@ -55,7 +53,7 @@ standing_behind p q (x ∷ front) back none far = go (is_consumer p x) refl (sta
     go false e more = omega (arith, more)
 
 -- nobody who comes behind it matters
-standing_before : (p : Pick) (back more : List Pick) → IsIn p back → standing (is_consumer p) (back ++ more) ≡ standing (is_consumer p) back
+pub standing_before : (p : Pick) (back more : List Pick) → IsIn p back → standing (is_consumer p) (back ++ more) ≡ standing (is_consumer p) back
 standing_before p [] more i = absurd i
 standing_before p (x ∷ back) more i = go (is_consumer p x) refl i (standing_before p back more)
   where
@@ -84,71 +82,54 @@ told_last p q front back none far i = less
         let only = standing_before p back front there in
         omega (arith, was, now, only)
 
-pub less_each : (a b n x y : ℕ) → a < b → x < n → a * n + x < b * n + y
-less_each a b n x y lt less = let more = mul-le-mul_right {m = suc a} {n = b} n lt in omega (arith, more, less)
-
-less_on : (m x y : ℕ) → x < y → m + x < m + y
-less_on m x y lt = omega (arith, lt)
-
 -- ---- whoever is not told
 
--- where another is told from its queue
-nearer_here : (kept : Kept) (lists : Lists) (place : ℕ) (r s : Waiters) (q p : Pick) → GoesLast kept lists place r s q → IsInRound (broker_of kept) lists place r p → IsPickFrom kept place p → (p ≡ q → ⊥)
-    → standing (is_consumer p) (order s) < standing (is_consumer p) (order r)
-nearer_here kept lists place r s q p goes joined pick far =
-    subst (λ (ps : List Pick). standing (is_consumer p) ps < standing (is_consumer p) (order r)) (sym goes.now)
-    (subst (λ (ps : List Pick). standing (is_consumer p) (goes.back ++ goes.front ++ q ∷ []) < standing (is_consumer p) ps) (sym goes.was)
-    (told_last p q goes.front goes.back (λ i. goes.passed p i joined pick) far (subst (IsIn p) goes.was (in_order (broker_of kept) lists place r p joined))))
+-- whoever stands in a line, and to whom a delivery could be made while another is told from its queue, stands nearer
+pub nearer_here : (old new : WithTurn) (place : ℕ) (q p : Pick) → IsFirst old q place new → Stands old place p → IsPickFrom old.kept place p → (p ≡ q → ⊥) → standing_at new place p < standing_at old place p
+nearer_here old new place q p t stands pick far =
+    subst (λ (ps : List Pick). standing (is_consumer p) ps < standing_at old place p) (sym t.now)
+    (subst (λ (ps : List Pick). standing (is_consumer p) (t.back ++ t.front ++ q ∷ []) < standing (is_consumer p) ps) (sym t.was)
+    (told_last p q t.front t.back (λ i. t.before p i pick) far (subst (IsIn p) t.was stands)))
 
-module _ (kept : Kept) (old new : Rounds) (x : Option Pick) (q : Pick) (held : Holds kept old) (t : PicksFirst kept old new q) where
-  abbrev pub was : WithTurn
+-- a line stays as far as it was
+pub same_line : (old new : WithTurn) (place : ℕ) (p : Pick) → line_at new place ≡ line_at old place → standing_at new place p ≡ standing_at old place p
+same_line old new place p same = ap (standing (is_consumer p)) same
+
+-- a queue that can give something, while one is told from another queue, is nearer
+pub queue_nearer : (old new : WithTurn) (place queue : ℕ) (q : Pick) → IsFirst old q queue new → CanGive old place → (place ≡ queue → ⊥) → topology_kept new ≡ topology_kept old → ahead_at new place < ahead_at old place
+queue_nearer old new place queue q t can far topology =
+    let less = ahead_nearer (queues old) old.next queue place t.could.within can.1.within far (λ passed. t.queues_before place passed can) in
+    subst (λ (n : ℕ). ahead n new.next place < ahead_at old place) (sym (ap (λ (x : Topology). length x.queues) topology))
+    (subst (λ (k : ℕ). ahead (queues old) k place < ahead_at old place) (sym t.next) less)
+
+-- ---- what a pick leaves
+
+module _ (kept : Kept) (old new : Rounds) (x : Option Pick) where
+  abbrev was : WithTurn
   was = with_turn kept old x
 
-  abbrev pub now : WithTurn
-  now = with_turn kept new (Some q)
+  abbrev now : Option Pick → WithTurn
+  now told = with_turn kept new told
 
-  abbrev n : ℕ
-  n = length (topology_kept kept).queues
+  -- whoever is told is the first
+  pub is_first : (q : Pick) (held : Holds kept old) (t : PicksFirst kept old new q) → IsFirst was q t.queue (now (Some q))
+  is_first q held t = record {
+    could = t.could;
+    queues_before = λ at passed can.
+        t.passed at can.0 (subst (λ (n : ℕ). IsPassed n old.next t.queue at) (sym held.rounds_for) passed) (held.joined at can.0 (has_picked kept at can.0 can.1)) can.1;
+    next = t.next;
+    front = t.told.round.front;
+    back = t.told.round.back;
+    was = order_at old.rounds t.queue ∙ t.told.round.was;
+    now = order_at new.rounds t.queue ∙ t.told.round.now;
+    before = λ p i pick. t.told.round.passed p i (held.joined t.queue p (has_picked kept t.queue p pick)) pick;
+    others = λ at far. order_at new.rounds at ∙ t.told.others at far ∙ sym (order_at old.rounds at);
+  }
 
-  -- from the queue from which one was told
-  of_this : (p : Pick) → IsPickFrom kept t.queue p → (p ≡ q → ⊥) → standing_at now t.queue p * n + ahead n new.next t.queue < standing_at was t.queue p * n + ahead n old.next t.queue
-  of_this p pick far =
-      let lt = pick.within in
-      let less = nearer_here kept old.lists t.queue (round_at old.rounds t.queue) (round_at new.rounds t.queue) q p t.told.round (held.joined t.queue p (has_picked kept t.queue p pick)) pick far in
-      let last = subst (λ (k : ℕ). ahead n k t.queue < n) (sym t.next) (ahead_last n t.queue lt) in
-      less_each (standing_at now t.queue p) (standing_at was t.queue p) n (ahead n new.next t.queue) (ahead n old.next t.queue)
-      (subst (λ (ps : List Pick). standing (is_consumer p) ps < standing_at was t.queue p) (sym (order_at new.rounds t.queue))
-      (subst (λ (ps : List Pick). standing (is_consumer p) (order (round_at new.rounds t.queue)) < standing (is_consumer p) ps) (sym (order_at old.rounds t.queue)) less))
-      last
+  pub told_first : (o : Option Pick) → Holds kept old → IfSome o (PicksFirst kept old new) → IfSome o (λ (q : Pick). IsToldInTurn was q (now o))
+  told_first None held told = tt
+  told_first (Some q) held told = inr (told.queue, is_first q held told)
 
-  -- and from each other
-  of_other : (place : ℕ) (p : Pick) → (place ≡ t.queue → ⊥) → IsPickFrom kept place p → standing_at now place p * n + ahead n new.next place < standing_at was place p * n + ahead n old.next place
-  of_other place p far pick =
-      let long = held.rounds_for in
-      let lt = pick.within in
-      let within = t.within in
-      let same : line_at now place ≡ line_at was place = order_at new.rounds place ∙ t.told.others place far ∙ sym (order_at old.rounds place) in
-      let passed : IsPassed n old.next t.queue place → ⊥ =
-      λ p'. t.passed place p (subst (λ (k : ℕ). IsPassed k old.next t.queue place) (sym long) p') (held.joined place p (has_picked kept place p pick)) pick in
-      let less = ahead_nearer n old.next t.queue place (omega (arith, within, long)) lt far passed in
-      subst (λ (ps : List Pick). standing (is_consumer p) ps * n + ahead n new.next place < standing_at was place p * n + ahead n old.next place) (sym same)
-      (subst (λ (k : ℕ). standing_at was place p * n + ahead n k place < standing_at was place p * n + ahead n old.next place) (sym t.next)
-      (less_on (standing_at was place p * n) (ahead n (t.queue + 1) place) (ahead n old.next place) less))
-
-  nearer : (place : ℕ) (p : Pick) → IsPickFrom kept place p → (p ≡ q → ⊥) → standing_at now place p * n + ahead n new.next place < standing_at was place p * n + ahead n old.next place
-  nearer place p pick far = go (place == t.queue) refl
-    where
-      go : (v : Bool) → (place == t.queue) ≡ v → standing_at now place p * n + ahead n new.next place < standing_at was place p * n + ahead n old.next place
-      go true f =
-          let same = eqb-true place t.queue f in
-          subst (λ (k : ℕ). standing_at now k p * n + ahead n new.next k < standing_at was k p * n + ahead n old.next k) (sym same) (of_this p (subst (λ (k : ℕ). IsPickFrom kept k p) same pick) far)
-      go false f = of_other place p (apart place t.queue f) pick
-
-  pub in_turn : IsToldInTurn was (Some q) now
-  in_turn place p pick = go (is_consumer p q) refl
-    where
-      go : (v : Bool) → is_consumer p q ≡ v → (Some q ≡ Some p) ⊎ (before now place p ≤ before was place p)
-      go true e = inl (ap Some (sym (same_consumer p q e)))
-      go false e =
-          let less = nearer place p pick (λ s. false≢true (sym e ∙ ap (is_consumer p) (sym s) ∙ one_consumer p)) in
-          inr (subst (λ (v : Bool). standing_at now place p * n + ahead n new.next place + (if v then 0 else 1) ≤ before was place p) (sym e) (omega (arith, less)))
+  -- where nobody is told, lines stay
+  pub lines_stay : (told : Option Pick) → GoesOn old new → LinesStay was (now told)
+  lines_stay told on = record { next = on.next; lines = λ at. order_at new.rounds at ∙ on.same at ∙ sym (order_at old.rounds at) }

@@ -7,7 +7,7 @@ use Rattle.commands.specs.Picked.{IsPickFrom}
 use Rattle.commands.specs.declared.picks.Pick.{Pick}
 use Rattle.broker.specs.declared.rounds.waiters.Waiter.{Waiter}
 use Rattle.broker.specs.Lines.{turned, IsPassed, AreDistinct}
-use Rattle.broker.specs.Rounds.{Waiters, Rounds, Lists, round_at, picks, order, awake_waiter, IsInRound, NoneAwake, NoneAwakePassed, NoneBetween, NonePassed, GoesLast, SameOrders, PicksFrom, KeepsWaiters, KeepsLine, KeepLines, AddsOne, AddsItsOwn, AllAddTheirOwn, GoesOn, StaysAt, Wakens, AllWaken, is_of}
+use Rattle.broker.specs.Rounds.{Waiters, Rounds, Lists, round_at, picks, order, awake_waiter, IsInRound, NoneAwake, NoneAwakePassed, NoneBetween, NonePassed, GoesLast, SameOrders, PicksFrom, KeepsWaiters, AddsOne, AddsItsOwn, AllAddTheirOwn, GoesOn, StaysAt, Wakens, AllWaken, is_of}
 use Rattle.broker.proofs.Lining.{GoneRound, gone_round, passed_on, passed_round, passed_least, distinct_place}
 use Rattle.broker.proofs.Marked.{set_here, set_there, was_here}
 use Rattle.broker.proofs.Picks.{picks_length, picks_at}
@@ -137,13 +137,9 @@ each_set P rounds queue r lt here same place = go (place == queue) refl
         (subst (λ (x : Waiters). P queue x (round_at (set rounds queue r) place)) (sym (was_here rounds queue r lt place f)) (subst (λ (x : Waiters). P queue (round_at rounds queue) x) (sym (set_here rounds queue r lt place f)) here))
     go false f = subst (λ (x : Waiters). P place (round_at rounds place) x) (sym (set_there rounds queue r lt place f)) (same place (round_at rounds place))
 
--- those who were there are gone round as before
-pub lines_set : (rounds : List Waiters) (queue : ℕ) (r : Waiters) → queue < length rounds → KeepsLine (round_at rounds queue) r → KeepLines rounds (set rounds queue r)
-lines_set rounds queue r lt keeps = each_set (λ (place : ℕ) (x y : Waiters). KeepsLine x y) rounds queue r lt keeps (λ place x test stand. refl)
-
--- and one comes in
+-- one comes in
 pub adds_set : (kept : Kept) (rounds : List Waiters) (queue : ℕ) (r : Waiters) (p : Pick) → queue < length rounds → AddsOne p (round_at rounds queue) r → is_of kept queue p ≡ true → AllAddTheirOwn kept rounds (set rounds queue r)
 adds_set kept rounds queue r p lt adds its =
     each_set (λ (place : ℕ) (x y : Waiters). AddsItsOwn kept place x y) rounds queue r lt
-    (record { came = λ q i. elim (adds.came q i) [ inl was ↦ inl was | inr same ↦ inr (subst (λ (z : Pick). is_of kept queue z ≡ true) (sym same) its) ]; once = λ apart. adds.once })
-    (λ place x. record { came = λ q i. inl i; once = λ apart. apart })
+    (elim adds [ inl there ↦ inl there.1 | inr came ↦ inr (record { newcomer = p; its = its; absent = came.0; line = came.1 }) ])
+    (λ place x. inl refl)

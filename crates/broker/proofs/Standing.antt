@@ -1,8 +1,7 @@
 -- Those of a line who pass a test, and how many of them stand before one.
-use Rattle.std.proofs.Common.{◌≡◌, ◌∙◌, ◌≤◌, ◌+◌, ◌++◌, ◌⊎◌, ℕ, zero, suc, List, [], ◌∷◌, Bool, true, false, if◌then◌else◌, cond, take, drop, filter, inl, inr, refl, sym, ap, subst, arith}
+use Rattle.std.proofs.Common.{◌≡◌, ◌∙◌, ◌≤◌, ◌+◌, ◌++◌, ◌⊎◌, ℕ, List, [], ◌∷◌, Bool, true, false, if◌then◌else◌, cond, take, drop, filter, inl, inr, refl, sym, ap, subst, arith}
 use Rattle.std.proofs.lemmas.Bool.{false≢true}
 use Rattle.std.proofs.lemmas.List.{take-append-drop, append-nil}
-use Rattle.std.proofs.lemmas.List.Elements.{filter-append}
 use Rattle.model.specs.Topology.{IsIn}
 use Rattle.broker.specs.Lines.{turned, standing, AreDistinct}
 use Rattle.broker.proofs.Lining.{in_either}
@@ -25,39 +24,6 @@ module _ {X : Type 0} (is : X → Bool) (p : X) (own : is p ≡ true) (only : (x
       go true false w a b e le = absurd (false≢true (sym b ∙ sub x (inl refl) a))
       go false true true a b e le = absurd (false≢true (sym a ∙ ap f (sym (only x e)) ∙ its (ap g (only x e) ∙ b)))
       go false true false a b e le = subst (λ (z : Bool). standing is (filter f xs) ≤ (if z then 0 else 1 + standing is (filter g xs))) (sym e) (omega (arith, le))
-      go false false w a b e le = le
-
-  -- where one passes beside, and no two are one
-  pub one_more : (q : X) (f g : X → Bool) (xs : List X) → ((x : X) → f x ≡ true → (g x ≡ true) ⊎ (x ≡ q)) → AreDistinct xs → f p ≡ true → standing is (filter f xs) ≤ standing is (filter g xs) + 1
-  one_more q f g [] sub apart its = omega arith
-  one_more q f g (x ∷ xs) sub apart its = go (f x) (g x) (is x) refl refl refl (one_more q f g xs sub apart.1 its)
-    where
-      -- behind the one who passes beside
-      rest : g x ≡ false → f x ≡ true → standing is (filter f xs) ≤ standing is (filter g xs)
-      rest b a = fewer f g xs (λ y i e. of y i (sub y e)) (λ v. its)
-        where
-          here : (g x ≡ true) ⊎ (x ≡ q) → x ≡ q
-          here (inl e) = absurd (false≢true (sym b ∙ e))
-          here (inr e) = e
-
-          of : (y : X) → IsIn y xs → (g y ≡ true) ⊎ (y ≡ q) → g y ≡ true
-          of y i (inl e) = e
-          of y i (inr e) = absurd (apart.0 (subst (λ (z : X). IsIn z xs) (e ∙ sym (here (sub x a))) i))
-
-      go : (u v w : Bool) → f x ≡ u → g x ≡ v → is x ≡ w → standing is (filter f xs) ≤ standing is (filter g xs) + 1
-          → standing is (cond u (x ∷ filter f xs) (filter f xs)) ≤ standing is (cond v (x ∷ filter g xs) (filter g xs)) + 1
-      go true true w a b e le = subst (λ (z : Bool). (if z then 0 else 1 + standing is (filter f xs)) ≤ (if z then 0 else 1 + standing is (filter g xs)) + 1) (sym e) (by w)
-        where
-          by : (z : Bool) → (if z then 0 else 1 + standing is (filter f xs)) ≤ (if z then 0 else 1 + standing is (filter g xs)) + 1
-          by true = omega arith
-          by false = omega (arith, le)
-      go true false w a b e le = subst (λ (z : Bool). (if z then 0 else 1 + standing is (filter f xs)) ≤ standing is (filter g xs) + 1) (sym e) (by w)
-        where
-          by : (z : Bool) → (if z then 0 else 1 + standing is (filter f xs)) ≤ standing is (filter g xs) + 1
-          by true = omega arith
-          by false = let less = rest b a in omega (arith, less)
-      go false true true a b e le = absurd (false≢true (sym a ∙ ap f (sym (only x e)) ∙ its))
-      go false true false a b e le = subst (λ (z : Bool). standing is (filter f xs) ≤ (if z then 0 else 1 + standing is (filter g xs)) + 1) (sym e) (omega (arith, le))
       go false false w a b e le = le
 
 -- ---- no two are one
@@ -110,42 +76,6 @@ filter_twice f g (x ∷ xs) sub = go (g x) (f x) refl refl (filter_twice f g xs 
     go true v a b more = subst (λ (w : Bool). cond w (x ∷ filter f (filter g xs)) (filter f (filter g xs)) ≡ cond v (x ∷ filter f xs) (filter f xs)) (sym b) (ap (λ (ys : List _). cond v (x ∷ ys) ys) more)
     go false true a b more = absurd (false≢true (sym a ∙ sub x b))
     go false false a b more = more
-
--- one more at the end who doesn't pass
-module _ {X : Type 0} (test : X → Bool) (q : X) (none : test q ≡ false) where
-  filter_one : filter test (q ∷ []) ≡ []
-  filter_one = subst (λ (v : Bool). cond v (q ∷ []) [] ≡ []) (sym none) refl
-
-  drop_end : (n : ℕ) (xs : List X) → filter test (drop n (xs ++ q ∷ [])) ≡ filter test (drop n xs)
-  drop_end zero xs = filter-append test xs (q ∷ []) ∙ ap (λ (ys : List X). filter test xs ++ ys) filter_one ∙ append-nil (filter test xs)
-  drop_end (suc zero) [] = refl
-  drop_end (suc (suc n)) [] = refl
-  drop_end (suc n) (x ∷ xs) = drop_end n xs
-
-  take_end : (n : ℕ) (xs : List X) → filter test (take n (xs ++ q ∷ [])) ≡ filter test (take n xs)
-  take_end zero xs = refl
-  take_end (suc zero) [] = filter_one
-  take_end (suc (suc n)) [] = filter_one
-  take_end (suc n) (x ∷ xs) = go (test x) (take_end n xs)
-    where
-      go : (v : Bool) → filter test (take n (xs ++ q ∷ [])) ≡ filter test (take n xs) → cond v (x ∷ filter test (take n (xs ++ q ∷ []))) (filter test (take n (xs ++ q ∷ []))) ≡ cond v (x ∷ filter test (take n xs)) (filter test (take n xs))
-      go v e = ap (λ (ys : List X). cond v (x ∷ ys) ys) e
-
-  filter_end_of : (n : ℕ) (xs : List X) → filter test (turned n (xs ++ q ∷ [])) ≡ filter test (turned n xs)
-  filter_end_of n xs =
-      filter-append test (drop n (xs ++ q ∷ [])) (take n (xs ++ q ∷ [])) ∙ ap (λ (ys : List X). ys ++ filter test (take n (xs ++ q ∷ []))) (drop_end n xs)
-      ∙ ap (λ (ys : List X). filter test (drop n xs) ++ ys) (take_end n xs) ∙ sym (filter-append test (drop n xs) (take n xs))
-
-pub filter_end : {X : Type 0} (test : X → Bool) (q : X) (n : ℕ) (xs : List X) → test q ≡ false → filter test (turned n (xs ++ q ∷ [])) ≡ filter test (turned n xs)
-filter_end test q n xs none = filter_end_of test q none n xs
-
--- one who doesn't stand there doesn't pass, where all who pass do
-pub not_in : {X : Type 0} (test : X → Bool) (y : X) (xs : List X) → (test y ≡ true → IsIn y xs) → (IsIn y xs → ⊥) → test y ≡ false
-not_in test y xs stands absent = go (test y) refl
-  where
-    go : (v : Bool) → test y ≡ v → test y ≡ false
-    go true e = absurd (absent (stands e))
-    go false e = e
 
 -- whoever is in a list from any place on is in it
 pub from_turned : {X : Type 0} (y : X) (xs : List X) (n : ℕ) → IsIn y (turned n xs) → IsIn y xs

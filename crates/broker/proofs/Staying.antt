@@ -18,9 +18,9 @@ use Rattle.commands.specs.Ended.{AllConsumersStay}
 use Rattle.commands.specs.State.{Kept, broker_of, topology_kept}
 use Rattle.commands.specs.declared.picks.Pick.{Pick}
 use Rattle.broker.specs.Lines.{AreDistinct}
-use Rattle.broker.specs.Rounds.{Waiters, Rounds, Lists, Listing, IsItsOwn, AreItsListings, AllListedAreThere, is_listed_there, SameListed, ListsItsOwn, ListingsLeave, round_at, order, is_of, remains, AreItsConsumers, AllAreConsumers, AllAddTheirOwn, LeaveLines, SameOrders, GoesOn, PicksFirst}
+use Rattle.broker.specs.Rounds.{Waiters, Rounds, Lists, Listing, IsItsOwn, AreItsListings, AllListedAreThere, is_listed_there, SameListed, ListsItsOwn, ListingsLeave, round_at, order, is_of, remains, AreItsConsumers, AllAreConsumers, AddsItsOwn, AllAddTheirOwn, LeaveLines, SameOrders, GoesOn, PicksFirst}
 use Rattle.broker.proofs.Later.{remains_of}
-use Rattle.broker.proofs.Lining.{in_either, filter_in, filter_distinct}
+use Rattle.broker.proofs.Lining.{in_either, filter_in, filter_distinct, distinct_end}
 use Rattle.broker.proofs.Standing.{in_left, in_right, passes, distinct_parts}
 use Rattle.broker.proofs.Sleeping.{apart}
 use Rattle.broker.proofs.Takers.{of_stays}
@@ -84,11 +84,24 @@ own_stays old new rounds is stay own place = record {
 pub own_same : (kept : Kept) (old new : List Waiters) → SameOrders old new → AllAreConsumers kept old → AllAreConsumers kept new
 own_same kept old new same own place = subst (AreItsConsumers kept place) (sym (same place)) (own place)
 
+-- whoever stands in a line to which one came in stood there, or takes from its queue
+pub who_came : (kept : Kept) (queue : ℕ) (old new : Waiters) → AddsItsOwn kept queue old new → (p : Pick) → IsIn p (order new) → IsIn p (order old) ⊎ (is_of kept queue p ≡ true)
+who_came kept queue old new (inl same) p i = inl (subst (IsIn p) same i)
+who_came kept queue old new (inr c) p i = elim (in_either p (order old) (c.newcomer ∷ []) (subst (IsIn p) c.line i)) [
+  | inl was ↦ inl was
+  | inr last ↦ inr (elim last [ inl same ↦ subst (λ (q : Pick). is_of kept queue q ≡ true) (sym same) c.its | inr none ↦ absurd none ])
+]
+
+-- and nobody stands there twice
+pub comes_once : (kept : Kept) (queue : ℕ) (old new : Waiters) → AddsItsOwn kept queue old new → AreDistinct (order old) → AreDistinct (order new)
+comes_once kept queue old new (inl same) apart = subst (λ (ps : List Pick). AreDistinct ps) (sym same) apart
+comes_once kept queue old new (inr c) apart = subst (λ (ps : List Pick). AreDistinct ps) (sym c.line) (distinct_end c.newcomer (order old) apart c.absent)
+
 -- where one comes in that is there
 pub own_joined : (kept : Kept) (old new : List Waiters) → AllAddTheirOwn kept old new → AllAreConsumers kept old → AllAreConsumers kept new
 own_joined kept old new adds own place = record {
-  there = λ p i. elim ((adds place).came p i) [ inl was ↦ (own place).there p was | inr its ↦ its ];
-  once = (adds place).once (own place).once;
+  there = λ p i. elim (who_came kept place (round_at old place) (round_at new place) (adds place) p i) [ inl was ↦ (own place).there p was | inr its ↦ its ];
+  once = comes_once kept place (round_at old place) (round_at new place) (adds place) (own place).once;
 }
 
 -- where those of one connection leave that are gone, and those of others stay; one may have come in before
@@ -120,7 +133,8 @@ own_left old new c before left is stay own leave = own_after old new c before be
 pub own_came : (old new : Kept) (c : ℕ) (before after left : List Waiters) → topology_kept new ≡ topology_kept old
     → ((d h : ℕ) → (d == c) ≡ false → (k : Consumer) → WasConsumer (broker_of old) d h k → WasConsumer (broker_of new) d h k) → AllAreConsumers old before → AllAddTheirOwn new before after
     → LeaveLines new c after left → AllAreConsumers new left
-own_came old new c before after left is stay own adds leave = own_after old new c before after left is stay own leave (λ place p i. (adds place).came p i) (λ place. (adds place).once (own place).once)
+own_came old new c before after left is stay own adds leave = own_after old new c before after left is stay own leave (λ place. who_came new place (round_at before place) (round_at after place) (adds place))
+    (λ place. comes_once new place (round_at before place) (round_at after place) (adds place) (own place).once)
 
 -- ---- what is listed
 

@@ -1,5 +1,5 @@
 -- What a step leaves.
-use Rattle.std.proofs.Common.{◌≡◌, ◌∙◌, ℕ, List, true, false, Option, Some, None, length, filter, inl, inr, refl, sym, ap, subst}
+use Rattle.std.proofs.Common.{◌≡◌, ◌∙◌, ◌++◌, ℕ, List, [], ◌∷◌, true, false, Option, Some, None, length, inl, inr, refl, sym, ap, subst}
 use Rattle.std.specs.Prelude.{◌==◌, IfSome}
 use Rattle.model.specs.Broker.{Broker, Consumer}
 use Rattle.model.specs.Step.{Acts}
@@ -16,14 +16,13 @@ use Rattle.commands.specs.declared.acted.Ends.{Ends}
 use Rattle.commands.specs.declared.acted.Ends.TheVariants as ended
 use Rattle.commands.specs.declared.picks.Pick.{Pick}
 use Rattle.broker.specs.declared.rounds.waiters.Newcomer.{Newcomer}
-use Rattle.broker.specs.Lines.{AreDistinct}
-use Rattle.broker.specs.Rounds.{Rounds, Waiters, Lists, KeepsIn, KeepLists, round_at, listing, is_of, wakes, IsServing, AllRun, AllAreConsumers, AllListedAreThere, SameListed, ListsItsOwn, ListingsLeave, HasJoined, AllAddTheirOwn, AllWaken, KeepsWaiters, KeepsAll, LeaveLines, ListsRunning, HasNoList, MakesNoList, NotesStay, IsExpected, WakesWaiter, GoesOn, KeepLines}
+use Rattle.broker.specs.Rounds.{Rounds, Waiters, Lists, KeepsIn, KeepLists, round_at, listing, is_of, wakes, IsServing, AllRun, AllAreConsumers, AllListedAreThere, SameListed, ListsItsOwn, ListingsLeave, HasJoined, AllAddTheirOwn, AllWaken, KeepsWaiters, KeepsAll, LeaveLines, ListsRunning, HasNoList, MakesNoList, NotesStay, IsExpected, WakesWaiter, GoesOn}
 use Rattle.broker.proofs.Outcomes.{told_some}
 use Rattle.broker.proofs.Joined.{StayAgreed, Holds, holds, serves, serves_kept, serves_next, running_still, running_but, notes_keep, keeps_all}
 use Rattle.broker.proofs.Orders.{goes_then}
 use Rattle.broker.proofs.Sleeping.{joined_kept}
 use Rattle.broker.proofs.Staying.{others_stay, its_connection, own_same, own_joined, own_stays, own_came, listed_stays, listed_same, listed_joined, listed_left}
-use Rattle.broker.proofs.Turning.{GoRound}
+use Rattle.broker.proofs.Turning.{GoRound, round_joined}
 
 -- ---- what is listed
 
@@ -64,18 +63,21 @@ module _ (old : Kept) (before woken ready : Rounds) (e : Event) (serving : IsSer
   pub serving_on : IsServing old ready
   serving_on = serves old ready held_on lists_on own_on listed_on
 
-  -- those who were there are gone round as before, where a newcomer waits in `after`
-  pub round_then : (new : Kept) (after : Rounds) → KeepLines ready.rounds after.rounds → GoRound new before.rounds after.rounds
-  round_then new after keeps place test stand =
-      let same = goes.same place in
-      keeps place test (subst (λ (ps : List Pick). (p : Pick) → test p ≡ true → IsIn p ps) (sym same) (λ p e. (stand p e).1)) ∙ ap (filter test) same
-
-  -- and whoever came in is there
+  -- one comes in behind those who were there, where a newcomer waits in `after`
   pub adds_then : (new : Kept) (after : Rounds) → AllAddTheirOwn new ready.rounds after.rounds → AllAddTheirOwn new before.rounds after.rounds
-  adds_then new after adds place = record {
-    came = λ p i. elim ((adds place).came p i) [ inl was ↦ inl (subst (IsIn p) (goes.same place) was) | inr its ↦ inr its ];
-    once = λ apart. (adds place).once (subst (λ (ps : List Pick). AreDistinct ps) (sym (goes.same place)) apart);
-  }
+  adds_then new after adds place = elim (adds place) [
+    | inl same ↦ inl (same ∙ goes.same place)
+    | inr c ↦ inr (record {
+      newcomer = c.newcomer;
+      its = c.its;
+      absent = λ i. c.absent (subst (IsIn c.newcomer) (sym (goes.same place)) i);
+      line = c.line ∙ ap (λ (ps : List Pick). ps ++ c.newcomer ∷ []) (goes.same place);
+    })
+  ]
+
+  -- so those who were there are gone round as before
+  pub round_then : (new : Kept) (after : Rounds) → AllAddTheirOwn new ready.rounds after.rounds → GoRound new before.rounds after.rounds
+  round_then new after adds = round_joined new before.rounds after.rounds (adds_then new after adds)
 
   -- The step is made, and the newcomer waits in `after`.
   module _ (agrees : StayAgreed) (law : ConsumersAreMade) (new : Kept) (after : Rounds) (newcomer : Option Newcomer) (sends : List Send) (notes : List Note)

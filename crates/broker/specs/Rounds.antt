@@ -399,18 +399,6 @@ pub record PicksFirst (kept : Kept) (old new : Rounds) (p : Pick) : Type 0 where
   pub told : PicksFrom kept old.lists old.rounds new.rounds queue p
   pub next : new.next ≡ queue + 1
 
--- whoever passes this test stands in the line
-abbrev pub AllWait : (Pick → Bool) → List Pick → Type 0
-AllWait test line = (p : Pick) → test p ≡ true → IsIn p line
-
--- those who stood in the line are gone round as before
-abbrev pub KeepsLine : Waiters → Waiters → Type 0
-KeepsLine old new = (test : Pick → Bool) → AllWait test (order old) → filter test (order new) ≡ filter test (order old)
-
--- in each round
-abbrev pub KeepLines : List Waiters → List Waiters → Type 0
-KeepLines old new = (place : ℕ) → KeepsLine (round_at old place) (round_at new place)
-
 -- ---- who leaves
 
 -- whoever is of another connection than this, or is there and takes from the queue at this place
@@ -431,15 +419,20 @@ LeaveLines kept c old new = (place : ℕ) → LeaveLine kept place c (round_at o
 
 -- ---- who comes in
 
--- Whoever stands in the line stood there, or is this one; and nobody stands there twice.
-pub record AddsOne (p : Pick) (old new : Waiters) : Type 0 where
-  pub came : (q : Pick) → IsIn q (order new) → IsIn q (order old) ⊎ (q ≡ p)
-  pub once : AreDistinct (order new)
+-- This one stands behind all who stood in the line; or it stood there, and all are gone round as before.
+abbrev pub AddsOne : Pick → Waiters → Waiters → Type 0
+AddsOne p old new = (IsIn p (order old) × (order new ≡ order old)) ⊎ ((IsIn p (order old) → ⊥) × (order new ≡ order old ++ p ∷ []))
 
--- Whoever stands in a line stood there, or is there and takes from its queue; and nobody stands twice in one.
-pub record AddsItsOwn (kept : Kept) (queue : ℕ) (old new : Waiters) : Type 0 where
-  pub came : (q : Pick) → IsIn q (order new) → IsIn q (order old) ⊎ (is_of kept queue q ≡ true)
-  pub once : AreDistinct (order old) → AreDistinct (order new)
+-- One who takes from the queue and stood nowhere in its line stands behind all who stood there.
+pub record ComesLast (kept : Kept) (queue : ℕ) (old new : Waiters) : Type 0 where
+  pub newcomer : Pick
+  pub its : is_of kept queue newcomer ≡ true
+  pub absent : IsIn newcomer (order old) → ⊥
+  pub line : order new ≡ order old ++ newcomer ∷ []
+
+-- One comes in so, or nobody does and all are gone round as before.
+abbrev pub AddsItsOwn : Kept → ℕ → Waiters → Waiters → Type 0
+AddsItsOwn kept queue old new = (order new ≡ order old) ⊎ ComesLast kept queue old new
 
 -- in each round
 abbrev pub AllAddTheirOwn : Kept → List Waiters → List Waiters → Type 0

@@ -1,13 +1,11 @@
--- Nobody waits for ever while others are served: how far off a turn is, and what is done while one consumer waits (own).
-use Rattle.std.specs.Prelude.{◌≡◌, ◌<◌, ◌≤◌, ◌+◌, ◌*◌, ◌⊎◌, ℕ, List, [], Option, Some, None}
-use Rattle.std.specs.Prelude.{if◌then◌else◌, length, slice_index_or}
+-- Nobody waits for ever while others are served: how far off a turn is, and what is done while one consumer, or one queue, waits (own).
+use Rattle.std.specs.Prelude.{◌≡◌, ◌<◌, ◌≤◌, ◌+◌, ◌++◌, ◌⊎◌, ◌∷◌, ℕ, List, [], Option, Some, None}
+use Rattle.std.specs.Prelude.{length, slice_index_or}
 use Rattle.model.specs.Topology.{IsIn}
-use Rattle.model.specs.declared.events.Event.{Event}
 use Rattle.exchange_graph.specs.Marks.{queue_name}
 use Rattle.commands.specs.Picked.{IsPickFrom}
-use Rattle.commands.specs.Seats.{IsConsumed}
 use Rattle.commands.specs.declared.picks.Pick.{Pick}
-use Rattle.broker.specs.Lines.{ahead, standing, AreDistinct}
+use Rattle.broker.specs.Lines.{ahead, standing, IsPassed, AreDistinct}
 use Rattle.broker.specs.Rounds.{is_consumer, HasConsumer}
 use Rattle.broker.specs.Turns.{WithTurn, topology_kept, broker_of}
 
@@ -17,6 +15,10 @@ use Rattle.broker.specs.Turns.{WithTurn, topology_kept, broker_of}
 abbrev pub line_at : WithTurn → ℕ → List Pick
 line_at b place = slice_index_or b.lines place []
 
+-- the consumer stands in the line of the queue at this place
+abbrev pub Stands : WithTurn → ℕ → Pick → Type 0
+Stands b place p = IsIn p (line_at b place)
+
 -- how many queues there are
 abbrev pub queues : WithTurn → ℕ
 queues b = length (topology_kept b).queues
@@ -25,15 +27,14 @@ queues b = length (topology_kept b).queues
 abbrev pub standing_at : WithTurn → ℕ → Pick → ℕ
 standing_at b place p = standing (is_consumer p) (line_at b place)
 
--- the delivery that is owed to another than this consumer, if another was told
-abbrev pub owed : Option Pick → Pick → ℕ
-owed None p = 0
-owed (Some q) p = if is_consumer p q then 0 else 1
+-- how many queues are passed before the turn of the queue at this place
+abbrev pub ahead_at : WithTurn → ℕ → ℕ
+ahead_at b place = ahead (queues b) b.next place
 
--- how many deliveries may come before the one to this consumer from the queue at this place: one of each queue for each that stands
--- before it in its line, one of each queue before its own, and the one that is owed to another
-abbrev pub before : WithTurn → ℕ → Pick → ℕ
-before b place p = standing_at b place p * queues b + ahead (queues b) b.next place + owed b.turn p
+-- the delivery that is owed, if somebody was told
+abbrev pub owed : Option Pick → ℕ
+owed None = 0
+owed (Some told) = 1
 
 -- the consumer is there, and takes from the queue at this place
 abbrev pub TakesAt : WithTurn → ℕ → Pick → Type 0
@@ -48,24 +49,23 @@ pub record WaitersAreConsumers (b : WithTurn) : Type 0 where
   pub stand : AllStand b
   pub once : (place : ℕ) → AreDistinct (line_at b place)
 
--- ---- what becomes of turns
+-- ---- what becomes of lines
 
--- Nobody comes in, and nobody has more before it than it had.
+-- The queues are gone round as before, and each line is as it was.
+pub record LinesStay (old new : WithTurn) : Type 0 where
+  pub next : new.next ≡ old.next
+  pub lines : (place : ℕ) → line_at new place ≡ line_at old place
+
+-- Nobody is put back: whoever is there still has no more before it than it had. A newcomer is behind all who are there.
+pub record NobodyIsPutBack (old new : WithTurn) : Type 0 where
+  pub next : new.next ≡ old.next
+  pub lines : (place : ℕ) (p : Pick) → TakesAt old place p → TakesAt new place p → standing_at new place p ≤ standing_at old place p
+
+-- Nor does anybody come in.
 pub record NoneIsLater (old new : WithTurn) : Type 0 where
   pub next : new.next ≡ old.next
   pub took : (place : ℕ) (p : Pick) → TakesAt new place p → TakesAt old place p
   pub lines : (place : ℕ) (p : Pick) → TakesAt new place p → standing_at new place p ≤ standing_at old place p
-
--- Nobody has more before it than it had, but for one more in the line of a queue from which this event is a consume.
-pub record OneComesIn (e : Event) (old new : WithTurn) : Type 0 where
-  pub next : new.next ≡ old.next
-  pub lines : (place : ℕ) (p : Pick) → (IsConsumed (topology_kept old) e place → ⊥) → TakesAt new place p
-      → standing_at new place p ≤ standing_at old place p
-  pub one : (place : ℕ) (p : Pick) → TakesAt new place p → standing_at new place p ≤ standing_at old place p + 1
-
--- whoever could be told is told, or its turn is no further off
-abbrev pub IsToldInTurn : WithTurn → Option Pick → WithTurn → Type 0
-IsToldInTurn old told new = (place : ℕ) (p : Pick) → IsPickFrom old.kept place p → (told ≡ Some p) ⊎ (before new place p ≤ before old place p)
 
 -- Each queue that is there still has its line, wherever it stands, and the queues are gone round from the first.
 pub record LinesMove (old new : WithTurn) : Type 0 where
@@ -73,72 +73,112 @@ pub record LinesMove (old new : WithTurn) : Type 0 where
   pub lines : (from to : ℕ) → from < queues old → to < queues new → queue_name (topology_kept old) from ≡ queue_name (topology_kept new) to
       → line_at new to ≡ line_at old from
 
+-- ---- who is told
+
+-- from the queue at this place a delivery can be made to somebody
+abbrev pub CanGive : WithTurn → ℕ → Type 0
+CanGive b place = (p : Pick) × IsPickFrom b.kept place p
+
+-- A consumer of the queue at this place is told: of those that come before this queue none can give anything, and of those who stand before
+-- it in its line nobody can be given anything. It goes last, with those who stood before it; all other lines stay.
+pub record IsFirst (old : WithTurn) (told : Pick) (queue : ℕ) (new : WithTurn) : Type 0 where
+  pub could : IsPickFrom old.kept queue told
+  pub queues_before : (at : ℕ) → IsPassed (queues old) old.next queue at → CanGive old at → ⊥
+  pub next : new.next ≡ queue + 1
+  pub front : List Pick
+  pub back : List Pick
+  pub was : line_at old queue ≡ front ++ told ∷ back
+  pub now : line_at new queue ≡ back ++ front ++ told ∷ []
+  pub before : (p : Pick) → IsIn p front → IsPickFrom old.kept queue p → ⊥
+  pub others : (at : ℕ) → (at ≡ queue → ⊥) → line_at new at ≡ line_at old at
+
+-- Whoever was told and not served is told again, and nothing changes; or it is the first.
+abbrev pub IsToldInTurn : WithTurn → Pick → WithTurn → Type 0
+IsToldInTurn old told new = ((old.turn ≡ Some told) × LinesStay old new) ⊎ ((queue : ℕ) × IsFirst old told queue new)
+
 -- ---- one who waits
 
--- Another is told, though a delivery could be made to this consumer from the queue at this place.
+-- Another consumer of the queue at this place is told, though a delivery could be made to this one from it.
 pub record IsPassedOver (old new : WithTurn) (place : ℕ) (p : Pick) : Type 0 where
-  pub told : Option Pick
+  pub told : Pick
+  pub stands : Stands old place p
   pub could : IsPickFrom old.kept place p
-  pub other : told ≡ Some p → ⊥
-  pub turns : IsToldInTurn old told new
-  pub kept : new.kept ≡ old.kept
+  pub other : p ≡ told → ⊥
+  pub first : IsFirst old told place new
+
+-- One of another queue is.
+pub record IsBeside (old new : WithTurn) (place : ℕ) (p : Pick) : Type 0 where
+  pub told : Pick
+  pub queue : ℕ
+  pub far : place ≡ queue → ⊥
+  pub first : IsFirst old told queue new
 
 -- The delivery that was owed to another is made, and this consumer of the queue at this place is there still.
 pub record IsServedAnother (old new : WithTurn) (place : ℕ) (p : Pick) : Type 0 where
   pub told : Pick
   pub owed : old.turn ≡ Some told
   pub other : p ≡ told → ⊥
-  pub over : new.turn ≡ None
   pub later : NoneIsLater old new
-  pub topology : topology_kept new ≡ topology_kept old
   pub still : TakesAt new place p
 
 -- Something else is done, and this consumer of the queue at this place is there still.
 pub record IsLeft (old new : WithTurn) (place : ℕ) (p : Pick) : Type 0 where
-  pub turn : new.turn ≡ old.turn
-  pub topology : topology_kept new ≡ topology_kept old
+  pub back : NobodyIsPutBack old new
+  pub was : TakesAt old place p
   pub still : TakesAt new place p
 
--- One thing after another while the consumer of the queue at this place waits: so many deliveries were made to others, and so many
--- consumes came from its queue.
+-- One thing after another while the consumer of the queue at this place waits: so many deliveries of its queue were made to others, and one
+-- more is owed, or none.
 pub data Waits (place : ℕ) (p : Pick) (start : WithTurn) : ℕ → ℕ → WithTurn → Type 0 where
-  begins : Waits place p start 0 0 start
+  begins : Waits place p start 0 (owed start.turn) start
   -- another is told
-  passed : {served came : ℕ} {old new : WithTurn}
-      → Waits place p start served came old → IsPassedOver old new place p → Waits place p start served came new
+  passed : {served owes : ℕ} {old new : WithTurn} → Waits place p start served owes old → IsPassedOver old new place p → Waits place p start served 1 new
   -- and is served
-  other : {served came : ℕ} {old new : WithTurn}
-      → Waits place p start served came old → IsServedAnother old new place p → Waits place p start (served + 1) came new
-  -- nobody comes in before it
-  stays : {served came : ℕ} {old new : WithTurn}
-      → Waits place p start served came old → IsLeft old new place p → NoneIsLater old new → Waits place p start served came new
-  -- a consumer of another queue comes in
-  beside : {served came : ℕ} {old new : WithTurn} (e : Event) → Waits place p start served came old → IsLeft old new place p
-      → OneComesIn e old new → (IsConsumed (topology_kept old) e place → ⊥) → Waits place p start served came new
-  -- one of its own does
-  comes : {served came : ℕ} {old new : WithTurn} (e : Event)
-      → Waits place p start served came old → IsLeft old new place p → OneComesIn e old new → Waits place p start served (came + 1) new
+  other : {served owes : ℕ} {old new : WithTurn} → Waits place p start served owes old → IsServedAnother old new place p
+      → Waits place p start (served + owes) 0 new
+  -- one of another queue is told
+  beside : {served owes : ℕ} {old new : WithTurn} → Waits place p start served owes old → IsBeside old new place p → Waits place p start served 0 new
+  -- nobody is told, or the same again
+  again : {served owes : ℕ} {old new : WithTurn} → Waits place p start served owes old → LinesStay old new → Waits place p start served owes new
+  -- something else is done
+  stays : {served owes : ℕ} {old new : WithTurn} → Waits place p start served owes old → IsLeft old new place p → Waits place p start served owes new
 
--- The consumer stands in the line of the queue at this place.
-pub record Stands (b : WithTurn) (place : ℕ) (p : Pick) : Type 0 where
-  pub within : place < queues b
-  pub among : IsIn p (line_at b place)
+-- ---- a queue that waits
 
--- it was passed over by fewer deliveries than there were consumers in its line, times the queues, and one of each queue for each that
--- came in, but for the one that was owed to another
-abbrev pub IsServedSoon : WithTurn → ℕ → Pick → ℕ → ℕ → Type 0
-IsServedSoon start place p served came = served < (length (line_at start place) + came) * queues start + owed start.turn p
+-- One thing after another while the queue at this place waits: so many deliveries were made from others, and one more is owed, or none.
+pub data QueueWaits (place : ℕ) (start : WithTurn) : ℕ → ℕ → WithTurn → Type 0 where
+  begins : QueueWaits place start 0 (owed start.turn) start
+  -- a consumer of another queue is told, though this one can give something
+  passed : {served owes : ℕ} {old new : WithTurn} (told : Pick) (queue : ℕ) → QueueWaits place start served owes old → CanGive old place
+      → (place ≡ queue → ⊥) → IsFirst old told queue new → new.kept ≡ old.kept → QueueWaits place start served 1 new
+  -- and is served, or something else is done
+  other : {served owes : ℕ} {old new : WithTurn} → QueueWaits place start served owes old → new.next ≡ old.next
+      → topology_kept new ≡ topology_kept old → QueueWaits place start (served + owes) 0 new
+  -- nothing is delivered
+  stays : {served owes : ℕ} {old new : WithTurn} → QueueWaits place start served owes old → new.next ≡ old.next
+      → topology_kept new ≡ topology_kept old → QueueWaits place start served owes new
+
+-- ---- the bound
+
+-- Of one who waits its queue made fewer deliveries to others than it had consumers as it began, but for one that was owed.
+abbrev pub IsServedSoon : WithTurn → ℕ → ℕ → ℕ → Type 0
+IsServedSoon start place served owes = served + owes < length (line_at start place) + owed start.turn
+
+-- whoever waits while this consumer is told and served was passed over by so few deliveries of its queue, this one among them
+abbrev pub ServesSoon : WithTurn → Pick → Type 0
+ServesSoon old told = (place : ℕ) (p : Pick) (start : WithTurn) (served owes : ℕ) → Stands start place p → Waits place p start served owes old
+    → IsServedSoon start place served owes
 
 -- Nobody waits for ever while others are served:
 pub record NobodyWaits : Type 0 where
-  -- whoever waits is nearer by one with each delivery to another, and further by one of each queue with each consumer that comes in
-  pub nearer : (place : ℕ) (p : Pick) (start now : WithTurn) (served came : ℕ) → Waits place p start served came now
-      → served + before now place p ≤ before start place p + came * queues start
-  -- so it is passed over so often at most
-  pub fewer : (place : ℕ) (p : Pick) (start now : WithTurn) (served came : ℕ) → Stands start place p → Waits place p start served came now
-      → IsServedSoon start place p served came
-
--- whoever waits while this consumer is told and served was passed over by so few deliveries, this one among them
-abbrev pub ServesSoon : WithTurn → Pick → Type 0
-ServesSoon old told = (place : ℕ) (p : Pick) (start : WithTurn) (served came : ℕ) → Stands start place p → Waits place p start served came old
-    → old.turn ≡ Some told → (p ≡ told → ⊥) → IsServedSoon start place p (served + 1) came
+  -- whoever waits is nearer by one with each delivery of its queue to another, and by nothing further
+  pub nearer : (place : ℕ) (p : Pick) (start now : WithTurn) (served owes : ℕ) → Waits place p start served owes now
+      → served + owes + standing_at now place p ≤ standing_at start place p + owed start.turn
+  -- so its queue makes fewer deliveries to others than it has consumers, but for one that was owed
+  pub fewer : (place : ℕ) (p : Pick) (start now : WithTurn) (served owes : ℕ) → Stands start place p → Waits place p start served owes now
+      → IsServedSoon start place served owes
+  -- as each delivery finds it
+  pub soon : (b : WithTurn) (told : Pick) → ServesSoon b told
+  -- and a queue that can give something is passed over by fewer deliveries than there are queues, but for one that was owed
+  pub queue : (place : ℕ) (start now : WithTurn) (served owes : ℕ) → place < queues start → QueueWaits place start served owes now
+      → served + owes < queues start + owed start.turn

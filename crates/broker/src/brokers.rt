@@ -79,7 +79,7 @@ impl Broker {
     ghost use Rattle.commands.specs.Picked.{IsPick};
     ghost use Rattle.commands.specs.declared.picks.Pick.{Pick as Consumer};
     ghost use Rattle.broker.specs.Turns.{broker_of, topology_kept};
-    ghost use Rattle.broker.specs.Waiting.{AllStand, WaitersAreConsumers, NoneIsLater, OneComesIn, IsToldInTurn, LinesMove, ServesSoon};
+    ghost use Rattle.broker.specs.Waiting.{AllStand, WaitersAreConsumers, NobodyIsPutBack, NoneIsLater, LinesStay, IsToldInTurn, LinesMove, ServesSoon};
     ghost use Rattle.replies.specs.Sent.{AreAddressed, connection_of_event};
 
     /// The broker of this topology: its queues are empty, and no connection runs.
@@ -105,17 +105,17 @@ impl Broker {
         self.core.is_kept();
     }
 
-    /// One event: what it sends, what it notes, and the state after it. Where the event's method has a spelling, each send
-    /// is for the event's own connection, by a method with a spelling. Nobody's turn is further off, but for one consumer more before
-    /// it where the event is a consume from its queue. No waiter is kept but of a consumer that is there. Where memory is wanting, nothing
-    /// has changed; an opening, a loss, a pause and its end, a command that is ignored, and a rejection that requeues want none.
+    /// Performs `event`, and returns what it sends and notes. If the event's method has a spelling, each send is for the event's own
+    /// connection, by a method with a spelling. Nobody is put back in a line: a new consumer is behind all others of its queue. No waiter
+    /// is kept but of a consumer that is there. Fails only if an allocation fails; nothing has changed then. An opening, a loss, a pause and
+    /// its end, a command that is ignored, and a rejection that requeues never allocate.
     pub fn step(&mut self, alloc: Global, event: &Event) -> Result<Step, AllocError>
         requires asked { IsAsked event.now }
         ensures ok { IfOk result (λ s. Acts (topology_kept self.old) (broker_of self.old) event.now s.sends.items s.notes.items (broker_of self.new)) }
         ensures addressed { IfOk result (λ s. IsSaid event.now → AreCarried (broker_of self.old) → AreAddressed (connection_of_event event.now) s.sends.items) }
         ensures topology { topology_kept self.new ≡ topology_kept self.old }
         ensures turn { self.new.turn ≡ self.old.turn }
-        ensures later { OnOk result (OneComesIn event.now self.old self.new) }
+        ensures later { OnOk result (NobodyIsPutBack self.old self.new) }
         ensures own { WaitersAreConsumers self.new }
         ensures err { OnErr result (self.new ≡ self.old) }
         ensures quiet { WantsNoMemory (topology_kept self.old) (broker_of self.old) event.now → IsOk result }
@@ -141,15 +141,16 @@ impl Broker {
         self.core.lagged()
     }
 
-    /// A delivery that can be made, if there is any: whose turn it is from now on. As long as nothing is delivered, and a delivery
-    /// can be made to it, the same is told again. Else queues that have something ready are gone round, from the one behind that
-    /// from which was told last, and so are the consumers of a queue: whoever could be told is told, or its turn is no further off.
-    /// It takes no memory.
+    /// Returns the consumer to which the next delivery can be made, and gives it the turn; `None` if there is none. Until something is
+    /// delivered, it is the same consumer again, as long as a delivery can be made to it. Otherwise it is the first in line of the first queue,
+    /// from the one behind that from which was told last, from which a delivery can be made. It goes to the back of its line, with those who
+    /// were before it; all other lines stay. If nobody is told, every line stays. Never allocates.
     pub fn pick(&mut self) -> Option<Pick>
         ensures kept { self.new.kept ≡ self.old.kept }
         ensures turn { self.new.turn ≡ result }
         ensures stand { AllStand self.old }
-        ensures in_turn { IsToldInTurn self.old result self.new }
+        ensures in_turn { IfSome result (λ p. IsToldInTurn self.old p self.new) }
+        ensures stay { result ≡ None → LinesStay self.old self.new }
         ensures again { (p : Consumer) → self.old.turn ≡ Some p → IsPick (broker_of self.old) p → result ≡ Some p }
         ensures some { IfSome result (λ p. IsPick (broker_of self.old) p) }
         ensures none { result ≡ None → (c : ℕ) → CanDeliver (broker_of self.old) c → ⊥ }
@@ -164,7 +165,8 @@ impl Broker {
     fn find(&mut self) -> Option<Pick>
         ensures kept { self.new.kept ≡ self.old.kept }
         ensures turn { self.new.turn ≡ result }
-        ensures in_turn { IsToldInTurn self.old result self.new }
+        ensures in_turn { IfSome result (λ p. IsToldInTurn self.old p self.new) }
+        ensures stay { result ≡ None → LinesStay self.old self.new }
         ensures some { IfSome result (λ p. IsPick (broker_of self.old) p) }
         ensures none { result ≡ None → (c : ℕ) → CanDeliver (broker_of self.old) c → ⊥ }
     {
@@ -173,7 +175,7 @@ impl Broker {
     }
 
     /// The delivery that was picked is made: the first ready message of the consumer's queue goes to it, and its turn is over.
-    /// Whoever waits meanwhile is passed over by few deliveries only, this one among them.
+    /// Whoever waits meanwhile in the same line is passed over by fewer deliveries than it has consumers, this one among them.
     /// Where each message can be given out and consumers are named, the send is for the consumer's own connection, by a method
     /// with a spelling. Where memory is wanting, nothing has changed: it is the turn of the same consumer still.
     pub fn pump(&mut self, alloc: Global, pick: Pick) -> Result<Step, AllocError>

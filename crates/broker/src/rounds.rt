@@ -73,7 +73,7 @@ impl ConsumerRounds {
     ghost use Rattle.commands.specs.Picked.{IsPickFrom};
     ghost use Rattle.commands.specs.Seats.{seat_of};
     ghost use Rattle.broker.specs.Rounds.{is_of, wakes, AllAreNoted, AllListedAreThere, IsAt, IsInItsRound, IsExpected, CanJoin, HasJoined};
-    ghost use Rattle.broker.specs.Rounds.{KeepLists, ListsRunning, KeepsWaiters, KeepsAll, KeepLines, AllAddTheirOwn, LeaveLines, AllWaken, WakesWaiter};
+    ghost use Rattle.broker.specs.Rounds.{KeepLists, ListsRunning, KeepsWaiters, KeepsAll, AllAddTheirOwn, LeaveLines, AllWaken, WakesWaiter};
     ghost use Rattle.broker.specs.Rounds.{NotesStay, SameListed, ListsItsOwn, ListingsLeave, HasNoList, MakesNoList, PicksFirst, GoesOn, AllAreEmpty};
     ghost use Rattle.broker.specs.Moving.{ArePlacesApart, RoundsAreMoved, LinesCome, ListsAreMoved};
 
@@ -132,7 +132,6 @@ impl ConsumerRounds {
         ensures none { MakesNoList self.old.lists self.new.lists }
         ensures len { length self.new.rounds ≡ length self.old.rounds }
         ensures next { self.new.next ≡ self.old.next }
-        ensures lines { KeepLines self.old.rounds self.new.rounds }
         ensures adds { AllAddTheirOwn core.now self.old.rounds self.new.rounds }
     {
         let Some(Newcomer { queue, consumer }) = newcomer else {

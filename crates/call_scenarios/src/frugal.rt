@@ -37,19 +37,37 @@ const LONG_KEY: &[u8] = &[97; 256];
 /// What the first connection of an engine was put out, behind its first four bytes: consume-ok of the consumer `t`.
 const CONSUMED: &[u8] = b"\x00\x00\x06\x00\x3c\x00\x15\x01t\xce";
 
-/// What calls that take no memory are made of.
+/// What is in force, who may log in, and a refutation that refutes nothing.
 #[derive(Drop)]
-pub(crate) struct Frugal {
+struct Judged {
     checked: Checked,
     users: Vec<User>,
     long: Refutation,
+}
+
+/// A stream that broke, a channel, and a queue with the message that comes to it.
+#[derive(Drop)]
+struct Parts {
     stream: Stream,
     channel: Channel,
     queue: Indexed,
     message: Option<Message>,
+}
+
+/// A broker, an engine, and what the engine can't put in force.
+#[derive(Drop)]
+struct Machines {
     broker: Broker,
     engine: Engine,
     lacking: Option<Checked>,
+}
+
+/// What calls that take no memory are made of. A function that makes many values that are dropped is slow to prove, so they stand in three.
+#[derive(Drop)]
+pub(crate) struct Frugal {
+    judged: Judged,
+    parts: Parts,
+    machines: Machines,
 }
 
 /// A stream that met a frame that is too long.
@@ -144,25 +162,13 @@ fn expect_session() -> Result<(), Unmet> {
     expect("a session that was ended is over", session.is_over())
 }
 
-impl Frugal {
-    /// All of it, for which memory is wanted.
-    pub(crate) fn new(alloc: Global) -> Result<Frugal, Unmet> {
-        let (publish, content) = publish();
-        let message = value_of(
-            "Message::of_publish",
-            Message::of_publish(alloc, 1, &publish, &content),
-        )?;
-        Ok(Frugal {
+impl Judged {
+    /// All three.
+    fn new(alloc: Global) -> Result<Judged, Unmet> {
+        Ok(Judged {
             checked: checked(alloc)?,
             users: value_of("users", users(alloc))?,
             long: value_of("too_long", too_long(alloc))?,
-            stream: broken_stream(alloc)?,
-            channel: roomy_channel(alloc)?,
-            queue: roomy_queue(alloc)?,
-            message: Some(message),
-            broker: holding_broker(alloc)?,
-            engine: new_engine(alloc)?,
-            lacking: Some(without_queues(alloc)?),
         })
     }
 
@@ -188,6 +194,23 @@ impl Frugal {
         expect("the right password is accepted", right)?;
         let wrong = accepts(&self.users, b"PLAIN", b"\x00bob\x00blunder");
         expect("a wrong one is not", !wrong)
+    }
+}
+
+impl Parts {
+    /// All four.
+    fn new(alloc: Global) -> Result<Parts, Unmet> {
+        let (publish, content) = publish();
+        let message = value_of(
+            "Message::of_publish",
+            Message::of_publish(alloc, 1, &publish, &content),
+        )?;
+        Ok(Parts {
+            stream: broken_stream(alloc)?,
+            channel: roomy_channel(alloc)?,
+            queue: roomy_queue(alloc)?,
+            message: Some(message),
+        })
     }
 
     /// A stream that broke tells so again, whatever is set.
@@ -243,6 +266,17 @@ impl Frugal {
         expect("it is released", self.queue.release(&holder, arrival))?;
         expect("it is taken out", self.queue.take_first().is_some())
     }
+}
+
+impl Machines {
+    /// All three.
+    fn new(alloc: Global) -> Result<Machines, Unmet> {
+        Ok(Machines {
+            broker: holding_broker(alloc)?,
+            engine: new_engine(alloc)?,
+            lacking: Some(without_queues(alloc)?),
+        })
+    }
 
     /// A rejection requeues what is held, and nothing can be delivered; the connection is paused, goes on, and is lost.
     fn expect_broker(&mut self, alloc: Global) -> Result<(), Unmet> {
@@ -293,24 +327,35 @@ impl Frugal {
         let pump = matches!(self.engine.pump(alloc), Ok(None));
         expect("nothing can be delivered", pump)
     }
+}
+
+impl Frugal {
+    /// All of it, for which memory is wanted.
+    pub(crate) fn new(alloc: Global) -> Result<Frugal, Unmet> {
+        Ok(Frugal {
+            judged: Judged::new(alloc)?,
+            parts: Parts::new(alloc)?,
+            machines: Machines::new(alloc)?,
+        })
+    }
 
     /// Makes each call. What some of them give back is taken before the next.
     pub(crate) fn expect_all(&mut self, alloc: Global, room: &mut Room) -> Result<(), Unmet> {
         expect_wire()?;
-        self.expect_logins()?;
+        self.judged.expect_logins()?;
         expect_session()?;
-        self.expect_checked(alloc)?;
-        self.expect_stream()?;
-        self.expect_channel()?;
+        self.judged.expect_checked(alloc)?;
+        self.parts.expect_stream()?;
+        self.parts.expect_channel()?;
         room.take_all(alloc);
-        self.expect_engine(alloc)?;
+        self.machines.expect_engine(alloc)?;
         room.take_all(alloc);
-        self.expect_broker(alloc)?;
+        self.machines.expect_broker(alloc)?;
         room.take_all(alloc);
-        self.expect_queue()?;
+        self.parts.expect_queue()?;
         room.take_all(alloc);
-        self.expect_reload(alloc)?;
+        self.machines.expect_reload(alloc)?;
         room.take_all(alloc);
-        self.expect_loss(alloc, room)
+        self.machines.expect_loss(alloc, room)
     }
 }

@@ -5,6 +5,7 @@ ghost use Rattle.model.specs.Words.{Text as Name};
 ghost use Rattle.model.specs.Consuming.{is_in_use, without_consumer};
 ghost use Rattle.model.specs.Step.{started, next_of, is_spent};
 ghost use Rattle.model.specs.Prefetch.{has_tag_left};
+ghost use Rattle.model.specs.Settling.{settled};
 ghost use Rattle.model.specs.Placed.{waiting};
 ghost use Rattle.channels.specs.Spans.{settled_by, TellsSpan};
 ghost use Rattle.channels.specs.Deliveries.{nothing_given, may_be_given, consumer_at};
@@ -12,9 +13,11 @@ ghost use Rattle.channels.specs.Open.{with_qos, given_on, settled_on, without_se
 ghost use Rattle.channels.specs.Open.{JudgesConsumer, SeatsConsumer, IsOne, TellsTaker};
 ghost use Rattle.channels.specs.Consumers.{AreBelow};
 ghost use Rattle.channels.specs.Moving.{open_moved};
+ghost use Rattle.channels.specs.Outstanding.{tag_of};
 
 use crate::consumers::{Consumer, SeatRefusal, Unseated};
 use crate::deliveries::Deliveries;
+use crate::settled::Settled;
 use crate::spans::Span;
 use laws::next_tags_are_found;
 use model::{Consume, Delivery, Qos, Taker, Text};
@@ -288,6 +291,29 @@ impl Channel {
         ensures room { self.old.given.room ≤ self.new.given.room }
     {
         self.deliveries.forget_span(span);
+    }
+
+    /// Returns the deliveries that `tag` settles, in tag order, or `None` if the tag is refused, with 406: with `multiple` all up to
+    /// `tag`, which must itself be outstanding, and for tag 0 all that are outstanding; otherwise the one of this tag. Never
+    /// allocates. Source: AMQP 0-9-1, basic.ack.
+    pub fn settle(&self, tag: u64, multiple: bool) -> Option<Settled<'_>>
+        ensures { result ≡ settled tag_of tag multiple self.now.given.outstanding }
+    {
+        let span = self.span(tag, multiple)?;
+        Some(Settled::among(self.at(span)))
+    }
+
+    /// Removes the deliveries that `tag` settles, as [`Channel::settle`] returns them, and none if the tag is refused. Never
+    /// allocates. Source: AMQP 0-9-1, basic.ack.
+    pub fn forget(&mut self, tag: u64, multiple: bool)
+        ensures settled { self.new ≡ without_settled self.old tag multiple self.new.given.room }
+        ensures room { self.old.given.room ≤ self.new.given.room }
+    {
+        self.forget_span(Span {
+            tag,
+            multiple,
+            place: 0,
+        });
     }
 
     /// Each queue that stood at a place of the table stands now at the place that it has there. It takes no memory.

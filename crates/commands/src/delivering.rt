@@ -39,7 +39,7 @@ pub(crate) fn deliver_on(
     let place = consumer.queue;
     let no_ack = consumer.no_ack;
     depot.is_named(place);
-    let Some(entry) = depot.first_ready(place) else {
+    let Some(entry) = depot.first_ready_at(place) else {
         return Ok(Step::nothing(alloc));
     };
     let tag = channel.next_tag();

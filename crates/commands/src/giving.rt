@@ -40,7 +40,7 @@ pub(crate) fn give_out(
     if no_ack {
         let name = depot.topology().queue(place).name.clone()?;
         notes.reserve_exact(1)?;
-        depot.take(place, Giving::Out(name), notes);
+        depot.take_at(place, Giving::Out(name), notes);
         channel.give_settled();
         return Ok(());
     }
@@ -51,7 +51,7 @@ pub(crate) fn give_out(
         tag: channel.next_tag(),
         by,
     };
-    let Some(arrival) = depot.take(place, Giving::Held(holder), notes) else {
+    let Some(arrival) = depot.take_at(place, Giving::Held(holder), notes) else {
         return Ok(());
     };
     channel.give(place, arrival, by);

@@ -1,3 +1,4 @@
+pub mod Absent
 pub mod Alike
 pub mod Alone
 pub mod Behind

@@ -1,12 +1,14 @@
 -- What it leaves that the first ready message of a queue is given out: it is held, or it leaves the queue where it needs no
 -- acknowledgement (AMQP 0-9-1, basic.get and basic.consume, "no-ack").
 use Rattle.std.specs.Prelude.{◌≡◌, ◌<◌, ℕ, List, [], Option, None, is_some, find}
+use Rattle.model.specs.Words.{Text}
 use Rattle.model.specs.Broker.{is_ready}
 use Rattle.model.specs.Entries.{is_held_as, held_as, change_first, without_first}
-use Rattle.model.specs.Deliveries.{left_note}
+use Rattle.model.specs.Deliveries.{left_note, with_queue}
 use Rattle.model.specs.declared.messages.Entry.{Entry}
 use Rattle.model.specs.declared.notes.Cause.TheVariants.{Auto}
 use Rattle.model.specs.declared.notes.Note.{Note}
+use Rattle.depot.specs.Store.{Store, entries_named}
 use Rattle.depot.specs.declared.givings.Giving.{Giving}
 use Rattle.depot.specs.declared.givings.Giving.TheVariants.{Held, Out}
 
@@ -34,3 +36,9 @@ given_notes (Out queue) first = left_note Auto queue first
 abbrev pub TellsArrival : Giving → Option Entry → Option ℕ → Type 0
 TellsArrival (Held holder) first told = is_some told ≡ is_some first
 TellsArrival (Out queue) first told = told ≡ None
+
+-- The queue of this name has what is left once its first ready message is given out so, if it is there and has one; all else stays.
+pub record IsTakenFrom (old : Store) (name : Text) (how : Giving) (new : Store) : Type 0 where
+  pub queues : (q : Text) → entries_named new q ≡ with_queue (entries_named old) name (given_so how (entries_named old name)) q
+  pub counted : new.published ≡ old.published
+  pub topology : new.topology ≡ old.topology

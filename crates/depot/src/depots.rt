@@ -87,7 +87,7 @@ impl Depot {
     ghost use Rattle.model.specs.Entries.{is_held_as};
     ghost use Rattle.queue.specs.Line.{ready_count};
     ghost use Rattle.depot.specs.Store.{entries_named, queue_at, with_entries_at, IsStoreWhole, IsQueueNamed, IsNextReady};
-    ghost use Rattle.depot.specs.Givings.{CanGive, HasRoomFor, TellsArrival, given_notes, given_so};
+    ghost use Rattle.depot.specs.Givings.{CanGive, HasRoomFor, IsTakenFrom, TellsArrival, given_notes, given_so};
     ghost use Rattle.model.specs.Topology.{queue_names};
     ghost use Rattle.model.specs.Reloading.{stood_now};
     ghost use Rattle.model.specs.Words.{Text};
@@ -278,6 +278,53 @@ impl Depot {
         Some(self.ready_at(place))
     }
 
+    /// Returns the first message of the queue `name` that can be given out, or `None` if there is none or no such queue. Never
+    /// allocates.
+    pub fn first_ready(&self, name: &[u8]) -> Option<&Entry>
+        ensures { option_map (λ e. e.now) result ≡ find is_ready (entries_named self.now name.now) }
+    {
+        self.is_whole();
+        let place = self.topology().queue_at(name)?;
+        self.is_named(place);
+        self.first_ready_at(place)
+    }
+
+    /// Gives out the first ready message of the queue `name`, as [`Depot::take_at`] does. Does nothing and returns `None` if there
+    /// is no such queue. Never allocates.
+    pub fn take(&mut self, name: &[u8], how: Giving, notes: &mut Vec<Note>) -> Option<u64>
+        requires free { CanGive how (entries_named self.old name.now) }
+        requires room { HasRoomFor how (vec_len notes.old) (vec_capacity notes.old) }
+        ensures told { TellsArrival how (find is_ready (entries_named self.old name.now)) result }
+        ensures taken { IsTakenFrom self.old name.now how self.new }
+        ensures notes { notes.new.items ≡ notes.old.items ++ given_notes how (find is_ready (entries_named self.old name.now)) }
+    {
+        let Some(place) = self.topology().queue_at(name) else {
+            return None;
+        };
+        self.is_named(place);
+        self.take_at(place, how, notes)
+    }
+
+    /// Purges the queue `name`, as [`Depot::purge_at`] does, and returns how many messages left it: 0 if there is no such queue.
+    /// Fails only if an allocation fails; nothing has changed then but that there may be more capacity.
+    pub fn purge(
+        &mut self,
+        alloc: Global,
+        name: &[u8],
+        notes: &mut Vec<Note>,
+    ) -> Result<usize, AllocError>
+        ensures ok { IfOk result (λ count. IsPurgedBy self.old name.now notes.old.items notes.new.items count self.new) }
+        ensures store { OnErr result (self.new ≡ self.old) }
+        ensures notes { OnErr result (notes.new.items ≡ notes.old.items) }
+        ensures wanted { OnErr result (0 < ready_count (entries_named self.old name.now)) }
+    {
+        let Some(place) = self.topology().queue_at(name) else {
+            return Ok(0);
+        };
+        self.is_named(place);
+        self.purge_at(alloc, place, notes)
+    }
+
     /// What every depot keeps.
     pub fn is_whole(&self)
         ensures { IsStoreWhole self.now }
@@ -310,7 +357,7 @@ impl Depot {
     }
 
     /// The first message of the queue at this place that can be given out.
-    pub fn first_ready(&self, place: usize) -> Option<&Entry>
+    pub fn first_ready_at(&self, place: usize) -> Option<&Entry>
         requires { place < length self.now.topology.queues }
         ensures { option_map (λ e. e.now) result ≡ find is_ready (queue_at self.now place) }
     {
@@ -320,7 +367,7 @@ impl Depot {
     /// The first ready message of the queue at this place is given out, if there is one: it is held from now on, and the number
     /// of its arrival is told, by which it is found again at once; or it leaves the queue, and the notes tell of it. Nothing is
     /// held there under this tag yet, and there is room for the note. It takes no memory.
-    pub fn take(&mut self, place: usize, how: Giving, notes: &mut Vec<Note>) -> Option<u64>
+    pub fn take_at(&mut self, place: usize, how: Giving, notes: &mut Vec<Note>) -> Option<u64>
         requires within { place < length self.old.topology.queues }
         requires free { CanGive how (queue_at self.old place) }
         requires room { HasRoomFor how (vec_len notes.old) (vec_capacity notes.old) }
@@ -336,7 +383,7 @@ impl Depot {
     }
 
     /// The message of the queue at this place that is held under this tag. It is found at once by the number of its arrival,
-    /// as `take` told it.
+    /// as `take_at` told it.
     pub fn held(&self, place: usize, holder: &Holder, arrival: u64) -> Option<&Entry>
         requires { place < length self.now.topology.queues }
         ensures { option_map (λ e. e.now) result ≡ find (is_held_as holder.now) (queue_at self.now place) }
@@ -347,7 +394,7 @@ impl Depot {
     /// The ready messages of the queue at this place leave it by a purge, in the order in which they arrived, and the notes tell
     /// of each. What is held stays. Tells how many they are. Memory is wanting only where there is such a message. Then nothing
     /// has changed but that there may be more room.
-    pub fn purge(
+    pub fn purge_at(
         &mut self,
         alloc: Global,
         place: usize,

@@ -169,8 +169,10 @@ fn enter_at(
     ensures notes_capacity { vec_capacity notes.new ≡ vec_capacity notes.old }
 {
     let place = turn.place;
+    // a dead letter comes by a consumer's answer, whose reads it doesn't slow
+    let is_dead = matches!(way, Way::Dead);
     let is_refused = enter(&declared[place], queues.queue_mut(place), turn, way, notes);
-    queues.count_coming(place, is_refused);
+    queues.count_coming(place, is_refused || is_dead);
     is_refused
 }
 

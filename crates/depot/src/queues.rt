@@ -153,11 +153,11 @@ impl Queues {
         next_in(&self.queues, &self.signs, self.lent, from)
     }
 
-    /// A message came to the queue at this place, unless it was refused there.
-    pub(crate) fn count_coming(&mut self, place: usize, is_refused: bool)
+    /// Counts a message that came to the queue at this place if that lags, unless `is_exempt`.
+    pub(crate) fn count_coming(&mut self, place: usize, is_exempt: bool)
         ensures { self.new ≡ self.old }
     {
-        self.lags.come(place, is_refused);
+        self.lags.come(place, is_exempt);
     }
 
     /// A message was taken from the queue at this place, behind which so many can be given out.

@@ -8,17 +8,17 @@ use Rattle.model.specs.Arrivals.{Wire, Reads, is_ended}
 use Rattle.model.specs.declared.events.Command.{Command}
 use Rattle.model.specs.declared.events.Event.{Event}
 use Rattle.assembly.specs.Held.{stream_of}
-use Rattle.commands.specs.Picked.{IsPick, IsPickFrom}
+use Rattle.commands.specs.Picked.{IsPick}
+use Rattle.commands.specs.State as core
 use Rattle.commands.specs.declared.picks.Pick.{Pick}
 use Rattle.broker.specs.Turns.{WithTurn, topology_kept, broker_of}
-use Rattle.broker.specs.Waiting.{NoneIsLater, OneComesIn, IsToldInTurn, IsPassedOver, ServesSoon}
-use Rattle.broker.specs.Waiting.Waits.{passed, other}
+use Rattle.broker.specs.Waiting.{NobodyIsPutBack, NoneIsLater, IsToldInTurn, ServesSoon}
 use Rattle.engine.specs.Performing.{Rules, rules_of}
 use Rattle.engine.specs.Reading.{kept_of, ComesNext}
 use Rattle.engine.specs.Turning.{DidEvent, DidNext}
 use Rattle.engine.specs.World.{Parts, connection_in, wire_in, wire_of, world_of, IsEngine}
 use Rattle.engine.specs.Engines.{IsConnectionPlace, ConnectionsTook}
-use Rattle.engine.specs.Waiting.{KeepsTurns, PerformsNext, TurnLeaves, KeepsTold, ServesOne}
+use Rattle.engine.specs.Waiting.{KeepsTurns, PerformsNext, TurnLeaves, KeepsTold, TellsOne, ServesOne}
 use Rattle.engine.specs.declared.connection.Connection.{Connection}
 use Rattle.engine.specs.declared.turning.Turn.{Turn}
 use Rattle.engine.specs.declared.turning.Turn.TheVariants as turn
@@ -47,22 +47,14 @@ turns_same b = record { turn = refl; topology = refl; later = same_later b }
 pub turns_if : (old new : WithTurn) → new ≡ old → KeepsTurns old new
 turns_if old new same = subst (λ (b : WithTurn). KeepsTurns old b) (sym same) (turns_same old)
 
-pub later_is_one : (e : Event) (old new : WithTurn) → NoneIsLater old new → OneComesIn e old new
-later_is_one e old new later = record {
-  next = later.next;
-  lines = λ place p none takes. later.lines place p takes;
-  one = λ place p takes. let le = later.lines place p takes in omega (arith, le);
-}
+pub none_back : (old new : WithTurn) → NoneIsLater old new → NobodyIsPutBack old new
+none_back old new later = record { next = later.next; lines = λ place p had takes. later.lines place p takes }
 
-pub one_then : (e : Event) (old mid new : WithTurn) → OneComesIn e old mid → NoneIsLater mid new → OneComesIn e old new
-one_then e old mid new first last = record {
+pub back_then : (old mid new : WithTurn) → NobodyIsPutBack old mid → NoneIsLater mid new → NobodyIsPutBack old new
+back_then old mid new first last = record {
   next = last.next ∙ first.next;
-  lines = λ place p none takes.
-      let one = first.lines place p none (last.took place p takes) in
-      let two = last.lines place p takes in
-      omega (arith, one, two);
-  one = λ place p takes.
-      let one = first.one place p (last.took place p takes) in
+  lines = λ place p had takes.
+      let one = first.lines place p had (last.took place p takes) in
       let two = last.lines place p takes in
       omega (arith, one, two);
 }
@@ -71,9 +63,9 @@ one_then e old mid new first last = record {
 
 -- what is performed is what the connection says next
 pub did_leaves : (c : ℕ) (w : Wire) (next : Stream) (e : Event) (r : Rules) (l l' : Connection) (what : Turn) (old new : WithTurn) → Reads c w.kept w.stream e next
-    → DidEvent r (broker_of old) l e what (broker_of new) l' → new.turn ≡ old.turn → topology_kept new ≡ topology_kept old → OneComesIn e old new → TurnLeaves c w old what new
+    → DidEvent r (broker_of old) l e what (broker_of new) l' → new.turn ≡ old.turn → topology_kept new ≡ topology_kept old → NobodyIsPutBack old new → TurnLeaves c w old what new
 did_leaves c w next e r l l' (turn.Did notes) old new read did same topology later =
-    record { event = e; next = next; read = read; turn = same; topology = topology; later = later }
+    record { event = e; next = next; read = read; turn = same; topology = topology; back = later }
 did_leaves c w next e r l l' turn.Idle old new read did same topology later = absurd did
 did_leaves c w next e r l l' turn.Paused old new read did same topology later = absurd did
 did_leaves c w next e r l l' turn.Over old new read did same topology later = absurd did
@@ -116,22 +108,20 @@ leaves_at (Err x) p c i b ls new e place t leaves = tt
 pub told_again : (old : WithTurn) (told : Pick) → ((p : Pick) → old.turn ≡ Some p → IsPick (broker_of old) p → Some told ≡ Some p) → KeepsTold old told
 told_again old told again p had could = same_Some told p (again p had could)
 
--- another is told
-passes : (old mid : WithTurn) (told : Pick) (place : ℕ) (p : Pick) → mid.kept ≡ old.kept → IsToldInTurn old (Some told) mid → IsPickFrom old.kept place p → (p ≡ told → ⊥) → IsPassedOver old mid place p
-passes old mid told place p kept turns could far = record { told = Some told; could = could; other = λ same. far (sym (same_Some told p same)); turns = turns; kept = kept }
+-- who is told, and whether it is served or not
+pub tells_one : (old mid : WithTurn) (told : Pick) → mid.kept ≡ old.kept → IsToldInTurn old told mid → mid.turn ≡ Some told
+    → ((p : Pick) → old.turn ≡ Some p → IsPick (broker_of old) p → Some told ≡ Some p) → TellsOne old mid
+tells_one old mid told kept turns has again = record { told = told; again = told_again old told again; turn = has; kept = kept; in_turn = turns }
 
-pub serves_one : (old mid new : WithTurn) (told : Pick) → mid.kept ≡ old.kept → IsToldInTurn old (Some told) mid → mid.turn ≡ Some told
+pub serves_one : (old mid new : WithTurn) (told : Pick) → mid.kept ≡ old.kept → IsToldInTurn old told mid → mid.turn ≡ Some told
     → ((p : Pick) → old.turn ≡ Some p → IsPick (broker_of old) p → Some told ≡ Some p) → NoneIsLater mid new → topology_kept new ≡ topology_kept mid → new.turn ≡ None → ServesSoon mid told
     → ServesOne old told.connection new
 serves_one old mid new told kept turns has again later topology over soon = record {
-  told = told;
+  mid = mid;
+  told = record { told = told; again = told_again old told again; turn = has; kept = kept; in_turn = turns };
   its = refl;
-  again = told_again old told again;
   over = over;
-  others = λ place p could far.
-      let by = passes old mid told place p kept turns could far in
-      record {
-        soon = λ start served came stands w. soon place p start served came stands (passed w by) has far;
-        on = λ start served came w still. other (passed w by) (record { told = told; owed = has; other = far; over = over; later = later; topology = topology; still = still });
-      };
+  topology = topology ∙ ap core.topology_kept kept;
+  later = later;
+  soon = soon;
 }

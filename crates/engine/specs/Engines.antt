@@ -1,5 +1,6 @@
 -- What the calls of an engine come to, from single connections to the world.
-use Rattle.std.specs.Prelude.{◌≡◌, ◌+◌, ◌<◌, ℕ, List, [], ◌∷◌, ◌++◌, length, drop, true, false, Option, Some, None, Result, Ok, Err, if◌then◌else◌, get_or, set}
+use Rattle.std.specs.Prelude.{◌≡◌, ◌+◌, ◌≤◌, ◌<◌, ℕ, List, [], ◌∷◌, ◌++◌, length, drop, true, false, Option, Some, None, Result, Ok}
+use Rattle.std.specs.Prelude.{Err, if◌then◌else◌, get_or, set}
 use Rattle.std.specs.List.{remove}
 use Rattle.model.specs.Topology.{Topology}
 use Rattle.model.specs.Broker.{Broker, with_one}
@@ -90,6 +91,10 @@ IsStanding ls i = (l : Connection) → get_or ls i l ≡ l → is_connection_gon
 pub record IsSwept (ls : List Connection) (i : ℕ) (l : Connection) (new_ls : List Connection) : Type 0 where
   pub left : new_ls ≡ (if is_connection_gone l then remove ls i else ls)
   pub over : is_connection_gone l ≡ true → l.session ≡ no_session
+
+-- one storage more is spare, that of the connection's output, if it has one of the usual size and few are
+abbrev pub IsSpared : ℕ → Connection → ℕ → Type 0
+IsSpared old l new = 0 < l.output.storage → l.output.storage ≤ 1125536 → old ≤ 16 → new ≡ old + 1
 
 -- The connection at this place became this one.
 pub record Changes (ls : List Connection) (i : ℕ) (old new : Connection) (new_ls : List Connection) : Type 0 where

@@ -10,7 +10,7 @@ use Rattle.model.specs.declared.events.Send.{Send}
 use Rattle.model.specs.declared.events.Event.{Event}
 use Rattle.model.specs.declared.notes.Note.{Note}
 use Rattle.broker.specs.Turns.{WithTurn, broker_of}
-use Rattle.broker.specs.Waiting.{OneComesIn}
+use Rattle.broker.specs.Waiting.{NobodyIsPutBack}
 use Rattle.assembly.specs.Held.{stream_of}
 use Rattle.outputs.specs.Waiting.{HoldsNone}
 use Rattle.engine.specs.Performing.{Rules, DecidesByPhase, PausesOr}
@@ -72,7 +72,7 @@ pub record DidNothing (b : WithTurn) (old : Connection) (what : Turn) (new_b : W
 
 -- the turn performed what was kept, if something was
 abbrev pub DidNext : Rules → WithTurn → Connection → (kept : Option Event) → Turn → WithTurn → Connection → Type 0
-DidNext r b old (Some event) what new_b new = DidEvent r (broker_of b) old event what (broker_of new_b) new × OneComesIn event b new_b
+DidNext r b old (Some event) what new_b new = DidEvent r (broker_of b) old event what (broker_of new_b) new × NobodyIsPutBack b new_b
 DidNext r b old None what new_b new = DidNothing b old what new_b new
 
 -- What was read was performed; nothing is kept, and what follows is what the stream says next, in frames as large as the session allows.

@@ -13,13 +13,14 @@ ghost use Rattle.std.specs.Prelude.{
   OnOk,
   OnErr,
 };
+ghost use Rattle.std.specs.List.{remove};
 ghost use Rattle.model.specs.Arrivals.{is_ended};
 ghost use Rattle.broker.specs.Turns.{topology_kept, broker_of};
 ghost use Rattle.broker.specs.Waiting.{NoneIsLater};
 ghost use Rattle.outputs.specs.Waiting.{HoldsNone};
 ghost use Rattle.engine.specs.World.{AreRising};
 ghost use Rattle.engine.specs.Turning.{has_performed as performs};
-ghost use Rattle.engine.specs.Engines.{HasConnection, IsConnectionPlace, ConnectionSent, ConnectionFed, IsSwept, IsStanding};
+ghost use Rattle.engine.specs.Engines.{HasConnection, IsConnectionPlace, ConnectionSent, ConnectionFed, IsSwept, IsStanding, IsSpared};
 ghost use Rattle.engine.specs.declared.connection.Connection as seen;
 
 use crate::connection::{BOUND, Connection};
@@ -131,6 +132,17 @@ pub(crate) fn take_from(
     let is = connection.output.bytes().len() >= BOUND;
     spares.take_back(&mut connection.output);
     resume_if(broker, connection.number, was, is);
+}
+
+/// Takes the connection at this place out. The storage of its output is spare from now on, whatever waits there, unless 16 are spare or it
+/// has grown past 1,125,536 bytes.
+pub(crate) fn remove_lost(spares: &mut Spares, connections: &mut Vec<Connection>, place: usize)
+    requires { place < length connections.old.items }
+    ensures left { connections.new.items ≡ remove connections.old.items place }
+    ensures kept { (l : seen.Connection) → get_or connections.old.items place l ≡ l → IsSpared spares.old l spares.new }
+{
+    let mut lost = connections.remove(place);
+    spares.take_lost(&mut lost.output);
 }
 
 /// Puts bytes behind those that the connection has still to read, unless it is over.

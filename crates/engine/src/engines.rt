@@ -2,7 +2,7 @@
 
 mod putting;
 
-ghost use Rattle.std.specs.Prelude.{◌≡◌, ◌<◌, ℕ, length, true, IfSome, IfOk, IsOk, OnErr, OnOk, MatchOption, vec_len, vec_capacity};
+ghost use Rattle.std.specs.Prelude.{◌≡◌, ◌<◌, ℕ, length, true, IfOk, IsOk, OnErr, OnOk, MatchOption, vec_len, vec_capacity};
 ghost use Rattle.model.specs.Arrivals.{Same, Waits, new_world, is_over, is_awake};
 ghost use Rattle.model.specs.Consuming.{CanDeliver};
 ghost use Rattle.model.specs.Headline.{IsSound};
@@ -12,13 +12,13 @@ ghost use Rattle.engine.specs.World.{world_of};
 ghost use Rattle.engine.specs.Reading.{HasMore};
 ghost use Rattle.engine.specs.Engines.{Turned, OnDid, left_in, room_for};
 ghost use Rattle.engine.specs.Pumping.{IsPump};
-ghost use Rattle.engine.specs.Waiting.{KeepsTurns, TurnLeaves, ServesOne, TellsOne};
+ghost use Rattle.engine.specs.Waiting.{KeepsTurns, TurnLeaves, ServesOne, TellsOne, TellsNobody};
 ghost use Rattle.engine.specs.Opening.{Numbers, OpenedNew, OpenedReady};
 ghost use Rattle.engine.specs.InForce.{in_force};
 
 use crate::connection::Connection;
 use crate::connections::{
-    connection_place, feed_connection, known_place, sweep, sweep_after, take_from,
+    connection_place, feed_connection, known_place, remove_lost, sweep, sweep_after, take_from,
 };
 use crate::places::Places;
 use crate::pumping::pump_connection;
@@ -211,14 +211,16 @@ impl Engine {
     }
 
     /// Makes one delivery to a consumer, and tells of which connection, with its notes: none where no delivery can be made.
-    /// Deliveries go round: whoever else could be delivered to was passed over by few deliveries only, this one among them.
+    /// Queues and the consumers of each take turns: whoever waits in the same line was passed over by fewer deliveries of its queue than
+    /// it has consumers, this one among them. Where none can be made, every line stays.
     ///
     /// Where memory is refused nothing is delivered, and the turn stays with the consumer that was told; it is wanted only where a
     /// delivery can be made.
     pub fn pump(&mut self, alloc: Global) -> Result<Option<Delivered>, AllocError>
         ensures ok { IfOk result (λ did. MatchOption did (Idles (world_of self.old) (world_of self.new))
             (λ d. IsPump (world_of self.old) d.connection d.notes.items (world_of self.new))) }
-        ensures in_turn { IfOk result (λ did. IfSome did (λ d. ServesOne self.old.broker d.connection self.new.broker)) }
+        ensures in_turn { IfOk result (λ did. MatchOption did (TellsNobody self.old.broker self.new.broker)
+            (λ d. ServesOne self.old.broker d.connection self.new.broker)) }
         ensures err { OnErr result (Same (world_of self.old) (world_of self.new)) }
         ensures told { OnErr result (TellsOne self.old.broker self.new.broker) }
         ensures wanted { OnErr result ((c : ℕ) × CanDeliver (world_of self.old).state.broker c) }
@@ -263,7 +265,7 @@ impl Engine {
     {
         if let Some(place) = connection_place(&self.connections, &self.places, c) {
             self.broker.lose(c);
-            self.connections.remove(place);
+            remove_lost(&mut self.spares, &mut self.connections, place);
             self.places.learn_from(&self.connections, place);
         }
     }

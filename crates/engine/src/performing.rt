@@ -7,7 +7,7 @@ ghost use Rattle.model.specs.State.{after_move};
 ghost use Rattle.model.specs.Arrivals.{IsSaid};
 ghost use Rattle.model.specs.Sending.{AreCarried, AreOwn};
 ghost use Rattle.broker.specs.Turns.{topology_kept, broker_of};
-ghost use Rattle.broker.specs.Waiting.{NoneIsLater, OneComesIn};
+ghost use Rattle.broker.specs.Waiting.{NobodyIsPutBack, NoneIsLater};
 ghost use Rattle.engine.specs.Performing.{IsAskedBy, session_after, rules_of, IsAnswerTo, ByPhase, DecidesByPhase, PausesOr};
 
 use broker::{Broker, Step};
@@ -83,7 +83,7 @@ fn by_phase(
     ensures session_kept { OnErr result (session.new ≡ session.old) }
     ensures topology { topology_kept broker.new ≡ topology_kept broker.old }
     ensures turn { broker.new.turn ≡ broker.old.turn }
-    ensures later { OnOk result (OneComesIn event.now broker.old broker.new) }
+    ensures later { OnOk result (NobodyIsPutBack broker.old broker.new) }
 {
     let mut next = session.copied();
     let sends = sends_of(c, alloc, users, &mut next, event)?;
@@ -115,7 +115,7 @@ pub(crate) fn perform(
     ensures session_kept { OnErr result (session.new ≡ session.old) }
     ensures topology { topology_kept broker.new ≡ topology_kept broker.old }
     ensures turn { broker.new.turn ≡ broker.old.turn }
-    ensures later { OnOk result (OneComesIn event.now broker.old broker.new) }
+    ensures later { OnOk result (NobodyIsPutBack broker.old broker.new) }
 {
     match session.phase() {
         Phase::Running => {

@@ -7,7 +7,7 @@ ghost use Rattle.model.specs.Phases.{is_running as runs};
 ghost use Rattle.model.specs.Sending.{AreCarried, AreOwn, most_sent};
 ghost use Rattle.model.specs.Spelling.{receiver, spelling, IsSpelled};
 ghost use Rattle.broker.specs.Turns.{topology_kept, broker_of};
-ghost use Rattle.broker.specs.Waiting.{NoneIsLater, OneComesIn};
+ghost use Rattle.broker.specs.Waiting.{NoneIsLater};
 ghost use Rattle.assembly.specs.Held.{stream_of};
 ghost use Rattle.engine.specs.Reading.{IsKeptEvent, HasMore, kept_of};
 ghost use Rattle.engine.specs.Performing.{IsAskedBy, PausesOr, rules_of};

@@ -118,6 +118,20 @@ impl Spares {
         self.keep(storage);
     }
 
+    /// Takes the storage of an output that nobody takes from any more, whatever waits in it, which is lost. It is spare from now on, or
+    /// freed as [`Spares::take_back`] does.
+    pub fn take_lost(&mut self, output: &mut Output)
+        ensures bytes { output.new.bytes ≡ [] }
+        ensures none { output.new.storage ≡ 0 }
+        ensures kept { 0 < output.old.storage → output.old.storage ≤ 1125536 → self.old ≤ 16 → self.new ≡ self.old + 1 }
+        ensures freed { 256 ≤ self.old → self.new ≤ self.old }
+        ensures least { 16 ≤ self.old → 16 ≤ self.new }
+    {
+        let waiting = output.bytes().len();
+        output.take(waiting);
+        self.take_back(output);
+    }
+
     /// Gives an output that has no storage a spare one, if there is one.
     fn furnish(&mut self, output: &mut Output)
         ensures bytes { output.new.bytes ≡ output.old.bytes }

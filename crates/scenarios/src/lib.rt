@@ -1,11 +1,13 @@
 //! The scenarios of runs and rounds: of a machine on which no connection can be opened, of a connection that is paused, of more clients
-//! than a server takes, of a wire of which each call fails, and of a machine of which each is refused memory. `cases` runs them.
+//! than a server takes, of a reload of a new server, of a wire of which each call fails, and of a machine of which each is refused memory.
+//! `cases` runs them.
 #![tactic(auto)]
 
 mod failing;
 mod full;
 mod pauses;
 mod refused;
+mod reloads;
 mod shut;
 mod wanting;
 
@@ -13,7 +15,7 @@ use failing::{Pace, each_call_of_a_wire_fails};
 use scenario_parts::Sums;
 use std::io;
 
-/// The scenarios of runs in which arrivals wait, or do nothing.
+/// The scenarios of runs in which arrivals wait, or do nothing, and of a reload before any.
 fn tell_runs(sums: &mut Sums, rt: &HostRuntime) -> io::Result<()> {
     let alloc = rt.alloc();
     sums.tell(
@@ -30,6 +32,11 @@ fn tell_runs(sums: &mut Sums, rt: &HostRuntime) -> io::Result<()> {
         rt,
         "arrivals_for_no_connection_do_nothing",
         shut::arrivals_for_no_connection_do_nothing(alloc),
+    )?;
+    sums.tell(
+        rt,
+        "a_new_server_takes_any_reload",
+        reloads::a_new_server_takes_any_reload(alloc),
     )
 }
 

@@ -32,8 +32,8 @@ fn tell_rounds(sums: &mut Sums, rt: &HostRuntime) -> io::Result<()> {
     )?;
     sums.tell(
         rt,
-        "one_that_fills_a_queue_is_offered_less",
-        rounds::one_that_fills_a_queue_is_offered_less(alloc),
+        "those_that_never_pause_are_offered_less",
+        rounds::those_that_never_pause_are_offered_less(alloc),
     )?;
     sums.tell(
         rt,

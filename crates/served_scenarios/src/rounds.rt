@@ -164,18 +164,19 @@ fn last_room(wire: &MemoryWire, socket: u64) -> u64 {
     last
 }
 
-/// Where one publishes to a queue that lags behind its consumer, reads of it are offered less and less, and those of
-/// another that does not as much as ever.
-pub(crate) fn one_that_fills_a_queue_is_offered_less(alloc: Global) -> Result<(), Unmet> {
+/// Of clients that never pause each is offered room for few of its commands: the one that publishes to a queue with a consumer, and the one
+/// whose messages are routed to no queue.
+pub(crate) fn those_that_never_pause_are_offered_less(alloc: Global) -> Result<(), Unmet> {
     let mut server = new_server(alloc)?;
     let mut wire = one_that_fills_and_one_that_does_not(alloc)?;
     let is_whole = serve_in_memory(alloc, &mut server, &mut wire, 24);
     expect("the log is whole", is_whole)?;
-    expect(
-        "the one that fills the queue is offered an eighth or less",
-        last_room(&wire, 1) <= 8_192,
-    )?;
-    expect_number("the room of the other", last_room(&wire, 2), 65_536)
+    for socket in [1, 2] {
+        let room = last_room(&wire, socket);
+        expect("a read has room for one command", room >= 256)?;
+        expect("a read is offered an eighth or less", room <= 8_192)?;
+    }
+    Ok(())
 }
 
 /// Writes what a client sends.

@@ -11,7 +11,7 @@ use std::net::{Net, SocketAddr, TcpStream};
 const MANY: usize = 400;
 
 /// How many silent sockets a round asks at most.
-const ASKED_AT_MOST: u64 = 32;
+const ASKED_AT_MOST: u64 = 8;
 
 /// How many writes fill a socket that nobody reads, whatever room the system gives it.
 const MOST_WRITES: u32 = 100_000;

@@ -1,8 +1,9 @@
 //! How much room a read of each slot is offered.
 //!
-//! A round makes 256 deliveries at most, and a consumer takes no more of them than its limit until it is heard again. So where one
-//! round reads thousands of publishes, consumers starve and their queues grow. A connection that fills a queue which lags is offered less
-//! at each of its reads, and any other more, so that rounds are as short as it takes. Nothing is promised of it but the bounds.
+//! All clients wait for the round to end, so a round is short, whoever floods: a read is offered room for a part of the commands that one
+//! round performs, by the bytes that its client's commands took so far. A slot that gave all that it was offered is greedy. Greedy slots share
+//! [`GREEDY_COMMANDS`], and all others [`COMMANDS`]; together that is as much as a round delivers. A consumer is offered room for its answers,
+//! too, so that it is not greedy by them. A connection that fills a queue which lags is offered less. Nothing is promised of it but the bounds.
 
 ghost use Rattle.std.specs.Prelude.{◌≤◌};
 ghost use Rattle.serving.specs.Story.{IsOffer, read_room};
@@ -11,40 +12,104 @@ use crate::peers::SLOTS;
 use std::alloc::{AllocError, Global};
 
 /// The room of a read, at least and at most.
-const LEAST: usize = 16;
+const LEAST: usize = 256;
 
 const MOST: usize = 65_536;
 
-/// What a socket is offered at most until its connection runs: no frame of a login is longer.
-const LOGIN: usize = 4_096;
+/// What a socket is offered at most until its connection runs.
+const LOGIN: usize = 512;
 
-/// What each is offered at most while sockets come, of whom one round accepts one.
-const HURRIED: usize = 1_024;
+/// How many commands the greedy slots are offered room for in a round, all together.
+const GREEDY_COMMANDS: usize = 64;
 
-/// In so many rounds, from the one on that took in a socket, so that it logs in at once.
-const HURRY: u32 = 16;
+/// How many commands all other slots are offered room for in a round, all together.
+const COMMANDS: usize = 192;
+
+/// How many bytes a slot is offered besides for each delivery that it has got since it was heard: an acknowledgement takes 21.
+const ANSWER: usize = 32;
 
 /// What is known of a slot.
 #[derive(Clone, Copy, Drop)]
 struct Offer {
-    /// The room by what was read for it so far.
+    /// The room by what came to queues that lag.
     room: usize,
+    /// How many bytes a command took in its last read.
+    size: usize,
+    /// How many deliveries it has got since then.
+    delivered: usize,
     /// Whether its connection ran when it was last heard.
     runs: bool,
+    /// Whether it gave all that it was offered last.
+    is_greedy: bool,
 }
 
 /// The offer of a slot that nothing was read for yet.
 const FIRST: Offer = Offer {
     room: MOST,
+    size: MOST,
+    delivered: 0,
     runs: false,
+    is_greedy: false,
 };
+
+/// What came of a read that gave bytes.
+#[derive(Clone, Copy, Drop)]
+pub(crate) struct Heard {
+    /// How many bytes came, into how much room.
+    pub(crate) bytes: usize,
+    pub(crate) room: usize,
+    /// How many turns the connection took by them.
+    pub(crate) turns: usize,
+    /// Whether the connection ran as they came.
+    pub(crate) has_run: bool,
+    /// Whether messages came to queues that lag by them.
+    pub(crate) has_filled: bool,
+}
+
+/// Commands of a round that are shared by the slots that gave bytes in the rounds before.
+#[derive(Clone, Copy, Drop)]
+struct Share {
+    commands: usize,
+    /// Among how many slots they are shared.
+    among: usize,
+    /// How many gave bytes in this round.
+    given: usize,
+}
+
+impl Share {
+    /// Nobody gave bytes.
+    fn new(commands: usize) -> Share {
+        Share {
+            commands,
+            among: 1,
+            given: 0,
+        }
+    }
+
+    /// Begins a round. If fewer gave bytes than before, the number of those who share falls by one.
+    fn pass(&mut self) {
+        self.among = self.given.max(self.among.saturating_sub(1));
+        self.given = 0;
+    }
+
+    /// Counts a slot that gave bytes.
+    fn count(&mut self) {
+        self.given = self.given.saturating_add(1);
+    }
+
+    /// Returns the room for a slot's part, of commands of `size` bytes.
+    fn room(&self, size: usize) -> usize {
+        let among = self.among.max(1);
+        size.saturating_mul(self.commands / among)
+    }
+}
 
 /// The offers, by slot.
 #[derive(Drop)]
 pub(crate) struct Offers {
     offers: Vec<Offer>,
-    /// In how many rounds yet there is a hurry, with this one.
-    hurry: u32,
+    greedy: Share,
+    others: Share,
 }
 
 impl Offers {
@@ -52,20 +117,32 @@ impl Offers {
     pub(crate) fn new(alloc: Global) -> Result<Offers, AllocError> {
         Ok(Offers {
             offers: vec![in alloc; FIRST; SLOTS]?,
-            hurry: 0,
+            greedy: Share::new(GREEDY_COMMANDS),
+            others: Share::new(COMMANDS),
         })
     }
 
-    /// One round more.
+    /// Begins a round.
     pub(crate) fn pass(&mut self) {
-        self.hurry = self.hurry.saturating_sub(1);
+        self.greedy.pass();
+        self.others.pass();
     }
 
     /// A socket came, and has this slot.
     pub(crate) fn begin(&mut self, slot: usize) {
-        self.hurry = HURRY;
         if slot < self.offers.len() {
             self.offers[slot] = FIRST;
+        }
+    }
+
+    /// A delivery goes to this slot.
+    pub(crate) fn deliver(&mut self, slot: usize) {
+        if slot < self.offers.len() {
+            let offer = self.offers[slot];
+            self.offers[slot] = Offer {
+                delivered: offer.delivered.saturating_add(1),
+                ..offer
+            };
         }
     }
 
@@ -78,17 +155,18 @@ impl Offers {
         }
     }
 
-    /// What each is offered at most now, whose connection runs or not yet.
-    fn most(&self, runs: bool) -> usize
+    /// What a slot is offered at most in this round.
+    fn most(&self, offer: Offer) -> usize
         ensures { result ≤ read_room }
     {
-        if self.hurry > 0 {
-            HURRIED
-        } else if runs {
-            MOST
+        let part = if offer.is_greedy {
+            self.greedy.room(offer.size)
         } else {
-            LOGIN
-        }
+            self.others.room(offer.size)
+        };
+        let answers = offer.delivered.saturating_mul(ANSWER);
+        part.saturating_add(answers)
+            .min(if offer.runs { MOST } else { LOGIN })
     }
 
     /// The room that a read for this slot is offered.
@@ -96,22 +174,34 @@ impl Offers {
         ensures { IsOffer result }
     {
         let offer = self.own(slot);
-        offer.room.min(self.most(offer.runs)).max(LEAST)
+        offer.room.min(self.most(offer)).max(LEAST)
     }
 
-    /// After a read for this slot, by which messages came to queues that lag or not, its room is halved, or a quarter is added. As
-    /// its bytes came, its connection ran or not yet.
-    pub(crate) fn learn(&mut self, slot: usize, has_run: bool, has_filled: bool) {
+    /// Learns what came of a read for this slot.
+    pub(crate) fn learn(&mut self, slot: usize, heard: Heard) {
         if slot < self.offers.len() {
-            let room = self.offers[slot].room;
+            let old = self.offers[slot];
+            if old.is_greedy {
+                self.greedy.count();
+            } else {
+                self.others.count();
+            }
             self.offers[slot] = Offer {
-                room: if has_filled {
-                    (room / 2).max(LEAST)
-                } else {
-                    room.saturating_add(room / 4).min(MOST)
-                },
-                runs: has_run,
+                room: room_after(old.room, heard.has_filled),
+                size: heard.bytes / heard.turns.max(1),
+                delivered: 0,
+                runs: heard.has_run,
+                is_greedy: heard.bytes >= heard.room,
             };
         }
+    }
+}
+
+/// Returns the room behind a read: half of it if messages came to queues that lag, and else a quarter more.
+fn room_after(room: usize, has_filled: bool) -> usize {
+    if has_filled {
+        (room / 2).max(LEAST)
+    } else {
+        room.saturating_add(room / 4).min(MOST)
     }
 }

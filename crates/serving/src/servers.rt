@@ -77,6 +77,13 @@ impl<M: Machine> Server<M> {
         })
     }
 
+    /// Returns the machine.
+    pub fn machine(&self) -> &M
+        ensures { result.now ≡ self.now.machine }
+    {
+        &self.machine
+    }
+
     /// One round: an accept, a read into 16 to 65,536 bytes of each connection that is neither paused nor over, at most 256 pumps, a
     /// write of all that waits for each with output, the end of those that are over with no output left, and a rest where nothing
     /// was done. A socket is welcomed exactly as its connection comes to run.

@@ -113,6 +113,14 @@ impl Session {
         self.phase
     }
 
+    /// Returns the limits in force: the greatest channel number, and the greatest frame in bytes.
+    pub fn limits(&self) -> (u16, u32)
+        ensures channels { result.0 ≡ self.now.channel_max }
+        ensures frame { result.1 ≡ self.now.frame_max }
+    {
+        (self.channel_max, self.frame_max)
+    }
+
     /// The greatest channel number.
     pub fn channel_max(&self) -> u16
         ensures { result ≡ self.now.channel_max }

@@ -45,6 +45,8 @@ struct Accepted {
     full: Option<u64>,
     /// By when its connection is to run, if it does not yet.
     ends: Option<Instant>,
+    /// Whether its connection has not come to run yet.
+    is_stranger: bool,
 }
 
 /// The sockets of a server: one that listens, and those that it accepted, named by numbers that are never used again. None of
@@ -79,6 +81,14 @@ fn heard(event: &Event, voice: Voice) -> Voice {
         Voice::Speaking
     } else {
         voice
+    }
+}
+
+/// The voice of a socket whose connection has come to run. If it is greedy it waits no longer among those that have not logged in.
+fn welcomed(voice: Voice) -> Voice {
+    match voice {
+        Voice::Greedy(_) => Voice::Speaking,
+        other => other,
     }
 }
 
@@ -191,6 +201,7 @@ impl Sockets {
             voice: Voice::Speaking,
             full: None,
             ends: self.watch.ends(),
+            is_stranger: true,
         };
         self.accepted.insert_reserved(accepted);
         self.given += 1;
@@ -207,7 +218,7 @@ impl Sockets {
     {
         self.rounds.begin();
         self.watch.look();
-        if !self.rounds.asks_read(self.voice) {
+        if !self.rounds.asks_read(self.voice, false) {
             return Accept::Nothing;
         }
         self.voice = Voice::Speaking;
@@ -265,13 +276,15 @@ impl Sockets {
         if self.watch.is_over(accepted.ends) {
             return self.failed_read();
         }
-        if !self.rounds.asks_read(accepted.voice) {
+        if !self.rounds.asks_read(accepted.voice, accepted.is_stranger) {
             return Read::Wait;
         }
         let room = buffer.len();
         match read_answer(accepted.stream.read(buffer), room) {
             Read::Got(count) => {
-                accepted.voice = self.rounds.after_read(accepted.voice, count < room);
+                accepted.voice = self
+                    .rounds
+                    .after_read(accepted.voice, count < room, accepted.is_stranger);
                 Read::Got(count)
             }
             Read::Wait => {
@@ -357,13 +370,14 @@ impl Wire for Sockets {
     fn welcome(&mut self, socket: u64) {
         if let Some(accepted) = named(&mut self.accepted, socket) {
             accepted.ends = None;
+            accepted.is_stranger = false;
+            accepted.voice = welcomed(accepted.voice);
         }
     }
 
     fn rest(&mut self) {
-        let _ = self
-            .poll
-            .poll(&mut self.events, Some(Duration::from_millis(100)));
+        let longest = Duration::from_millis(self.rounds.rest_millis());
+        let _ = self.poll.poll(&mut self.events, Some(longest));
         self.hear();
     }
 }

@@ -7,7 +7,7 @@ ghost use Rattle.sockets.specs.declared.turns.Voice.TheVariants as voices;
 use serving::Write;
 
 /// How many silent sockets are asked at most in a round, and how many that had no room.
-const MOST_ASKED: u64 = 32;
+const MOST_ASKED: u64 = 8;
 
 /// In how many rounds after a rest that told of a socket no turn is taken, for that rest told of all.
 const TOLD_ROUNDS: u64 = 2;
@@ -15,11 +15,22 @@ const TOLD_ROUNDS: u64 = 2;
 /// In each round of so many a turn is taken, whatever rests told.
 const SURE: u64 = 16;
 
+/// How many greedy sockets of clients that have logged in are asked at most in a round.
+const MOST_GREEDY: u64 = 2;
+
+/// How many greedy sockets of clients that have not logged in are asked at most in a round.
+const MOST_STRANGERS: u64 = 1;
+
+/// How many milliseconds a rest lasts at most.
+const LONGEST_REST: u64 = 100;
+
 /// Whether a socket may have something.
 #[derive(Clone, Copy, Drop)]
 pub(crate) enum Voice {
-    /// It may, and is asked: it came, it gave all that it was asked for, or an event named it.
+    /// It may, and is asked: it came, or an event named it.
     Speaking,
+    /// It gave all that it was offered in this cycle, so it may have more. It is asked in a later cycle.
+    Greedy(u64),
     /// It has had nothing since this turn, and is asked in a later one.
     Silent(u64),
     /// Its peer ends it, of which no later event tells: it is asked until the end is read.
@@ -35,7 +46,22 @@ struct Line {
     met: u64,
     /// How many of those were asked.
     asked: u64,
-    ghost within: { asked ≤ 32 },
+    ghost within: { asked ≤ 8 },
+}
+
+/// Greedy sockets, which are asked in cycles: each at most once in a cycle, and at most `most` in a round.
+#[derive(Clone, Copy, Drop)]
+struct Cycle {
+    /// The number of this cycle.
+    number: u64,
+    most: u64,
+    /// How many were asked in this round.
+    asked: u64,
+    /// Whether one that this cycle still owes its turn was passed over in this round.
+    is_owing: bool,
+    /// Whether any was passed over in this round.
+    is_waiting: bool,
+    ghost within: { asked ≤ most },
 }
 
 /// The rounds, and the turns that are taken in some of them.
@@ -53,6 +79,67 @@ pub(crate) struct Rounds {
     silent: Line,
     /// The sockets that had no room for all of a write.
     full: Line,
+    /// The greedy sockets of clients that have logged in.
+    greedy: Cycle,
+    /// The greedy sockets of clients that have not.
+    strangers: Cycle,
+}
+
+impl Cycle {
+    /// No socket is greedy.
+    fn new(most: u64) -> Cycle
+        ensures { result.most ≡ most }
+    {
+        Cycle {
+            number: 0,
+            most,
+            asked: 0,
+            is_owing: false,
+            is_waiting: false,
+        }
+    }
+
+    /// Begins a round: in the same cycle if that owes a socket its turn, and else in the next one.
+    fn begin(&mut self)
+        ensures asked { self.new.asked ≡ 0 }
+        ensures most { self.new.most ≡ self.old.most }
+        ensures waiting { self.new.is_waiting ≡ false }
+        ensures owing { self.new.is_owing ≡ false }
+        ensures same { self.old.is_owing ≡ true → self.new.number ≡ self.old.number }
+        ensures next { self.old.is_owing ≡ false → self.old.number < 18446744073709551615 → self.new.number ≡ self.old.number + 1 }
+    {
+        if !self.is_owing {
+            self.number = self.number.saturating_add(1);
+        }
+        self.asked = 0;
+        self.is_owing = false;
+        self.is_waiting = false;
+    }
+
+    /// Returns whether a socket is asked in this round that was asked last in cycle `last`.
+    ///
+    /// A socket that the cycle owes its turn is passed over only if `most` others were asked in this round, and then the cycle goes on. So
+    /// between two questions to one socket each other is asked at most twice, and each round asks `most` of them, or all that were owed.
+    fn asks(&mut self, last: u64) -> bool
+        ensures most { self.new.most ≡ self.old.most }
+        ensures number { self.new.number ≡ self.old.number }
+        ensures asked { self.new.asked ≡ self.old.asked + cond result 1 0 }
+        // One that had its turn in this cycle is not asked, and one that did not is asked while fewer than `most` were.
+        ensures had { self.old.number ≤ last → result ≡ false }
+        ensures due { last < self.old.number → self.old.asked < self.old.most → result ≡ true }
+        // The cycle goes on until none is owed its turn, and while one waits no rest waits.
+        ensures owing { last < self.old.number → result ≡ false → self.new.is_owing ≡ true }
+        ensures waiting { result ≡ false → self.new.is_waiting ≡ true }
+    {
+        let is_owed = last < self.number;
+        if is_owed && self.asked < self.most {
+            self.asked += 1;
+            return true;
+        }
+        self.is_owing = self.is_owing || is_owed;
+        self.is_waiting = true;
+        false
+    }
 }
 
 impl Line {
@@ -78,12 +165,12 @@ impl Line {
 
     /// Whether one that has waited since a turn is asked in this one.
     ///
-    /// It is once a 32nd of their number of turns is over, if fewer than 32 were asked. So all come round: between two questions to
-    /// one of them each other has one at most, for which a 32nd of their number of turns has room.
+    /// It is once an eighth of their number of turns is over, if fewer than 8 were asked. So all come round: between two questions to
+    /// one of them each other has one at most, for which an eighth of their number of turns has room.
     fn asks(&mut self, turn: u64, since: u64) -> bool
         ensures asked { self.new.asked ≡ self.old.asked + cond result 1 0 }
-        ensures due { since + self.old.length / 32 < turn → self.old.asked < 32 → result ≡ true }
-        ensures later { turn ≤ since + self.old.length / 32 → result ≡ false }
+        ensures due { since + self.old.length / 8 < turn → self.old.asked < 8 → result ≡ true }
+        ensures later { turn ≤ since + self.old.length / 8 → result ≡ false }
     {
         let is_due = turn > since.saturating_add(self.length / MOST_ASKED);
         if self.asked >= MOST_ASKED || !is_due {
@@ -112,6 +199,8 @@ impl Rounds {
             turn: 0,
             silent: Line::new(),
             full: Line::new(),
+            greedy: Cycle::new(MOST_GREEDY),
+            strangers: Cycle::new(MOST_STRANGERS),
         }
     }
 
@@ -131,6 +220,8 @@ impl Rounds {
         }
         self.silent.begin();
         self.full.begin();
+        self.greedy.begin();
+        self.strangers.begin();
     }
 
     /// A rest told of a socket, so that all others have nothing.
@@ -147,17 +238,19 @@ impl Rounds {
         Voice::Silent(self.turn)
     }
 
-    /// A socket of which a read got bytes in this round. Where they are fewer than were asked for it has no more, and is not
-    /// asked in the next turn: what comes later is a new event.
-    pub(crate) fn after_read(&self, voice: Voice, is_short: bool) -> Voice
+    /// A socket of which a read got bytes in this round. If it gave all that it was offered it is greedy. Otherwise it has no more,
+    /// and is not asked in the next turn: what comes later is a new event.
+    pub(crate) fn after_read(&self, voice: Voice, is_short: bool, is_stranger: bool) -> Voice
         ensures ending { voice ≡ voices.Ending → result ≡ voices.Ending }
-        ensures speaking { is_short ≡ false → voice ≢ voices.Ending → result ≡ voices.Speaking }
+        ensures stranger { is_short ≡ false → voice ≢ voices.Ending → is_stranger ≡ true → result ≡ voices.Greedy self.now.strangers.number }
+        ensures greedy { is_short ≡ false → voice ≢ voices.Ending → is_stranger ≡ false → result ≡ voices.Greedy self.now.greedy.number }
         ensures emptied { is_short ≡ true → voice ≢ voices.Ending → (since : ℕ) × (self.now.turn ≤ since) × (result ≡ voices.Silent since) }
     {
         match voice {
             Voice::Ending => Voice::Ending,
             _ if is_short => Voice::Silent(self.turn.saturating_add(1)),
-            _ => Voice::Speaking,
+            _ if is_stranger => Voice::Greedy(self.strangers.number),
+            _ => Voice::Greedy(self.greedy.number),
         }
     }
 
@@ -179,18 +272,42 @@ impl Rounds {
         }
     }
 
-    /// Whether a socket is asked for a read in this round. One that speaks or ends is, and a silent one in its turn.
-    pub(crate) fn asks_read(&mut self, voice: Voice) -> bool
+    /// Whether a socket is asked for a read in this round. One that speaks or ends is, and a silent or a greedy one in its turn.
+    pub(crate) fn asks_read(&mut self, voice: Voice, is_stranger: bool) -> bool
         ensures speaking { voice ≡ voices.Speaking → result ≡ true }
         ensures ending { voice ≡ voices.Ending → result ≡ true }
         ensures silent { (since : ℕ) → voice ≡ voices.Silent since → self.new.silent.asked ≡ self.old.silent.asked + cond result 1 0 }
         ensures full { self.new.full ≡ self.old.full }
     {
-        let Voice::Silent(since) = voice else {
-            return true;
-        };
+        match voice {
+            Voice::Speaking => true,
+            Voice::Ending => true,
+            Voice::Silent(since) => self.asks_silent(since),
+            Voice::Greedy(last) if is_stranger => self.strangers.asks(last),
+            Voice::Greedy(last) => self.greedy.asks(last),
+        }
+    }
+
+    /// Whether a socket is asked that has been silent since a turn.
+    fn asks_silent(&mut self, since: u64) -> bool
+        ensures silent { self.new.silent.asked ≡ self.old.silent.asked + cond result 1 0 }
+        ensures full { self.new.full ≡ self.old.full }
+    {
         self.silent.meet();
         self.is_turn && self.silent.asks(self.turn, since)
+    }
+
+    /// Returns how many milliseconds a rest lasts at most: none while a greedy socket waits for its turn.
+    pub(crate) fn rest_millis(&self) -> u64
+        ensures most { result ≤ 100 }
+        ensures greedy { self.now.greedy.is_waiting ≡ true → result ≡ 0 }
+        ensures strangers { self.now.strangers.is_waiting ≡ true → result ≡ 0 }
+    {
+        if self.greedy.is_waiting || self.strangers.is_waiting {
+            0
+        } else {
+            LONGEST_REST
+        }
     }
 
     /// Whether a socket is asked for a write in this round: one that has been full since a turn is in its turn, and any other.

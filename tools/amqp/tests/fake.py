@@ -1,5 +1,5 @@
 """Servers for tests, at 127.0.0.1: one that plays a script, and one with queues. They read and write frames by themselves, and share nothing
-with the client that is tested. Each ends by itself after five seconds of silence."""
+with the client that is tested. Each ends by itself after twenty seconds of silence."""
 
 import socket
 import struct
@@ -60,6 +60,7 @@ class Server:
 
     def talk(self, connection):
         connection.settimeout(SECONDS)
+        connection.setsockopt(socket.IPPROTO_TCP, socket.TCP_NODELAY, 1)
         with connection, connection.makefile("rb") as incoming:
             try:
                 self.answer(connection, incoming)
@@ -205,6 +206,11 @@ class Talk:
             last, is_multiple = struct.unpack(">QB", data)
             for tag in [it for it in self.held if it == last or (is_multiple and it <= last)]:
                 del self.held[tag]
+        elif ids == (60, 90):
+            tag, requeue = struct.unpack(">QB", data)
+            assert requeue == 1, "a rejection without requeue"
+            queue, message = self.held.pop(tag)
+            queue.ready.insert(0, message)
         elif ids == (60, 40):
             self.publish(*self.names(data))
         return False

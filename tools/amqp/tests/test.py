@@ -170,6 +170,12 @@ class Commands(unittest.TestCase):
 
         self.assertEqual(self.with_client(script, work), [(5, True, SENT), (6, False, SENT)])
 
+    def test_a_message_that_is_given_back(self):
+        """basic.reject 60 90 of tag 5 with requeue."""
+        reject = bytes.fromhex("01 0001 0000000d 003c 005a 0000000000000005 01 ce")
+        script = (GET, ("sends", GET_OK + HEADER + BODY), reject, *ENDS)
+        self.with_client(script, lambda it: it.give_back(it.get("audit").tag))
+
     def test_a_heartbeat_and_a_body_in_pieces(self):
         pieces = b"\x08\0\0\0\0\0\0\xce" + GET_OK + HEADER + b"\x03\0\x01\0\0\0\x01h\xce" + b"\x03\0\x01\0\0\0\x01i\xce"
         self.assertEqual(self.with_client((GET, ("sends", pieces), *ENDS), lambda it: it.get("audit")), (5, True, SENT))

@@ -11,7 +11,7 @@ import urllib.parse
 import urllib.request
 
 
-def main(port):
+def declare(port):
     def put(path, body, method="PUT"):
         request = urllib.request.Request(f"http://127.0.0.1:{port}/api/{path}", json.dumps(body).encode(), method=method)
         request.add_header("Authorization", "Basic " + base64.b64encode(b"guest:guest").decode())
@@ -68,6 +68,8 @@ def main(port):
     put("policies/%2F/deaths", {"pattern": "^pack", "definition": {"dead-letter-exchange": "strays", "max-length": 50, "ha-mode": "all"}, "priority": 1, "apply-to": "queues"})
     put("policies/%2F/others", {"pattern": "^pay", "definition": {"alternate-exchange": "strays"}, "priority": 0, "apply-to": "exchanges"})
 
+    put("operator-policies/%2F/most", {"pattern": "^(billing|lost|dead|pack)", "definition": {"max-length": 20, "message-ttl": 1000}, "priority": 0, "apply-to": "queues"})
+
     exchange("office", "desk", "topic")
     queue("office", "tray", {"x-overflow": "reject-publish", "x-max-length": 5})
     bind("office", "desk", "q", "tray", "#")
@@ -75,4 +77,5 @@ def main(port):
     put("topic-permissions/office/clerk", {"exchange": "desk", "write": "^letters", "read": ".*"})
 
 
-main(int(sys.argv[1]))
+if __name__ == "__main__":
+    declare(int(sys.argv[1]))

@@ -8,6 +8,7 @@ import copy
 import json
 import os
 import random
+import re
 import subprocess
 import sys
 import unittest
@@ -18,6 +19,8 @@ ROWS = os.path.join(TOOL, "../../crates/line_cases/data")
 sys.path[:0] = [TOOL, os.path.join(TOOL, "../shared")]
 from causes import NotJson, causes_in, causes_of, read_json  # noqa: E402
 from convert import NoFile, convert  # noqa: E402
+from part import part_of  # noqa: E402
+from report import sections  # noqa: E402
 from rows import text_of  # noqa: E402
 
 
@@ -93,7 +96,12 @@ OF_BOTH = {
     ('queue "packing"', 7, False),
     ('queue "packing"', 8, True),
     ('queue "audit"', 7, True),
+    ('queue "billing"', 7, False),
     ('queue "billing"', 8, True),
+    ('queue "dead"', 7, False),
+    ('queue "dead"', 8, True),
+    ('operator policy "most"', 7, True),
+    ('operator policy "most"', 7, False),
     ('queue "billing"', 11, True),
     ('queue "lost"', 7, True),
     ('queue "replay"', 7, True),
@@ -144,8 +152,8 @@ class Exports(unittest.TestCase):
     def test_of_the_management_interface(self):
         made = self.changes("shop_and_office.json", OF_BOTH)
         queues = {it["name"]: it["arguments"] for it in made["queues"]}
-        self.assertEqual(queues["packing"], {"x-dead-letter-exchange": "strays", "x-max-length": 50, "x-overflow": "reject-publish"})
-        self.assertEqual(queues["billing"], {"x-max-length": 1000, "x-overflow": "reject-publish"})
+        self.assertEqual(queues["packing"], {"x-dead-letter-exchange": "strays", "x-max-length": 20, "x-overflow": "reject-publish"})
+        self.assertEqual({name: queues[name]["x-max-length"] for name in ("billing", "dead", "lost")}, {"billing": 20, "dead": 20, "lost": 10})
         self.assertEqual(sorted(queues), ["audit", "billing", "dead", "lost", "packing", "replay", "session"])
         exchanges = {it["name"]: it for it in made["exchanges"]}
         self.assertEqual(exchanges["payments"]["arguments"], {"alternate-exchange": "strays"})
@@ -174,10 +182,10 @@ class Exports(unittest.TestCase):
         made, changes = convert(read_json(export("newer.json")))
         self.assertEqual(causes_in(made), [])
         self.assertEqual([it["type"] for it in made["exchanges"]], ["topic"])
-        self.assertEqual(made["queues"][0]["arguments"], {})
+        self.assertEqual(made["queues"][0]["arguments"], {"x-max-length": 10, "x-overflow": "reject-publish"})
         told = {(it.entry, it.number, it.meaning is not None) for it in changes}
         wanted = {('user "app"', 12, False), ('user "app"', 0, True), ('queue "jobs"', 7, True), ('exchange "later"', 6, True), ('exchange "later"', 7, False)}
-        self.assertEqual(told, wanted | {('parameter "ops"', 7, True)})
+        self.assertEqual(told, wanted | {('queue "jobs"', 7, False), ('queue "jobs"', 8, True), ('operator policy "ops"', 7, False)})
 
 
 def small(**lists):
@@ -188,6 +196,8 @@ def small(**lists):
     users = [{"name": name, "password_hash": hash_of, "hashing_algorithm": "rabbit_password_hashing_sha256", "tags": []} for name in lists.get("rights", {})]
     rights = [{"user": name, "vhost": "/", **dict(zip(("configure", "write", "read"), it))} for name, it in lists.get("rights", {}).items()]
     policies = [{"vhost": "/", "pattern": "", "priority": 0, "name": f"p{number}", **it} for number, it in enumerate(lists.get("policies", []))]
+    operators = [{"pattern": "", "priority": 0, "apply-to": "queues", **it} for it in lists.get("operator_policies", [])]
+    parameters = [{"vhost": "/", "component": "operator_policy", "name": f"o{number}", "value": it} for number, it in enumerate(operators)]
     topics = [{"user": it, "vhost": "/", "exchange": "X", "write": "^a", "read": ".*"} for it in lists.get("topics", [])]
     return {
         "vhosts": [{"name": "/"}],
@@ -197,6 +207,7 @@ def small(**lists):
         "queues": queues,
         "bindings": [],
         "policies": policies,
+        "parameters": parameters,
         "topic_permissions": topics,
     }
 
@@ -241,19 +252,39 @@ class Meaning(unittest.TestCase):
         here = self.meanings(queues=[{"name": "q", "arguments": {"x-message-ttl": 1, "x-dead-letter-exchange": "", "x-dead-letter-routing-key": "r"}}])
         self.assertEqual(here, ['queue "q": messages no longer expire, so nothing goes on to the default exchange any more but what is rejected'])
 
+    def test_operator_policies(self):
+        """tests/with_rabbitmq_limits.py asks a RabbitMQ the same."""
+        queues = [{"name": "own", "arguments": {"x-max-length": 3}}, {"name": "loose", "arguments": {"x-max-length": 30}}, {"name": "plain"}]
+        policies = [{"definition": {"max-length": 7, "overflow": "reject-publish"}}, {"pattern": "^plain", "definition": {"max-length": 1000}, "priority": 5}]
+        operators = [{"definition": {"max-length": 5, "message-ttl": 9}, "priority": 1}, {"definition": {"max-length": 2}}]
+        for some, wanted in (([], (3, 7, 1000)), (operators, (3, 5, 5)), (operators[1:], (2, 2, 2)), ([{**operators[1], "apply-to": "exchanges"}], (3, 7, 1000))):
+            made = self.arguments(queues=queues, policies=policies, operator_policies=some)
+            self.assertEqual(tuple(made[name]["x-max-length"] for name in ("own", "loose", "plain")), wanted)
+        _, changes = convert(small(queues=queues, operator_policies=operators[:1]))
+        told = {(it.entry, it.what) for it in changes}
+        self.assertIn(('queue "loose"', 'x-max-length 5 is added, from operator policy "o0"'), told)
+        self.assertIn(('operator policy "o0"', 'message-ttl 9 is left out, of queues "own", "loose", "plain"'), told)
+        self.assertFalse([it for it in changes if it.entry.startswith("parameter") or it.entry == 'queue "own"' and "is added, from" in it.what])
+        # as rabbitmqctl writes them
+        pairs = small(queues=queues, operator_policies=[{"definition": [["max-length", 2]]}])
+        self.assertEqual({it["arguments"]["x-max-length"] for it in convert(pairs)[0]["queues"]}, {2})
+        _, changes = convert(small(operator_policies=[{"pattern": "("}, {"definition": 7}]))
+        self.assertEqual([it.entry for it in changes if it.meaning], ['operator policy "o0"', 'operator policy "o1"'])
+
     def test_rights(self):
         rights = {"none": ("", "", ""), "shut": ("^$", "^$", ""), "same": ("", ".*", ".*"), "reader": ("^$", "", ".*"), "admin": (".*", ".*", ".*"), "keys": ("^$", ".*", ".*")}
-        status, out, said = run("-", given=json.dumps(small(rights=rights, topics=["keys", "none"])).encode())
+        status, out, said = run("-", "--all", given=json.dumps(small(rights=rights, topics=["keys", "none"])).encode())
         self.assertEqual(status, 0)
         self.assertEqual([it["name"] for it in json.loads(out)["users"]], ["same", "reader", "admin", "keys"])
         self.assertEqual([it["user"] for it in json.loads(out)["permissions"]], ["same", "reader", "admin", "keys"])
         self.assertEqual(said.splitlines()[-1], 'RIGHTS GREW of users "reader", "keys"')
         guest = run("-", given=json.dumps(small(rights={"guest": ("^$", ".*", ".*")})).encode())[2].splitlines()
-        self.assertIn("it may log in from everywhere", guest[0])
+        self.assertEqual(guest[0], "who may do what:")
+        self.assertIn("it may log in from everywhere", guest[1])
         self.assertEqual(guest[-1], 'RIGHTS GREW of user "guest"')
         told = {it for it in said.splitlines() if "CHANGES MEANING" in it}
         for name in ("none", "shut"):
-            self.assertIn(f'user "{name}": left out: it may neither publish nor consume, and each user of warren may do both (refused 12). CHANGES MEANING: this user can no longer log in', told)
+            self.assertIn(f'  user "{name}": left out: it may neither publish nor consume, and each user of warren may do both (refused 12). CHANGES MEANING: this user can no longer log in', told)
         self.assertFalse([it for it in told if 'user "same"' in it])
         self.assertEqual(len([it for it in told if 'user "reader"' in it]), 1)
         self.assertFalse([it for it in told if 'topic permission "none"' in it])
@@ -262,8 +293,9 @@ class Meaning(unittest.TestCase):
 
     def test_changes_of_meaning_come_last_and_by_weight(self):
         queues = [{"name": "q", "arguments": {"x-max-priority": 3, "x-max-length": 3}, "type": "classic"}]
-        lines = run("-", given=json.dumps(small(queues=queues, rights={"till": ("^$", "^X$", ".*")})).encode())[2].splitlines()
-        self.assertEqual([it.split(":")[0] for it in lines[:-2]], ['queue "q"', 'user "till"', 'queue "q"', 'queue "q"'])
+        lines = run("-", "--all", given=json.dumps(small(queues=queues, rights={"till": ("^$", "^X$", ".*")})).encode())[2].splitlines()
+        lines = lines[lines.index("all changes:") + 1 :]
+        self.assertEqual([it.split(":")[0] for it in lines[:-2]], ['  queue "q"', '  user "till"', '  queue "q"', '  queue "q"'])
         self.assertNotIn("CHANGES MEANING", lines[0])
         self.assertIn("a full queue refuses", lines[2])
         self.assertIn("whatever their priority", lines[3])
@@ -282,7 +314,134 @@ class Meaning(unittest.TestCase):
         lines = run("-", given=export("control.json"))[2].splitlines()
         self.assertTrue(lines[0].startswith("file: no exchange says whether it is internal, as in an export of rabbitmqctl, "), lines[0])
         self.assertEqual(len([it for it in lines if "internal" in it]), 2)
+        _, changes = convert({"rabbitmq_version": "3.10.8", "queues": [], "exchanges": []})
+        self.assertEqual(len([it for it in changes if "rabbitmqctl" in it.what]), 1)
         self.assertFalse(run("-", given=export("shop_and_office.json"))[2].startswith("file"))
+
+
+def bound(*entries):
+    """Bindings: of each the source, the key, the kind of what it leads to, and its name."""
+    return [{"source": source, "vhost": "/", "destination": name, "destination_type": kind, "routing_key": key, "arguments": {}} for source, key, kind, name in entries]
+
+
+class Table(unittest.TestCase):
+    def told(self, value, *words):
+        status, _, said = run("-", *words, given=json.dumps(value).encode())
+        self.assertEqual(status, 0, said)
+        return said.splitlines()
+
+    def test_a_line_for_each_queue(self):
+        names = ("kept", "late", "copied", "old", "a..b", "short")
+        arguments = {"late": {"x-message-ttl": 5, "x-max-priority": 2}, "copied": {"x-queue-type": "quorum"}, "short": {"x-max-length": 3, "x-overflow": "reject-publish"}}
+        queues = [{"name": it, "arguments": arguments.get(it, {})} for it in names]
+        value = small(queues=queues, policies=[{"pattern": "^old", "definition": {"max-length": 9, "expires": 5}, "apply-to": "queues"}])
+        wanted = [
+            'queue     in warren',
+            '"kept"    as before',
+            '"late"    changed: priority, expiry',
+            '"copied"  changed: quorum',
+            '"old"     changed: drop-head, queue expiry',
+            '"short"   as before',
+            '"a..b"    cannot: its name has an empty word',
+        ]
+        lines = self.told(value)
+        self.assertEqual([sorted(re.split(r"[:,] ?", it)) for it in lines[:7]], [sorted(re.split(r"[:,] ?", it)) for it in wanted])
+        self.assertEqual(lines[7:11], ["where:", "  expiry: messages no longer expire", "  priority: messages are given out as they came, whatever their priority", "  queue expiry: the queue is no longer deleted when nobody uses it"])
+        self.assertEqual(lines[11], "LOSES OR MISROUTES messages:")
+        self.assertEqual([it.split(":")[0] for it in lines[12:15]], ['  queue "a..b"', '  queue "copied"', '  queue "old"'])
+        self.assertFalse([it for it in lines if "CHANGES MEANING" in it])
+
+    def test_what_is_without_meaning_is_told_by_all(self):
+        value = small(queues=[{"name": "q", "type": "classic"}])
+        self.assertFalse([it for it in self.told(value) if "classic" in it])
+        self.assertIn('  queue "q": member "type" "classic" is left out (refused 7)', self.told(value, "--all"))
+
+    def test_queues_behind_what_is_lost_are_changed(self):
+        """`far` is behind X, to which the headers exchange led; `near` is bound by it; `other` has nothing to do with it."""
+        value = small(queues=[{"name": it} for it in ("far", "near", "other")])
+        value["exchanges"].append({**value["exchanges"][0], "name": "H", "type": "headers"})
+        value["bindings"] = bound(("H", "", "exchange", "X"), ("X", "#", "queue", "far"), ("H", "", "queue", "near"), ("retry", "#", "queue", "other"))
+        self.assertEqual([it.split(maxsplit=1)[1] for it in self.told(value)[1:4]], ["changed: routes", "changed: routes", "as before"])
+
+    def test_alike_changes_are_one_line(self):
+        lines = self.told(small(queues=[{"name": f"q{it}", "arguments": {"x-max-length": 3}} for it in range(32)]))
+        self.assertEqual(len([it for it in lines if "drops the oldest" in it]), 1)
+        self.assertLess(len(lines), 40)
+
+
+class Only(unittest.TestCase):
+    """shop leads to packing and, by records, to audit; strays catches what shop passes by, and leads to lost; packing's dead letters go to graves, by dead."""
+
+    def value(self):
+        queues = [{"name": "packing", "arguments": {"x-dead-letter-exchange": "dead"}}, *({"name": it} for it in ("audit", "lost", "graves", "bills"))]
+        value = small(queues=queues)
+        plain = value["exchanges"][0]
+        value["exchanges"] = [{**plain, "name": it} for it in ("shop", "records", "strays", "dead", "pay")]
+        value["exchanges"][0]["arguments"] = {"alternate-exchange": "strays"}
+        value["bindings"] = bound(
+            ("shop", "orders.*", "queue", "packing"),
+            ("shop", "#.log", "exchange", "records"),
+            ("records", "#", "queue", "audit"),
+            ("strays", "#", "queue", "lost"),
+            ("dead", "#", "queue", "graves"),
+            ("pay", "#", "queue", "bills"),
+        )
+        return value
+
+    def part(self, *names):
+        part = part_of(self.value(), None, names)
+        made, changes = convert(part.export, None, part.stays)
+        self.assertEqual(causes_in(made), [])
+        found = [{it["name"] for it in made[kind]} for kind in ("queues", "exchanges")]
+        return *found, len(made["bindings"]), part.lines, changes
+
+    def test_a_queue_and_what_leads_to_it(self):
+        queues, exchanges, count, lines, changes = self.part("audit")
+        self.assertEqual((queues, exchanges, count), ({"audit"}, {"shop", "records"}, 2))
+        self.assertEqual(
+            lines,
+            [f'queue "{it}" stays: what is sent in warren to exchange "shop" does not come to it' for it in ("packing", "lost")],
+        )
+        self.assertIn('its alternate exchange "strays" is left out: it stays in RabbitMQ', [it.what for it in changes])
+
+    def test_an_alternate_is_a_way(self):
+        queues, exchanges, count, _, _ = self.part("lost")
+        self.assertEqual((queues, exchanges, count), ({"lost"}, {"shop", "strays"}, 1))
+
+    def test_dead_letters_between_the_part_and_the_rest(self):
+        queues, exchanges, _, lines, _ = self.part("graves")
+        self.assertEqual((queues, exchanges), ({"graves"}, {"dead"}))
+        self.assertEqual(lines, ['queue "graves": dead letters of queue "packing", which stays, do not come to it: a shovel can bring them'])
+        queues, exchanges, _, lines, changes = self.part("packing", "audit", "lost")
+        self.assertEqual((queues, exchanges), ({"packing", "audit", "lost"}, {"shop", "records", "strays"}))
+        self.assertEqual(lines, ['queue "graves" stays: dead letters of queue "packing", which went to it, do not come to it'])
+        self.assertIn(('queue "packing"', "what is rejected is gone"), [(it.entry, it.meaning) for it in changes])
+        queues, exchanges, _, lines, changes = self.part("packing", "graves", "audit", "lost")
+        self.assertEqual((exchanges, lines), ({"shop", "records", "strays", "dead"}, []))
+        self.assertFalse([it for it in changes if it.meaning])
+
+    def test_an_exchange_stands_for_its_queues(self):
+        self.assertEqual(self.part("shop")[:2], ({"packing", "audit", "lost"}, {"shop", "records", "strays"}))
+        self.assertEqual(self.part("p*y")[:2], ({"bills"}, {"pay"}))
+        self.assertEqual(self.part("*")[0], {"packing", "audit", "lost", "graves", "bills"})
+        self.assertEqual(self.part("*")[3], [])
+        with self.assertRaises(NoFile):
+            self.part("audit", "p.y")
+
+    def test_more_queues_than_warren_takes(self):
+        value = json.loads(export("office_alone.json"))
+        value["queues"] = [{**value["queues"][0], "name": f"q{it}"} for it in range(1_500)]
+        value["bindings"] = [{**value["bindings"][0], "destination": it["name"]} for it in value["queues"]]
+        status, out, _ = run("-", "--only", "q1*", given=json.dumps(value).encode())
+        self.assertEqual((status, out), (3, ""))
+        status, out, said = run("-", "--only", "q4", "q14*", given=json.dumps(value).encode())
+        self.assertEqual((status, len(json.loads(out)["queues"])), (0, 112))
+        self.assertEqual(causes_of(out.encode()), [])
+        self.assertIn('queue "q0" stays: what is sent in warren to exchange "desk" does not come to it', said)
+
+    def test_words(self):
+        self.assertEqual(run("-", "--check", "--only", "q")[0], 3)
+        self.assertEqual(run("-", "--only", "no", given=json.dumps(self.value()).encode())[2], 'from_rabbitmq: -: --only "no": there is no such queue or exchange\n')
 
 
 class Bad(unittest.TestCase):
@@ -290,7 +449,7 @@ class Bad(unittest.TestCase):
 
     def test_no_file_is_made_of(self):
         inputs = [b"", b"{", b"[]", b"null", b"7", b'"', b"\xff\xfe", b"\xff\xfe{", b"\x00" * 100, b"[" * 100_000, b'{"a":' * 5_000, b"NaN", b" " * 16_777_216]
-        inputs += [b'{"vhosts":1e999}', b'{"vhosts":' + b"9" * 10_000 + b"}", b'{"vhosts":"\\ud800"}', b"[" * 8_000_000, os.urandom(1000), b'{"vhosts":[{"name":"a"},{"name":"b"}]}']
+        inputs += [b'{"vhosts":1e999}', b'{"vhosts":' + b"9" * 10_000 + b"}", b'{"vhosts":"\\ud800"}', b"[" * 8_000_000, os.urandom(1000), b'{"queues":[],"vhosts":[{"name":"a"},{"name":"b"}]}']
         for given in inputs:
             with self.subTest(given[:20]):
                 status, out, said = run("-", given=given)
@@ -300,6 +459,19 @@ class Bad(unittest.TestCase):
                 status, out, said = run("--check", "-", given=given)
                 self.assertEqual((status, said), (1, ""))
                 self.assertTrue(out.splitlines()[-1].startswith("1 causes") or len(given) < 100)
+
+    def test_an_answer_that_is_no_export(self):
+        """What RabbitMQ 3.10.8 answered to a wrong password and to a user who is no administrator, and what has no part of a topology."""
+        for given, why in (
+            ('{"error":"not_authorized","reason":"Login failed"}', 'no export: RabbitMQ said "not_authorized: Login failed"'),
+            ('{"error":"not_authorised","reason":"Not administrator user"}', 'no export: RabbitMQ said "not_authorised: Not administrator user"'),
+            ('{"error":{"a":1}}', 'no export: RabbitMQ said ""'),
+            ("{}", 'no export: it has none of "queues", "exchanges", "bindings"'),
+            ('{"users":[],"vhosts":[{"name":"/"}]}', 'no export: it has none of "queues", "exchanges", "bindings"'),
+        ):
+            for words in ((), ("--check",), ("--only", "q")):
+                self.assertEqual(run("-", *words, given=given.encode()), (3, "", f"from_rabbitmq: -: {why}\n"))
+        self.assertEqual(run("-", given=b'{"queues":[]}')[0], 0)
 
     def test_files_that_are_not_there(self):
         self.assertEqual(run("/nowhere/export.json")[0], 3)
@@ -321,13 +493,14 @@ class Bad(unittest.TestCase):
         status, out, said = run("-", given=json.dumps(value).encode())
         self.assertEqual((status, out), (3, ""))
         self.assertIn("NOT MENDED: file: 257 queues; 256 are the most (refused 10)", said)
+        self.assertIn("--only takes a part", said)
 
     def test_any_member_may_be_anything(self):
         """A member of an export is replaced by something else: what is made is taken, or it is said why nothing is made."""
         chance = random.Random(1)
         others = [None, True, 0, -1, 5_000_000_000, 1.5, "", "a..b", ".", "x" * 300, "q", [], {}, [1], {"a": 1}, "headers", ["x"], {"x-max-length": -1}]
         for name in ("shop_and_office.json", "control.json", "newer.json"):
-            for _ in range(150):
+            for number in range(150):
                 value = json.loads(export(name))
                 for _ in range(chance.randint(1, 4)):
                     self.replace(value, chance, others)
@@ -338,6 +511,12 @@ class Bad(unittest.TestCase):
                     continue
                 self.assertEqual(causes_in(made), [])
                 json.dumps(made)
+                names = [it["name"] for kind in ("queues", "exchanges") for it in made[kind] if "*" not in it["name"]]
+                if names and number % 5 == 0:
+                    part = part_of(value, None, [chance.choice(names)])
+                    made, changes = convert(part.export, None, part.stays)
+                    self.assertEqual(causes_in(made), [])
+                    list(sections(made, changes))
 
     def replace(self, value, chance, others):
         while True:

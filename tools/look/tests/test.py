@@ -4,6 +4,7 @@ The program is made up here: one that says that it listens, and ones that do not
 """
 
 import os
+import re
 import signal
 import socket
 import sys
@@ -53,11 +54,33 @@ class Serves(unittest.TestCase):
             trial.program('if [ $1 = check ]; then echo "1 yes states 3"; exit 0; fi; ' + SERVES)
             status, out, said = trial.run("look", "mine.json", "wishes.json", "--listen", "127.0.0.1:0", "--seconds", "0.5")
             self.assertEqual((status, out.count("\n")), (0, 1))
-            self.assertEqual(said, f"serve mine.json wishes.json {trial.root}/out/try/certificates.json --listen 127.0.0.1:0\n")
+            made = re.fullmatch(r"serve mine\.json wishes\.json (.+/certificates\.json) --listen 127\.0\.0\.1:0\n", said)
+            self.assertFalse(made.group(1).startswith(trial.root), "a checkout may be read-only")
+            self.assertFalse(os.path.exists(os.path.dirname(made.group(1))), "nothing is left")
             trial.program('echo "1 no key \\"a\\""; exit 1')
             status, out, said = trial.run("look", "mine.json", "wishes.json", "--listen", "127.0.0.1:0")
             self.assertEqual((status, out), (1, '1 no key "a"\n'))
             self.assertEqual(said, "look: not all of wishes.json holds, and warren serves only what holds (tools/why tells more)\n")
+
+
+    def test_what_is_told_of_a_check(self):
+        """That not all holds is said of a guarantee that does not, and not of a file that is refused or cannot be written."""
+        for status, lines in ((1, 1), (2, 1), (3, 0), (4, 0)):
+            with Trial("look") as trial:
+                trial.program(f'echo "1 yes states 3"; exit {status}')
+                found, out, said = trial.run("look", "mine.json", "wishes.json", "--listen", "127.0.0.1:0")
+                self.assertEqual((found, out, said.count("\n")), (status, "1 yes states 3\n", lines))
+
+    def test_the_proved_program(self):
+        """It is that of the crate, made by `rt run`, and serves until it is ended; names of files may have blanks."""
+        with Trial("look") as trial:
+            trial.rt("mkdir -p out; echo '#!/bin/sh' > out/warren; echo 'if [ $1 = serve ]; then echo \"warren: listening on 127.0.0.1:1\"; exec sleep 60; fi; echo \"$2\" >&2' >> out/warren; chmod 755 out/warren; touch out/warren.stamp")
+            running = trial.start("look", "my defs.json", "wishes.json", "--proved", "--listen", "127.0.0.1:0")
+            self.assertEqual(running.stdout.readline(), "warren: listening on 127.0.0.1:1\n")
+            running.terminate()
+            _, said = running.communicate(timeout=60)
+            self.assertEqual((running.returncode, said.splitlines()[-1]), (128 + signal.SIGTERM, "my defs.json"))
+            self.assertEqual(trial.runs(), ["run -- --help"])
 
 
 class Bad(unittest.TestCase):

@@ -3,8 +3,10 @@
 What holds of the topologies below was worked out by hand.
 """
 
+import itertools
 import json
 import os
+import random
 import subprocess
 import sys
 import tempfile
@@ -15,6 +17,8 @@ TOOL = os.path.dirname(HERE)
 SHOP = os.path.join(TOOL, "../../examples/shop")
 sys.path[:0] = [TOOL, os.path.join(TOOL, "../shared"), os.path.join(TOOL, "../audit"), os.path.join(TOOL, "../why/tests")]
 from broken import seventy, topology  # noqa: E402
+from checker import Pattern  # noqa: E402
+from patterns import includes, meets  # noqa: E402
 
 
 def run(*words):
@@ -40,15 +44,46 @@ class Suggests(unittest.TestCase):
         status, found, said = suggested(definitions)
         self.assertEqual(status, 0)
         by_bindings = [("X", "a.#", "q"), ("X", "b.*", "r"), ("X", "b.*", "s"), ("Y", "#", "r"), ("Y", "#", "s"), ("D", "paid", "q")]
-        by_no_way = [("X", "lonely"), ("Y", "lonely"), ("D", "lonely"), ("Y", "q"), ("D", "s")]
-        self.assertEqual(found, [("reaches", *it) for it in by_bindings] + [("never", exchange, "#", queue) for exchange, queue in by_no_way])
-        self.assertTrue(said.startswith("11 guarantees hold, by matching alone; `warren check` decides"), said)
+        by_no_way = [("Y", "q"), ("D", "s")]
+        self.assertEqual(sorted(found[:6]), sorted(("reaches", *it) for it in by_bindings))
+        self.assertEqual(found[:3], [("reaches", *by_bindings[it]) for it in (0, 3, 5)])
+        self.assertEqual(found[6:], [("never", exchange, "#", queue) for exchange, queue in by_no_way])
+        self.assertTrue(said.startswith("8 guarantees hold, by matching alone; `warren check` decides"), said)
 
     def test_what_does_not_hold_is_left_out(self):
         definitions = topology({"X": "topic", "Y": "topic"}, {"q": None}, [("X", "#", "Y"), ("Y", "a", "q")])
         status, found, said = suggested(definitions)
-        self.assertEqual((status, found), (0, [("reaches", "Y", "a", "q")]))
+        self.assertEqual((status, found), (0, [("reaches", "Y", "a", "q"), ("reaches", "X", "a", "q")]))
         self.assertEqual(said.splitlines()[1], "1 more are left out: they do not hold")
+
+    def test_what_both_bindings_let_pass(self):
+        definitions = topology(
+            {"X": "topic", "Y": "topic", "Z": "direct"},
+            {"q": None, "r": None},
+            [("X", "orders.#", "Y"), ("Y", "*.eu", "q"), ("Y", "#", "Z"), ("Z", "orders.us.new", "r"), ("Z", "bills", "r")],
+        )
+        _, found, _ = suggested(definitions)
+        self.assertEqual([it[1:] for it in found if it[0] == "reaches" and it[1] == "X"], [("X", "orders.eu", "q"), ("X", "orders.us.new", "r")])
+
+    def test_none_that_another_implies(self):
+        definitions = topology({"X": "topic"}, {"q": None}, [("X", it, "q") for it in ("a.b", "a.*", "a.#", "b.c", "*.c")])
+        _, found, said = suggested(definitions)
+        self.assertEqual(found, [("reaches", "X", it, "q") for it in ("a.#", "*.c")])
+        self.assertEqual(said.splitlines()[1], "3 more are left out: they follow from those that are written")
+
+    def test_exchanges_take_turns(self):
+        bindings = [(f"X{it}", f"k{number}", "q") for it in range(12) for number in range(20)]
+        _, found, said = suggested(topology({f"X{it}": "topic" for it in range(12)}, {"q": None}, bindings))
+        self.assertEqual(len(found), 64)
+        self.assertEqual({name: sum(it[1] == name for it in found) for name in ("X0", "X3", "X4", "X11")}, {"X0": 6, "X3": 6, "X4": 5, "X11": 5})
+        self.assertEqual(said.splitlines()[-1], "the rest was not looked at, since a file has at most 64")
+
+    def test_one_never_a_queue_and_none_of_a_queue_that_nothing_leads_to(self):
+        queues = {"a": None, "b": None, "c": None, "lonely": None}
+        definitions = topology({"A": "topic", "B": "topic", "C": "topic"}, queues, [("A", "#", "a"), ("B", "#", "b"), ("C", "#", "c")])
+        _, found, _ = suggested(definitions)
+        nevers = [it[1::2] for it in found if it[0] == "never"]
+        self.assertEqual(nevers, [("B", "a"), ("A", "b"), ("A", "c")])
 
     def test_dead_letters(self):
         definitions = topology(
@@ -57,25 +92,46 @@ class Suggests(unittest.TestCase):
             [("X", "a.*", "kept"), ("X", "b", "named"), ("X", "c", "own"), ("D", "#", "graves")],
         )
         _, found, _ = suggested(definitions)
-        for it in (("D", "a.*", "graves"), ("D", "dead", "graves"), ("", "store", "store")):
+        for it in (("D", "#", "graves"), ("", "store", "store")):
             self.assertIn(("reaches", *it), found)
+        self.assertNotIn(("reaches", "D", "a.*", "graves"), found)
         self.assertNotIn(("never", "X", "#", "graves"), found)
         self.assertNotIn(("never", "X", "#", "store"), found)
-        self.assertIn(("never", "D", "#", "kept"), found)
+        self.assertEqual([it[1] for it in found if it[0] == "never" and it[3] == "kept"], ["D"])
 
     def test_a_file_has_at_most_64(self):
         status, found, said = suggested(topology({"X": "topic", "Y": "topic"}, {"q": None}, [*seventy("X", "a%", "q"), *seventy("Y", "a%", "q")]))
         self.assertEqual((status, len(found)), (0, 64))
-        self.assertEqual(said.splitlines()[-1], "76 more are left out: they were not looked at, since a file has at most 64")
+        self.assertEqual({it[1] for it in found}, {"X", "Y"})
+        self.assertEqual(said.splitlines()[-1], "the rest was not looked at, since a file has at most 64")
 
     def test_an_internal_exchange_comes_last(self):
         with open(os.path.join(SHOP, "definitions.json"), encoding="utf-8") as file:
             _, found, _ = suggested(json.load(file))
         reaches = [it[1:] for it in found if it[0] == "reaches"]
-        self.assertEqual(reaches[:2], [("shop", "orders.*", "packing"), ("shop", "orders.#", "audit")])
+        self.assertEqual(reaches[:2], [("shop", "orders.*", "packing"), ("payments", "paid", "billing")])
         self.assertEqual(reaches[-2:], [("records", "#", "audit"), ("strays", "#", "lost")])
         self.assertEqual([it for it in found if it[0] == "never" and it[1] in ("records", "strays")], [])
         self.assertNotIn(("never", "shop", "#", "lost"), found)
+
+
+class Patterns(unittest.TestCase):
+    def test_by_all_keys_of_up_to_four_words(self):
+        """A pattern has all keys of another, and two have keys in common, exactly as matching each key says."""
+        keys = [".".join(it) for count in range(5) for it in itertools.product("abc", repeat=count)]
+        chance = random.Random(1)
+        for _ in range(400):
+            one, other = (".".join(chance.choice("ab*#") for _ in range(chance.randint(0, 3))) for _ in range(2))
+            matched = [{key for key in keys if Pattern(True, it).matches(key)} for it in (one, other)]
+            self.assertEqual(includes(one, other), matched[1] <= matched[0], (one, other))
+            both = meets(one, other)
+            self.assertEqual({key for key in keys if any(Pattern(True, it).matches(key) for it in both)}, matched[0] & matched[1], (one, other))
+            self.assertFalse([it for it in both for wide in both if wide != it and includes(wide, it)])
+
+    def test_two_places_where_a_word_may_be(self):
+        self.assertEqual(sorted(meets("#.x.#", "#.y.#")), ["#.x.#.y.#", "#.y.#.x.#"])
+        self.assertEqual(meets("orders.#", "*.eu"), ["orders.eu"])
+        self.assertEqual(meets("a.#", "b.#"), [])
 
 
 class Asks(unittest.TestCase):

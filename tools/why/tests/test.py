@@ -11,6 +11,7 @@ import subprocess
 import sys
 import tempfile
 import unittest
+import xml.etree.ElementTree as tree
 
 HERE = os.path.dirname(os.path.abspath(__file__))
 TOOL = os.path.dirname(HERE)
@@ -213,6 +214,61 @@ class Refusals(unittest.TestCase):
     def test_what_is_taken(self):
         name = os.path.join(SHOP, "definitions.json")
         self.assertEqual(run(name), (0, f"nothing stands against {name}: warren takes it\n", ""))
+
+
+class Junit(unittest.TestCase):
+    """The form is that of JUnit's XML as pipelines read it: suites, a suite, a case for each test, in it a failure or an error."""
+
+    def report(self, *words):
+        with tempfile.TemporaryDirectory() as folder:
+            name = os.path.join(folder, "report.xml")
+            status, _, said = run(*words, "--junit", name)
+            suites = tree.parse(name).getroot()
+        self.assertEqual((suites.tag, [it.tag for it in suites]), ("testsuites", ["testsuite"]))
+        counts = [[it.get(of) for of in ("tests", "failures", "errors", "skipped")] for it in (suites, suites[0])]
+        self.assertEqual(*counts)
+        cases = [(case.get("name"), [(it.tag, it.get("type"), it.get("message"), it.text) for it in case]) for case in suites[0]]
+        return status, said, ":".join(counts[0]), cases
+
+    def test_a_test_for_each_guarantee(self):
+        definitions = topology({"X": "topic"}, {"q": None, "r": ("X", "b.c")}, [("X", "a.#", "q"), ("X", "c", "r"), ("X", "b.*", "q")])
+        guarantees = {"guarantees": [reaches("X", "a.#", "q"), reaches("X", "#", "q"), never("X", "c", "q"), never("X", "d", "q")]}
+        with written(definitions, guarantees, '1 yes states 2\n2 no key ""\n3 no key "c" path "X" "r" "X" "q"\n4 undecided key\n') as names:
+            status, said, counts, cases = self.report(*names)
+        self.assertEqual((status, said, counts), (1, "", "4:3:0:0"))
+        missed = ("2: everything of `X` reaches `q`", "NO: the empty key goes nowhere")
+        entered = ("3: nothing under `c` of `X` comes to `q`", "NO: `c` goes from `X` to `r`; rejected there, it goes on as `b.c` to `X` and so to `q`")
+        undecided = "UNDECIDED: only keys of more than 255 bytes, which no client can send, were found to break it; take a shorter pattern"
+        open_one = ("4: nothing under `d` of `X` comes to `q`", undecided)
+        failed = [(name, [("failure", kind, why, f"{name}: {why}")]) for (name, why), kind in ((missed, "broken"), (entered, "broken"), (open_one, "undecided"))]
+        self.assertEqual(cases, [("1: every `a.#` of `X` reaches `q`", []), *failed])
+
+    def test_a_file_that_is_refused_and_one_that_is_taken(self):
+        definitions = topology({"X": "topic"}, {"q": None}, [("X", "a..b", "q")])
+        with written(definitions) as names:
+            status, said, counts, cases = self.report(names[0])
+            what = "its key has an empty word (refused 9)"
+            entry = f'{names[0]}:1: binding "X" to queue "q", key "a..b"'
+            self.assertEqual((status, said, counts, cases), (1, "", "1:0:1:0", [(entry, [("error", "refused 9", what, f"{entry}: {what}")])]))
+        self.assertEqual(self.report(os.path.join(SHOP, "definitions.json")), (0, "", "1:0:0:0", [("warren takes it", [])]))
+
+    def test_what_could_not_be_told_is_an_error(self):
+        shop = os.path.join(SHOP, "definitions.json")
+        status, said, counts, cases = self.report(shop, "/nowhere")
+        why = "/nowhere: No such file or directory"
+        self.assertEqual((status, said, counts), (3, f"why: {why}\n", "1:0:1:0"))
+        self.assertEqual(cases, [("this could not be told", [("error", "failed", why, f"this could not be told: {why}")])])
+        self.assertEqual(run(shop, "--junit", "/no/where.xml"), (3, f"nothing stands against {shop}: warren takes it\n", "why: /no/where.xml: No such file or directory\n"))
+
+    def test_names_of_any_text(self):
+        name = "<&\"'>\x01\ufffe\n\ud7ff\U0001f600]]>"
+        definitions = topology({name: "topic"}, {"q": None}, [])
+        with written(definitions, {"guarantees": [reaches(name, "#", "q"), never(name, "#", "q")]}) as names:
+            status, said, counts, cases = self.report(*names, "--alone")
+        self.assertEqual((status, said, counts), (1, "", "2:1:0:0"))
+        for told, _ in cases:
+            self.assertIn("<&", told)
+            self.assertIn("\U0001f600]]>", told)
 
 
 class Bad(unittest.TestCase):

@@ -9,7 +9,7 @@ ghost use Rattle.marks.specs.Places.{bit_of};
 ghost use Rattle.depot.specs.Store.{HasReady};
 ghost use Rattle.commands.specs.State.{Kept, broker_of, topology_kept};
 ghost use Rattle.commands.specs.Picked.{IsPickFrom};
-ghost use Rattle.broker.specs.Rounds.{round_at, rounds_of, is_of, order, AllAreNoted, IsAwake, IsAsleep, QueuesAreMarked, IsNextMarked, KeepRounds, KeepLines};
+ghost use Rattle.broker.specs.Rounds.{round_at, rounds_of, is_of, order, AllAreNoted, IsAwake, IsAsleep, QueuesAreMarked, IsNextMarked, KeepRounds};
 ghost use Rattle.broker.specs.Rounds.{AllAddTheirOwn, LeaveLine, LeaveLines, HasRoom, KeepsWaiters, ListsMore, AllWaken, NoneInRound, NoneBetween, NonePassed};
 ghost use Rattle.broker.specs.Rounds.{PicksFrom, SameOrders};
 ghost use Rattle.broker.specs.Moving.{IsMoved, IsOfEither, LinesCome, ArePlacesApart, RoundsAreMoved};
@@ -70,7 +70,6 @@ fn join_at(rounds: &mut [Round], awake: &mut PlaceMarks, queue: usize, consumer:
     requires marked { QueuesAreMarked rounds.old awake.old }
     ensures joined { IsAwake (round_at rounds.new queue) consumer }
     ensures kept { (k : Kept) → KeepRounds k rounds.old rounds.new }
-    ensures lines { KeepLines rounds.old rounds.new }
     ensures adds { (k : Kept) → is_of k queue consumer ≡ true → AllAddTheirOwn k rounds.old rounds.new }
     ensures marked { QueuesAreMarked rounds.new awake.new }
 {
@@ -319,7 +318,7 @@ impl QueueRounds {
     ghost use Rattle.std.specs.Prelude.{◌≡◌, ◌<◌, ◌+◌, ◌^◌, ℕ, None, true, IfSome, IfOk, OnOk, length};
     ghost use Rattle.commands.specs.State.{Kept, broker_of, topology_kept};
     ghost use Rattle.commands.specs.Picked.{IsPickFrom};
-    ghost use Rattle.broker.specs.Rounds.{round_at, rounds_of, is_of, AllAreNoted, IsAwake, IsAsleep, HasRoom, KeepRounds, KeepLines, AllAddTheirOwn};
+    ghost use Rattle.broker.specs.Rounds.{round_at, rounds_of, is_of, AllAreNoted, IsAwake, IsAsleep, HasRoom, KeepRounds, AllAddTheirOwn};
     ghost use Rattle.broker.specs.Rounds.{LeaveLines, KeepsWaiters, ListsMore, AllWaken, NoneBetween, NonePassed, PicksFrom, SameOrders, AllAreEmpty};
     ghost use Rattle.broker.specs.Moving.{ArePlacesApart, RoundsAreMoved, LinesCome};
 
@@ -350,7 +349,6 @@ impl QueueRounds {
         requires room { HasRoom (round_at self.old queue) }
         ensures joined { IsAwake (round_at self.new queue) consumer }
         ensures kept { (k : Kept) → KeepRounds k self.old self.new }
-        ensures lines { KeepLines self.old self.new }
         ensures adds { (k : Kept) → is_of k queue consumer ≡ true → AllAddTheirOwn k self.old self.new }
         ensures len { length self.new ≡ length self.old }
     {

@@ -5,8 +5,8 @@
 //! that which was picked last. A waiter whose consumer may take nothing then falls asleep, and is passed over until it is woken. Picks look
 //! at the waiters whose bit is 1: that of a waiter that sleeps may be, after others left, until one looks at it.
 
-ghost use Rattle.std.specs.Prelude.{◌≡◌, ◌<◌, ◌≤◌, ◌+◌, ◌*◌, ◌++◌, ◌∷◌, [], ℕ, true, false};
-ghost use Rattle.std.specs.Prelude.{None, IfSome, OnOk, length, count_by, filter, slice_index_or, vec_len, vec_capacity};
+ghost use Rattle.std.specs.Prelude.{◌≡◌, ◌<◌, ◌≤◌, ◌+◌, ◌*◌, ◌⊎◌, ◌++◌, ◌∷◌, [], ℕ, true, false};
+ghost use Rattle.std.specs.Prelude.{None, IfSome, OnOk, length, count_by, filter, min, slice_index_or, vec_len, vec_capacity};
 ghost use Rattle.std.specs.List.{position_from};
 ghost use Rattle.model.specs.Topology.{IsIn};
 ghost use Rattle.marks.specs.Places.{bit_of};
@@ -23,7 +23,7 @@ ghost use Rattle.broker.specs.Moving.{all_awake};
 
 use crate::rounds::finding::{Found, find, is_able, is_of};
 use crate::rounds::sleepers::{Sleepers, mark_waiter};
-use crate::rounds::waiters::{PlaceMarks, Waiter, is_same, mark_all};
+use crate::rounds::waiters::{PlaceMarks, Waiter, is_same, mark_between};
 use commands::{Core, Pick};
 use marks::{Flat, Over, Places};
 use std::alloc::{AllocError, Global};
@@ -153,25 +153,40 @@ fn let_go(
     *next = staying(waiters.split_at(before).0, core, queue, connection);
     sweep(waiters, core, queue, connection);
     if waiters.len() < count {
-        mark_all(awake, waiters.len());
+        mark_between(awake, 0, waiters.len());
     }
 }
 
-/// This consumer has a waiter behind all others from now on, which is awake, and for which there is room. It takes no memory.
-fn add_waiter(waiters: &mut Vec<Waiter>, awake: &mut PlaceMarks, consumer: Pick)
+/// Returns the place at which the last of a line of `count` stands, which is gone round from `next`: behind it a newcomer comes in.
+fn line_end(next: usize, count: usize) -> usize
+    ensures within { result ≤ count }
+    ensures end { (next ≡ 0) × (result ≡ count) ⊎ (result ≡ min next count) }
+{
+    if next == 0 {
+        return count;
+    }
+    next.min(count)
+}
+
+/// Adds a waiter for `consumer`, awake, as the last of the line, which is gone round from `next`. There is room for it. Picks look at it and
+/// at all whose places move. Never allocates.
+fn add_waiter(waiters: &mut Vec<Waiter>, awake: &mut PlaceMarks, next: &mut usize, consumer: Pick)
     requires room { length waiters.old.items < vec_capacity waiters.old }
     requires mark { length waiters.old.items + 1 ≤ length awake.old * 64 }
     ensures marks { length waiters.new.items ≤ length awake.new * 64 }
-    ensures last { picks waiters.new.items ≡ picks waiters.old.items ++ consumer ∷ [] }
+    ensures last { turned next.new (picks waiters.new.items) ≡ turned next.old (picks waiters.old.items) ++ consumer ∷ [] }
     ensures joined { IsAwake (round_of waiters.new.items awake.new) consumer }
     ensures kept { (k : Kept) (queue : ℕ) → KeepsRound k queue (round_of waiters.old.items awake.old) (round_of waiters.new.items awake.new) }
 {
-    let place = waiters.len();
-    waiters.push_reserved(Waiter {
+    let count = waiters.len();
+    let place = line_end(*next, count);
+    let waiter = Waiter {
         pick: consumer,
         asleep: false,
-    });
-    awake.set(place);
+    };
+    let _ = waiters.insert(place, waiter);
+    mark_between(awake, place, count + 1);
+    *next = place + 1;
 }
 
 /// Whether picks look at one of the waiters at places below this.
@@ -359,7 +374,7 @@ impl Round {
     ghost use Rattle.commands.specs.declared.picks.Pick.{Pick as Consumer};
     ghost use Rattle.commands.specs.Picked.{IsPickFrom};
     ghost use Rattle.broker.specs.Rounds.{order, AllAreNoted, IsAwake, IsAsleep, KeepsIn, KeepsRound};
-    ghost use Rattle.broker.specs.Rounds.{NoneInRound, GoesLast, KeepsLine, AddsOne, LeaveLine, HasRoom, ListsMore, Wakens};
+    ghost use Rattle.broker.specs.Rounds.{NoneInRound, GoesLast, AddsOne, LeaveLine, HasRoom, ListsMore, Wakens};
     ghost use Rattle.broker.specs.Moving.{AllRoused};
 
     /// No waiter. It takes no memory.
@@ -382,18 +397,18 @@ impl Round {
         grow(&mut self.waiters, &mut self.awake)
     }
 
-    /// This consumer, for whose waiter there is room, waits in the round from now on, and is awake. All others stay. It takes no memory.
+    /// Adds a waiter for `consumer`, awake, behind all others of the line; if it has one, that is awake from now on, where it is. There is room
+    /// for it. Never allocates.
     pub fn join(&mut self, consumer: Pick)
         requires { HasRoom self.old }
         ensures joined { IsAwake self.new consumer }
         ensures kept { (k : Kept) (queue : ℕ) → KeepsRound k queue self.old self.new }
-        ensures line { KeepsLine self.old self.new }
         ensures adds { AddsOne consumer self.old self.new }
     {
         if wake_waiter(&mut self.waiters, &mut self.awake, consumer, 0) {
             return;
         }
-        add_waiter(&mut self.waiters, &mut self.awake, consumer);
+        add_waiter(&mut self.waiters, &mut self.awake, &mut self.next, consumer);
     }
 
     /// The waiters of this connection's consumers that are gone, or take from another queue than that at this place, are gone too. The others
@@ -426,7 +441,7 @@ impl Round {
         ensures same { order self.new ≡ order self.old }
     {
         rouse_each(&mut self.waiters);
-        mark_all(&mut self.awake, self.waiters.len());
+        mark_between(&mut self.awake, 0, self.waiters.len());
     }
 
     /// Whether picks look at some waiter. If not, none is awake.

@@ -14,7 +14,7 @@ ghost use Rattle.broker.specs.Rounds.{MakesNoList, NotesStay, ListsStay, SameLis
 ghost use Rattle.broker.specs.Rounds.{KeepsListings, KeepListingsOn, KeepLists, SleepMore, ListsMore};
 
 use crate::rounds::finding::is_of;
-use crate::rounds::waiters::{PlaceMarks, is_same, mark_all};
+use crate::rounds::waiters::{PlaceMarks, is_same, mark_between};
 use commands::{Core, Pick};
 use marks::{Flat, Over, Places};
 pub(crate) use moving::move_sleepers;
@@ -159,7 +159,7 @@ fn let_go(listed: &mut Vec<Listed>, asleep: &mut PlaceMarks, core: &Core)
     let before = listed.len();
     sweep(listed, core);
     if listed.len() < before {
-        mark_all(asleep, listed.len());
+        mark_between(asleep, 0, listed.len());
     }
 }
 

@@ -33,13 +33,15 @@ pub(crate) fn is_same(one: Pick, other: Pick) -> bool
     one.connection == other.connection && one.channel == other.channel && one.number == other.number
 }
 
-/// All places below this are in the set from now on.
-pub(crate) fn mark_all(marks: &mut PlaceMarks, count: usize)
-    requires { count ≤ length marks.old * 64 }
+/// Puts all places from `from` up to `to` into the set.
+pub(crate) fn mark_between(marks: &mut PlaceMarks, from: usize, to: usize)
+    requires order { from ≤ to }
+    requires room { to ≤ length marks.old * 64 }
     ensures len { length marks.new ≡ length marks.old }
-    ensures marked { (i : ℕ) → i < count → bit_of marks.new i ≡ 1 }
+    ensures marked { (i : ℕ) → from ≤ i → i < to → bit_of marks.new i ≡ 1 }
+    ensures more { (i : ℕ) → bit_of marks.old i ≡ 1 → bit_of marks.new i ≡ 1 }
 {
-    for place in 0..count {
+    for place in from..to {
         marks.set(place);
     }
 }

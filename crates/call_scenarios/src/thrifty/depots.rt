@@ -61,32 +61,53 @@ fn expect_taken(depot: &mut Depot, notes: &mut Vec<Note>) -> Result<(), Unmet>
     let Some(place) = depot.topology().queue_at(b"audit") else {
         return Err(Unmet::Claim("there is a queue"));
     };
-    expect("one is the first", depot.first_ready(place).is_some())?;
+    expect("one is the first", depot.first_ready(b"audit").is_some())?;
+    let absent = depot.first_ready(b"absent");
+    expect("a queue that is not there has none", absent.is_none())?;
     if depot.held(place, &HOLDER, 0).is_some() {
         return Err(Unmet::Claim("nobody holds a message"));
     }
-    let taken = depot.take(place, Giving::Held(HOLDER), notes);
-    let arrival = value_of("Depot::take", taken.ok_or(()))?;
+    let taken = depot.take_at(place, Giving::Held(HOLDER), notes);
+    let arrival = value_of("Depot::take_at", taken.ok_or(()))?;
     requeue(depot, place, arrival);
     expect_number("it is made ready again", depot.ready_at(place) as u64, 1)?;
     if notes.len() >= notes.capacity() {
         return Err(Unmet::Claim("the notes have room still"));
     }
-    depot.take(place, Giving::Out(Text::short(b"audit")), notes);
-    expect_number(
-        "the queue has none any more",
-        depot.ready_at(place) as u64,
-        0,
-    )?;
+    depot.take(b"audit", Giving::Out(Text::short(b"audit")), notes);
+    let ready = value_of("Depot::ready", depot.ready(b"audit").ok_or(()))?;
+    expect_number("the queue has none any more", ready as u64, 0)?;
     expect_number("that is noted", notes.len() as u64, 1)
 }
 
-/// All of it.
-fn expect_depot(depot: &mut Depot, notes: &mut Vec<Note>) -> Result<(), Unmet>
+/// Expects that so many messages leave this queue by a purge.
+fn expect_purged(
+    alloc: Global,
+    depot: &mut Depot,
+    queue: &[u8],
+    notes: &mut Vec<Note>,
+    expected: u64,
+) -> Result<(), Unmet> {
+    let purged = value_of("Depot::purge", depot.purge(alloc, queue, notes))?;
+    expect_number("the number of purged messages", purged as u64, expected)
+}
+
+/// All of it. Where no message is ready, a purge takes no memory either.
+fn expect_depot(alloc: Global, depot: &mut Depot, notes: &mut Vec<Note>) -> Result<(), Unmet>
     requires { vec_len notes.old < vec_capacity notes.old }
 {
     expect_told(&*depot)?;
-    expect_taken(depot, notes)
+    expect_taken(depot, notes)?;
+    expect_purged(alloc, depot, b"audit", notes, 0)?;
+    expect_purged(alloc, depot, b"absent", notes, 0)
+}
+
+/// The one message leaves its queue by a purge.
+fn expect_emptied(alloc: Global) -> Result<(), Unmet> {
+    let mut depot = filled_depot(alloc)?;
+    let mut notes = Vec::new(alloc);
+    expect_purged(alloc, &mut depot, b"audit", &mut notes, 1)?;
+    expect_number("that is noted", notes.len() as u64, 1)
 }
 
 /// Notes with room for one.
@@ -100,13 +121,14 @@ fn roomy_notes(alloc: Global) -> Result<Vec<Note>, Unmet>
 
 /// A message is told, held, made ready again and taken.
 pub(crate) fn a_depot_takes_no_memory(rt: &HostRuntime, alloc: Global) -> Result<(), Unmet> {
+    expect_emptied(alloc)?;
     let mut first = filled_depot(alloc)?;
     let mut second = filled_depot(alloc)?;
     let mut first_notes = roomy_notes(alloc)?;
     let mut second_notes = roomy_notes(alloc)?;
-    expect_depot(&mut first, &mut first_notes)?;
+    expect_depot(alloc, &mut first, &mut first_notes)?;
     let room = Room::of_all(rt, alloc)?;
-    let outcome = expect_depot(&mut second, &mut second_notes);
+    let outcome = expect_depot(alloc, &mut second, &mut second_notes);
     drop(room);
     outcome
 }

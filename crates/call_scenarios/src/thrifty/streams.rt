@@ -4,7 +4,7 @@ use crate::parts::consume;
 use crate::room::Room;
 use assembly::Stream;
 use channels::Channel;
-use model::{Consume, Phase};
+use model::{Consume, Phase, Taker};
 use scenario_parts::{Unmet, expect, expect_number, value_of};
 use session::Session;
 use std::alloc::Global;
@@ -25,32 +25,83 @@ fn expect_session() -> Result<(), Unmet> {
     let mut session = Session::running();
     session.after(&[]);
     expect("a session runs", matches!(session.phase(), Phase::Running))?;
+    let (channel_max, frame_max) = session.limits();
+    expect_number("the greatest channel", u64::from(channel_max), 255)?;
     expect_number(
-        "the greatest channel",
-        u64::from(session.channel_max()),
-        255,
+        "the greatest frame",
+        u64::from(frame_max),
+        u64::from(FRAME_MAX),
     )
 }
 
-/// A channel with the consumer `t`, and the consumer's number.
+/// A channel with the consumer `t` and room for messages, and the consumer's number.
 fn channel(alloc: Global, consume: &Consume) -> Result<(Channel, u64), Unmet> {
     let mut channel = Channel::new(alloc);
     let number = channel.next_number();
     value_of("Channel::consume", channel.consume(alloc, 0, consume))?;
+    value_of("Channel::reserve", channel.reserve(4))?;
     Ok((channel, number))
 }
 
 /// A consumer may take a message, and one that was cancelled may not.
-fn expect_channel(channel: &mut Channel, number: u64) -> Result<(), Unmet> {
+fn expect_consumer(channel: &mut Channel, number: u64) -> Result<(), Unmet> {
+    expect("the consumer may take a message", channel.may_take(number))?;
     expect(
-        "the consumer may take a message",
+        "the consumer that may is found",
         channel.taker(number).is_some(),
     )?;
     channel.cancel(b"t");
     expect(
         "a consumer that was cancelled may not",
-        channel.taker(number).is_none(),
+        !channel.may_take(number),
     )
+}
+
+/// Gives a message out on the channel, which has room for it.
+fn give(channel: &mut Channel) -> Result<(), Unmet> {
+    value_of("Channel::reserve", channel.reserve(1))?;
+    if !channel.has_tag_left() {
+        return Err(Unmet::Claim("a tag is left"));
+    }
+    channel.give(0, 1, Taker::Get);
+    Ok(())
+}
+
+/// Expects that this tag settles the deliveries of these tags, and that it is refused once they are forgotten.
+fn expect_settled(
+    channel: &mut Channel,
+    tag: u64,
+    multiple: bool,
+    tags: &[u64],
+) -> Result<(), Unmet> {
+    let settled = value_of("Channel::settle", channel.settle(tag, multiple).ok_or(()))?;
+    let mut found = 0;
+    for given in settled {
+        let is_next = tags.get(found) == Some(&given.tag);
+        expect("the delivery is to be settled", is_next)?;
+        found = found.saturating_add(1);
+    }
+    expect_number("how many are settled", found as u64, tags.len() as u64)?;
+    channel.forget(tag, multiple);
+    expect(
+        "what was settled is outstanding no longer",
+        channel.settle(tag, false).is_none(),
+    )
+}
+
+/// Three messages are given out. The second is settled, and then the others.
+fn expect_deliveries(channel: &mut Channel) -> Result<(), Unmet> {
+    for _ in 0..3 {
+        give(channel)?;
+    }
+    expect_settled(channel, 2, false, &[2])?;
+    expect_settled(channel, 3, true, &[1, 3])
+}
+
+/// A channel tells whether a consumer may take, and what tags settle.
+fn expect_channel(channel: &mut Channel, number: u64) -> Result<(), Unmet> {
+    expect_consumer(channel, number)?;
+    expect_deliveries(channel)
 }
 
 /// All three are asked.
@@ -60,7 +111,8 @@ fn expect_all(stream: &mut Stream, channel: &mut Channel, number: u64) -> Result
     expect_channel(channel, number)
 }
 
-/// A stream is set and read, a session tells its phase and limits, and a channel whether a consumer may take.
+/// A stream is set and read, a session tells its phase and limits, and a channel whether a consumer may take and what
+/// tags settle.
 pub(crate) fn a_sound_stream_takes_no_memory(rt: &HostRuntime, alloc: Global) -> Result<(), Unmet> {
     let consume = consume();
     let (mut first, number) = channel(alloc, &consume)?;

@@ -35,7 +35,7 @@ pub(crate) fn get(
     let place = check_queue(depot.topology(), &get.queue)?;
     depot.is_named(place);
     let remaining = depot.ready_at(place).saturating_sub(1);
-    let Some(entry) = depot.first_ready(place) else {
+    let Some(entry) = depot.first_ready_at(place) else {
         return Ok(Step::sending(alloc, get_empty(id.connection, id.number))?);
     };
     check_tag(channel)?;

@@ -31,6 +31,6 @@ pub(crate) fn purge(
     let count = depot.ready_at(place);
     let mut step = answer_purge(alloc, id.connection, id.number, purge.no_wait, count)?;
     depot.is_named(place);
-    depot.purge(alloc, place, &mut step.notes)?;
+    depot.purge_at(alloc, place, &mut step.notes)?;
     Ok(step)
 }

@@ -9,7 +9,7 @@ use Rattle.engine.specs.Turning.{Performed, DidNext}
 use Rattle.engine.specs.declared.connection.Connection.{Connection}
 use Rattle.engine.specs.declared.turning.Turn.TheVariants as turn
 use Rattle.engine.proofs.Turned.{performed_put, stays_refused}
-use Rattle.engine.proofs.Waiting.{one_then}
+use Rattle.engine.proofs.Waiting.{back_then}
 use Rattle.engine.proofs.turning.do_next.Goals as goal
 
 pub perform-requires-clause-asked : goal.perform-requires-clause-asked
@@ -34,7 +34,7 @@ returns-in-Ok c =
     let new : Connection = record { number = l.number; session = c.perform.new.session; stream = c.follow.new.stream; kept = c.forget.new.kept; output = c.put_out.new.output } in
     record {
       ok = subst (λ (k : Option Event). DidNext (rules_of (topology_kept b) c.args.users.now) b l k (turn.Did step.notes) c.put_out.new.broker new) (sym c.in-Some.is)
-          (record { performed = performed; number = refl; none_kept = c.forget.ensures; stream = c.follow.ensures }, one_then event b mid c.put_out.new.broker c.in-Ok.ensures.later put.later);
+          (record { performed = performed; number = refl; none_kept = c.forget.ensures; stream = c.follow.ensures }, back_then b mid c.put_out.new.broker c.in-Ok.ensures.later put.later);
       wants = tt;
       broker_kept = tt;
       connection_kept = tt;

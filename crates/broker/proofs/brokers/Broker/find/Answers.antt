@@ -1,17 +1,18 @@
 use Rattle.std.proofs.Common.{ℕ, refl, sym, subst}
+use Rattle.std.specs.Prelude.{IfSome}
 use Rattle.model.specs.Consuming.{CanDeliver}
-use Rattle.broker.specs.Rounds.{Rounds, HasConsumer, PicksFirst}
+use Rattle.broker.specs.Rounds.{Rounds, HasConsumer}
 use Rattle.broker.specs.Turns as seen
 use Rattle.broker.specs.Turns.{WithTurn, with_turn}
 use Rattle.commands.specs.State.{Kept, broker_of, topology_kept}
 use Rattle.commands.specs.declared.picks.Pick.{Pick}
 use Rattle.commands.specs.Picked.{IsPick, IsPickFrom}
 use Rattle.commands.proofs.Picking.{pick_from}
-use Rattle.broker.proofs.Outcomes.{if_some, told_some}
+use Rattle.broker.proofs.Outcomes.{if_some}
 use Rattle.broker.proofs.Joined.{holds, serves, serves_kept, notes_keep, running_still}
-use Rattle.broker.specs.Waiting.{IsToldInTurn}
+use Rattle.broker.specs.Waiting.{LinesStay, IsToldInTurn}
 use Rattle.broker.proofs.Staying.{own_picked, listed_same}
-use Rattle.broker.proofs.Turning.{told_in_turn}
+use Rattle.broker.proofs.Nearer.{told_first, lines_stay}
 use Rattle.broker.proofs.brokers.Broker.find.Goals as goal
 
 pub returns-clause-none : goal.returns-clause-none
@@ -42,6 +43,13 @@ returns-clause-in_turn c =
     let kept : Kept = c.self.inside.core in
     let before : Rounds = c.self.inside.rounds in
     let after : Rounds = c.pick-self-inside.new.self in
-    subst (λ (b : WithTurn). IsToldInTurn b c.pick-self-inside.result (with_turn kept after c.pick-self-inside.result)) c.self.view_is
-    (told_in_turn kept before after c.self.inside.turn c.pick-self-inside.result (holds kept before c.self.invariant)
-    (λ p is. told_some c.pick-self-inside.result p (PicksFirst kept before after) is c.pick-self-inside.ensures.told) c.pick-self-inside.ensures.none)
+    subst (λ (b : WithTurn). IfSome c.pick-self-inside.result (λ p. IsToldInTurn b p (with_turn kept after c.pick-self-inside.result))) c.self.view_is
+    (told_first kept before after c.self.inside.turn c.pick-self-inside.result (holds kept before c.self.invariant) c.pick-self-inside.ensures.told)
+
+pub returns-clause-stay : goal.returns-clause-stay
+returns-clause-stay c = λ none.
+    let kept : Kept = c.self.inside.core in
+    let before : Rounds = c.self.inside.rounds in
+    let after : Rounds = c.pick-self-inside.new.self in
+    subst (λ (b : WithTurn). LinesStay b (with_turn kept after c.pick-self-inside.result)) c.self.view_is
+    (lines_stay kept before after c.self.inside.turn c.pick-self-inside.result (c.pick-self-inside.ensures.on none))

@@ -1,4 +1,4 @@
-use Rattle.std.proofs.Common.{◌∙◌, refl, sym, ap, subst}
+use Rattle.std.proofs.Common.{◌∙◌, inl, refl, sym, ap, subst}
 use Rattle.commands.specs.Picked.{IsPick}
 use Rattle.broker.specs.Turns.{WithTurn, broker_of}
 use Rattle.broker.specs.Waiting.{AllStand}
@@ -20,3 +20,7 @@ returns-in-Some-clause-stand c =
 pub returns-in-None-clause-stand : goal.returns-in-None-clause-stand
 returns-in-None-clause-stand c =
     subst AllStand c.self.view_is (all_stand c.self.inside.core c.self.inside.rounds c.self.inside.turn (holds c.self.inside.core c.self.inside.rounds c.self.invariant) c.self.invariant.own)
+
+-- the same is told again
+pub returns-in-Some-clause-in_turn : goal.returns-in-Some-clause-in_turn
+returns-in-Some-clause-in_turn c = inl (ap (λ (b : WithTurn). b.turn) (sym c.self.view_is) ∙ c.in-Some.ensures.same, record { next = refl; lines = λ place. refl })

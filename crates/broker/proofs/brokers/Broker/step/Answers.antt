@@ -1,16 +1,16 @@
 use Rattle.std.proofs.Common.{◌∙◌, ℕ, sym, ap, subst}
 use Rattle.broker.specs.Rounds.{Rounds, IsServing}
 use Rattle.commands.specs.Ended.{TellsEnd, TellsStay}
-use Rattle.commands.specs.State.{Kept, broker_of, topology_kept}
+use Rattle.commands.specs.State.{Kept, broker_of}
 use Rattle.commands.specs.declared.acted.Ends.{Ends}
 use Rattle.replies.specs.Sent.{connection_of_event}
 use Rattle.broker.proofs.Outcomes.{on_err}
-use Rattle.broker.proofs.Joined.{holds, came_there}
+use Rattle.broker.proofs.Joined.{holds}
 use Rattle.broker.proofs.Staying.{listed_same}
 use Rattle.broker.proofs.Stepped.{goes, serving_on, round_then, has_ended, own_held, serving_held, own_left_then, serving_left}
 use Rattle.broker.specs.Turns.{WithTurn, with_turn}
-use Rattle.broker.specs.Waiting.{OneComesIn}
-use Rattle.broker.proofs.Turning.{same_turns, one_comes, round_left, waiters_own}
+use Rattle.broker.specs.Waiting.{NobodyIsPutBack}
+use Rattle.broker.proofs.Turning.{same_turns, none_back, round_left, waiters_own}
 use Rattle.broker.proofs.brokers.Broker.step.Goals as goal
 
 pub returns-in-Nothing-clause-addressed : goal.returns-in-Nothing-clause-addressed
@@ -88,14 +88,13 @@ returns-in-Nothing-clause-later c =
     let runs = subst (λ (e : Ends). TellsEnd (connection_of_event c.args.event.now) e (broker_of old) (broker_of new)) c.in-Nothing.is c.in_ok-acted.ensures.ended in
     let stay = subst (λ (e : Ends). TellsStay c.args.event.now e (broker_of old) (broker_of new)) c.in-Nothing.is c.in_ok-acted.ensures.stay in
     let on = goes c.self.inside.core c.self.inside.rounds c.wake_for.new.self c.expect_next.new.self c.args.event.now c.self.invariant c.wake_for.ensures.kept c.wake_for.ensures.noted c.wake_for.ensures.none c.wake_for.ensures.on c.expect_next.ensures.kept c.expect_next.ensures.noted c.expect_next.ensures.running c.expect_next.ensures.on c.wake_for.ensures.same c.expect_next.ensures.same in
-    subst (λ (b : WithTurn). OneComesIn c.args.event.now b (with_turn new after c.self.inside.turn)) c.self.view_is
-    (one_comes old new before after c.self.inside.turn c.self.inside.turn c.step.ensures.topology (holds old before c.self.invariant) c.self.invariant.own
+    subst (λ (b : WithTurn). NobodyIsPutBack b (with_turn new after c.self.inside.turn)) c.self.view_is
+    (none_back old new before after c.self.inside.turn c.self.inside.turn c.step.ensures.topology (holds old before c.self.invariant) c.self.invariant.own
     (own_held c.self.inside.core c.self.inside.rounds c.wake_for.new.self c.expect_next.new.self c.args.event.now c.self.invariant c.wake_for.ensures.kept c.wake_for.ensures.noted c.wake_for.ensures.none c.wake_for.ensures.on c.expect_next.ensures.kept c.expect_next.ensures.noted c.expect_next.ensures.running c.expect_next.ensures.on c.wake_for.ensures.same c.expect_next.ensures.same
     c.brokers_stay_agreed.ensures.acts c.consumers_are_made.ensures c.step.new.self c.join.new.self c.in_ok-newcomer.newcomer _ _ c.in_ok-acted.ensures.ok c.step.ensures.topology c.wake_for.ensures.woken c.expect_next.ensures.wakens c.in_ok-newcomer.ensures.expected c.join.ensures.joined c.join.ensures.kept c.join.ensures.noted c.join.ensures.listed c.join.ensures.none c.join.ensures.len
     runs stay c.join.ensures.adds)
-    (round_then c.self.inside.core c.self.inside.rounds c.wake_for.new.self c.expect_next.new.self c.args.event.now c.self.invariant c.wake_for.ensures.kept c.wake_for.ensures.noted c.wake_for.ensures.none c.wake_for.ensures.on c.expect_next.ensures.kept c.expect_next.ensures.noted c.expect_next.ensures.running c.expect_next.ensures.on c.wake_for.ensures.same c.expect_next.ensures.same new after c.join.ensures.lines)
-    c.args.event.now (c.join.ensures.next ∙ on.next)
-    (came_there c.consumers_are_made.ensures (topology_kept old) old (broker_of new) c.args.event.now _ _ c.in_ok-acted.ensures.ok))
+    (round_then c.self.inside.core c.self.inside.rounds c.wake_for.new.self c.expect_next.new.self c.args.event.now c.self.invariant c.wake_for.ensures.kept c.wake_for.ensures.noted c.wake_for.ensures.none c.wake_for.ensures.on c.expect_next.ensures.kept c.expect_next.ensures.noted c.expect_next.ensures.running c.expect_next.ensures.on c.wake_for.ensures.same c.expect_next.ensures.same new after c.join.ensures.adds)
+    (c.join.ensures.next ∙ on.next))
 
 pub returns-in_default-clause-later : goal.returns-in_default-clause-later
 returns-in_default-clause-later c =
@@ -105,15 +104,14 @@ returns-in_default-clause-later c =
     let after : Rounds = c.join.new.self in
     let left : Rounds = c.leave.new.self in
     let on = goes c.self.inside.core c.self.inside.rounds c.wake_for.new.self c.expect_next.new.self c.args.event.now c.self.invariant c.wake_for.ensures.kept c.wake_for.ensures.noted c.wake_for.ensures.none c.wake_for.ensures.on c.expect_next.ensures.kept c.expect_next.ensures.noted c.expect_next.ensures.running c.expect_next.ensures.on c.wake_for.ensures.same c.expect_next.ensures.same in
-    subst (λ (b : WithTurn). OneComesIn c.args.event.now b (with_turn new left c.self.inside.turn)) c.self.view_is
-    (one_comes old new before left c.self.inside.turn c.self.inside.turn c.step.ensures.topology (holds old before c.self.invariant) c.self.invariant.own
+    subst (λ (b : WithTurn). NobodyIsPutBack b (with_turn new left c.self.inside.turn)) c.self.view_is
+    (none_back old new before left c.self.inside.turn c.self.inside.turn c.step.ensures.topology (holds old before c.self.invariant) c.self.invariant.own
     (own_left_then c.self.inside.core c.self.inside.rounds c.wake_for.new.self c.expect_next.new.self c.args.event.now c.self.invariant c.wake_for.ensures.kept c.wake_for.ensures.noted c.wake_for.ensures.none c.wake_for.ensures.on c.expect_next.ensures.kept c.expect_next.ensures.noted c.expect_next.ensures.running c.expect_next.ensures.on c.wake_for.ensures.same c.expect_next.ensures.same
     c.brokers_stay_agreed.ensures.acts c.consumers_are_made.ensures c.step.new.self c.join.new.self c.in_ok-newcomer.newcomer _ _ c.in_ok-acted.ensures.ok c.step.ensures.topology c.wake_for.ensures.woken c.expect_next.ensures.wakens c.in_ok-newcomer.ensures.expected c.join.ensures.joined c.join.ensures.kept c.join.ensures.noted c.join.ensures.listed c.join.ensures.none c.join.ensures.len
     c.connection_of.result c.connection_of.ensures left c.join.ensures.adds c.leave.ensures.lines)
     (round_left new c.connection_of.result before.rounds after.rounds left.rounds
-    (round_then c.self.inside.core c.self.inside.rounds c.wake_for.new.self c.expect_next.new.self c.args.event.now c.self.invariant c.wake_for.ensures.kept c.wake_for.ensures.noted c.wake_for.ensures.none c.wake_for.ensures.on c.expect_next.ensures.kept c.expect_next.ensures.noted c.expect_next.ensures.running c.expect_next.ensures.on c.wake_for.ensures.same c.expect_next.ensures.same new after c.join.ensures.lines) c.leave.ensures.lines)
-    c.args.event.now (c.leave.ensures.next ∙ c.join.ensures.next ∙ on.next)
-    (came_there c.consumers_are_made.ensures (topology_kept old) old (broker_of new) c.args.event.now _ _ c.in_ok-acted.ensures.ok))
+    (round_then c.self.inside.core c.self.inside.rounds c.wake_for.new.self c.expect_next.new.self c.args.event.now c.self.invariant c.wake_for.ensures.kept c.wake_for.ensures.noted c.wake_for.ensures.none c.wake_for.ensures.on c.expect_next.ensures.kept c.expect_next.ensures.noted c.expect_next.ensures.running c.expect_next.ensures.on c.wake_for.ensures.same c.expect_next.ensures.same new after c.join.ensures.adds) c.leave.ensures.lines)
+    (c.leave.ensures.next ∙ c.join.ensures.next ∙ on.next))
 
 -- no waiter is kept but of a consumer that is there, whatever becomes of the event
 pub returns-in_err-newcomer-clause-own : goal.returns-in_err-newcomer-clause-own

@@ -1,6 +1,6 @@
 use Rattle.std.proofs.Common.{◌∙◌, sym, subst}
 use Rattle.commands.specs.State.{broker_of}
-use Rattle.broker.specs.Rounds.{Rounds, round_at, ListsItsOwn, IsInItsRound, KeepLines, AllAddTheirOwn}
+use Rattle.broker.specs.Rounds.{Rounds, round_at, ListsItsOwn, IsInItsRound, AllAddTheirOwn}
 use Rattle.broker.proofs.Sleeping.{joined_more}
 use Rattle.broker.proofs.Sleepers.{lists_own}
 use Rattle.broker.proofs.rounds.ConsumerRounds.join.Goals as goal
@@ -9,9 +9,6 @@ pub returns-then-is_of-clause-kept : goal.returns-then-is_of-clause-kept
 returns-then-is_of-clause-kept c = λ place p i has.
     joined_more (broker_of c.args.core.now) c.self.inside.sleepers.entries c.join_listing.new.sleepers.entries place (round_at c.join.new.self place) p c.join_listing.ensures.asleep
     (c.join.ensures.kept c.args.core.now place c.self.inside.sleepers.entries p (subst (λ (r : Rounds). IsInItsRound (broker_of c.args.core.now) r place p) (sym c.self.view_is) i) has)
-
-pub returns-then-is_of-clause-lines : goal.returns-then-is_of-clause-lines
-returns-then-is_of-clause-lines c = subst (λ (r : Rounds). KeepLines r.rounds c.join.new.self) c.self.view_is c.join.ensures.lines
 
 pub returns-then-is_of-clause-adds : goal.returns-then-is_of-clause-adds
 returns-then-is_of-clause-adds c =

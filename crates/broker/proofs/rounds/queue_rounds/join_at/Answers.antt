@@ -1,8 +1,8 @@
 use Rattle.std.proofs.Common.{[], sym, subst}
 use Rattle.channels.proofs.Setting.{same_default}
-use Rattle.broker.specs.Rounds.{Waiters, HasRoom, KeepsRound, KeepsLine, AddsOne}
+use Rattle.broker.specs.Rounds.{Waiters, HasRoom, KeepsRound, AddsOne}
 use Rattle.broker.proofs.Marked.{marked_more, marked_set, keep_set}
-use Rattle.broker.proofs.Orders.{lines_set, adds_set}
+use Rattle.broker.proofs.Orders.{adds_set}
 use Rattle.broker.proofs.rounds.queue_rounds.join_at.Goals as goal
 
 pub join-requires : goal.join-requires
@@ -20,12 +20,6 @@ pub returns-clause-marked : goal.returns-clause-marked
 returns-clause-marked c =
     marked_set c.args.rounds.now c.set.new.self c.args.queue c.join.new.self c.set.ensures.set.there
     (marked_more c.args.rounds.now c.args.awake.now c.set.new.self c.args.queue c.set.ensures.size c.set.ensures.set c.requires.marked)
-
-pub returns-clause-lines : goal.returns-clause-lines
-returns-clause-lines c =
-    let none : Waiters = (record { waiters = []; marks = []; next = 0; capacity = 0 }) in
-    lines_set c.args.rounds.now c.args.queue c.join.new.self c.requires.within
-    (subst (λ (r : Waiters). KeepsLine r c.join.new.self) (sym (same_default c.args.rounds.now c.args.queue none c.index-rounds-queue.result c.requires.within)) c.join.ensures.line)
 
 pub returns-clause-adds : goal.returns-clause-adds
 returns-clause-adds c = λ k its.

@@ -1,15 +1,40 @@
-use Rattle.std.proofs.Common.{◌∙◌, List, [], ◌∷◌, sym, ap, subst}
-use Rattle.commands.specs.State.{broker_of}
+use Rattle.std.proofs.Common.{◌≡◌, ◌∙◌, ◌≤◌, ◌+◌, ◌⊎◌, ℕ, List, length, min, vec_len, refl, sym, ap, subst, arith, rules}
+use Rattle.std.specs.Prelude.{insert}
 use Rattle.broker.specs.declared.rounds.waiters.Waiter.{Waiter}
-use Rattle.broker.specs.Rounds.{round_of, picks, awake_waiter, IsInRound}
-use Rattle.broker.proofs.Picks.{picks_end}
-use Rattle.broker.proofs.Sleeping.{pushed}
+use Rattle.broker.specs.Lines.{turned}
+use Rattle.broker.specs.Rounds.{round_of, picks, awake_waiter, KeepsRound}
+use Rattle.broker.proofs.Inserting.{comes_last, did_insert, picks_inserted, keeps_inserted}
+use Rattle.broker.proofs.Picks.{picks_length}
 use Rattle.broker.proofs.rounds.round.add_waiter.Goals as goal
 
-pub returns-clause-kept : goal.returns-clause-kept
-returns-clause-kept c = λ k queue lists p i has.
-    subst (λ (xs : List Waiter). IsInRound (broker_of k) lists queue (round_of xs c.set.new.self) p) (sym c.push_reserved.ensures.items)
-    (pushed k queue c.args.waiters.now.items (awake_waiter c.args.consumer ∷ []) c.args.awake.now c.set.new.self _ c.set.ensures.set lists p i has)
-
+-- whoever comes in stands where the line ends
 pub returns-clause-last : goal.returns-clause-last
-returns-clause-last c = ap picks c.push_reserved.ensures.items ∙ picks_end c.args.waiters.now.items (awake_waiter c.args.consumer)
+returns-clause-last c =
+    let old = c.args.waiters.now.items in
+    let place = c.line_end-place.result in
+    let one = awake_waiter c.args.consumer in
+    let long : vec_len c.args.waiters.now ≡ length old = search rules in
+    let room = c.requires.room in
+    let count = c.len-count.ensures in
+    let within = c.line_end-place.ensures.within in
+    let all = picks_length old in
+    let same : c.len-count.result ≡ length (picks old) = omega (arith, count, long, all) in
+    let le : place ≤ length old = omega (arith, within, count, long) in
+    let items = did_insert c.insert.result old (insert old place one) c.insert.new.self.items c.insert.ensures.items (c.insert.ensures.succeeds (omega (arith, long, room))) in
+    ap (λ (ws : List Waiter). turned (place + 1) (picks ws)) items ∙ ap (turned (place + 1)) (picks_inserted old place one le)
+    ∙ comes_last (picks old) c.args.next.now place (place + 1) c.args.consumer (omega (arith, within, same))
+    (subst (λ (n : ℕ). ((c.args.next.now ≡ 0) × (place ≡ n)) ⊎ (place ≡ min c.args.next.now n)) same c.line_end-place.ensures.end) refl
+
+pub returns-clause-kept : goal.returns-clause-kept
+returns-clause-kept c = λ k queue.
+    let old = c.args.waiters.now.items in
+    let place = c.line_end-place.result in
+    let one = awake_waiter c.args.consumer in
+    let long : vec_len c.args.waiters.now ≡ length old = search rules in
+    let room = c.requires.room in
+    let count = c.len-count.ensures in
+    let within = c.line_end-place.ensures.within in
+    let items = did_insert c.insert.result old (insert old place one) c.insert.new.self.items c.insert.ensures.items (c.insert.ensures.succeeds (omega (arith, long, room))) in
+    subst (λ (ws : List Waiter). KeepsRound k queue (round_of old c.args.awake.now) (round_of ws c.mark_between.new.marks)) (sym items)
+    (keeps_inserted old place one c.args.awake.now c.mark_between.new.marks (omega (arith, within, count, long))
+    (record { more = c.mark_between.ensures.more; marked = λ i ge lt. c.mark_between.ensures.marked i ge (omega (arith, lt, count, long)) }) k queue)

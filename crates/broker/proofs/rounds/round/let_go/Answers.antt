@@ -8,8 +8,8 @@ use Rattle.broker.proofs.Sleeping.{swept}
 use Rattle.broker.proofs.rounds.round.let_go.Goals as goal
 
 -- where some are gone
-pub mark_all-requires : goal.mark_all-requires
-mark_all-requires c =
+pub mark_between-requires-clause-room : goal.mark_between-requires-clause-room
+mark_between-requires-clause-room c =
     let test = has_remained c.args.core.now c.args.queue c.args.connection in
     let is = c.len-then-len-count.ensures in
     let same = ap length c.sweep.ensures.waiters in
@@ -20,8 +20,8 @@ mark_all-requires c =
 
 pub returns-then-len-count-clause-kept : goal.returns-then-len-count-clause-kept
 returns-then-len-count-clause-kept c =
-    swept c.args.core.now c.args.queue (remains c.args.core.now c.args.queue c.args.connection) (round_of c.args.waiters.now.items c.args.awake.now) (round_of c.sweep.new.waiters.items c.mark_all.new.marks)
-    (of_remains c.args.core.now c.args.queue c.args.connection) c.sweep.ensures.waiters (λ i lt. c.mark_all.ensures.marked i (let is = c.len-then-len-count.ensures in omega (arith, is, lt)))
+    swept c.args.core.now c.args.queue (remains c.args.core.now c.args.queue c.args.connection) (round_of c.args.waiters.now.items c.args.awake.now) (round_of c.sweep.new.waiters.items c.mark_between.new.marks)
+    (of_remains c.args.core.now c.args.queue c.args.connection) c.sweep.ensures.waiters (λ i lt. c.mark_between.ensures.marked i (omega arith) (let is = c.len-then-len-count.ensures in omega (arith, is, lt)))
 
 pub returns-then-len-count-clause-apart : goal.returns-then-len-count-clause-apart
 returns-then-len-count-clause-apart c = apart_swept (remains c.args.core.now c.args.queue c.args.connection) c.args.waiters.now.items c.sweep.new.waiters.items c.sweep.ensures.waiters

@@ -6,8 +6,8 @@ use Rattle.broker.proofs.Listed.{kept_swept, kept_all}
 use Rattle.broker.proofs.rounds.sleepers.let_go.Goals as goal
 
 -- where some are gone
-pub mark_all-requires : goal.mark_all-requires
-mark_all-requires c =
+pub mark_between-requires-clause-room : goal.mark_between-requires-clause-room
+mark_between-requires-clause-room c =
     let test = is_listed_there c.args.core.now in
     let is = c.len-then-len-before.ensures in
     let same = ap length c.sweep.ensures.listed in
@@ -18,8 +18,8 @@ mark_all-requires c =
 
 pub returns-then-len-before-clause-kept : goal.returns-then-len-before-clause-kept
 returns-then-len-before-clause-kept c =
-    kept_swept c.args.core.now (listings_of c.args.listed.now.items c.args.asleep.now) (listings_of c.sweep.new.listed.items c.mark_all.new.marks) c.sweep.ensures.listed
-    (λ i lt. c.mark_all.ensures.marked i (let is = c.len-then-len-before.ensures in omega (arith, is, lt)))
+    kept_swept c.args.core.now (listings_of c.args.listed.now.items c.args.asleep.now) (listings_of c.sweep.new.listed.items c.mark_between.new.marks) c.sweep.ensures.listed
+    (λ i lt. c.mark_between.ensures.marked i (omega arith) (let is = c.len-then-len-before.ensures in omega (arith, is, lt)))
 
 -- where none is
 pub returns-else-len-before-clause-marks : goal.returns-else-len-before-clause-marks

@@ -1,26 +1,17 @@
-use Rattle.std.proofs.Common.{◌∙◌, ◌++◌, List, ap, sym, subst, find}
-use Rattle.model.specs.Broker.{is_ready}
-use Rattle.model.specs.declared.messages.Entry.{Entry}
-use Rattle.depot.specs.Givings.{CanGive, TellsArrival, given_notes, given_so}
-use Rattle.depot.proofs.Lending.{lent_queue, store_changed}
+use Rattle.depot.proofs.Absent.{absent, told_absent, taken_absent, noted_absent}
 use Rattle.depot.proofs.depots.Depot.take.Goals as goal
 
-pub give-arrival-requires-clause-free : goal.give-arrival-requires-clause-free
-give-arrival-requires-clause-free c =
-    let is = lent_queue c.self.inside.router c.self.inside.queues c.self.inside.published c.args.place _ c.queue_mut-queue.result.now c.self.view_is c.self.invariant c.requires.within c.queue_mut-queue.ensures.value in
-    subst (CanGive c.args.how) (sym is) c.requires.free
+pub returns-in_default-clause-told : goal.returns-in_default-clause-told
+returns-in_default-clause-told c =
+    told_absent c.args.self.now c.args.name.now c.args.how
+    (absent c.args.self.now c.topology.result.now c.args.name.now c.topology.ensures c.in_default.ensures.absent)
 
-pub returns-clause-told : goal.returns-clause-told
-returns-clause-told c =
-    let is = lent_queue c.self.inside.router c.self.inside.queues c.self.inside.published c.args.place _ c.queue_mut-queue.result.now c.self.view_is c.self.invariant c.requires.within c.queue_mut-queue.ensures.value in
-    subst (λ (es : List Entry). TellsArrival c.args.how (find is_ready es) c.give-arrival.result) is c.give-arrival.ensures.told
+pub returns-in_default-clause-taken : goal.returns-in_default-clause-taken
+returns-in_default-clause-taken c =
+    taken_absent c.args.self.now c.args.name.now c.args.how
+    (absent c.args.self.now c.topology.result.now c.args.name.now c.topology.ensures c.in_default.ensures.absent)
 
-pub returns-clause-notes : goal.returns-clause-notes
-returns-clause-notes c =
-    let is = lent_queue c.self.inside.router c.self.inside.queues c.self.inside.published c.args.place _ c.queue_mut-queue.result.now c.self.view_is c.self.invariant c.requires.within c.queue_mut-queue.ensures.value in
-    c.give-arrival.ensures.notes ∙ ap (λ (es : List Entry). c.args.notes.now.items ++ given_notes c.args.how (find is_ready es)) is
-
-pub returns-clause-store : goal.returns-clause-store
-returns-clause-store c =
-    store_changed (given_so c.args.how) c.self.inside.router c.self.inside.queues _ c.self.inside.published c.args.place _ c.queue_mut-queue.result.now c.give-arrival.new.queue c.self.view_is c.self.invariant c.requires.within c.queue_mut-queue.ensures.value
-    c.give-arrival.ensures.entries c.count_taking.ensures
+pub returns-in_default-clause-notes : goal.returns-in_default-clause-notes
+returns-in_default-clause-notes c =
+    noted_absent c.args.self.now c.args.name.now c.args.how c.args.notes.now.items
+    (absent c.args.self.now c.topology.result.now c.args.name.now c.topology.ensures c.in_default.ensures.absent)

@@ -10,11 +10,11 @@ use Rattle.runs.specs.Opened.{Idles}
 use Rattle.engine.specs.World.{Parts, world_of}
 use Rattle.engine.specs.Engines.{HasConnection}
 use Rattle.engine.specs.Pumping.{IsPump}
-use Rattle.engine.specs.Waiting.{ServesOne, TellsOne}
+use Rattle.engine.specs.Waiting.{ServesOne, TellsOne, TellsNobody}
 use Rattle.engine.specs.declared.connection.Connection.{Connection}
 use Rattle.engine.proofs.Asked.{on_err}
 use Rattle.engine.proofs.Delivered.{picked_there, picked_engine, picked_none, pumped_at}
-use Rattle.engine.proofs.Waiting.{serves_one, told_again}
+use Rattle.engine.proofs.Waiting.{tells_one, serves_one}
 use Rattle.engine.proofs.engines.Engine.pump.Goals as goal
 
 pub known_place-place-requires-clause-there : goal.known_place-place-requires-clause-there
@@ -63,13 +63,7 @@ pub returns-in_err-notes-clause-told : goal.returns-in_err-notes-clause-told
 returns-in_err-notes-clause-told c =
     on_err c.from_residual.result _ (subst (λ (p : Parts). TellsOne p.broker c.pump_connection.new.broker) c.self.view_is
     (subst (λ (b : WithTurn). TellsOne c.self.inside.broker b) (sym c.in_err-notes.ensures.broker_kept)
-    (record {
-      told = c.in-Some.pick;
-      again = told_again c.self.inside.broker c.in-Some.pick c.in-Some.ensures.again;
-      turn = c.in-Some.ensures.turn;
-      kept = c.in-Some.ensures.kept;
-      in_turn = c.in-Some.ensures.in_turn;
-    })))
+    (tells_one c.self.inside.broker c.pick.new.self c.in-Some.pick c.in-Some.ensures.kept c.in-Some.ensures.in_turn c.in-Some.ensures.turn c.in-Some.ensures.again)))
 
 pub returns-clause-ok : goal.returns-clause-ok
 returns-clause-ok c =
@@ -99,3 +93,7 @@ returns-in_default-clause-ok c =
     let i = c.self.inside in
     let old : Parts = record { broker = i.broker; guarantees = i.guarantees.items; users = i.users.items; given = i.given; connections = i.connections.items } in
     subst (λ (p : Parts). Idles (world_of p) (world_of (record old { broker = c.pick.new.self }))) c.self.view_is (picked_none old c.pick.new.self c.in_default.ensures.kept (c.in_default.ensures.none refl))
+
+pub returns-in_default-clause-in_turn : goal.returns-in_default-clause-in_turn
+returns-in_default-clause-in_turn c =
+    subst (λ (p : Parts). TellsNobody p.broker c.pick.new.self) c.self.view_is (record { turn = c.in_default.ensures.turn; kept = c.in_default.ensures.kept; lines = c.in_default.ensures.stay refl })

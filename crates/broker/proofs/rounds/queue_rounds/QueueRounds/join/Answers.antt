@@ -1,6 +1,6 @@
 use Rattle.std.proofs.Common.{◌∙◌, List, sym, subst}
 use Rattle.std.proofs.lemmas.List.{take_at}
-use Rattle.broker.specs.Rounds.{Waiters, round_at, HasRoom, KeepRounds, KeepLines, AllAddTheirOwn}
+use Rattle.broker.specs.Rounds.{Waiters, round_at, HasRoom, KeepRounds, AllAddTheirOwn}
 use Rattle.broker.proofs.rounds.queue_rounds.QueueRounds.join.Goals as goal
 
 pub join_at-requires-clause-room : goal.join_at-requires-clause-room
@@ -10,11 +10,6 @@ pub returns-clause-kept : goal.returns-clause-kept
 returns-clause-kept c = λ k.
     subst (λ (xs : List Waiters). KeepRounds k c.args.self.now xs) (sym (take_at c.join_at.new.rounds _ c.self.inside.rounds.len (c.join_at.auto.rounds ∙ c.deref_mut.ensures.len)))
     (subst (λ (xs : List Waiters). KeepRounds k xs c.join_at.new.rounds) (c.deref_mut.ensures.value ∙ c.self.view_is) (c.join_at.ensures.kept k))
-
-pub returns-clause-lines : goal.returns-clause-lines
-returns-clause-lines c =
-    subst (λ (xs : List Waiters). KeepLines c.args.self.now xs) (sym (take_at c.join_at.new.rounds _ c.self.inside.rounds.len (c.join_at.auto.rounds ∙ c.deref_mut.ensures.len)))
-    (subst (λ (xs : List Waiters). KeepLines xs c.join_at.new.rounds) (c.deref_mut.ensures.value ∙ c.self.view_is) c.join_at.ensures.lines)
 
 pub returns-clause-adds : goal.returns-clause-adds
 returns-clause-adds c = λ k its.

@@ -1,4 +1,4 @@
-use Rattle.std.proofs.Common.{◌∙◌, ◌++◌, List, [], ◌∷◌, length, filter, drop, inl, inr, sym, ap, subst, arith}
+use Rattle.std.proofs.Common.{◌∙◌, ◌++◌, List, [], ◌∷◌, length, drop, inl, inr, sym, ap, subst, arith}
 use Rattle.std.specs.Prelude.{vec_capacity}
 use Rattle.std.proofs.lemmas.List.{take_at}
 use Rattle.model.specs.Topology.{IsIn}
@@ -7,10 +7,10 @@ use Rattle.commands.specs.declared.picks.Pick.{Pick}
 use Rattle.broker.specs.declared.rounds.waiters.Waiter.{Waiter}
 use Rattle.broker.specs.Lines.{turned, AreDistinct}
 use Rattle.broker.specs.Rounds.{Waiters, round_of, picks, order, IsInRound}
-use Rattle.broker.proofs.Later.{came_last}
+use Rattle.broker.proofs.Inserting.{awake_in, distinct_list}
 use Rattle.broker.proofs.Lining.{distinct_end}
 use Rattle.broker.proofs.Sleeping.{joined_woken}
-use Rattle.broker.proofs.Standing.{not_in, from_turned, filter_end, distinct_turned}
+use Rattle.broker.proofs.Standing.{from_turned, in_turned, distinct_turned}
 use Rattle.broker.proofs.rounds.round.Round.join.Goals as goal
 
 pub returns-then-wake_waiter-clause-kept : goal.returns-then-wake_waiter-clause-kept
@@ -31,20 +31,13 @@ returns-clause-kept c = λ k queue lists p i has.
     (joined_woken b lists queue (round_of c.deref_mut.result.now c.self.inside.awake) (round_of c.wake_waiter.new.waiters c.wake_waiter.new.awake) p c.wake_waiter.ensures.wakens (subst (λ (r : Waiters). IsInRound b lists queue r p) (sym was) i))) has
 
 -- where it was woken all go round as before
-pub returns-then-wake_waiter-clause-line : goal.returns-then-wake_waiter-clause-line
-returns-then-wake_waiter-clause-line c =
-    let back = take_at c.wake_waiter.new.waiters (drop (length c.wake_waiter.new.waiters) c.self.inside.waiters.items) c.self.inside.waiters.len (c.wake_waiter.auto.waiters ∙ c.deref_mut.ensures.len) in
-    let same = ap picks back ∙ c.wake_waiter.ensures.wakens.same ∙ ap picks c.deref_mut.ensures.value in
-    λ test stand. ap (filter test) (ap (turned c.self.inside.next) same ∙ ap order c.self.view_is)
-
 pub returns-then-wake_waiter-clause-adds : goal.returns-then-wake_waiter-clause-adds
 returns-then-wake_waiter-clause-adds c =
     let back = take_at c.wake_waiter.new.waiters (drop (length c.wake_waiter.new.waiters) c.self.inside.waiters.items) c.self.inside.waiters.len (c.wake_waiter.auto.waiters ∙ c.deref_mut.ensures.len) in
     let same = ap picks back ∙ c.wake_waiter.ensures.wakens.same ∙ ap picks c.deref_mut.ensures.value in
-    record {
-      came = λ q i. inl (subst (IsIn q) (ap (turned c.self.inside.next) same ∙ ap order c.self.view_is) i);
-      once = subst (λ (ps : List Pick). AreDistinct (turned c.self.inside.next ps)) (sym same) (distinct_turned c.self.inside.next (picks c.self.inside.waiters.items) c.self.invariant.1);
-    }
+    let there = in_turned c.args.consumer (picks c.wake_waiter.new.waiters) c.self.inside.next (awake_in c.wake_waiter.new.waiters c.wake_waiter.new.awake c.args.consumer (c.wake_waiter.ensures.yes c.if-wake_waiter.true)) in
+    let stands = subst (λ (ps : List Pick). IsIn c.args.consumer ps) (ap (turned c.self.inside.next) (c.wake_waiter.ensures.wakens.same ∙ ap picks c.deref_mut.ensures.value) ∙ ap order c.self.view_is) there in
+    inl (stands, ap (turned c.self.inside.next) same ∙ ap order c.self.view_is)
 
 pub add_waiter-requires-clause-room : goal.add_waiter-requires-clause-room
 add_waiter-requires-clause-room c =
@@ -67,32 +60,16 @@ add_waiter-requires-clause-mark c =
     let room = c.requires.mark in
     omega (arith, one, two, three, long, marks, same, room)
 
--- where it was not there
-pub returns-clause-line : goal.returns-clause-line
-returns-clause-line c = λ test stand.
-    let back = take_at c.wake_waiter.new.waiters (drop (length c.wake_waiter.new.waiters) c.self.inside.waiters.items) c.self.inside.waiters.len (c.wake_waiter.auto.waiters ∙ c.deref_mut.ensures.len) in
-    let same = ap picks back ∙ c.wake_waiter.ensures.wakens.same ∙ ap picks c.deref_mut.ensures.value in
-    let last = c.add_waiter.ensures.last ∙ ap (λ (ps : List Pick). ps ++ c.args.consumer ∷ []) same in
-    let absent = subst (λ (ps : List Pick). IsIn c.args.consumer ps → ⊥) (c.wake_waiter.ensures.wakens.same ∙ ap picks c.deref_mut.ensures.value) (c.wake_waiter.ensures.absent c.if-wake_waiter.false) in
-    let none =
-    not_in test c.args.consumer (order c.args.self.now) (stand c.args.consumer)
-    (λ i. absent (from_turned c.args.consumer (picks c.self.inside.waiters.items) c.self.inside.next (subst (λ (ps : List Pick). IsIn c.args.consumer ps) (sym (ap order c.self.view_is)) i))) in
-    ap (λ (ps : List Pick). filter test (turned c.self.inside.next ps)) last ∙ filter_end test c.args.consumer c.self.inside.next (picks c.self.inside.waiters.items) none ∙ ap (filter test) (ap order c.self.view_is)
-
+-- where it was not there it is the last
 pub returns-clause-adds : goal.returns-clause-adds
 returns-clause-adds c =
     let back = take_at c.wake_waiter.new.waiters (drop (length c.wake_waiter.new.waiters) c.self.inside.waiters.items) c.self.inside.waiters.len (c.wake_waiter.auto.waiters ∙ c.deref_mut.ensures.len) in
     let same = ap picks back ∙ c.wake_waiter.ensures.wakens.same ∙ ap picks c.deref_mut.ensures.value in
-    let last = c.add_waiter.ensures.last ∙ ap (λ (ps : List Pick). ps ++ c.args.consumer ∷ []) same in
     let absent = subst (λ (ps : List Pick). IsIn c.args.consumer ps → ⊥) (c.wake_waiter.ensures.wakens.same ∙ ap picks c.deref_mut.ensures.value) (c.wake_waiter.ensures.absent c.if-wake_waiter.false) in
-    let old = picks c.self.inside.waiters.items in
-    record {
-      came = λ q i. elim (came_last c.args.consumer q c.self.inside.next old (subst (λ (ps : List Pick). IsIn q (turned c.self.inside.next ps)) last i)) [
-        | inl was ↦ inl (subst (IsIn q) (ap order c.self.view_is) was)
-        | inr its ↦ inr its
-      ];
-      once = subst (λ (ps : List Pick). AreDistinct (turned c.self.inside.next ps)) (sym last) (distinct_turned c.self.inside.next (old ++ c.args.consumer ∷ []) (distinct_end c.args.consumer old c.self.invariant.1 absent));
-    }
+    inr (
+      (λ i. absent (from_turned c.args.consumer (picks c.self.inside.waiters.items) c.self.inside.next (subst (λ (ps : List Pick). IsIn c.args.consumer ps) (sym (ap order c.self.view_is)) i))),
+      c.add_waiter.ensures.last ∙ ap (λ (ps : List Pick). turned c.self.inside.next ps ++ c.args.consumer ∷ []) same ∙ ap (λ (ps : List Pick). ps ++ c.args.consumer ∷ []) (ap order c.self.view_is),
+    )
 
 pub invariant_of-self : goal.invariant_of-self
 invariant_of-self c =
@@ -109,6 +86,8 @@ pub invariant_of-self-2 : goal.invariant_of-self-2
 invariant_of-self-2 c =
     let back = take_at c.wake_waiter.new.waiters (drop (length c.wake_waiter.new.waiters) c.self.inside.waiters.items) c.self.inside.waiters.len (c.wake_waiter.auto.waiters ∙ c.deref_mut.ensures.len) in
     let same = ap picks back ∙ c.wake_waiter.ensures.wakens.same ∙ ap picks c.deref_mut.ensures.value in
-    let last = c.add_waiter.ensures.last ∙ ap (λ (ps : List Pick). ps ++ c.args.consumer ∷ []) same in
     let absent = subst (λ (ps : List Pick). IsIn c.args.consumer ps → ⊥) (c.wake_waiter.ensures.wakens.same ∙ ap picks c.deref_mut.ensures.value) (c.wake_waiter.ensures.absent c.if-wake_waiter.false) in
-    (c.add_waiter.ensures.marks, subst (λ (ps : List Pick). AreDistinct ps) (sym last) (distinct_end c.args.consumer (picks c.self.inside.waiters.items) c.self.invariant.1 absent))
+    let old = picks c.self.inside.waiters.items in
+    let last = c.add_waiter.ensures.last ∙ ap (λ (ps : List Pick). turned c.self.inside.next ps ++ c.args.consumer ∷ []) same in
+    let once = distinct_end c.args.consumer (turned c.self.inside.next old) (distinct_turned c.self.inside.next old c.self.invariant.1) (λ i. absent (from_turned c.args.consumer old c.self.inside.next i)) in
+    (c.add_waiter.ensures.marks, distinct_list (picks c.add_waiter.new.waiters.items) c.add_waiter.new.next (subst (λ (ps : List Pick). AreDistinct ps) (sym last) once))

@@ -12,12 +12,12 @@ use Rattle.broker.proofs.rounds.round.Round.wake_all.Goals as goal
 pub returns-clause-roused : goal.returns-clause-roused
 returns-clause-roused c = λ p stands.
     let old = c.self.inside.awake in
-    let new = c.mark_all.new.marks in
+    let new = c.mark_between.new.marks in
     let waiters = c.deref_mut.result.now in
     let count = c.len.ensures in
     let long = c.deref_mut.ensures.len in
     subst (λ (xs : List Waiter). IsAwake (round_of xs new) p) (sym (take_at c.rouse_each.new.waiters _ c.self.inside.waiters.len (c.rouse_each.auto.waiters ∙ long) ∙ c.rouse_each.ensures))
-    (all_roused waiters old new (λ i lt. c.mark_all.ensures.marked i (omega (arith, lt, count, long))) p
+    (all_roused waiters old new (λ i lt. c.mark_between.ensures.marked i (omega arith) (omega (arith, lt, count, long))) p
     (subst (λ (xs : List Waiter). StandsIn (round_of xs old) p) (sym c.deref_mut.ensures.value) (subst (λ (r : Waiters). StandsIn r p) (sym c.self.view_is) stands)))
 
 pub returns-clause-same : goal.returns-clause-same
@@ -34,5 +34,5 @@ invariant_of-self c =
     let two = c.rouse_each.auto.waiters in
     let three = ap (λ (xs : List Waiter). length xs) c.deref_mut.ensures.value in
     let room = c.self.invariant.0 in
-    let marks = c.mark_all.ensures.len in
+    let marks = c.mark_between.ensures.len in
     (omega (arith, one, two, three, room, marks), subst (λ (ps : List Pick). AreDistinct ps) (sym same) c.self.invariant.1)
