@@ -31,6 +31,7 @@ help:
 	@echo "  make takeover  takes over a part of a RabbitMQ of its own, and goes back (part of make around)             a minute"
 	@echo "  make unmodified runs clients as they are, with a RabbitMQ and through tools/front (part of make around)     two minutes"
 	@echo "  make around    tries warren beside a RabbitMQ of its own, and with other packages of Debian           10 minutes"
+	@echo "  make ci        checks an export as a pipeline does, changed and unchanged (part of make around)            a minute"
 	@echo "  make agree     compares warren with a RabbitMQ over 500 topologies made at random                      2 minutes"
 	@echo "  make install   puts the proved program into $(PREFIX)/bin, with its manual page and completions"
 	@echo "  make package   makes a Debian package of the proved program, and prints its SHA-256"
@@ -197,6 +198,7 @@ examples: same warren
 AROUND += rabbit
 AROUND += agree
 AROUND += exports
+AROUND += ci
 AROUND += takeover
 AROUND += unmodified
 
@@ -213,10 +215,15 @@ rabbit:
 agree: $(BESIDE_RABBITMQ)
 	@python3 tools/agree $(WARREN)
 
-# what tools/from_rabbitmq makes of a RabbitMQ's exports, and the limits that its policies and operator policies set
+# what tools/from_rabbitmq makes of a RabbitMQ's exports, the limits that its policies and operator policies set, and what a `yes` says of it
 exports:
 	@python3 tools/from_rabbitmq/tests/with_rabbitmq.py
 	@python3 tools/from_rabbitmq/tests/with_rabbitmq_limits.py
+	@python3 tools/from_rabbitmq/tests/with_rabbitmq_stays.py
+
+# a pipeline's check of an export that passes, and of one that fails; a RabbitMQ then does what the report says
+ci: warren
+	@examples/ci/run $(WARREN)
 
 # a part of a RabbitMQ's queues comes to warren, and goes back
 takeover: warren

@@ -8,26 +8,31 @@ import sys
 HERE = os.path.dirname(os.path.abspath(__file__))
 sys.path[:0] = [HERE, os.path.join(HERE, "../shared")]
 from causes import MOST_BYTES, NotJson, causes_in, causes_of, quoted, read_json  # noqa: E402
-from convert import NoFile, convert, no_export  # noqa: E402
+from convert import SOURCE, NoFile, convert, no_export  # noqa: E402
 from part import part_of  # noqa: E402
-from report import sections  # noqa: E402
-from words import Parser  # noqa: E402
+from report import sections, staying  # noqa: E402
+from still import may_break, told  # noqa: E402
+from words import Parser, run_script  # noqa: E402
 
 TAKEN, REFUSED, FAILED = 0, 1, 3
+# with --strict: the file was written, and a `yes` of it may not be one of RabbitMQ
+BREAKS = 1
+STATUSES = "Status: 0 written, or taken as it is; 1 with --check: it is refused, with --strict: a change may break a `yes`; 3 no file was made."
 
 
 def words():
-    parser = Parser(prog="from_rabbitmq", description=__doc__, epilog="Status: 0 written, or taken as it is; 1 with --check: it is refused; 3 no file was made.")
+    parser = Parser(prog="from_rabbitmq", description=__doc__, epilog=STATUSES)
     parser.add_argument("export", help="the export of RabbitMQ (GET /api/definitions); - is standard input")
     parser.add_argument("file", nargs="?", help="the file to be written; without it, standard output")
     parser.add_argument("--check", action="store_true", help="write nothing, and tell all causes for which warren refuses the export as it is")
     parser.add_argument("--vhost", help="the virtual host to take; without it \"/\", or the only one")
     parser.add_argument("--only", action="append", default=[], metavar="NAME", nargs="+", help="take these queues, and those behind these exchanges, and nothing else; * is any characters")
     parser.add_argument("--all", action="store_true", help="tell each change by its entry, those too after which all is as before")
+    parser.add_argument("--strict", action="store_true", help="for a RabbitMQ that stays: tell what becomes of a `yes` of warren check, and end with 1 if a change may break one")
     given = parser.parse_args()
     given.only = [name for names in given.only for name in names]
-    if given.check and (given.only or given.all):
-        parser.error("--check is of the export as it is, without --only and --all")
+    if given.check and (given.only or given.all or given.strict):
+        parser.error("--check is of the export as it is, without --only, --all and --strict")
     return given
 
 
@@ -84,7 +89,9 @@ def mended_bytes(data, tell):
 
 def line(change):
     cause = f" (refused {change.number})" if change.number else ""
-    return f"{change.entry}: {change.what}{cause}" + (f". CHANGES MEANING: {change.meaning}" if change.meaning else "")
+    meaning = f". CHANGES MEANING: {change.meaning}" if change.meaning else ""
+    stays = told(change.still)
+    return f"{change.entry}: {change.what}{cause}{meaning}" + (f". FOR A RABBITMQ THAT STAYS: {stays}" if stays else "")
 
 
 def tell(text):
@@ -92,6 +99,7 @@ def tell(text):
 
 
 def tell_changes(made, changes, lines, every):
+    """Tells what is no longer as it was for who moves."""
     for heading, them in sections(made, changes):
         tell(heading) if heading else None
         for it in them:
@@ -101,18 +109,54 @@ def tell_changes(made, changes, lines, every):
     for it in lines:
         tell(f"  {it}")
     if every:
-        tell("all changes:")
-    for it in changes if every else ():
+        tell_all(changes)
+
+
+def tell_all(changes):
+    tell("all changes:")
+    for it in changes:
         tell(f"  {line(it)}")
+
+
+def tell_staying(changes, every):
+    """Tells what a `yes` says of a RabbitMQ that stays."""
+    for it in changes:
+        tell(f"{it.entry}: {it.what}") if it.kind == SOURCE else None
+    tell("what a `yes` of warren check says of a RabbitMQ that stays:")
+    for it in staying(changes) or ["each holds"]:
+        tell(f"  {it}")
+    if every:
+        tell_all(changes)
+
+
+def tell_written(made, changes, every):
+    counts = ", ".join(f"{name} {len(made[name])}" for name in ("exchanges", "queues", "bindings", "users"))
+    graver = sum(1 for it in changes if it.meaning)
+    tell(f"written: {counts}; changes {len(changes)}{'' if every else ' (--all tells each)'}, of these {graver} change the meaning. Messages are in memory alone, durable or not.")
+    grew = list(dict.fromkeys(it.grew for it in changes if it.grew is not None))
+    if grew:
+        tell(f"RIGHTS GREW of user{'s' * (len(grew) > 1)} {', '.join(map(quoted, grew))}")
+
+
+def tell_breaking(changes):
+    """Tells how many changes may break a `yes`, and returns the status."""
+    count = sum(may_break(it.still) for it in changes)
+    if count:
+        tell(f"written, but {count} change{'s' * (count > 1)} MAY BREAK A `yes`")
+    return BREAKS if count else TAKEN
 
 
 def make(data, given):
     value = read_json(mended_bytes(data, tell))
     part = part_of(value, given.vhost, given.only) if given.only else None
     made, changes = convert(part.export, given.vhost, part.stays) if part else convert(value, given.vhost)
+    changes += part.changes if part else []
     left = causes_in(made)
     text = text_of(made).encode("utf-8")
-    tell_changes(made, changes, part.lines if part else [], given.all)
+    if given.strict:
+        tell_staying(changes, given.all)
+    else:
+        tell_changes(made, changes, part.lines if part else [], given.all)
     if left or len(text) > MOST_BYTES:
         for it in left:
             tell(f"NOT MENDED: {it.entry}: {it.what} (refused {it.number})")
@@ -122,12 +166,9 @@ def make(data, given):
     else:
         with open(given.file, "wb") as out:
             out.write(text)
-    counts = ", ".join(f"{name} {len(made[name])}" for name in ("exchanges", "queues", "bindings", "users"))
-    graver = sum(1 for it in changes if it.meaning)
-    tell(f"written: {counts}; changes {len(changes)}{'' if given.all else ' (--all tells each)'}, of these {graver} change the meaning. Messages are in memory alone, durable or not.")
-    grew = list(dict.fromkeys(it.grew for it in changes if it.grew is not None))
-    if grew:
-        tell(f"RIGHTS GREW of user{'s' * (len(grew) > 1)} {', '.join(map(quoted, grew))}")
+    if given.strict:
+        return tell_breaking(changes)
+    tell_written(made, changes, given.all)
     return TAKEN
 
 
@@ -148,4 +189,4 @@ def main():
 
 
 if __name__ == "__main__":
-    sys.exit(main())
+    sys.exit(run_script("from_rabbitmq", main))

@@ -3,8 +3,9 @@
 Nothing here is proved. A file that is written has none of the causes of `causes.py`; whether warren takes it, warren says.
 """
 
-from collections import namedtuple
+from collections import defaultdict, namedtuple
 
+import still
 from causes import (
     BINDING,
     EMPTY_ARRAYS,
@@ -24,20 +25,25 @@ from causes import (
     wrong_name,
     wrong_pattern,
 )
-from policies import APPLIES_TO_EXCHANGES, OF_QUEUES, OPERATOR_POLICY, applies_to, lesser, read_policies
+from policies import EXCHANGES, OF_QUEUES, OPERATOR_POLICY, lesser, matched_by_type, read_policies
 
 # how much a change of meaning weighs: who may do what, messages that no longer come to where they came, all else
 RIGHTS, LOST, REST = range(3)
 
 # number: the cause for which warren would have refused it; meaning: what is no longer as it was, or nothing; grew: the user who may do more
 # kind: the change in a word or two, for the table; of: the queues and exchanges whose messages it is about, as ("queue" or "exchange", name)
-Change = namedtuple("Change", "number entry what meaning weight grew kind of", defaults=(None, REST, None, None, ()))
+# still: the kinds of `still.py`, by which a `yes` holds of a RabbitMQ that stays
+Change = namedtuple("Change", "number entry what still meaning weight grew kind of", defaults=(None, REST, None, None, ()))
 
 # the user whom RabbitMQ lets in from its own machine alone (loopback_users)
 FROM_ITS_OWN_MACHINE = "guest"
 
 # exchanges that every virtual host of RabbitMQ has and no export lists
 PREDECLARED = {"amq.direct": "direct", "amq.fanout": "fanout", "amq.topic": "topic"}
+# names of exchanges that RabbitMQ has of its own begin so
+ITS_OWN = "amq."
+# with tracing on, RabbitMQ publishes a copy of each message to it
+TRACE = "amq.rabbitmq.trace"
 
 # arguments of queues that are left out, each with what is then no longer as it was; nothing where all is as before
 LEFT_OUT = {
@@ -118,9 +124,12 @@ class Conversion:
         self.vhost = self._choose_vhost(vhost)
         self.policies = read_policies(self._of_vhost("policies"), self._of_vhost("parameters"), self._tell_unreadable)
         self.says_internal = self._says_internal()
+        self.said = {name: self._first_of(name) for name in ("exchanges", "queues")}  # as RabbitMQ has them, by name
+        self.sources = self._sources()
+        self.alternates = {name for name, it in self.said["exchanges"].items() if self._has_alternate(it)}
 
-    def tell(self, number, entry, what, meaning=None, weight=REST, grew=None, kind=None, of=()):
-        self.changes.append(Change(number, entry, what, meaning, weight, grew, kind, tuple(of)))
+    def tell(self, number, entry, what, kinds, meaning=None, weight=REST, grew=None, kind=None, of=()):
+        self.changes.append(Change(number, entry, what, still.kinds_of(kinds), meaning, weight, grew, kind, tuple(of)))
 
     def told(self):
         """The changes in the order in which they are told: those of meaning last, the gravest of them first."""
@@ -132,11 +141,11 @@ class Conversion:
         entries = self.export.get(name)
         if not isinstance(entries, list):
             meaning = "nobody may log in" if name == "users" else None
-            self.tell(2, "file", f"member {quoted(name)} is missing, or is no array: an empty one is added", meaning, RIGHTS)
+            self.tell(2, "file", f"member {quoted(name)} is missing, or is no array: an empty one is added", kind_of_list(name), meaning, RIGHTS)
             return []
         for place, it in enumerate(entries):
             if not isinstance(it, dict):
-                self.tell(2, f"{name[:-1]} {place + 1}", "is no object: left out", "it is not there", LOST)
+                self.tell(2, f"{name[:-1]} {place + 1}", "is no object: left out", kind_of_list(name), "it is not there", LOST)
         return [it for it in entries if isinstance(it, dict)]
 
     def _choose_vhost(self, wanted):
@@ -151,12 +160,12 @@ class Conversion:
         elif wanted not in names:
             raise NoFile(f"it has no virtual host {quoted(wanted)}")
         if not self.lists["vhosts"]:
-            self.tell(3, "file", "no virtual host is listed: \"/\" is added")
+            self.tell(3, "file", "no virtual host is listed: \"/\" is added", still.ELSEWHERE)
         elif wanted != "/":
-            self.tell(3, f"vhost {quoted(wanted)}", "is now called \"/\"", "clients connect to \"/\"")
+            self.tell(3, f"vhost {quoted(wanted)}", "is now called \"/\"", still.ELSEWHERE, "clients connect to \"/\"")
         for name in names:
             if name != wanted:
-                self.tell(3, f"vhost {quoted(name)}", "left out, with all that is in it", "it is not there", LOST)
+                self.tell(3, f"vhost {quoted(name)}", "left out, with all that is in it", still.ELSEWHERE, "it is not there", LOST)
         return wanted
 
     def _says_internal(self):
@@ -166,17 +175,66 @@ class Conversion:
         if any("internal" in it for it in here) or not here and not by_control:
             return True
         lacks = "no exchange says whether it is internal, as in an export of rabbitmqctl, which also lacks each internal exchange"
-        self.changes.insert(0, Change(2, "file", f"{lacks}: take that of the management interface (GET /api/definitions)", kind=SOURCE))
+        what = f"{lacks}: take that of the management interface (GET /api/definitions)"
+        self.changes.insert(0, Change(2, "file", what, (still.ABSENT,), kind=SOURCE))
         if here:
-            self.tell(2, "file", f"{len(here)} exchanges are now not internal", "clients may publish to each, though it may have been internal", RIGHTS)
+            self.tell(2, "file", f"{len(here)} exchanges are now not internal", still.RIGHTS, "clients may publish to each, though it may have been internal", RIGHTS)
         return False
 
     def _tell_unreadable(self, called):
-        self.tell(7, called, "left out: its pattern or its settings cannot be read", "its settings are not there", LOST)
+        self.tell(7, called, "left out: its pattern or its settings cannot be read", still.UNKNOWN, "its settings are not there", LOST)
 
     def _array(self, name):
         entries = self.export.get(name)
         return [it for it in entries if isinstance(it, dict)] if isinstance(entries, list) else []
+
+    # ---- what leads where in RabbitMQ, whatever warren has of it
+
+    def _sources(self):
+        """The exchanges that are bound to each exchange and queue, as ("exchange" or "queue", name)."""
+        found = defaultdict(set)
+        for it in self._of_vhost("bindings"):
+            source, kind, name = (it.get(member) for member in ("source", "destination_type", "destination"))
+            if all(isinstance(text, str) for text in (source, kind, name)):
+                found[kind, name].add(source)
+        return found
+
+    def _first_of(self, list_name):
+        found = {}
+        for it in self._of_vhost(list_name):
+            if isinstance(it.get("name"), str):
+                found.setdefault(it["name"], it)
+        return found
+
+    def _has_alternate(self, exchange):
+        own = exchange.get("arguments")
+        own = own if isinstance(own, dict) else {}
+        return "alternate-exchange" in own or "alternate-exchange" in self.policies.settings_of(exchange["name"], EXCHANGES)
+
+    def goes(self, them):
+        """The kinds of a change by which these queues or exchanges stay that go in RabbitMQ."""
+        unmatched = any(self.sources[it] & self.alternates for it in them)
+        return (still.GOES, still.GOES_UNMATCHED) if unmatched else (still.GOES,)
+
+    def dead_letters(self, queue):
+        """The dead-letter exchange of an entry of the export and its key, by its own arguments or by a policy; or nothing."""
+        own = queue.get("arguments")
+        own = own if isinstance(own, dict) else {}
+        settings = self.policies.settings_of(queue["name"], matched_by_type(queue, own))
+        exchange, key = (own.get(f"x-{it}", settings[it].value if it in settings else None) for it in ("dead-letter-exchange", "dead-letter-routing-key"))
+        return None if exchange is None else (exchange, key)
+
+    def _may_go_on(self, name):
+        """Whether RabbitMQ may send a message of queue `name` on as a dead letter."""
+        queue = self.said["queues"].get(name)
+        return queue is None or not isinstance(queue.get("arguments"), dict) or self.dead_letters(queue) is not None
+
+    def kind_of_absent(self, exchange):
+        """The kind of a change by which an alternate exchange or a dead-letter exchange is left out that is not in the file."""
+        if exchange in self.stays:
+            return still.ABSENT
+        there = not isinstance(exchange, str) or exchange == "" or exchange.startswith(ITS_OWN) or not self.says_internal
+        return still.WAY if there or exchange in self.said["exchanges"] else still.ABSENT
 
     def _of_vhost(self, name):
         """The entries of the chosen virtual host that have one, quietly."""
@@ -188,10 +246,10 @@ class Conversion:
         for place, it in enumerate(self.lists[name]):
             called = name_of(name[:-1], it, place)
             if "vhost" in it and it["vhost"] != self.vhost:
-                self.tell(3, called, f"left out: it is of the virtual host {quoted(it['vhost'])}")
+                self.tell(3, called, f"left out: it is of the virtual host {quoted(it['vhost'])}", still.ELSEWHERE)
                 continue
             if "vhost" not in it:
-                self.tell(2, called, "member \"vhost\" is missing: \"/\" is added")
+                self.tell(2, called, "member \"vhost\" is missing: \"/\" is added", still.ELSEWHERE)
             kept.append((called, it))
         return kept
 
@@ -200,9 +258,9 @@ class Conversion:
         kept, seen = [], set()
         for called, it in entries:
             if not isinstance(it.get("name"), str):
-                self.tell(2, called, "left out: it has no name that is a text", "it is not there", LOST)
+                self.tell(2, called, "left out: it has no name that is a text", kind_of_list(name), "it is not there", LOST)
             elif it["name"] in seen:
-                self.tell(4, called, "left out: one of this name came before")
+                self.tell(4, called, "left out: one of this name came before", kind_of_list(name))
             else:
                 seen.add(it["name"])
                 kept.append((called, it))
@@ -210,35 +268,42 @@ class Conversion:
 
     # ---- parts of entries
 
-    def _truth(self, called, it, name, meaning=None):
+    def _truth(self, called, it, name, meaning=None, kinds=still.SAME):
         value = it.get(name)
         if not isinstance(value, bool):
-            self.tell(2, called, f"member {quoted(name)} is missing, or no truth value: it is now false", meaning, RIGHTS)
+            self.tell(2, called, f"member {quoted(name)} is missing, or no truth value: it is now false", kinds, meaning, RIGHTS)
             return False
         return value
 
     def _internal(self, called, it):
         if "internal" not in it and not self.says_internal:
             return False
-        return self._truth(called, it, "internal", "clients may publish to it, though it may have been internal")
+        return self._truth(called, it, "internal", "clients may publish to it, though it may have been internal", still.RIGHTS)
 
-    def _arguments(self, called, it):
+    def _arguments(self, called, it, kinds=still.UNKNOWN):
         arguments = it.get("arguments")
         if not isinstance(arguments, dict):
-            self.tell(2, called, "member \"arguments\" is missing, or is no object: now there are none")
+            self.tell(2, called, "member \"arguments\" is missing, or is no object: now there are none", kinds)
             return {}
         return dict(arguments)
 
-    def _stays(self, called, it, meaning):
-        if self._truth(called, it, "auto_delete"):
-            of = [("queue", it["name"])] if called.startswith("queue ") else ()
-            self.tell(7, called, "auto_delete is now false", meaning, kind="auto-delete", of=of)
+    def _stays(self, called, it, word, meaning):
+        goes = self.goes([(word, it["name"])])
+        if self._truth(called, it, "auto_delete", kinds=goes):
+            of = [("queue", it["name"])] if word == "queue" else ()
+            self.tell(7, called, "auto_delete is now false", goes, meaning, kind="auto-delete", of=of)
         return False
 
     def _other_members(self, called, it, members):
         for name in it:
             if name not in members and not (name == "type" and members is QUEUE):
-                self.tell(7, called, f"member {quoted(name)} is left out")
+                self.tell(7, called, f"member {quoted(name)} is left out", still.SAME)
+
+    def _settings(self, called, it, matched):
+        """What policies set for an entry. That RabbitMQ may have chosen another one is told."""
+        for first, other in self.policies.ties_of(it["name"], matched):
+            self.tell(7, called, f"{first} and {other} match it with one priority: the first is taken", still.UNKNOWN, "RabbitMQ may have taken the other")
+        return self.policies.settings_of(it["name"], matched)
 
     def _with_policies(self, called, settings, arguments, known, prefix):
         """Adds to the arguments what the policies that match an entry set and warren has."""
@@ -250,7 +315,7 @@ class Conversion:
             least = value if own is None else lesser(own, value)
             if least is not None and least != own:
                 arguments[argument] = least
-                self.tell(7, called, f"{argument} {quoted_value(least)} is added, from {policy}")
+                self.tell(7, called, f"{argument} {quoted_value(least)} is added, from {policy}", still.SAME)
 
     # ---- users
 
@@ -260,12 +325,12 @@ class Conversion:
             if all(isinstance(it.get(name), str) for name in ("user", *PERMISSION)):
                 permitted.setdefault(it["user"], []).append(it)
             else:
-                self.tell(2, called, "left out: a member is missing or no text")
+                self.tell(2, called, "left out: a member is missing or no text", still.RIGHTS)
         kept = [it for called, it in self._once("users", [(name_of("user", it, place), it) for place, it in enumerate(self.lists["users"])]) if self._is_kept(called, it, permitted)]
         names = [it["name"] for it in kept]
         for user in permitted:
             if user not in names:
-                self.tell(12, f"permission {quoted(user)}", "left out: there is no such user here")
+                self.tell(12, f"permission {quoted(user)}", "left out: there is no such user here", still.RIGHTS)
         self._tell_topic_permissions(names)
         users = [{name: it[name] for name in ("name", "password_hash", "hashing_algorithm")} | {"tags": it.get("tags", [])} for it in kept]
         return users, [{"user": name, "vhost": "/", **PERMISSION} for name in names]
@@ -273,43 +338,44 @@ class Conversion:
     def _is_kept(self, called, user, permitted):
         cannot = "this user can no longer log in"
         if any(not isinstance(user.get(name), str) for name in ("password_hash", "hashing_algorithm")):
-            self.tell(2, called, "left out: it has no password hash", cannot, RIGHTS)
+            self.tell(2, called, "left out: it has no password hash", still.RIGHTS, cannot, RIGHTS)
         elif wrong_name(user["name"]):
-            self.tell(9, called, f"left out: {wrong_name(user['name'])}", cannot, RIGHTS)
+            self.tell(9, called, f"left out: {wrong_name(user['name'])}", still.RIGHTS, cannot, RIGHTS)
         elif wrong_hash(user):
-            self.tell(13, called, f"left out: its {wrong_hash(user)}", cannot, RIGHTS)
+            self.tell(13, called, f"left out: its {wrong_hash(user)}", still.RIGHTS, cannot, RIGHTS)
         elif user["name"] not in permitted:
-            self.tell(12, called, "left out: it has no permission in this virtual host")
+            self.tell(12, called, "left out: it has no permission in this virtual host", still.RIGHTS)
         elif all(permitted[user["name"]][0][name] in NOTHING for name in ("write", "read")):
-            self.tell(12, called, "left out: it may neither publish nor consume, and each user of warren may do both", cannot, RIGHTS)
+            self.tell(12, called, "left out: it may neither publish nor consume, and each user of warren may do both", still.RIGHTS, cannot, RIGHTS)
         else:
             self._tell_rights(called, user["name"], permitted[user["name"]])
             if user.get("limits"):
-                self.tell(0, called, "its limits are ignored", "it may have any number of connections and channels")
+                self.tell(0, called, "its limits are ignored", still.RIGHTS, "it may have any number of connections and channels")
             return True
         return False
 
     def _tell_rights(self, called, user, rights):
         if len(rights) > 1:
-            self.tell(12, called, "its further permissions are left out")
+            self.tell(12, called, "its further permissions are left out", still.RIGHTS)
         if user == FROM_ITS_OWN_MACHINE:
-            self.tell(0, called, "stays", "it may log in from everywhere; RabbitMQ lets it in from its own machine alone, if nothing else is set", RIGHTS, user)
+            everywhere = "it may log in from everywhere; RabbitMQ lets it in from its own machine alone, if nothing else is set"
+            self.tell(0, called, "stays", still.RIGHTS, everywhere, RIGHTS, user)
         before = rights[0]
         if before["configure"] != PERMISSION["configure"]:
             meaning = None if before["configure"] in NOTHING else "it may declare, bind and delete nothing"
-            self.tell(12, called, f"configure {quoted(before['configure'])} is now \"^$\"", meaning, RIGHTS)
+            self.tell(12, called, f"configure {quoted(before['configure'])} is now \"^$\"", still.RIGHTS, meaning, RIGHTS)
         for name, where in (("write", "publish to each exchange"), ("read", "consume from each queue")):
             if before[name] in EVERYTHING and before[name] != PERMISSION[name]:
-                self.tell(12, called, f"{name} {quoted(before[name])} is now \".*\"")
+                self.tell(12, called, f"{name} {quoted(before[name])} is now \".*\"", still.RIGHTS)
             elif before[name] != PERMISSION[name]:
-                self.tell(12, called, f"{name} {quoted(before[name])} is now \".*\"", f"it may {where}", RIGHTS, user)
+                self.tell(12, called, f"{name} {quoted(before[name])} is now \".*\"", still.RIGHTS, f"it may {where}", RIGHTS, user)
 
     def _tell_topic_permissions(self, kept):
         for it in self._array("topic_permissions"):
             meaning, grew = None, None
             if it.get("vhost", self.vhost) == self.vhost and it.get("user") in kept:
                 meaning, grew = "this user may publish and consume under every key", it["user"]
-            self.tell(7, f"topic permission {quoted(it.get('user'))}", "left out", meaning, RIGHTS, grew)
+            self.tell(7, f"topic permission {quoted(it.get('user'))}", "left out", still.RIGHTS, meaning, RIGHTS, grew)
 
     # ---- exchanges
 
@@ -319,7 +385,7 @@ class Conversion:
             kind = self._type(called, it)
             wrong = wrong_name(it["name"])
             if wrong:
-                self.tell(9, called, f"left out: {wrong}", "it is not there", LOST)
+                self.tell(9, called, f"left out: {wrong}", still.ABSENT, "it is not there", LOST)
             elif kind:
                 kept.append(self._exchange(called, it, kind))
         return kept
@@ -331,14 +397,14 @@ class Conversion:
         if kind in TYPES:
             return kind
         if kind == "x-delayed-message" and delayed in TYPES:
-            self.tell(6, called, f"type \"x-delayed-message\" is now {quoted(delayed)}", "messages are no longer delayed", kind="delay", of=[("exchange", it["name"])])
+            self.tell(6, called, f"type \"x-delayed-message\" is now {quoted(delayed)}", still.DELAY, "messages are no longer delayed", kind="delay", of=[("exchange", it["name"])])
             return delayed
-        self.tell(6, called, f"left out: its type is {quoted(kind)}", "it is not there, nor what it was bound to by this exchange", LOST)
+        self.tell(6, called, f"left out: its type is {quoted(kind)}", still.ABSENT, "it is not there, nor what it was bound to by this exchange", LOST)
         return None
 
     def _exchange(self, called, it, kind):
         arguments = self._arguments(called, it)
-        settings = self.policies.settings_of(it["name"], APPLIES_TO_EXCHANGES)
+        settings = self._settings(called, it, EXCHANGES)
         self._with_policies(called, settings, arguments, ("alternate-exchange",), "")
         self._other_members(called, it, EXCHANGE)
         kept = {}
@@ -346,16 +412,16 @@ class Conversion:
             if name in EXCHANGE_ARGUMENTS and isinstance(value, str):
                 kept[name] = value
             elif name in EXCHANGE_ARGUMENTS:
-                self.tell(2, called, f"argument {quoted(name)} is left out: it is no text", "what it did is not done", LOST, kind="routes")
+                self.tell(2, called, f"argument {quoted(name)} is left out: it is no text", still.UNKNOWN, "what it did is not done", LOST, kind="routes")
             else:
-                meaning = None if name == "x-delayed-type" else "what it did is not done"
-                self.tell(7, called, f"argument {quoted(name)} is left out", meaning, kind=name, of=[("exchange", it["name"])])
+                meaning, kinds = (None, still.SAME) if name == "x-delayed-type" else ("what it did is not done", still.UNKNOWN)
+                self.tell(7, called, f"argument {quoted(name)} is left out", kinds, meaning, kind=name, of=[("exchange", it["name"])])
         return {
             "name": it["name"],
             "vhost": "/",
             "type": kind,
             "durable": self._truth(called, it, "durable"),
-            "auto_delete": self._stays(called, it, "it is no longer deleted with its last binding"),
+            "auto_delete": self._stays(called, it, "exchange", "it is no longer deleted with its last binding"),
             "internal": self._internal(called, it),
             "arguments": kept,
         }
@@ -367,7 +433,8 @@ class Conversion:
         for called, it in self._once("queues", self._here("queues")):
             wrong = f"its name {wrong_pattern(it['name'])}" if wrong_pattern(it["name"]) else None if it["name"] else "it has no name"
             if wrong:
-                self.tell(9, called, f"left out: {wrong}", "it is not there", LOST, kind=CANNOT, of=[("queue", it["name"])])
+                kinds = still.WAY if self._may_go_on(it["name"]) else still.ABSENT
+                self.tell(9, called, f"left out: {wrong}", kinds, "it is not there", LOST, kind=CANNOT, of=[("queue", it["name"])])
             else:
                 kept.append(self._queue(called, it))
         return kept
@@ -376,9 +443,10 @@ class Conversion:
         arguments = self._arguments(called, it)
         if "type" in it:
             meaning = None if "x-queue-type" in arguments else self._type_meaning(it["type"])
-            self.tell(7, called, f"member \"type\" {quoted_value(it['type'])} is left out", meaning, LOST, kind=kind_of_type(it["type"]), of=[("queue", it["name"])])
+            what = f"member \"type\" {quoted_value(it['type'])} is left out"
+            self.tell(7, called, what, still.of_type(it["type"]), meaning, LOST, kind=kind_of_type(it["type"]), of=[("queue", it["name"])])
         known = [name for name in OF_QUEUES if f"x-{name}" in QUEUE_ARGUMENTS]
-        settings = self.policies.settings_of(it["name"], applies_to(it, arguments))
+        settings = self._settings(called, it, matched_by_type(it, arguments))
         self._with_policies(called, settings, arguments, known, "x-")
         for setting, (value, policy) in settings.items():
             if setting in OF_QUEUES and setting not in known:
@@ -388,7 +456,7 @@ class Conversion:
             "name": it["name"],
             "vhost": "/",
             "durable": self._truth(called, it, "durable"),
-            "auto_delete": self._stays(called, it, "it is no longer deleted with its last consumer, and keeps its messages"),
+            "auto_delete": self._stays(called, it, "queue", "it is no longer deleted with its last consumer, and keeps its messages"),
             "arguments": self._queue_arguments(called, arguments, [("queue", it["name"])]),
         }
 
@@ -399,9 +467,9 @@ class Conversion:
                 kept[name] = value
             elif name in LENGTH_LIMITS and type(value) is int and value > MOST_NUMBER:
                 kept[name] = MOST_NUMBER
-                self.tell(2, called, f"{name} {value} is now {MOST_NUMBER}", "the limit is lower", kind="limit", of=of)
+                self.tell(2, called, f"{name} {value} is now {MOST_NUMBER}", still.REFUSED, "the limit is lower", kind="limit", of=of)
             elif name in QUEUE_ARGUMENTS:
-                self.tell(2, called, f"argument {quoted(name)} is left out: it is of the wrong kind", "what it did is not done", LOST, kind=name, of=of)
+                self.tell(2, called, f"argument {quoted(name)} is left out: it is of the wrong kind", still.UNKNOWN, "what it did is not done", LOST, kind=name, of=of)
             else:
                 self._leave_out(called, name, value, arguments.get("x-dead-letter-exchange"), of)
         self._mend_overflow(called, kept, of)
@@ -420,7 +488,11 @@ class Conversion:
         elif name in GOES_ON and dead is not None:
             meaning, weight = f"{meaning}, so {nothing_goes_on(dead)}", LOST
         kind = kind_of_type(value) if name == "x-queue-type" else KINDS.get(name, name)
-        self.tell(7, called, f"argument {quoted(name)} {quoted_value(value)} is left out", meaning, weight, kind=kind, of=of)
+        kinds = self._with_goes(still.of_argument(name, value), of)
+        self.tell(7, called, f"argument {quoted(name)} {quoted_value(value)} is left out", kinds, meaning, weight, kind=kind, of=of)
+
+    def _with_goes(self, kind, of):
+        return self.goes(of) if kind is still.GOES else (kind,)
 
     def _mend_overflow(self, called, kept, of):
         limited = any(limit in kept for limit in LENGTH_LIMITS)
@@ -430,11 +502,11 @@ class Conversion:
             refuses = f"a full queue refuses what comes and keeps what it has{no_more}"
             if overflow == "reject-publish-dlx":
                 refuses = "what a full queue refuses makes no dead letter"
-            self.tell(7, called, f"x-overflow {quoted(overflow)} is now \"reject-publish\"", refuses if limited else None, LOST, kind=overflow, of=of)
+            self.tell(7, called, f"x-overflow {quoted(overflow)} is now \"reject-publish\"", still.of_overflow(overflow), refuses if limited else None, LOST, kind=overflow, of=of)
             kept["x-overflow"] = "reject-publish"
         elif overflow is None and limited:
             meaning = f"a full queue refuses what comes and keeps what it has; RabbitMQ drops the oldest{no_more}"
-            self.tell(8, called, "x-overflow \"reject-publish\" is added", meaning, LOST, kind="drop-head", of=of)
+            self.tell(8, called, "x-overflow \"reject-publish\" is added", still.DROPPED, meaning, LOST, kind="drop-head", of=of)
             kept["x-overflow"] = "reject-publish"
 
     def _mend_dead_letters(self, called, kept, of):
@@ -442,10 +514,11 @@ class Conversion:
         if key is None:
             return
         if "x-dead-letter-exchange" not in kept:
-            self.tell(7, called, "x-dead-letter-routing-key is left out: there is no x-dead-letter-exchange")
+            self.tell(7, called, "x-dead-letter-routing-key is left out: there is no x-dead-letter-exchange", still.SAME)
             del kept["x-dead-letter-routing-key"]
         elif wrong_pattern(key):
-            self.tell(9, called, f"its dead letters are left out: their key {wrong_pattern(key)}", "what is rejected is gone", LOST, kind="dead letters", of=of)
+            what = f"its dead letters are left out: their key {wrong_pattern(key)}"
+            self.tell(9, called, what, still.WAY, "what is rejected is gone", LOST, kind="dead letters", of=of)
             del kept["x-dead-letter-routing-key"], kept["x-dead-letter-exchange"]
 
     # ---- what names an exchange or a queue
@@ -460,7 +533,7 @@ class Conversion:
         added = []
         for name, kind in PREDECLARED.items():
             if name in wanted and name not in names:
-                self.tell(5, f"exchange {quoted(name)}", "is added: RabbitMQ has it, and no export lists it")
+                self.tell(5, f"exchange {quoted(name)}", "is added: RabbitMQ has it, and no export lists it", still.SAME)
                 added.append({"name": name, "vhost": "/", "type": kind, "durable": True, "auto_delete": False, "internal": False, "arguments": {}})
         return exchanges + added
 
@@ -475,33 +548,48 @@ class Conversion:
             if other is not None and other not in names:
                 del it["arguments"]["alternate-exchange"]
                 what = f"its alternate exchange {quoted(other)} is left out: {self._where(other)}"
-                self.tell(11, f"exchange {quoted(it['name'])}", what, "what no binding takes is gone", LOST)
+                self.tell(11, f"exchange {quoted(it['name'])}", what, self.kind_of_absent(other), "what no binding takes is gone", LOST)
         for it in queues:
             dead = it["arguments"].get("x-dead-letter-exchange")
             if dead and dead not in names:
                 del it["arguments"]["x-dead-letter-exchange"]
                 it["arguments"].pop("x-dead-letter-routing-key", None)
                 what = f"its dead-letter exchange {quoted(dead)} is left out: {self._where(dead)}"
-                self.tell(11, f"queue {quoted(it['name'])}", what, "what is rejected is gone", LOST, kind="dead letters", of=[("queue", it["name"])])
+                self.tell(11, f"queue {quoted(it['name'])}", what, self.kind_of_absent(dead), "what is rejected is gone", LOST, kind="dead letters", of=[("queue", it["name"])])
 
     def _where(self, exchange):
         return "it stays in RabbitMQ" if exchange in self.stays else "it is not there"
 
     def bindings(self, exchanges, queues):
-        types = {it["name"]: it["type"] for it in exchanges}
+        there = {it["name"]: it for it in exchanges}
+        names = {it["name"] for it in queues}
         kept = []
         for called, it in self._here("bindings"):
-            wrong = self._against_binding(it, types, {q["name"] for q in queues})
+            wrong = self._against_binding(it, there, names)
             if wrong:
                 number, what, meaning = wrong
                 to = [(it["destination_type"], it["destination"])] if isinstance(it.get("destination"), str) else ()
-                self.tell(number, called, f"left out: {what}", meaning, LOST, kind="routes", of=to)
+                kinds = self._kinds_of_binding(it, there, names) if meaning else still.SAME
+                self.tell(number, called, f"left out: {what}", kinds, meaning, LOST, kind="routes", of=to)
                 continue
-            for name in self._arguments(called, it):
-                self.tell(7, called, f"argument {quoted(name)} is left out")
+            for name in self._arguments(called, it, still.SAME):
+                self.tell(7, called, f"argument {quoted(name)} is left out", still.SAME)
             self._other_members(called, it, BINDING)
             kept.append({name: it[name] for name in BINDING if name not in ("vhost", "arguments")} | {"vhost": "/", "arguments": {}})
         return kept
+
+    def _kinds_of_binding(self, it, exchanges, queues):
+        """The kinds of a change by which a binding is left out that RabbitMQ has."""
+        source, kind, name = (it.get(member) for member in ("source", "destination_type", "destination"))
+        if not all(isinstance(text, str) for text in (source, name, it.get("routing_key"))) or kind not in ("queue", "exchange"):
+            return (still.UNKNOWN,)
+        if source not in exchanges and source not in ("", TRACE):
+            return (still.ABSENT,)
+        ends = kind == "queue" and name not in queues and not self._may_go_on(name)
+        kinds = [still.ABSENT if ends else still.WAY]
+        if "alternate-exchange" in exchanges.get(source, {"arguments": {}})["arguments"]:
+            kinds.append(still.UNMATCHED)
+        return tuple(kinds)
 
     def _against_binding(self, it, types, queues):
         """Why a binding has to be left out: the cause, the text, and what is no longer as it was."""
@@ -536,22 +624,37 @@ class Conversion:
             if ended:
                 meaning += f", so nothing goes on any more from {named(ended)} to a dead-letter exchange but what is rejected"
             of = [("queue", name) for name in queues]
-            self.tell(7, policy, f"{setting} {value} is left out, of {named(queues)}", meaning, weight, kind=KINDS.get(argument, argument), of=of)
+            kinds = self._with_goes(still.of_setting(setting), of)
+            self.tell(7, policy, f"{setting} {value} is left out, of {named(queues)}", kinds, meaning, weight, kind=KINDS.get(argument, argument), of=of)
 
     def tell_rest(self):
         self._tell_left_by_policies()
         for policy in self.policies:
             others = [name for name in policy.settings if name not in OF_QUEUES and name != "alternate-exchange"]
             also = f", but not {', '.join(others)}" if others else ""
-            self.tell(7, policy.called, f"left out: its settings are copied to each queue and exchange that it matches{also}", "those settings do nothing" if others else None)
+            what = f"left out: its settings are copied to each queue and exchange that it matches{also}"
+            self.tell(7, policy.called, what, [still.of_setting(name) for name in others] or still.SAME, "those settings do nothing" if others else None)
         for it in self._array("parameters"):
             if it.get("component") == OPERATOR_POLICY:
                 continue
             here = it.get("vhost", self.vhost) == self.vhost
-            self.tell(7, f"parameter {quoted(it.get('name'))}", f"of {quoted(it.get('component'))}: left out", "what it did is not done" if here else None)
+            kind = still.of_component(it.get("component"))
+            kinds = still.ELSEWHERE if not here and kind is still.UNKNOWN else kind
+            self.tell(7, f"parameter {quoted(it.get('name'))}", f"of {quoted(it.get('component'))}: left out", kinds, "what it did is not done" if here else None)
         for name in EMPTY_ARRAYS:
             if name in self.export and not isinstance(self.export[name], list):
-                self.tell(2, "file", f"member {quoted(name)} is no array: it is left out")
+                self.tell(2, "file", f"member {quoted(name)} is no array: it is left out", kind_of_list(name))
+            elif not all(isinstance(it, dict) for it in self.export.get(name, [])):
+                self.tell(2, "file", f"of member {quoted(name)} what is no object is left out", kind_of_list(name))
+
+
+# lists of an export that say nothing of where a message goes
+OF_RIGHTS = ("vhosts", "users", "permissions", "topic_permissions")
+
+
+def kind_of_list(name):
+    """The kind of a change by which an entry of the list `name` is left out, whatever it said."""
+    return still.RIGHTS if name in OF_RIGHTS else still.UNKNOWN
 
 
 # arguments by which a message goes on to the dead-letter exchange, without a rejection

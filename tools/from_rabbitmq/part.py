@@ -7,11 +7,13 @@ stays sends its own to RabbitMQ's exchanges.
 import re
 from collections import defaultdict, namedtuple
 
+import still
 from causes import quoted
-from convert import Conversion, NoFile, convert, named
+from convert import Change, Conversion, NoFile, convert, named
 
-# export: without what stays; stays: the exchanges that stay; lines: what passes between the part and the rest in RabbitMQ, and not here
-Part = namedtuple("Part", "export stays lines")
+# export: without what stays; stays: the exchanges that stay; lines: what passes between the part and the rest in RabbitMQ, and not here;
+# changes: those that are not of an entry of the part
+Part = namedtuple("Part", "export stays lines changes")
 
 
 def matcher(name):
@@ -25,7 +27,9 @@ class Ways:
     Exchanges and queues that warren doesn't have lead on, too; `made` has what policies set for those that it has.
     """
 
-    def __init__(self, export, vhost, made):
+    def __init__(self, work, made):
+        export, vhost = work.export, work.vhost
+
         def here(name):
             entries = export.get(name)
             return [it for it in entries if isinstance(it, dict) and it.get("vhost", vhost) == vhost] if isinstance(entries, list) else []
@@ -41,10 +45,10 @@ class Ways:
         for name, them in arguments.items():
             if isinstance(them.get("alternate-exchange"), str):
                 self.onward[name].append(("exchange", them["alternate-exchange"]))
-        for it in made["queues"]:
-            dead = it["arguments"].get("x-dead-letter-exchange")
-            if dead is not None:
-                self.deaths[it["name"]] = (dead, it["arguments"].get("x-dead-letter-routing-key"))
+        for name, it in work.said["queues"].items():
+            letters = work.dead_letters(it)
+            if letters and isinstance(letters[0], str):
+                self.deaths[name] = letters
 
     def behind(self, exchange):
         """The exchanges and queues to which `exchange` leads, itself among them."""
@@ -113,23 +117,38 @@ def lines_between(ways, queues, exchanges):
             yield f"queue {quoted(name)}: dead letters of {named(died[name])}, which stay{'s' * (len(died[name]) == 1)}, do not come to it: a shovel can bring them"
 
 
+def changes_between(ways, made, queues, exchanges):
+    """The changes by which a `yes` of the part may not hold in RabbitMQ: dead letters that come back to it, and bindings that stay."""
+    for queue in ways.queues:
+        back = ways.dead_letters(queue) & queues if queue not in queues else ()
+        if back:
+            yield Change(0, f"queue {quoted(queue)}", f"it stays, and its dead letters may come to {named(sorted(back))}", (still.WAY,))
+    alternates = {it["name"] for it in made["exchanges"] if it["arguments"].get("alternate-exchange") in exchanges}
+    for exchange in sorted(exchanges & alternates):
+        stay = [name for kind, name in ways.onward[exchange] if name not in (queues if kind == "queue" else exchanges)]
+        if stay:
+            yield Change(0, f"exchange {quoted(exchange)}", f"it leads to what stays: {', '.join(map(quoted, stay))}", (still.UNMATCHED,))
+
+
 def part_of(export, vhost, names):
     """The part of an export that has these queues, and those behind these exchanges."""
-    vhost = Conversion(export, vhost).vhost
+    work = Conversion(export, vhost)
+    vhost = work.vhost
     made, _ = convert(export, vhost)
-    ways = Ways(export, vhost, made)
+    ways = Ways(work, made)
     queues, exchanges = chosen(ways, names)
     known = {"exchanges": exchanges, "queues": queues}
 
     def keeps(list_name, it):
         if list_name not in ("exchanges", "queues", "bindings"):
             return True
-        if not isinstance(it, dict) or it.get("vhost", vhost) != vhost:
+        if isinstance(it, dict) and it.get("vhost", vhost) != vhost:
             return False
+        # what cannot be read may be of the part
         if list_name == "bindings":
-            kind, ends = it.get("destination_type"), (it.get("source"), it.get("destination"))
-            return all(isinstance(end, str) for end in ends) and ends[0] in {"", *exchanges} and ends[1] in (queues if kind == "queue" else exchanges)
-        return isinstance(it.get("name"), str) and it["name"] in known[list_name]
+            kind, *ends = (it.get(member) for member in ("destination_type", "source", "destination")) if isinstance(it, dict) else (None, None, None)
+            return not all(isinstance(end, str) for end in ends) or ends[0] in {"", *exchanges} and ends[1] in (queues if kind == "queue" else exchanges)
+        return not isinstance(it, dict) or not isinstance(it.get("name"), str) or it["name"] in known[list_name]
 
     kept = {name: [it for it in value if keeps(name, it)] if isinstance(value, list) else value for name, value in export.items()}
-    return Part(kept, set(ways.exchanges) - exchanges, list(lines_between(ways, queues, exchanges)))
+    return Part(kept, set(ways.exchanges) - exchanges, list(lines_between(ways, queues, exchanges)), list(changes_between(ways, made, queues, exchanges)))

@@ -2,6 +2,7 @@
 
 from collections import defaultdict
 
+import still
 from causes import quoted
 from convert import CANNOT, LOST, REST, RIGHTS, SOURCE
 
@@ -74,6 +75,12 @@ def grouped(changes):
         whats = list(dict.fromkeys(it.what for it in them))
         subject = entries[0] if len(entries) == 1 else f"{word}s {', '.join(it.partition(' ')[2] for it in entries)}"
         yield f"{subject}: {whats[0]}: {meaning}" if len(whats) == 1 else f"{subject}: {meaning}"
+
+
+def staying(changes):
+    """What becomes of a `yes` for a RabbitMQ that stays, those changes first that may break one."""
+    told = [it._replace(meaning=still.told(it.still)) for it in changes]
+    return list(grouped(sorted((it for it in told if it.meaning), key=lambda it: not still.may_break(it.still))))
 
 
 def sections(made, changes):

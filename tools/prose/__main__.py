@@ -12,8 +12,8 @@ import sys
 
 # for users
 PAGES = ["README.md", "CHANGELOG.md", "tools/README.md"]
-PAGES += [f"docs/{it}.md" for it in ("GUARANTEES", "SECURITY", "LIMITS", "OPERATIONS", "CLIENTS", "ERRORS", "FROM_RABBITMQ", "FORMATS", "PROTOCOL", "PROMISE", "UPGRADING")]
-PAGES += [f"examples/{it}/README.md" for it in ("first_publish", "shop", "branches", "clients", "load", "deploy", "reload", "refusals", "takeover", "metrics", "parts", "shovel")]
+PAGES += [f"docs/{it}.md" for it in ("GUARANTEES", "SECURITY", "LIMITS", "OPERATIONS", "CLIENTS", "ERRORS", "RABBITMQ", "FROM_RABBITMQ", "FORMATS", "PROTOCOL", "PROMISE", "UPGRADING")]
+PAGES += [f"examples/{it}/README.md" for it in ("first_publish", "shop", "branches", "clients", "load", "deploy", "reload", "refusals", "takeover", "metrics", "parts", "shovel", "ci")]
 # for who changes the code
 INSIDE = ["CONTRIBUTING.md"] + [f"docs/inside/{it}.md" for it in ("ARCHITECTURE", "DECISIONS", "MODEL", "PROOFS", "SHAPES", "TESTING")]
 MOST_WORDS = 40

@@ -1,7 +1,7 @@
 """The tests of from_rabbitmq, which want Python 3 alone: python3 tools/from_rabbitmq/tests/test.py
 
-What is expected was written by hand: the causes of crates/line_cases/data/definitions.lines, the lines of thirty.told, and what
-declare.py declared that warren does not take.
+What is expected was written by hand: the causes of crates/line_cases/data/definitions.lines, the lines of thirty.told, what declare.py
+declared that warren does not take, and the rows of stays.py.
 """
 
 import copy
@@ -16,12 +16,15 @@ import unittest
 HERE = os.path.dirname(os.path.abspath(__file__))
 TOOL = os.path.dirname(HERE)
 ROWS = os.path.join(TOOL, "../../crates/line_cases/data")
-sys.path[:0] = [TOOL, os.path.join(TOOL, "../shared")]
+sys.path[:0] = [HERE, TOOL, os.path.join(TOOL, "../shared")]
+import still  # noqa: E402
 from causes import NotJson, causes_in, causes_of, read_json  # noqa: E402
 from convert import NoFile, convert  # noqa: E402
 from part import part_of  # noqa: E402
 from report import sections  # noqa: E402
 from rows import text_of  # noqa: E402
+from stays import BREAKS, STAYS, binding, exchange, parameter, queue  # noqa: E402
+from stays import export as export_of  # noqa: E402
 
 
 def export(name):
@@ -439,9 +442,100 @@ class Only(unittest.TestCase):
         self.assertEqual(causes_of(out.encode()), [])
         self.assertIn('queue "q0" stays: what is sent in warren to exchange "desk" does not come to it', said)
 
+    def test_dead_letters_by_a_policy_and_by_what_warren_has_not(self):
+        value = self.value()
+        value["queues"][0]["arguments"] = {}
+        value["exchanges"].append({**value["exchanges"][0], "name": "H", "type": "headers", "arguments": {}})
+        value["bindings"] += bound(("H", "", "queue", "graves"))
+        value["policies"] = [{"vhost": "/", "name": "p", "pattern": "^pack", "apply-to": "queues", "priority": 0, "definition": {"dead-letter-exchange": "H"}}]
+        self.assertEqual(part_of(value, None, ["graves"]).lines, ['queue "graves": dead letters of queue "packing", which stays, do not come to it: a shovel can bring them'])
+
     def test_words(self):
         self.assertEqual(run("-", "--check", "--only", "q")[0], 3)
+        self.assertEqual(run("-", "--check", "--strict")[0], 3)
         self.assertEqual(run("-", "--only", "no", given=json.dumps(self.value()).encode())[2], 'from_rabbitmq: -: --only "no": there is no such queue or exchange\n')
+
+
+class Stays(unittest.TestCase):
+    """What becomes of a `yes` for a RabbitMQ that stays; tests/with_rabbitmq_stays.py asks a RabbitMQ."""
+
+    def test_each_kind(self):
+        found = set()
+        for row in STAYS:
+            with self.subTest(row.title):
+                made, changes = convert(row.export)
+                self.assertEqual(causes_in(made), [])
+                them = [it for it in changes if row.words in f"{it.entry}: {it.what}"]
+                self.assertTrue(them, [f"{it.entry}: {it.what}" for it in changes])
+                kinds = [kind for it in them for kind in it.still]
+                self.assertEqual((still.TOLD[still.never_of(kinds)], still.TOLD[still.reaches_of(kinds)]), (row.never, row.reaches))
+                found.update(kinds)
+        self.assertEqual(found, set(still.KINDS))
+
+    def test_each_change_is_marked(self):
+        for row in STAYS:
+            for it in convert(row.export)[1]:
+                self.assertTrue(it.still and set(it.still) <= set(still.KINDS), it)
+
+    def test_strict(self):
+        for row in STAYS:
+            with self.subTest(row.title):
+                changes = convert(row.export)[1]
+                if BREAKS in (row.never, row.reaches):
+                    self.assertTrue(any(still.may_break(it.still) for it in changes))
+        for export_, wanted in ((STAYS[0].export, 0), (export_of(queues=[queue("it", auto_delete=True)]), 1)):
+            status, out, said = run("-", "--strict", given=json.dumps(export_).encode())
+            self.assertEqual((status, "MAY BREAK" in said), (wanted, wanted == 1))
+            self.assertEqual(causes_of(out.encode()), [])
+            self.assertEqual(run("-", given=json.dumps(export_).encode())[:2], (0, out))
+
+    def test_what_strict_tells(self):
+        queues = [queue("late", {"x-message-ttl": 5}), queue("later", {"x-message-ttl": 9}), queue("gone", auto_delete=True)]
+        said = run("-", "--strict", given=json.dumps(export_of(queues=queues)).encode())[2].splitlines()
+        wanted = [
+            "what a `yes` of warren check says of a RabbitMQ that stays:",
+            '  queue "gone": auto_delete is now false: `reaches` may break: once it is gone, no binding leads to it',
+            '  queues "late", "later": `reaches` says entered, not kept: what expires is gone, or goes where a rejected message goes',
+            "written, but 1 change MAY BREAK A `yes`",
+        ]
+        self.assertEqual(said, wanted)
+        self.assertEqual(run("-", "--strict", given=json.dumps(export_of()).encode())[2].splitlines(), [wanted[0], "  each holds"])
+        every = run("-", "--all", given=json.dumps(export_of(queues=queues[2:])).encode())[2]
+        self.assertIn(". FOR A RABBITMQ THAT STAYS: `reaches` may break: once it is gone, no binding leads to it\n", every)
+
+    def strict(self, value, *names):
+        status, _, said = run("-", "--strict", "--only", *names, given=json.dumps(value).encode())
+        return status, said.splitlines()[1:]
+
+    def test_a_part(self):
+        """What is of the part alone counts; what comes back to it by dead letters does, and what an alternate exchange gets less of."""
+        gone = queue("gone", auto_delete=True)
+        value = export_of([exchange("Y")], [gone, queue("own")], [binding("Y", "a", "gone"), binding("X", "#", "own")])
+        self.assertEqual(self.strict(value, "own"), (0, ["  each holds"]))
+        self.assertEqual(self.strict(value, "gone")[0], 1)
+        value = export_of([], [queue("stays", {"x-dead-letter-exchange": "F"})], [binding("X", "#", "stays")])
+        back = '  queue "stays": it stays, and its dead letters may come to queue "q": `never` may break: in RabbitMQ a message goes a way that the file does not have'
+        self.assertEqual(self.strict(value, "q"), (1, [back, "written, but 1 change MAY BREAK A `yes`"]))
+        self.assertEqual(self.strict(value, "q", "stays"), (0, ["  each holds"]))
+        value = export_of([exchange("A", "direct", {"alternate-exchange": "F"})], [queue("stays")], [binding("A", "k", "stays")])
+        less = '  exchange "A": it leads to what stays: "stays": `reaches` may break: what it takes goes to the alternate exchange in the file alone'
+        self.assertEqual(self.strict(value, "q"), (1, [less, "written, but 1 change MAY BREAK A `yes`"]))
+        self.assertEqual(self.strict(export_of(parameters=[parameter("shovel")]), "q")[0], 1)
+
+    def test_a_policy_that_is_not_of_a_type_hides_none(self):
+        """RabbitMQ 3.10.8 was asked: a classic queue has no delivery limit, so a policy with one is not of it, and another is."""
+        first = {"delivery-limit": 3, "dead-letter-exchange": "X"}
+        policies = [{"vhost": "/", "name": name, "pattern": "^it", "apply-to": "queues", "priority": place, "definition": them} for place, (name, them) in enumerate((("b", {"dead-letter-exchange": "F"}), ("a", first)))]
+        for arguments, wanted in (({}, "F"), ({"x-queue-type": "quorum"}, "X"), ({"x-queue-type": "stream"}, None)):
+            made, _ = convert(export_of(queues=[queue("it", arguments)], policies=policies))
+            self.assertEqual(made["queues"][1]["arguments"].get("x-dead-letter-exchange"), wanted)
+
+    def test_the_page_has_the_kinds(self):
+        with open(os.path.join(TOOL, "../../docs/RABBITMQ.md"), encoding="utf-8") as file:
+            rows = [line.strip() for line in file if line.startswith("|")]
+        for it in still.KINDS:
+            self.assertIn(f"| {it.what} | {still.TOLD[it.never]} | {still.TOLD[it.reaches]} | {it.why} |", rows)
+        self.assertEqual(len([it for it in rows if it.count("|") == 5]), len(still.KINDS) + 2)
 
 
 class Bad(unittest.TestCase):
