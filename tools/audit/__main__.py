@@ -9,7 +9,7 @@ HERE = os.path.dirname(os.path.abspath(__file__))
 sys.path[:0] = [HERE, os.path.join(HERE, "../shared")]
 from checker import OTHER, Check, Fault, Topology, refutes  # noqa: E402
 from files import Refused, read_certificates, read_definitions, read_guarantees  # noqa: E402
-from words import Parser  # noqa: E402
+from words import Parser, run_script  # noqa: E402
 
 GOOD, FAULTY, REFUSED, FAILED = 0, 1, 3, 4
 STATUSES = "Status: 0 all are ok, or the key breaks the guarantee; 1 some are not, or it does not; 3 a file or the command line is refused; 4 a file cannot be read."
@@ -79,4 +79,4 @@ def main():
 
 
 if __name__ == "__main__":
-    sys.exit(main())
+    sys.exit(run_script("audit", main))

@@ -11,7 +11,7 @@ import sys
 HERE = os.path.dirname(os.path.abspath(__file__))
 sys.path[:0] = [HERE, os.path.join(HERE, "../shared")]
 from topology import BadFile, Step, Topology, read_guarantees, read_verdicts  # noqa: E402
-from words import Parser  # noqa: E402
+from words import Parser, run_script  # noqa: E402
 
 SHAPES = {"topic": "hexagon", "direct": "box", "fanout": "ellipse"}
 MOST_KEYS = 4
@@ -167,4 +167,4 @@ def main():
 
 
 if __name__ == "__main__":
-    sys.exit(main())
+    sys.exit(run_script("draw", main))

@@ -116,6 +116,9 @@ def main():
     except NotMade as error:
         tell(f"look: {error}")
         return REFUSED
+    except OSError as error:
+        tell(f"look: {error.filename}: {error.strerror}")
+        return REFUSED
     except KeyboardInterrupt:
         tell("look: ended by Ctrl-C, and what it started with it")
         return 128 + signal.SIGINT

@@ -13,7 +13,7 @@ from amqp.definitions_file import text_of  # noqa: E402
 from causes import quoted  # noqa: E402
 from files import Refused, read_definitions, read_guarantees  # noqa: E402
 from parting import at_most, definitions_of, members_of, parts_of, place_of, ties  # noqa: E402
-from words import Parser  # noqa: E402
+from words import Parser, run_script  # noqa: E402
 
 WRITTEN, ONE_PART, FAILED = 0, 1, 3
 STATUSES = "Status: 0 the parts were written; 1 there is one part alone, and nothing was written; 3 not done, and a line says why."
@@ -145,4 +145,4 @@ def main():
 
 
 if __name__ == "__main__":
-    sys.exit(main())
+    sys.exit(run_script("split", main))

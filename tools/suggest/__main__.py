@@ -18,7 +18,7 @@ from guarantees import MOST_GUARANTEES  # noqa: E402
 from patterns import includes  # noqa: E402
 from program import program_here  # noqa: E402
 from search import search  # noqa: E402
-from words import Parser  # noqa: E402
+from words import Parser, run_script  # noqa: E402
 
 WRITTEN, REFUSED, FAILED = 0, 1, 3
 STATUSES = "Status: 0 it was written; 1 warren refuses the definitions file; 3 this could not be done."
@@ -161,4 +161,4 @@ def main():
 
 
 if __name__ == "__main__":
-    sys.exit(main())
+    sys.exit(run_script("suggest", main))

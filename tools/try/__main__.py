@@ -46,6 +46,9 @@ def main():
     except NotMade as error:
         tell(f"try: {error}")
         return REFUSED
+    except OSError as error:
+        tell(f"try: {error.filename}: {error.strerror}")
+        return REFUSED
     except KeyboardInterrupt:
         tell("try: broken off, and the build with it")
         return 128 + signal.SIGINT

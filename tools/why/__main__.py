@@ -16,7 +16,7 @@ from program import program_here  # noqa: E402
 from search import MOST_STATES, search  # noqa: E402
 from sentences import broken, fault, promise, told, way  # noqa: E402
 from topology import BadFile, read_verdicts  # noqa: E402
-from words import Parser  # noqa: E402
+from words import Parser, run_script  # noqa: E402
 
 HOLDS, BROKEN, UNDECIDED, FAILED = range(4)
 STATUSES = "Status: 0 all hold; 1 a file is refused, or a guarantee is broken; 2 some are undecided, and no key was found; 3 this could not be told."
@@ -223,4 +223,4 @@ def main():
 
 
 if __name__ == "__main__":
-    sys.exit(main())
+    sys.exit(run_script("why", main))

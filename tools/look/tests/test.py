@@ -100,6 +100,12 @@ class Bad(unittest.TestCase):
                 self.assertTrue(said.startswith("look: "), said)
             self.assertEqual(trial.run("look", "--help")[0], 0)
 
+    def test_a_folder_that_cannot_be_written(self):
+        with Trial("look") as trial:
+            trial.write("out", "")
+            status, out, said = trial.run("look", "--listen", "127.0.0.1:0")
+            self.assertEqual((status, out, said.splitlines()[1:]), (3, "", [f"look: {trial.root}/out/try: Not a directory"]))
+
 
 if __name__ == "__main__":
     unittest.main()

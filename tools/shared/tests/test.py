@@ -1,4 +1,4 @@
-"""The tests of rabbit.py over a made-up RabbitMQ, which want Python 3 alone: python3 tools/shared/tests/test.py
+"""The tests of rabbit.py over a made-up RabbitMQ, and of words.py, which want Python 3 alone: python3 tools/shared/tests/test.py
 
 The made-up node is a program of this file: it reads rabbitmq.conf, listens where that says, and answers as RabbitMQ's management interface does.
 tests/with_rabbitmq.py asks a real one.
@@ -184,6 +184,24 @@ class Ports(unittest.TestCase):
         self.assertEqual(len(set(ports)), 20)
         for it in ports:
             socket.create_server(("127.0.0.1", it)).close()
+
+
+class BrokenOff(unittest.TestCase):
+    """Ctrl-C while a script reads its file is one line, also in what a shell started in the background."""
+
+    def test_each(self):
+        for name in ("from_rabbitmq", "suggest", "why", "split", "audit", "draw"):
+            with self.subTest(name), tempfile.TemporaryDirectory() as folder:
+                path = os.path.join(folder, "file")
+                os.mkfifo(path)
+                words = {"split": [path, path, folder], "audit": [path, path, path]}.get(name, [path])
+                ignored = {"preexec_fn": lambda: signal.signal(signal.SIGINT, signal.SIG_IGN)}
+                running = subprocess.Popen([sys.executable, os.path.join(HERE, "../..", name), *words], stdout=subprocess.PIPE, stderr=subprocess.PIPE, text=True, **ignored)
+                # this waits until the script has opened it, too
+                with open(path, "w", encoding="utf-8"):
+                    running.send_signal(signal.SIGINT)
+                    out, said = running.communicate(timeout=60)
+                self.assertEqual((running.returncode, out, said), (130, "", f"{name}: broken off\n"))
 
 
 if __name__ == "__main__":
