@@ -19,6 +19,7 @@ ROOT = os.path.join(HERE, "../..")
 sys.path[:0] = [os.path.join(ROOT, "tools"), os.path.join(ROOT, "tools/shared")]
 from amqp.client import Client, Message, Refused  # noqa: E402
 from rabbit import NotHere, Rabbit, quoted  # noqa: E402
+from words import run_example  # noqa: E402
 
 PART = ["packing", "audit"]
 WAITING, PUBLISHED = 2_000, 100
@@ -156,6 +157,4 @@ def main(warren):
 
 
 if __name__ == "__main__":
-    if len(sys.argv) != 2 or not os.access(sys.argv[1], os.X_OK):
-        sys.exit("run.py takes the program warren as its one word")
-    main(os.path.abspath(sys.argv[1]))
+    sys.exit(run_example("examples/takeover", __doc__, main))

@@ -126,7 +126,7 @@ class Conversion:
         self.says_internal = self._says_internal()
         self.said = {name: self._first_of(name) for name in ("exchanges", "queues")}  # as RabbitMQ has them, by name
         self.sources = self._sources()
-        self.alternates = {name for name, it in self.said["exchanges"].items() if self._has_alternate(it)}
+        self.alternates = {it["name"] for it in [*self.said["exchanges"].values(), *({"name": it} for it in PREDECLARED)] if self._has_alternate(it)}
 
     def tell(self, number, entry, what, kinds, meaning=None, weight=REST, grew=None, kind=None, of=()):
         self.changes.append(Change(number, entry, what, still.kinds_of(kinds), meaning, weight, grew, kind, tuple(of)))
@@ -533,8 +533,11 @@ class Conversion:
         added = []
         for name, kind in PREDECLARED.items():
             if name in wanted and name not in names:
-                self.tell(5, f"exchange {quoted(name)}", "is added: RabbitMQ has it, and no export lists it", still.SAME)
-                added.append({"name": name, "vhost": "/", "type": kind, "durable": True, "auto_delete": False, "internal": False, "arguments": {}})
+                called, arguments = f"exchange {quoted(name)}", {}
+                self.tell(5, called, "is added: RabbitMQ has it, and no export lists it", still.SAME)
+                self._with_policies(called, self._settings(called, {"name": name}, EXCHANGES), arguments, EXCHANGE_ARGUMENTS, "")
+                arguments = {name: it for name, it in arguments.items() if isinstance(it, str)}
+                added.append({"name": name, "vhost": "/", "type": kind, "durable": True, "auto_delete": False, "internal": False, "arguments": arguments})
         return exchanges + added
 
     def _quietly(self, name):

@@ -14,6 +14,9 @@ import sys
 import time
 
 HERE = os.path.dirname(os.path.abspath(__file__))
+sys.path[:0] = [os.path.join(HERE, "../shared")]
+from words import run_example  # noqa: E402
+
 SHOP = [os.path.join(HERE, "../../examples/shop", f"{it}.json") for it in ("definitions", "guarantees", "certificates")]
 PYTHON = "/usr/bin/python3" if os.path.exists("/usr/bin/python3") else sys.executable
 ROUNDS, MESSAGES, WINDOW, ALONE, IDLE = 3, 10_000, 100, 100, 100
@@ -163,6 +166,4 @@ def main(warren):
 
 
 if __name__ == "__main__":
-    if len(sys.argv) != 2 or not os.access(sys.argv[1], os.X_OK):
-        sys.exit("costs.py takes the program warren as its one word")
-    main(sys.argv[1])
+    sys.exit(run_example("costs", __doc__, main))

@@ -530,6 +530,13 @@ class Stays(unittest.TestCase):
             made, _ = convert(export_of(queues=[queue("it", arguments)], policies=policies))
             self.assertEqual(made["queues"][1]["arguments"].get("x-dead-letter-exchange"), wanted)
 
+    def test_a_policy_gives_an_exchange_of_rabbitmqs_own_an_alternate(self):
+        """RabbitMQ 3.10.8 was asked: what no binding of amq.topic takes goes there."""
+        policies = [{"vhost": "/", "name": "p", "pattern": "", "apply-to": "exchanges", "priority": 0, "definition": {"alternate-exchange": "F"}}]
+        made, changes = convert(export_of(queues=[queue("it", auto_delete=True)], bindings=[binding("amq.topic", "a", "it")], policies=policies))
+        self.assertEqual({it["name"]: it["arguments"] for it in made["exchanges"]}["amq.topic"], {"alternate-exchange": "F"})
+        self.assertEqual([it.still for it in changes if "auto_delete" in it.what], [(still.GOES, still.GOES_UNMATCHED)])
+
     def test_the_page_has_the_kinds(self):
         with open(os.path.join(TOOL, "../../docs/RABBITMQ.md"), encoding="utf-8") as file:
             rows = [line.strip() for line in file if line.startswith("|")]

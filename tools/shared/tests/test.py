@@ -186,6 +186,30 @@ class Ports(unittest.TestCase):
             socket.create_server(("127.0.0.1", it)).close()
 
 
+# each takes the program warren
+EXAMPLES = [f"examples/{it}/run" for it in ("metrics", "parts", "shovel", "ci")] + ["examples/takeover/run.py", "examples/clients/libraries/unmodified/run.py", "tools/front/costs.py"]
+
+
+class Examples(unittest.TestCase):
+    def run_it(self, name, *words):
+        done = subprocess.run([sys.executable, os.path.join(HERE, "../../..", name), *words], capture_output=True, text=True)
+        return done.returncode, done.stdout, done.stderr
+
+    def test_help(self):
+        for name in EXAMPLES:
+            status, out, said = self.run_it(name, "--help")
+            self.assertEqual((status, said), (0, ""))
+            self.assertIn("WARREN", out)
+
+    def test_words_that_are_refused(self):
+        for name in EXAMPLES:
+            for words, why in (((), "it takes the program warren"), (("/nowhere",), "/nowhere is no program"), ((HERE,), "is no program"), ((__file__,), "is no program"), (("a", "b", "c"), "it takes")):
+                status, out, said = self.run_it(name, *words)
+                self.assertEqual((status, out, said.count("\n")), (3, "", 1), (name, words, said))
+                self.assertIn(why, said)
+        self.assertIn("x is no number", self.run_it("examples/shovel/run", sys.executable, "x")[2])
+
+
 class BrokenOff(unittest.TestCase):
     """Ctrl-C while a script reads its file is one line, also in what a shell started in the background."""
 

@@ -21,6 +21,7 @@ ROOT = os.path.join(HERE, "../../../..")
 SHOP = [os.path.join(ROOT, "examples/shop", f"{it}.json") for it in ("definitions", "guarantees", "certificates")]
 sys.path[:0] = [os.path.join(ROOT, "tools/shared")]
 from rabbit import NotHere, Rabbit  # noqa: E402
+from words import run_example  # noqa: E402
 
 PYTHON = "/usr/bin/python3"
 JARS = "/usr/share/java/amqp-client.jar:/usr/share/java/slf4j-api.jar"
@@ -127,6 +128,4 @@ def main(warren):
 
 
 if __name__ == "__main__":
-    if len(sys.argv) != 2 or not os.access(sys.argv[1], os.X_OK):
-        sys.exit("run.py takes the program warren as its one word")
-    sys.exit(main(os.path.abspath(sys.argv[1])))
+    sys.exit(run_example("unmodified", __doc__, main))
