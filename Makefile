@@ -30,7 +30,7 @@ help:
 	@echo "  make bench     prints what publishes, deliveries, routes, large files and files at the limits cost"
 	@echo "  make takeover  takes over a part of a RabbitMQ of its own, and goes back (part of make around)             a minute"
 	@echo "  make unmodified runs clients as they are, with a RabbitMQ and through tools/front (part of make around)     two minutes"
-	@echo "  make around    tries warren beside a RabbitMQ of its own, and with other packages of Debian           10 minutes"
+	@echo "  make around    tries warren beside a RabbitMQ of its own; make around-packages names Debian's for it   10 minutes"
 	@echo "  make ci        checks an export as a pipeline does, changed and unchanged (part of make around)            a minute"
 	@echo "  make agree     compares warren with a RabbitMQ over 500 topologies made at random                      2 minutes"
 	@echo "  make install   puts the proved program into $(PREFIX)/bin, with its manual page and completions"
@@ -194,7 +194,9 @@ examples: same warren
 	@python3 tools/draw $(CHANGED) $(BROKEN) | cmp - $(SHOP)/broken.dot
 	@python3 tools/manual --check --program $(WARREN)
 
-# Each of these wants a RabbitMQ or another package of Debian. What isn't installed is said in one line, and passed over. A target more is a line more.
+# Each of these wants a RabbitMQ or another package of Debian: $(DEBIAN). What isn't installed is said in one line, and passed over. A target more is a line more.
+DEBIAN = rabbitmq-server haproxy openssl prometheus python3-prometheus-client python3-pika python3-pamqp python3-aio-pika celery ruby-bunny php-amqplib php-cli
+DEBIAN += librabbitmq-client-java default-jdk-headless golang-go golang-github-rabbitmq-amqp091-go-dev
 AROUND += rabbit
 AROUND += agree
 AROUND += exports
@@ -202,8 +204,11 @@ AROUND += ci
 AROUND += takeover
 AROUND += unmodified
 
-.PHONY: around $(AROUND)
+.PHONY: around around-packages $(AROUND)
 around: $(AROUND)
+
+around-packages:
+	@echo "apt-get install --no-install-recommends $(DEBIAN)"
 
 # without a RabbitMQ no program is made for the targets that compare with one
 BESIDE_RABBITMQ = $(if $(wildcard /usr/lib/rabbitmq/bin/rabbitmq-server),warren)
