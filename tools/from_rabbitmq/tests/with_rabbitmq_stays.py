@@ -24,6 +24,8 @@ PATTERNS = {"topic": ("a", "#", "a.*", "*.b", "a.#", "#.b", "*"), "direct": ("a"
 # seconds within which what expires has expired, and how often what was rejected is looked for again
 EXPIRED, PASSES = 0.3, 4
 EXPIRES = 20
+# milliseconds: a queue that would go goes by `let_go`
+NEVER = 3_600_000
 ALL = 1_000
 COPIES = "copies"
 # what is said of a publish that a full queue refuses
@@ -57,6 +59,7 @@ class Scene:
     def queue(self, name):
         chance, arguments = self.chance, chance_of(self.chance, 0.6, self.dead_letters)
         goes = "auto-delete" in self.odd and chance.random() < 0.5
+        arguments.update({"x-expires": NEVER} if "auto-delete" in self.odd and chance.random() < 0.3 else {})
         if name == "q3" and chance.random() < 0.3:
             return {"name": name, "durable": True, "auto_delete": False, "arguments": {**arguments, "x-queue-type": "quorum", "x-delivery-limit": 1}}
         arguments.update(chance_of(chance, 0.3, lambda: {"x-message-ttl": EXPIRES}))
@@ -66,17 +69,17 @@ class Scene:
         return {"name": name, "durable": True, "auto_delete": goes, "arguments": arguments}
 
     def binding(self):
-        chance, source = self.chance, self.chance.choice(list(self.kinds))
+        chance, source = self.chance, self.chance.choice(list(self.kinds) + ["amq.topic"] * ("own" in self.odd))
         kind, name = chance.choice((("queue", chance.choice(self.names)), ("exchange", self.exchange())))
-        key = "a..b" if "empty word" in self.odd and chance.random() < 0.3 else chance.choice(PATTERNS[self.kinds[source]])
-        arguments = {"x-match": "all"} if self.kinds[source] == "headers" else {}
+        key = "a..b" if "empty word" in self.odd and chance.random() < 0.3 else chance.choice(PATTERNS[self.kinds.get(source, "topic")])
+        arguments = {"x-match": "all"} if self.kinds.get(source) == "headers" else {}
         return {"source": source, "destination_type": kind, "destination": name, "routing_key": key, "arguments": arguments}
 
     def policy(self, place):
         chance = self.chance
-        settings = chance.choice(({"message-ttl": EXPIRES}, {"max-length": 2}, {"dead-letter-exchange": self.exchange()}, {"alternate-exchange": self.exchange()}, {"expires": 3_600_000}))
+        settings = chance.choice(({"message-ttl": EXPIRES}, {"max-length": 2}, {"dead-letter-exchange": self.exchange()}, {"alternate-exchange": self.exchange()}, {"expires": NEVER}))
         settings = {**settings, **chance_of(chance, 0.3, lambda: {"delivery-limit": 1}), **chance_of(chance, 0.3, lambda: {"dead-letter-exchange": self.exchange()})}
-        pattern = chance.choice(("^[qXo]", "^q", "^X", f"[qX]{chance.randint(0, 3)}$"))
+        pattern = chance.choice(("^[qXo]", "^q", "^X", f"[qX]{chance.randint(0, 3)}$", *(["^amq", "^[qXo]|^amq"] if "own" in self.odd else [])))
         return {"name": f"p{place}", "pattern": pattern, "apply-to": chance.choice(("all", "queues", "exchanges")), "definition": settings, "priority": chance.randint(0, 5)}
 
     def definitions(self):
@@ -152,7 +155,7 @@ class Host:
 
     def let_go(self):
         """Has the queues go that RabbitMQ deletes once nobody uses them."""
-        gone = [it for it, entry in self.queues.items() if entry["auto_delete"]]
+        gone = [it for it, entry in self.queues.items() if entry["auto_delete"] or "x-expires" in entry["arguments"]]
         for it in gone:
             self._ask(f"queues/{self.name}/{quoted(it)}", None, "DELETE")
             del self.queues[it]
@@ -175,7 +178,7 @@ def of_scene(rabbit, name, scene, seen):
     seen.update(f"topologies where {mode} {'may break' if mark else 'holds'}" for mode, mark in zip(("never", "reaches"), marked))
     right = True
     for turn in range(2):
-        sent = {f"{turn}.{place}": it for place, it in enumerate((exchange["name"], key) for exchange in [{"name": ""}, *made["exchanges"]] for key in KEYS if not exchange["name"].startswith("amq."))}
+        sent = {f"{turn}.{place}": it for place, it in enumerate((exchange["name"], key) for exchange in [{"name": ""}, *made["exchanges"]] for key in KEYS)}
         for body, (exchange, key) in sent.items():
             host.publish(exchange, key, body)
         routed, entered = host.follow()
