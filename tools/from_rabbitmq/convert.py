@@ -157,7 +157,7 @@ class Conversion:
             wanted = "/" if "/" in names or not names else names[0]
             if wanted != "/" and len(names) > 1:
                 raise NoFile(f"it has the virtual hosts {', '.join(map(quoted, names))}: choose one by --vhost")
-        elif wanted not in names:
+        elif names and wanted not in names:
             raise NoFile(f"it has no virtual host {quoted(wanted)}")
         if not self.lists["vhosts"]:
             self.tell(3, "file", "no virtual host is listed: \"/\" is added", still.ELSEWHERE)

@@ -120,7 +120,9 @@ def lines_between(ways, queues, exchanges):
 def changes_between(ways, made, queues, exchanges):
     """The changes by which a `yes` of the part may not hold in RabbitMQ: dead letters that come back to it, and bindings that stay."""
     for queue in ways.queues:
-        back = ways.dead_letters(queue) & queues if queue not in queues else ()
+        # under its own key a dead letter of the default exchange may come to any queue
+        to = queues if ways.deaths.get(queue) == ("", None) else ways.dead_letters(queue) & queues
+        back = to if queue not in queues else ()
         if back:
             yield Change(0, f"queue {quoted(queue)}", f"it stays, and its dead letters may come to {named(sorted(back))}", (still.WAY,))
     alternates = {it["name"] for it in made["exchanges"] if it["arguments"].get("alternate-exchange") in exchanges}

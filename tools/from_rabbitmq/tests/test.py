@@ -450,6 +450,13 @@ class Only(unittest.TestCase):
         value["policies"] = [{"vhost": "/", "name": "p", "pattern": "^pack", "apply-to": "queues", "priority": 0, "definition": {"dead-letter-exchange": "H"}}]
         self.assertEqual(part_of(value, None, ["graves"]).lines, ['queue "graves": dead letters of queue "packing", which stays, do not come to it: a shovel can bring them'])
 
+    def test_an_export_that_names_no_virtual_host(self):
+        """As GET /api/definitions/VHOST gives it, if there are no policies."""
+        value = {name: [{member: it for member, it in entry.items() if member != "vhost"} for entry in self.value()[name]] for name in ("exchanges", "queues", "bindings")}
+        for words in ((), ("--vhost", "office")):
+            status, out, _ = run("-", "--only", "audit", *words, given=json.dumps(value).encode())
+            self.assertEqual((status, [it["name"] for it in json.loads(out)["queues"]]), (0, ["audit"]))
+
     def test_words(self):
         self.assertEqual(run("-", "--check", "--only", "q")[0], 3)
         self.assertEqual(run("-", "--check", "--strict")[0], 3)
@@ -517,6 +524,10 @@ class Stays(unittest.TestCase):
         back = '  queue "stays": it stays, and its dead letters may come to queue "q": `never` may break: in RabbitMQ a message goes a way that the file does not have'
         self.assertEqual(self.strict(value, "q"), (1, [back, "written, but 1 change MAY BREAK A `yes`"]))
         self.assertEqual(self.strict(value, "q", "stays"), (0, ["  each holds"]))
+        value["queues"][1]["arguments"] = {"x-dead-letter-exchange": ""}
+        self.assertEqual(self.strict(value, "q"), (1, [back, "written, but 1 change MAY BREAK A `yes`"]))
+        value["queues"][1]["arguments"]["x-dead-letter-routing-key"] = "stays"
+        self.assertEqual(self.strict(value, "q"), (0, ["  each holds"]))
         value = export_of([exchange("A", "direct", {"alternate-exchange": "F"})], [queue("stays")], [binding("A", "k", "stays")])
         less = '  exchange "A": it leads to what stays: "stays": `reaches` may break: what it takes goes to the alternate exchange in the file alone'
         self.assertEqual(self.strict(value, "q"), (1, [less, "written, but 1 change MAY BREAK A `yes`"]))

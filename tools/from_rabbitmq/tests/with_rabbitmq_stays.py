@@ -16,9 +16,11 @@ sys.path[:0] = [HERE, os.path.dirname(HERE), os.path.join(HERE, "../../shared"),
 import still  # noqa: E402
 from checker import Topology, by_key  # noqa: E402
 from convert import convert  # noqa: E402
+from part import part_of  # noqa: E402
 from rabbit import NotHere, Rabbit, RabbitFault, quoted  # noqa: E402
 
 COUNT = 100
+MODES = {"never": still.never_of, "reaches": still.reaches_of}
 KEYS = ("", "a", "b", "a.b", "b.a.b", "a..b", "q0")
 PATTERNS = {"topic": ("a", "#", "a.*", "*.b", "a.#", "#.b", "*"), "direct": ("a", "b", "a.b", "q0"), "fanout": ("",), "headers": ("",)}
 # seconds within which what expires has expired, and how often what was rejected is looked for again
@@ -162,38 +164,56 @@ class Host:
         return bool(gone)
 
 
-def breaks(made, exchange, key, routed, entered):
-    """Whether this message would break a `never`, and a `reaches`, of the file that was made."""
-    topology, says = Topology(made), by_key(key)
-    allowed = {it[1] for it in topology.visited(exchange, says) if it[0] == "queue"}
-    sure = {name for kind, name in topology.routed(exchange, says) if kind == "queue"}
-    return bool((entered & topology.queues.keys()) - allowed), bool(sure - routed)
+class File:
+    """A definitions file that was made of an export, or of a part of it, and whether a change is marked by which a `never` or a `reaches` of it may break."""
+
+    def __init__(self, called, made, changes):
+        self.called, self.topology = called, Topology(made)
+        self.marked = {mode: any(of(it.still) == still.MAY_BREAK for it in changes) for mode, of in MODES.items()}
+
+    def broken(self, exchange, key, routed, entered):
+        """The kinds of guarantees of this file that a message would break."""
+        if exchange and exchange not in self.topology.exchanges:
+            return []
+        says = by_key(key)
+        allowed = {it[1] for it in self.topology.visited(exchange, says) if it[0] == "queue"}
+        sure = {name for kind, name in self.topology.routed(exchange, says) if kind == "queue"}
+        found = {"never": (entered & self.topology.queues.keys()) - allowed, "reaches": sure - routed}
+        return [mode for mode in MODES if found[mode]]
+
+
+def files_of(export, chance):
+    """The file of the whole export, and that of a part at random."""
+    whole = File("whole", *convert(export))
+    names = chance.sample([it["name"] for it in export["queues"]], 2)
+    part = part_of(export, None, names)
+    made, changes = convert(part.export, None, part.stays)
+    return [whole, File("part", made, changes + part.changes)]
 
 
 def of_scene(rabbit, name, scene, seen):
     """Prints what is wrong with a topology, and counts what is seen. Returns whether all is right."""
     host = Host(rabbit, name, scene.definitions())
-    made, changes = convert(host.export)
-    marked = [any(of(it.still) == still.MAY_BREAK for it in changes) for of in (still.never_of, still.reaches_of)]
-    seen.update(f"topologies where {mode} {'may break' if mark else 'holds'}" for mode, mark in zip(("never", "reaches"), marked))
+    files = files_of(host.export, scene.chance)
+    seen.update(f"{file.called}: {mode} {'may break' if mark else 'holds'}" for file in files for mode, mark in file.marked.items())
     right = True
     for turn in range(2):
-        sent = {f"{turn}.{place}": it for place, it in enumerate((exchange["name"], key) for exchange in [{"name": ""}, *made["exchanges"]] for key in KEYS)}
+        sent = {f"{turn}.{place}": it for place, it in enumerate((exchange, key) for exchange in ["", *files[0].topology.exchanges] for key in KEYS)}
         for body, (exchange, key) in sent.items():
             host.publish(exchange, key, body)
         routed, entered = host.follow()
-        for body, (exchange, key) in sent.items():
-            seen["messages"] += 1
-            broken = breaks(made, exchange, key, routed.get(body, set()), entered[body])
-            for mode, is_broken, mark in zip(("never", "reaches"), broken, marked):
-                seen[f"messages past a {mode}"] += is_broken
-                if is_broken and not mark:
-                    right = False
-                    print(f"{name}: key {key!r} of exchange {exchange!r} is past a {mode}, and no change is marked: routed to {routed.get(body)}, entered {entered[body]}")
+        seen["messages"] += len(sent)
+        for file in files:
+            for body, (exchange, key) in sent.items():
+                for mode in file.broken(exchange, key, routed.get(body, set()), entered[body]):
+                    seen[f"{file.called}: messages past a {mode}"] += 1
+                    right &= file.marked[mode]
+                    if not file.marked[mode]:
+                        print(f"{name}, {file.called}: key {key!r} of exchange {exchange!r} is past a {mode}, and no change is marked: it entered {entered[body]}")
         if not host.let_go():
             break
     if not right:
-        print(host.export)
+        print(host.export, [list(file.topology.queues) for file in files])
     rabbit.api(f"vhosts/{name}", method="DELETE")
     return right
 
@@ -207,7 +227,7 @@ def main(count, seed):
         print(f"{what}: {number}")
     print(f"seed {seed}: {count} topologies, {wrong} otherwise than marked")
     # else nothing was compared
-    enough = all(seen[f"messages past a {mode}"] and seen[f"topologies where {mode} holds"] > count / 5 for mode in ("never", "reaches"))
+    enough = all(seen[f"whole: messages past a {mode}"] and seen[f"{called}: {mode} holds"] > count / 6 for mode in MODES for called in ("whole", "part"))
     return 1 if wrong or not enough else 0
 
 
