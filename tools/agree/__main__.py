@@ -19,7 +19,7 @@ from changes import CHANGES  # noqa: E402
 from differences import difference, freely  # noqa: E402
 from operations import NoAnswer  # noqa: E402
 from program import program_here  # noqa: E402
-from rabbit import NotHere, Rabbit, RabbitFault  # noqa: E402
+from rabbit import NotHere, Rabbit, RabbitFault, is_here  # noqa: E402
 from replayed import NotReplayed, replay, transcript  # noqa: E402
 from scenario import Scenario  # noqa: E402
 from served import Conversation  # noqa: E402
@@ -118,6 +118,9 @@ def agree(given):
     warren = given.warren or program_here()
     if warren is None:
         raise NotReplayed("there is no warren here: make try")
+    # without a RabbitMQ no program is asked for either
+    if is_here() and not (os.path.isfile(warren) and os.access(warren, os.X_OK)):
+        raise NotReplayed(f"{warren} is no program")
     numbers = list(range(1, given.topologies + 1)) if given.only is None else [given.only]
     with Rabbit("agree") as rabbit, tempfile.TemporaryDirectory() as folder:
         comparison = Comparison(given, warren, rabbit, folder)

@@ -20,6 +20,7 @@ from causes import causes_in  # noqa: E402
 from changes import CHANGES  # noqa: E402
 from differences import difference, freely, properties_of  # noqa: E402
 from operations import Closed, Confirmed, Counted, Done, Empty, Got, NoAnswer, Returned  # noqa: E402
+from rabbit import is_here  # noqa: E402
 from replayed import NotReplayed, kind_of, replay, script_of  # noqa: E402
 from scenario import PROPERTIES, Scenario  # noqa: E402
 from topologies import exchange, file_of, key, topology  # noqa: E402
@@ -319,6 +320,11 @@ class Command(unittest.TestCase):
             status, out, said = self.run_agree("warren", *words)
             self.assertEqual((status, out, said.count("\n")), (3, "", 1))
             self.assertIn("no whole number from 1", said)
+
+    @unittest.skipUnless(is_here(), "without a RabbitMQ no program is asked for")
+    def test_what_is_no_program(self):
+        for name in ("/nowhere", HERE, __file__):
+            self.assertEqual(self.run_agree(name), (3, "", f"agree: {name} is no program\n"))
 
 
 if __name__ == "__main__":
