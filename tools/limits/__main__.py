@@ -17,6 +17,8 @@ MESSAGES = 300
 # each family with the commands that are measured over its files
 FAMILIES = [
     ("255 queues with keys of their own in a chain, one `never`", families.chain_of_own_keys, ("check --out", "verify")),
+    ("255 queues with keys of their own through a ring of 255 exchanges, one `never`", families.ring_of_own_keys, ("check --out", "verify")),
+    ("a `never` that is broken through such a ring", families.broken_through_the_ring, ("check",)),
     ("34,660 states of 63 patterns and 1,893 letters", families.many_letters, ("check --out", "verify")),
     ("64,000 states, 64 letters of each", families.letters_that_all_lead, ("check --out", "verify")),
     ("more than 65,536 states by all patterns and by a slice", families.undecided_by_states, ("check",)),

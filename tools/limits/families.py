@@ -129,6 +129,47 @@ def broken_at_the_end():
     return topology.file(), [guarantee("never", "a.#", "z")]
 
 
+def long_key(number):
+    """A key of 31 words of its own for each number below 46,656."""
+    return ".".join(["a"] * 30 + [word(number)])
+
+
+def long_pattern(number):
+    """A pattern of 31 words that takes every long key. For each number below 16 it begins otherwise, as far as to its fourth word."""
+    return ".".join(["*" if number >> place & 1 else "a" for place in range(4)] + ["*"] * 26 + ["#"])
+
+
+def ring(count):
+    """255 topic exchanges, each of which leads to 14 others by long patterns, and so many queues with a dead-letter exchange and a long key of
+    their own: what dies in one comes through all 255 exchanges into the next. A message comes to the first queue alone."""
+    topology = Topology()
+    topology.exchange("x", "topic")
+    for number in range(255):
+        topology.exchange(f"e{number}", "topic")
+    for number in range(255):
+        for further in range(14):
+            topology.bind(f"e{number}", long_pattern(further), f"e{(number + 1 + further * 17) % 255}", "exchange")
+    for number in range(count):
+        topology.queue(f"q{number}", {"x-dead-letter-exchange": f"e{number}", "x-dead-letter-routing-key": long_key(number)})
+    for number in range(count - 1):
+        topology.bind(f"e{(number + 254) % 255}", long_key(number), f"q{number + 1}")
+    topology.queue("z")
+    topology.bind("x", "a.#", "q0")
+    return topology
+
+
+def ring_of_own_keys():
+    """A `never` that holds: nothing that dies in 255 queues, each with a key of its own through 255 exchanges, comes to its queue."""
+    return ring(255).file(), [guarantee("never", "#", "z")]
+
+
+def broken_through_the_ring():
+    """A `never` that is broken by what dies in 255 queues, one after the other, each time through 255 exchanges."""
+    topology = ring(255)
+    topology.bind("e253", long_key(254), "z")
+    return topology.file(), [guarantee("never", "a.#", "z")]
+
+
 def undecided_by_states():
     """A guarantee of which neither all patterns nor a slice of them is decided: both come to more than 65,536 states."""
     topology = topic_beside("q")

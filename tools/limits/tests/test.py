@@ -21,6 +21,8 @@ class Families(unittest.TestCase):
 
     def test_each_is_within_the_limits(self):
         self.assertEqual(self.sizes(families.chain_of_own_keys), [256, 256, 255, 1])
+        self.assertEqual(self.sizes(families.ring_of_own_keys), [256, 256, 3825, 1])
+        self.assertEqual(self.sizes(families.broken_through_the_ring), [256, 256, 3826, 1])
         self.assertEqual(self.sizes(families.many_letters), [1, 2, 62, 1])
         self.assertEqual(self.sizes(families.letters_that_all_lead), [1, 2, 62, 1])
         self.assertEqual(self.sizes(families.undecided_by_states), [1, 1, 63, 1])
