@@ -238,23 +238,32 @@ static uint64_t microseconds(void) {
     return it.tv_sec * 1000000 + it.tv_nsec / 1000;
 }
 
-/* Serves the clients until END, or, if END is 0, until a line comes on standard input. Returns whether one came, or the end is over. */
+/* What an event of a client asks for: reads, writes what waits, and goes on. */
+static void attend(Client *it, uint32_t events) {
+    if (events & EPOLLIN) hear(it);
+    if (it->written < it->length) flush(it);
+    if (!it->is_consumer) go_on(it);
+}
+
+/* Reads a line from standard input. Returns whether one came. */
+static int line_came(void) {
+    char line[64];
+    return read(0, line, sizeof line) > 0;
+}
+
+/* Serves the clients until END, or, if END is 0, until a line comes on standard input. Returns whether one came, or the end is over.
+   Each event comes once, so those that came with a line are attended to before this returns. */
 static int serve_until(int poll, Client **all, int count, uint64_t end) {
     struct epoll_event came[1024];
     while (end == 0 || microseconds() < end) {
-        int some = epoll_wait(poll, came, 1024, 20);
+        int some = epoll_wait(poll, came, 1024, 20), is_line = 0;
         for (int i = 0; i < some; i++) {
-            Client *it = came[i].data.ptr;
-            if (it == NULL) {
-                char line[64];
-                return read(0, line, sizeof line) > 0;
-            }
-            if (came[i].events & EPOLLIN) hear(it);
-            if (it->written < it->length) flush(it);
-            if (!it->is_consumer) go_on(it);
+            if (came[i].data.ptr == NULL) is_line = 1;
+            else attend(came[i].data.ptr, came[i].events);
         }
         for (int i = 0; is_awaited && i < count; i++)
             if (!all[i]->is_consumer) go_on(all[i]);
+        if (is_line) return line_came();
     }
     return 1;
 }

@@ -218,6 +218,8 @@ def taker(server, kind):
         if not begun.wait(ANSWERS_WITHIN):
             raise Unanswered(f"the slow consumer did not begin within {ANSWERS_WITHIN} seconds")
         yield
+        if not process.is_alive():
+            raise Unanswered("the slow consumer ended")
     finally:
         over.set()
         process.join(ANSWERS_WITHIN)
@@ -314,6 +316,8 @@ def strangers(server, count):
         if not begun.wait(ANSWERS_WITHIN):
             raise Unanswered(f"{count} strangers did not come within {ANSWERS_WITHIN} seconds")
         yield
+        if not process.is_alive():
+            raise Unanswered("the strangers ended")
     finally:
         over.set()
         process.join(1)
