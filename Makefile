@@ -1,7 +1,7 @@
 # `make` alone lists the targets.
 SHELL := bash
 .SHELLFLAGS := -o pipefail -c
-.PHONY: help try look run shop verdicts serve clients libraries deploy reload load refusals cases same promise edits widths map prose tools pictures examples bench install package manual statuses test
+.PHONY: help try look run shop verdicts serve clients libraries deploy reload load refusals cases same promise edits widths map names prose tools pictures examples bench install package manual statuses test
 
 # where `make install` puts the program
 PREFIX ?= /usr/local
@@ -167,7 +167,11 @@ widths:
 map:
 	@python3 tools/map
 
-tools: promise edits widths map
+# what several proof files of a crate import stands in one file of it, if it has one
+names:
+	@python3 tools/names
+
+tools: promise edits widths map names
 	@ls tools/*/tests/test.py | xargs -P 4 -I {} sh -c '$(ONE_TEST)'
 
 # makes the shop's pictures anew; this wants Graphviz
