@@ -31,6 +31,7 @@ help:
 	@echo "  make takeover  takes over a part of a RabbitMQ of its own, and goes back (part of make around)             a minute"
 	@echo "  make unmodified runs clients as they are, with a RabbitMQ and through tools/front (part of make around)     two minutes"
 	@echo "  make around    tries warren beside a RabbitMQ of its own; make around-packages names Debian's for it   10 minutes"
+	@echo "                 by an installed program, which is taken as it is: make around WARREN=/usr/bin/warren"
 	@echo "  make ci        checks an export as a pipeline does, changed and unchanged (part of make around)            a minute"
 	@echo "  make agree     compares warren with a RabbitMQ over 500 topologies made at random                      2 minutes"
 	@echo "  make install   puts the proved program into $(PREFIX)/bin, with its manual page and completions"
@@ -38,7 +39,7 @@ help:
 	@echo "  make manual    makes the manual page and the completions anew, of the program's help"
 	@echo "  make test      proves every crate, tries the must-fail edits, runs the tests and the program    one to two hours"
 	@echo "without rt, with Python 3 alone:"
-	@echo "  make prose     tells how long sentences are, page by page, and looks for dead links"
+	@echo "  make prose     looks in the pages for dead links, a long README, and words that readers stumble over"
 	@echo "  make tools     runs the tests of tools/ and checks the names in docs/PROMISE.md               a minute"
 
 # one's own files: make try DEFS=definitions.json GUARANTEES=guarantees.json, and another address: LISTEN=127.0.0.1:5673. Names may have blanks.
@@ -56,16 +57,21 @@ look:
 # the proved program of a crate, made by `rt run` if its sources are newer: what one target proved, the others take; `make test` leaves it too
 PROVED = python3 tools/program proved
 WARREN = crates/warren/out/warren
+# one that is installed is taken as it is, and nothing is made: make around WARREN=/usr/bin/warren
+GIVEN = $(if $(findstring command line,$(origin WARREN)),"$(WARREN)")
+# `make test` looks at the program that its gate leaves
+MAKEOVERRIDES =
 
 .PHONY: warren
 warren:
-	@$(PROVED) > /dev/null
+	@$(if $(GIVEN),python3 tools/program given $(GIVEN),$(PROVED)) > /dev/null
+	@mkdir -p $(OUT)
 
 run: warren
-	@$(WARREN) replay /dev/stdin < examples/first_publish/script
+	@"$(WARREN)" replay /dev/stdin < examples/first_publish/script
 
 shop: warren
-	@$(WARREN) replay $(SHOP)/script --definitions $(SHOP)/definitions.json
+	@"$(WARREN)" replay $(SHOP)/script --definitions $(SHOP)/definitions.json
 
 SHOP = examples/shop
 SHOP_FILES = $(SHOP)/definitions.json $(SHOP)/guarantees.json
@@ -78,52 +84,52 @@ UNDER = --definitions $(SHOP)/definitions.json --guarantees $(SHOP)/guarantees.j
 
 # checks, writes the certificates, verifies them and replays under them; then one binding leads elsewhere, and a key breaks
 verdicts: warren
-	@$(WARREN) check $(SHOP_FILES) --out $(OUT)/certificates.json
-	@$(WARREN) verify $(SHOP_FILES) $(OUT)/certificates.json
-	@$(WARREN) replay $(SHOP)/script $(UNDER)
+	@"$(WARREN)" check $(SHOP_FILES) --out $(OUT)/certificates.json
+	@"$(WARREN)" verify $(SHOP_FILES) $(OUT)/certificates.json
+	@"$(WARREN)" replay $(SHOP)/script $(UNDER)
 	@echo "a topology with 71 binding keys:"
-	@$(WARREN) check $(BRANCHES_FILES) --out $(OUT)/branches.json
-	@$(WARREN) verify $(BRANCHES_FILES) $(OUT)/branches.json
+	@"$(WARREN)" check $(BRANCHES_FILES) --out $(OUT)/branches.json
+	@"$(WARREN)" verify $(BRANCHES_FILES) $(OUT)/branches.json
 	@echo "the shop with one binding key changed, from orders.# to orders.*.#:"
 	@sed 's/"orders\.#"/"orders.*.#"/' $(SHOP)/definitions.json > $(CHANGED)
-	@$(WARREN) check $(CHANGED) $(SHOP)/guarantees.json; [ $$? -eq 1 ]
+	@"$(WARREN)" check $(CHANGED) $(SHOP)/guarantees.json; [ $$? -eq 1 ]
 
 serve:
-	@python3 tools/look --proved $(OWN_FILES) $(OWN_ADDRESS)
+	@python3 tools/look $(if $(GIVEN),--by $(GIVEN),--proved) $(OWN_FILES) $(OWN_ADDRESS)
 
 clients: warren
-	@examples/clients/run $(WARREN)
+	@examples/clients/run "$(WARREN)"
 
 libraries: warren
-	@examples/clients/libraries/run $(WARREN)
+	@examples/clients/libraries/run "$(WARREN)"
 
 deploy: warren
-	@examples/deploy/run $(WARREN)
+	@examples/deploy/run "$(WARREN)"
 
 reload: warren
-	@examples/reload/run $(WARREN)
+	@examples/reload/run "$(WARREN)"
 
 load: warren
-	@examples/load/run $(WARREN)
+	@examples/load/run "$(WARREN)"
 
 # these want packages of Debian, and say in one line what is not here; `make around` has them
 AROUND += metrics parts shovel
 .PHONY: metrics parts shovel
 
 metrics: warren
-	@examples/metrics/run $(WARREN)
+	@examples/metrics/run "$(WARREN)"
 
 parts: warren
-	@python3 tools/split/tests/with_warren.py $(WARREN)
-	@examples/parts/run $(WARREN)
+	@python3 tools/split/tests/with_warren.py "$(WARREN)"
+	@examples/parts/run "$(WARREN)"
 
 shovel: warren
-	@examples/shovel/run $(WARREN)
+	@examples/shovel/run "$(WARREN)"
 
 refusals: warren
 	@$(PROVED) memory_refusals > /dev/null
 	@cd crates/memory_refusals && out/memory_refusals < stdin | diff stdout -
-	@examples/refusals/run $(WARREN) crates/memory_refusals/out/memory_refusals
+	@examples/refusals/run "$(WARREN)" crates/memory_refusals/out/memory_refusals
 
 cases:
 	@$(PROVED) cases > /dev/null
@@ -147,7 +153,7 @@ same:
 promise:
 	@python3 tools/promise
 
-# the pages: sentences, links, the README's length
+# the pages: links, the README's length, words that readers stumble over
 prose:
 	@python3 tools/prose
 	@python3 tools/prose/tests/test.py
@@ -179,24 +185,24 @@ pictures: warren
 	@sed 's/"orders\.#"/"orders.*.#"/' $(SHOP)/definitions.json > $(CHANGED)
 	@python3 tools/draw $(SHOP)/definitions.json > $(SHOP)/topology.dot
 	@python3 tools/draw $(SHOP)/definitions.json --svg $(SHOP)/topology.svg
-	@$(WARREN) check $(CHANGED) $(SHOP)/guarantees.json > $(OUT)/verdicts; [ $$? -eq 1 ]
+	@"$(WARREN)" check $(CHANGED) $(SHOP)/guarantees.json > $(OUT)/verdicts; [ $$? -eq 1 ]
 	@python3 tools/draw $(CHANGED) $(BROKEN) > $(SHOP)/broken.dot
 	@python3 tools/draw $(CHANGED) $(BROKEN) --svg $(SHOP)/broken.svg
 
 examples: same warren
-	@$(WARREN) replay examples/first_publish/script | diff examples/first_publish/output -
-	@$(WARREN) replay $(SHOP)/script --definitions $(SHOP)/definitions.json | diff $(SHOP)/output -
-	@$(WARREN) check $(SHOP_FILES) --out $(OUT)/certificates.json | diff $(SHOP)/verdicts -
+	@"$(WARREN)" replay examples/first_publish/script | diff examples/first_publish/output -
+	@"$(WARREN)" replay $(SHOP)/script --definitions $(SHOP)/definitions.json | diff $(SHOP)/output -
+	@"$(WARREN)" check $(SHOP_FILES) --out $(OUT)/certificates.json | diff $(SHOP)/verdicts -
 	@cmp $(OUT)/certificates.json $(SHOP)/certificates.json
-	@$(WARREN) verify $(SHOP_FILES) $(OUT)/certificates.json | diff $(SHOP)/verified -
-	@$(WARREN) replay $(SHOP)/script $(UNDER) | diff $(SHOP)/output -
-	@$(WARREN) check $(BRANCHES_FILES) --out $(OUT)/branches.json | diff $(BRANCHES)/verdicts -
+	@"$(WARREN)" verify $(SHOP_FILES) $(OUT)/certificates.json | diff $(SHOP)/verified -
+	@"$(WARREN)" replay $(SHOP)/script $(UNDER) | diff $(SHOP)/output -
+	@"$(WARREN)" check $(BRANCHES_FILES) --out $(OUT)/branches.json | diff $(BRANCHES)/verdicts -
 	@cmp $(OUT)/branches.json $(BRANCHES)/certificates.json
-	@$(WARREN) verify $(BRANCHES_FILES) $(OUT)/branches.json | diff $(BRANCHES)/verified -
+	@"$(WARREN)" verify $(BRANCHES_FILES) $(OUT)/branches.json | diff $(BRANCHES)/verified -
 	@sed 's/"orders\.#"/"orders.*.#"/' $(SHOP)/definitions.json > $(CHANGED)
-	@$(WARREN) check $(CHANGED) $(SHOP)/guarantees.json > $(OUT)/verdicts; [ $$? -eq 1 ]
+	@"$(WARREN)" check $(CHANGED) $(SHOP)/guarantees.json > $(OUT)/verdicts; [ $$? -eq 1 ]
 	@python3 tools/draw $(CHANGED) $(BROKEN) | cmp - $(SHOP)/broken.dot
-	@python3 tools/manual --check --program $(WARREN)
+	@python3 tools/manual --check --program "$(WARREN)"
 
 # Each of these wants a RabbitMQ or another package of Debian: $(DEBIAN). What isn't installed is said in one line, and passed over. A target more is a line more.
 DEBIAN = rabbitmq-server haproxy openssl prometheus python3-prometheus-client python3-pika python3-pamqp python3-aio-pika celery ruby-bunny php-amqplib php-cli
@@ -222,7 +228,7 @@ rabbit:
 
 # 500 topologies at random, each with 40 publishes: what warren answers, and what is in its queues, is what RabbitMQ answers and has
 agree: $(BESIDE_RABBITMQ)
-	@python3 tools/agree $(WARREN)
+	@python3 tools/agree "$(WARREN)"
 
 # what tools/from_rabbitmq makes of a RabbitMQ's exports, the limits that its policies and operator policies set, and what a `yes` says of it
 exports:
@@ -232,40 +238,40 @@ exports:
 
 # a pipeline's check of an export that passes, and of one that fails; a RabbitMQ then does what the report says
 ci: warren
-	@examples/ci/run $(WARREN)
+	@examples/ci/run "$(WARREN)"
 
 # a part of a RabbitMQ's queues comes to warren, and goes back
 takeover: warren
-	@python3 examples/takeover/run.py $(WARREN)
+	@python3 examples/takeover/run.py "$(WARREN)"
 
 # clients with the defaults of their libraries, with RabbitMQ and with warren through tools/front
 unmodified: warren
-	@python3 examples/clients/libraries/unmodified/run.py $(WARREN)
+	@python3 examples/clients/libraries/unmodified/run.py "$(WARREN)"
 
 bench: warren
 	@$(PROVED) benchmarks > /dev/null
 	@crates/benchmarks/out/benchmarks all
-	@python3 tools/limits $(WARREN)
+	@python3 tools/limits "$(WARREN)"
 
 install: warren
-	@install -D $(WARREN) $(PREFIX)/bin/warren
+	@install -D "$(WARREN)" $(PREFIX)/bin/warren
 	@install -D -m 644 tools/manual/made/warren.1 $(PREFIX)/share/man/man1/warren.1
 	@install -D -m 644 tools/manual/made/warren.bash $(PREFIX)/share/bash-completion/completions/warren
 	@install -D -m 644 tools/manual/made/_warren $(PREFIX)/share/zsh/site-functions/_warren
 
 package: warren
-	@python3 tools/package $(WARREN) $(OUT)
+	@python3 tools/package "$(WARREN)" $(OUT)
 
 manual: warren
-	@python3 tools/manual --program $(WARREN)
+	@python3 tools/manual --program "$(WARREN)"
 
 # each exit status, as the system has it: 0 to 4 (docs/OPERATIONS.md, "Statuses and messages")
 statuses: warren
-	@$(WARREN) check $(SHOP_FILES) > $(OUT)/verdicts; [ $$? -eq 0 ]
-	@$(WARREN) check $(CASES_OF_FILES)/one_key.json crates/cases/data/guarantees/orders_to_audit.json > $(OUT)/verdicts; [ $$? -eq 1 ]
-	@$(WARREN) check $(CASES_OF_FILES)/no_binding.json crates/cases/data/guarantees/long_to_q.json > $(OUT)/verdicts; [ $$? -eq 2 ]
-	@$(WARREN) check $(SHOP)/guarantees.json $(SHOP)/guarantees.json > $(OUT)/verdicts 2> $(OUT)/refused; [ $$? -eq 3 ]
-	@$(WARREN) check $(OUT)/nowhere.json $(SHOP)/guarantees.json > $(OUT)/verdicts 2> $(OUT)/refused; [ $$? -eq 4 ]
+	@"$(WARREN)" check $(SHOP_FILES) > $(OUT)/verdicts; [ $$? -eq 0 ]
+	@"$(WARREN)" check $(CASES_OF_FILES)/one_key.json crates/cases/data/guarantees/orders_to_audit.json > $(OUT)/verdicts; [ $$? -eq 1 ]
+	@"$(WARREN)" check $(CASES_OF_FILES)/no_binding.json crates/cases/data/guarantees/long_to_q.json > $(OUT)/verdicts; [ $$? -eq 2 ]
+	@"$(WARREN)" check $(SHOP)/guarantees.json $(SHOP)/guarantees.json > $(OUT)/verdicts 2> $(OUT)/refused; [ $$? -eq 3 ]
+	@"$(WARREN)" check $(OUT)/nowhere.json $(SHOP)/guarantees.json > $(OUT)/verdicts 2> $(OUT)/refused; [ $$? -eq 4 ]
 
 # the program that the gate leaves is the one whose statuses are looked at
 test: same tools

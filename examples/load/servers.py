@@ -19,6 +19,9 @@ QUEUES = ("one", "two", "three", "full")
 
 PORT, DISTRIBUTION = 26072, 26073
 
+GONE_WITHIN, UNCHANGED = 10, 0.3
+"""Within how many seconds connections are gone, and for how many the number of open files is then the same."""
+
 
 class NotStarted(Exception):
     """A server could not be started; the text says why."""
@@ -49,8 +52,16 @@ class Server:
         self.settle()
 
     def settle(self):
-        """Waits until connections that were closed are gone."""
-        time.sleep(0.3)
+        """Waits until connections that were closed are gone: until as many files have been open for a while."""
+        until = time.monotonic() + GONE_WITHIN
+        was, since = None, time.monotonic()
+        while time.monotonic() < until:
+            time.sleep(0.05)
+            now = len(os.listdir(f"/proc/{self.process}/fd"))
+            if now != was:
+                was, since = now, time.monotonic()
+            elif time.monotonic() - since >= UNCHANGED:
+                return
 
 
 @contextlib.contextmanager

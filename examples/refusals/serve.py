@@ -27,10 +27,11 @@ def method(channel, class_id, method_id, arguments=b""):
     return b"\x01" + struct.pack(">HI", channel, len(payload)) + payload + b"\xce"
 
 
-def publish(queue, body):
+def publish(key, body, exchange=""):
+    """The frames of a publish of at most 131,064 bytes: its key is a queue's name unless there is an exchange."""
     header = struct.pack(">HHQH", 60, 0, len(body), 0)
     content = b"\x02" + struct.pack(">HI", 1, len(header)) + header + b"\xce" + b"\x03" + struct.pack(">HI", 1, len(body)) + body + b"\xce"
-    return method(1, 60, 40, struct.pack(">H", 0) + shortstr("") + shortstr(queue) + b"\0") + content
+    return method(1, 60, 40, struct.pack(">H", 0) + shortstr(exchange) + shortstr(key) + b"\0") + content
 
 
 def opening(user, password):
@@ -47,10 +48,13 @@ class Lost(Exception):
 class Client:
     """A connection with one channel."""
 
+    # seconds without an answer after which it is lost
+    patience = 3
+
     def __init__(self, port, account):
         self.unread = b""
         try:
-            self.socket = socket.create_connection(("127.0.0.1", port), timeout=3)
+            self.socket = socket.create_connection(("127.0.0.1", port), timeout=self.patience)
             self.socket.sendall(opening(*account))
         except OSError as error:
             raise Lost from error
@@ -80,7 +84,7 @@ class Client:
         try:
             self.socket.sendall(data)
         except OSError as error:
-            raise Lost from error
+            raise Lost(error.strerror) from error
 
     def confirmed(self, queue, bodies):
         """How many of these publishes were acked."""

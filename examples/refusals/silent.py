@@ -1,9 +1,10 @@
-"""Opens as many sockets as a server has room for, none of which logs in, and waits for their ends.
+"""Opens as many sockets as a server has room for, none of which runs, and waits for their ends.
 
     silent.py WARREN
 
-First they say nothing, or a part of a login, and then a login that is refused, whose answer they never answer. Each is ended after 30
-seconds. Not so a client that logs in slowly, and one that has logged in and opens no channel; and a later one is served."""
+First they say nothing, or a part of a login, then a login that is refused, and then they log in and are sent connection.close, which they
+never answer. Each is ended after 30 seconds. Not so a client that logs in slowly, one that has logged in and opens no channel, and one that
+answers its close late, which ends at once. A later one is served each time."""
 import os
 import resource
 import select
@@ -13,7 +14,12 @@ import subprocess
 import sys
 import time
 
-from serve import LOAD, Client, Lost, method, opening, shortstr
+HERE = os.path.dirname(os.path.realpath(__file__))
+sys.path.insert(0, os.path.join(HERE, "../../tools/shared"))
+sys.dont_write_bytecode = True
+
+from serve import LOAD, Client, Lost, method, opening, shortstr  # noqa: E402
+from words import run_example  # noqa: E402
 
 ROOM = 1024
 PATIENCE, LATE = 30, 1
@@ -22,6 +28,9 @@ ACCOUNT, QUEUE = ("till", "till"), "one"
 # the bytes of start-ok in an opening
 START = 42
 OPEN_CHANNEL = method(1, 20, 10, b"\0")
+# a second connection.open, a get on a channel that is not open, and a prefetch size: connection.close with 503, 504 and 540
+FAULTS = (method(0, 10, 40, shortstr("/") + b"\0\0"), method(7, 60, 70, b"\0\0" + shortstr(QUEUE) + b"\0"), OPEN_CHANNEL + method(1, 60, 10, b"\0\0\0\1\0\0\0"))
+CLOSE_OK = method(0, 10, 51)
 # how much of a login one says
 PARTS = (0, 8, 64, 200)
 
@@ -143,10 +152,41 @@ def beside_refused(port):
     return wrong
 
 
+def ends_soon(client):
+    """Whether a client gets no more, and its socket is ended."""
+    try:
+        client.frame()
+    except Lost:
+        return True
+    return False
+
+
+def beside_closed(port):
+    """Sockets whose connection ran and is closed, beside one that answers its close late."""
+    late = Quiet(port)
+    closed = [Quiet(port) for _ in range(ROOM - 2)]
+    began = time.monotonic()
+    late.send(FAULTS[0])
+    late.until(10, 50)
+    told = {}
+    for number, one in enumerate(closed):
+        told[one.socket] = time.monotonic()
+        one.send(FAULTS[number % len(FAULTS)])
+    wrong = ["a client is served beside as many closes as there is room for"] if is_served(port) else []
+    time.sleep(max(0.0, began + 20 - time.monotonic()))
+    late.send(CLOSE_OK)
+    if not ends_soon(late):
+        wrong.append("a late close-ok does not end its connection")
+    wrong += wrong_ends("closes that were not answered", told, ends_of(told, began + LATEST))
+    if not is_served(port):
+        wrong.append("a later client is not served behind closes that were not answered")
+    return wrong
+
+
 def trial(port):
     """What is wrong, as lines."""
     quiet = Quiet(port)
-    wrong = beside_parts(port) + beside_refused(port)
+    wrong = beside_parts(port) + beside_refused(port) + beside_closed(port)
     try:
         quiet.open()
     except Lost:
@@ -154,10 +194,10 @@ def trial(port):
     return wrong
 
 
-def main():
+def main(warren):
     _, hard = resource.getrlimit(resource.RLIMIT_NOFILE)
     resource.setrlimit(resource.RLIMIT_NOFILE, (min(hard, 4096), hard))
-    words = [os.path.realpath(sys.argv[1]), "serve", "definitions.json", "guarantees.json", "certificates.json", "--listen", "127.0.0.1:0"]
+    words = [warren, "serve", "definitions.json", "guarantees.json", "certificates.json", "--listen", "127.0.0.1:0"]
     server = subprocess.Popen(words, cwd=LOAD, stdout=subprocess.PIPE)
     try:
         wrong = trial(int(server.stdout.readline().rsplit(b":", 1)[1]))
@@ -165,8 +205,8 @@ def main():
         server.kill()
         server.wait()
     print("silent: " + (", ".join(wrong) or "the slow client, the quiet one and later ones are served"))
-    sys.exit(1 if wrong else 0)
+    return 1 if wrong else 0
 
 
 if __name__ == "__main__":
-    main()
+    sys.exit(run_example("silent.py", __doc__, main))

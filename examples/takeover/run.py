@@ -153,7 +153,7 @@ def main(warren):
         with tempfile.TemporaryDirectory() as folder, Rabbit(plugins=("rabbitmq_shovel", "rabbitmq_shovel_management")) as rabbit:
             take_over_and_back(rabbit, warren, folder)
     except NotHere as error:
-        print(f"skipped: {error}")
+        print(f"examples/takeover: skipped, {error}")
 
 
 if __name__ == "__main__":

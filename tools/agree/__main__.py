@@ -135,7 +135,7 @@ def main():
     try:
         return agree(words())
     except NotHere as error:
-        print(f"skipped: {error}")
+        print(f"tools/agree: skipped, {error}")
         return AGREE
     except (RabbitFault, NotReplayed, NoAnswer, Fault) as error:
         print(f"agree: {error}", file=sys.stderr)

@@ -13,7 +13,13 @@ sys.path[:0] = [HERE, os.path.join(HERE, "../shared")]
 import families  # noqa: E402
 from words import Parser  # noqa: E402
 
-MESSAGES = 300
+# what is reloaded beside how many messages, each with a key of its own, and to how many queues these go
+RELOADS = [
+    ("64 queues with keys of their own, one `never`", families.judged_at_a_reload, 300, 1),
+    ("8 queues that keep keys, 101 bindings, 10 `never`", lambda: families.many_at_a_reload(10), 100_000, 8),
+    ("8 queues that keep keys, 101 bindings, 64 `never`", families.many_at_a_reload, 100_000, 8),
+    ("8 queues that keep keys, through 200 exchanges, 64 `never`", families.many_through_exchanges, 10_000, 8),
+]
 # each family with the commands that are measured over its files
 FAMILIES = [
     ("255 queues with keys of their own in a chain, one `never`", families.chain_of_own_keys, ("check --out", "verify")),
@@ -23,6 +29,8 @@ FAMILIES = [
     ("64,000 states, 64 letters of each", families.letters_that_all_lead, ("check --out", "verify")),
     ("more than 65,536 states by all patterns and by a slice", families.undecided_by_states, ("check",)),
     ("a `never` that is broken through 255 keys", families.broken_at_the_end, ("check",)),
+    ("3,500 patterns of 31 words, chosen for one slot of the trie", families.one_slot, ("route",)),
+    ("4,096 patterns whose first words have one mark", families.same_marks, ("route",)),
     ("24 guarantees of 59,050 states, too long for a file", families.many_certificates, ("check", "check --out")),
 ]
 
@@ -61,22 +69,23 @@ class Files:
             "check": ["check", *both],
             "check --out": ["check", *both, "--out", self.certificates],
             "verify": ["verify", *both, self.certificates],
+            "route": ["route", self.definitions, "x", "a.b"],
             "replay": ["replay", self.script, "--definitions", self.definitions],
         }[command]
 
 
-def measure_reload(warren):
-    """Prints what a reload's own judgement takes: a script with it, less the same script without."""
+def measure_reload(warren, what, family, count, queues):
+    """Prints what a reload's own judgement takes beside so many messages: a script with it, less the same script without."""
     with tempfile.TemporaryDirectory() as folder:
-        files = Files(folder, families.judged_at_a_reload)
+        files = Files(folder, family)
         measured([warren, *files.words("check --out")])
-        lines = list(families.publishes(MESSAGES))
+        lines = list(families.publishes(count, queues))
         write(files.script, "\n".join(lines) + "\n")
         without, _, _ = measured([warren, *files.words("replay")])
         reload = f"reload {files.definitions} {files.guarantees} {files.certificates}"
         write(files.script, "\n".join([*lines, reload]) + "\n")
         took, megabytes, status = measured([warren, *files.words("replay")])
-    print(f"{MESSAGES} messages at 64 queues with keys of their own, a reload: {took - without:.2f} seconds more, {megabytes:.0f} MB, status {status}")
+    print(f"{count} messages, {what}, a reload: {took - without:.2f} seconds more, {megabytes:.0f} MB, status {status}", flush=True)
 
 
 def main():
@@ -88,7 +97,8 @@ def main():
             files = Files(folder, family)
             for command in commands:
                 print_measured(f"{what}, {command}", [warren, *files.words(command)])
-    measure_reload(warren)
+    for reload in RELOADS:
+        measure_reload(warren, *reload)
 
 
 if __name__ == "__main__":

@@ -1,5 +1,6 @@
 """Files at the greatest sizes of docs/LIMITS.md: definitions, guarantees and scripts over them, each family meant to be the worst of its kind."""
 
+import itertools
 import os
 import sys
 
@@ -170,6 +171,38 @@ def broken_through_the_ring():
     return topology.file(), [guarantee("never", "a.#", "z")]
 
 
+def mark(text):
+    """The mark of a word, as `topic_match::children` makes it."""
+    number = 0
+    for byte in text.encode():
+        number = (number * 31 + byte) % 2**32
+    return number
+
+
+def one_slot(count=3500, words=31):
+    """So many patterns of so many words, of which each but the first of a pattern is chosen so that its node falls on one slot of the trie."""
+    topology = topic_beside("q")
+    slots = count * words + 1
+    found = {}
+    for letters in itertools.product(DIGITS, repeat=4):
+        text = "".join(letters)
+        found.setdefault(mark(text) % slots, text)
+        if len(found) == slots:
+            break
+    for number in range(count):
+        nodes = range(number * words + 1, number * words + words)
+        topology.bind("x", ".".join([f"r{number:x}", *(found[-node * 31 % slots] for node in nodes)]), "q")
+    return topology.file(), []
+
+
+def same_marks():
+    """4,096 patterns of 31 words. The first ones are all different, and have one mark."""
+    topology = topic_beside("q")
+    for pairs in itertools.product(("Aa", "BB"), repeat=12):
+        topology.bind("x", ".".join(["".join(pairs)] + ["*"] * 30), "q")
+    return topology.file(), []
+
+
 def undecided_by_states():
     """A guarantee of which neither all patterns nor a slice of them is decided: both come to more than 65,536 states."""
     topology = topic_beside("q")
@@ -190,9 +223,39 @@ def judged_at_a_reload():
     return topology.file(), [guarantee("never", "#", "z")]
 
 
-def publishes(count):
-    """The lines of a script by which one connection publishes so many messages, each under a key of its own."""
+def many_at_a_reload(guarantees=64):
+    """8 queues whose dead letters keep their keys and come to a topic exchange of 101 bindings, and so many `never` of queues to which none comes."""
+    topology = Topology()
+    topology.exchange("x", "topic")
+    topology.exchange("d", "topic")
+    topology.queue("t")
+    for number in range(8):
+        topology.queue(f"q{number}", {"x-dead-letter-exchange": "d"})
+        topology.bind("x", f"*.{number}", f"q{number}")
+    for number in range(101):
+        topology.bind("d", f"*.{number}", "t")
+    for number in range(guarantees):
+        topology.queue(f"z{number}")
+    return topology.file(), [guarantee("never", "#", f"z{number}") for number in range(guarantees)]
+
+
+def many_through_exchanges():
+    """The same, but what dies comes through a chain of 200 topic exchanges."""
+    definitions, guarantees = many_at_a_reload()
+    topology = Topology()
+    for number in range(200):
+        topology.exchange(f"e{number}", "topic")
+        topology.bind(f"e{number - 1}" if number else "d", "#", f"e{number}", "exchange")
+    definitions["exchanges"] += topology.exchanges
+    definitions["bindings"] += topology.bindings
+    return definitions, guarantees
+
+
+def publishes(count, queues=1):
+    """The lines of a script by which one connection publishes so many messages, each under a key of its own; for several queues its last word is
+    the number of one."""
     yield "ready 1"
     for number in range(count):
-        arguments = b"\0\0" + short_text("x") + short_text(f"k{number}") + b"\0"
+        key = f"k{number}.{number % queues}" if queues > 1 else f"k{number}"
+        arguments = b"\0\0" + short_text("x") + short_text(key) + b"\0"
         yield f"in 1 {(method(1, PUBLISH, arguments) + content(1, bytes(2), b'm', FRAME_MAX)).hex()}"

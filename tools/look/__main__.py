@@ -1,6 +1,6 @@
 #!/usr/bin/env python3
 """Serves the shop of examples/shop, or one's own files, for ten minutes by a build of warren that proves nothing; with --proved by the proved program,
-until it is ended. Certificates of one's own files are made first, in a folder for temporary files."""
+and with --by by one that is there, until it is ended. Certificates of one's own files are made first, in a folder for temporary files."""
 
 import os
 import signal
@@ -11,7 +11,7 @@ import tempfile
 
 HERE = os.path.dirname(os.path.abspath(__file__))
 sys.path[:0] = [os.path.join(HERE, "../shared")]
-from program import SHOP, NotMade, proved, unproved  # noqa: E402
+from program import SHOP, NotMade, given_program, proved, unproved  # noqa: E402
 from words import Parser  # noqa: E402
 
 STATUSES = "Status: 0 the time is over; that of warren, if it ends before; 3 there is no program; 4 the address is taken. Ctrl-C ends it."
@@ -26,14 +26,27 @@ def words():
     parser.add_argument("definitions", nargs="?", help="a definitions file")
     parser.add_argument("guarantees", nargs="?", help="a guarantees file, which is checked first")
     parser.add_argument("--listen", default="127.0.0.1:5672", metavar="IP:PORT", help="where it listens; without it, 127.0.0.1:5672")
-    parser.add_argument("--seconds", type=float, help="how long it serves; without it, 600, and with --proved until Ctrl-C")
-    parser.add_argument("--proved", action="store_true", help="by the proved program, which is made first if its sources are newer")
+    parser.add_argument("--seconds", type=float, help="how long it serves; without it, 600, and with --proved or --by until Ctrl-C")
+    by = parser.add_mutually_exclusive_group()
+    by.add_argument("--proved", action="store_true", help="by the proved program, which is made first if its sources are newer")
+    by.add_argument("--by", metavar="PROGRAM", help="by this program, such as /usr/bin/warren")
     given = parser.parse_args()
     if given.definitions and not given.guarantees:
         parser.error("definitions want guarantees")
-    if given.seconds is None and not given.proved:
+    if given.seconds is None and is_unproved(given):
         given.seconds = 600
     return given
+
+
+def is_unproved(given):
+    """Whether it serves by the build that proves nothing."""
+    return not given.proved and given.by is None
+
+
+def program_of(given):
+    if given.by is not None:
+        return given_program(given.by, tell)
+    return proved("warren", tell) if given.proved else unproved(tell)
 
 
 def tell(line):
@@ -83,7 +96,7 @@ def serve(warren, files, given):
             line = running.stdout.readline()
             if not line.startswith(LISTENS):
                 return running.wait()
-            print(line.strip() if given.proved else looks(line.strip().removeprefix(LISTENS), given.seconds), flush=True)
+            print(looks(line.strip().removeprefix(LISTENS), given.seconds) if is_unproved(given) else line.strip(), flush=True)
             return running.wait(given.seconds)
         except subprocess.TimeoutExpired:
             return ENDED
@@ -109,7 +122,7 @@ def main():
         tell(f"look: {given.listen}: {why}")
         return TAKEN
     try:
-        warren = proved("warren", tell) if given.proved else unproved(tell)
+        warren = program_of(given)
         with tempfile.TemporaryDirectory(prefix="warren-") as folder:
             files, status = files_of(warren, given, folder)
             return status or serve(warren, files, given)

@@ -1,8 +1,9 @@
 #!/usr/bin/env python3
-"""Keeps the names that several proof files of a crate import in one file of it, proofs/Names.antt. Proves nothing.
+"""Keeps the names that several proof files of a crate import in one file of it, proofs/Names.antt. In a crate with a module `names` or
+a public type `Names` that file is proofs/Imports.antt. Proves nothing.
 
-names write CRATE ..   gathers the names in proofs/Names.antt of each crate, and lets its proof files import them from there
-names [ROOT]           tells each proof file that imports from elsewhere what the Names file of its crate has
+names write CRATE ..   gathers the names in that file of each crate, and lets its proof files import them from there
+names [ROOT]           tells each proof file that imports from elsewhere what that file of its crate has
 """
 
 import collections
@@ -12,6 +13,7 @@ import re
 import sys
 
 LINE = re.compile(r"^use (?P<module>\S+)\.\{(?P<names>[^{}]*)\}$")
+TYPE = re.compile(r"pub (struct|enum|trait) Names\b")
 HEAD = "-- The names that several files of these proofs use.\n"
 
 
@@ -28,10 +30,22 @@ def plain(names):
     return [name for name in names if " as " not in name]
 
 
+def module_of(crate):
+    """The module of the names: no module and no type of the crate's code is spelled like it but for the case of its letters."""
+    files = glob.glob(os.path.join(crate, "src/**/*.rt"), recursive=True)
+    is_taken = any(path.endswith("/src/names.rt") or any(TYPE.match(line) for line in read(path)) for path in files)
+    return "Imports" if is_taken else "Names"
+
+
+def home_of(crate):
+    """The file of the names."""
+    return os.path.join(crate, f"proofs/{module_of(crate)}.antt")
+
+
 def files_of(crate):
     """The proof files of a crate, but for the list of its modules and the one with the names."""
     top = os.path.join(crate, "proofs")
-    kept = (os.path.join(top, "Names.antt"), os.path.join(top, "Lib.antt"))
+    kept = (home_of(crate), os.path.join(top, "Lib.antt"))
     return [path for path in sorted(glob.glob(os.path.join(top, "**/*.antt"), recursive=True)) if path not in kept]
 
 
@@ -89,8 +103,8 @@ def shared(found, stay):
 
 
 def hub(crate):
-    """The names that a crate's Names file has, by module; none where the file isn't there."""
-    path = os.path.join(crate, "proofs/Names.antt")
+    """The names that the file of a crate's names has, by module; none unless it is there."""
+    path = home_of(crate)
     if not os.path.exists(path):
         return {}
     lines = [names_of(line.removeprefix("pub ")) for line in read(path) if line.startswith("pub use ")]
@@ -98,8 +112,8 @@ def hub(crate):
 
 
 def rewritten(lines, crate, gathered):
-    """The lines of a file that imports what is gathered from the Names file, in the place of its first import."""
-    mine, kept, first = f"Rattle.{crate}.proofs.Names", [], None
+    """The lines of a file that imports what is gathered from the crate's own file, in the place of its first import."""
+    mine, kept, first = f"Rattle.{os.path.basename(crate)}.proofs.{module_of(crate)}", [], None
     taken = {}
     for line in lines:
         parts = names_of(line)
@@ -119,42 +133,42 @@ def rewritten(lines, crate, gathered):
 
 
 def gather(crate):
-    """Writes the Names file of a crate, and lets its proof files import from there. Tells how many lines fewer there are."""
+    """Writes the file of a crate's names, and lets its proof files import from there. Tells how many lines fewer there are."""
     crate = crate.rstrip("/")
-    name, found = os.path.basename(crate), imports(crate)
+    found = imports(crate)
     gathered = {module: set(names) for module, names in hub(crate).items()}
     for module, names in shared(found, unfolded(crate)).items():
         gathered.setdefault(module, set()).update(names)
     before = after = 0
     for path in found:
         lines = read(path)
-        new = rewritten(lines, name, gathered)
+        new = rewritten(lines, crate, gathered)
         before, after = before + len(lines), after + len(new)
         if new != lines:
             write(path, new)
     text = [f"pub use {module}.{{{', '.join(sorted(names))}}}\n" for module, names in sorted(gathered.items())]
     if text:
-        write(os.path.join(crate, "proofs/Names.antt"), [HEAD, *text])
-        list_module(os.path.join(crate, "proofs/Lib.antt"))
+        write(home_of(crate), [HEAD, *text])
+        list_module(os.path.join(crate, "proofs/Lib.antt"), module_of(crate))
     return before - after - len(text)
 
 
-def list_module(path):
-    """Lists the Names file in the list of modules, first."""
+def list_module(path, module):
+    """Lists the file of the names in the list of modules, first."""
     lines = read(path) if os.path.exists(path) else []
-    if not any(line.split()[-1:] == ["Names"] for line in lines):
-        write(path, ["pub mod Names\n", *lines])
+    if not any(line.split()[-1:] == [module] for line in lines):
+        write(path, [f"pub mod {module}\n", *lines])
 
 
 def astray(root):
-    """Each import of a name that the Names file of its crate has."""
+    """Each import of a name that the file of its crate's names has."""
     for crate in sorted(glob.glob(os.path.join(root, "crates/*"))):
         there = hub(crate)
         for path, modules in imports(crate).items() if there else ():
             for module, names in modules.items():
                 both = sorted(set(names) & there.get(module, set()))
                 if both:
-                    yield f"{os.path.relpath(path, root)}: takes {', '.join(both)} of {module}, which proofs/Names.antt has"
+                    yield f"{os.path.relpath(path, root)}: takes {', '.join(both)} of {module}, which {os.path.relpath(home_of(crate), crate)} has"
 
 
 def main(words):

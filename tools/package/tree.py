@@ -3,16 +3,15 @@
 import gzip
 import os
 import re
-import subprocess
 
 from amqp.wire import Fault
+from shared.program import version_of
 
 HERE = os.path.dirname(os.path.abspath(__file__))
-VERSION = re.compile(r"warren ([0-9][0-9.]*)\n")
 SHARE = "usr/share/warren"
 # what an operator reads and runs; the scripts that look after the repository itself stay there, and so do tests
 SHARED = ("README.md", "CHANGELOG.md", "docs", "examples", "tools")
-OF_THE_REPOSITORY = {f"tools/{it}" for it in ("edits", "look", "manual", "map", "package", "program", "promise", "prose", "stores", "try", "widths")}
+OF_THE_REPOSITORY = {f"tools/{it}" for it in ("edits", "gate", "look", "manual", "map", "names", "package", "program", "promise", "prose", "stores", "try", "widths")}
 LEFT_OUT = ("tests", "__pycache__", "out")
 FIRST = "etc/warren/first"
 # a broker that nobody may log in to, and that has no queue
@@ -25,15 +24,6 @@ ABOUT = """message broker for AMQP 0-9-1 whose routing is certified
  It keeps messages in memory alone. An installation starts and restarts nothing,
  for a stop loses all messages."""
 SCRIPTS = ("postinst", "prerm", "postrm")
-
-
-def version_of(program):
-    """The version that the program tells."""
-    try:
-        done = subprocess.run([os.path.abspath(program), "--version"], stdout=subprocess.PIPE, stderr=subprocess.STDOUT, timeout=20)
-        return VERSION.fullmatch(done.stdout.decode(errors="replace")).group(1)
-    except (AttributeError, subprocess.TimeoutExpired):
-        raise Fault(f"{program} does not say which version of warren it is") from None
 
 
 def released_in(changelog):
@@ -51,6 +41,8 @@ def package_version(program, changelog, commit):
     `commit` is both as `date.name`, or `None`. A later commit is a later version to apt, and each comes before the next release.
     """
     told = version_of(program)
+    if told is None:
+        raise Fault(f"{program} does not say which version of warren it is")
     released, is_ahead = released_in(changelog)
     if told != released:
         raise Fault(f"{program} says that it is {told}, and CHANGELOG.md that {released} is the last release")

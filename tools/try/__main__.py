@@ -40,6 +40,8 @@ def tell(line):
 
 def main():
     signal.signal(signal.SIGTERM, lambda number, _: sys.exit(128 + number))
+    # a shell without job control has what it starts in the background ignore SIGINT
+    signal.signal(signal.SIGINT, signal.default_int_handler)
     given = words()
     try:
         warren = unproved(tell)

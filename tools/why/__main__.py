@@ -87,6 +87,8 @@ class Warren:
 
     def check(self, guarantees):
         done = self.run("check", self.definitions, guarantees)
+        if done.returncode < 0:
+            raise BadFile(f"{self.program} was ended by signal {-done.returncode}")
         if done.returncode > UNDECIDED:
             raise BadFile(f"{self.program} refuses what this script does not: {done.stderr.strip()}")
         return done.stdout.splitlines()
@@ -164,10 +166,14 @@ def answered(given, definitions, guarantees):
     warren = Warren(program, given.definitions) if program else None
     lines = lines_in(given.verdicts) if given.verdicts else warren.check(given.guarantees) if warren else []
     verdicts = read_verdicts(lines, len(guarantees))
+    asked = range(1, len(guarantees) + 1) if given.only is None else [given.only]
+    lacks = next((it for it in asked if it not in verdicts), None)
+    if lacks is not None and (given.verdicts or warren):
+        raise BadFile(f"{given.verdicts or warren.program} says nothing of guarantee {lacks}")
     answers = Answers(Topology(definitions), warren, given.states)
-    for number, it in enumerate(guarantees, 1):
-        if given.only in (None, number):
-            yield number, promise(it), *answers.of(it, verdicts.get(number))
+    for number in asked:
+        it = guarantees[number - 1]
+        yield number, promise(it), *answers.of(it, verdicts.get(number))
 
 
 def why(given, cases):

@@ -1,8 +1,6 @@
 -- A fault that a stream keeps stands in it.
-use Rattle.std.proofs.Common.{◌≡◌, ℕ, List, Option, Some, None, subst}
-use Rattle.model.specs.Commands.{Stream, Ends, heard, stays}
+use Rattle.assembly.proofs.Imports.{◌≡◌, ℕ, List, Option, Some, None, subst, Stream, Ends, heard, stays, Stops, IsBrokenBy}
 use Rattle.laws.proofs.Streams.{fault_stays}
-use Rattle.assembly.specs.Onward.{Stops, IsBrokenBy}
 
 -- whatever comes behind it
 pub broken_more : (fault : Option ℕ) (s : Stream) (more : List ℕ) → IsBrokenBy fault s → IsBrokenBy fault (heard s more)

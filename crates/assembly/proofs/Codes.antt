@@ -1,22 +1,9 @@
 -- Faults carry facts, a method is a publish or a command, and a header may be of a content that is too large.
-use Rattle.std.proofs.Common.{◌≡◌, ◌∙◌, ℕ, List, Bool, true, false, Option, Some, None, ap, subst, sym, refl, Result, Ok, Err}
+use Rattle.assembly.proofs.Imports.{◌≡◌, ◌∙◌, ℕ, List, Bool, true, false, Option, Some, None, ap, subst, sym, refl, Result, Ok, Err, Taken, Goes_on, Makes, Breaks, Wants_header, TakesPayload, is_too_large, taken_method, taken_dropped, taken_header, IsMethod, SaysMethod, split, Frame, Header, SaysSize, SaysHeader, Command, Publish, BasicPublish, Plain, Awaited, WantsHeader, WantsBody, Fault, Broken, Memory, IsFault, TakesEffect, pending_of, HasPublish}
 use Rattle.model.specs.Commands
-use Rattle.model.specs.Commands.{Taken, Goes_on, Makes, Breaks, Wants_header, TakesPayload, is_too_large, taken_method, taken_dropped, taken_header}
-use Rattle.model.specs.Grammar.{IsMethod, SaysMethod, said, split}
-use Rattle.model.specs.Frames.{Frame}
-use Rattle.model.specs.Headers.{Header, SaysSize, SaysHeader}
-use Rattle.model.specs.declared.events.Command.{Command}
-use Rattle.model.specs.declared.methods.Publish.{Publish}
+use Rattle.model.specs.Grammar.{said}
 use Rattle.model.specs.declared.methods.Method.{Method}
-use Rattle.model.specs.declared.methods.Method.TheVariants.{BasicPublish}
-use Rattle.model.specs.declared.events.Command.TheVariants.{Plain}
-use Rattle.assembly.specs.declared.contents.Awaited.{Awaited}
-use Rattle.assembly.specs.declared.contents.Awaited.TheVariants.{Nothing, WantsHeader, WantsBody, Drops}
-use Rattle.assembly.specs.declared.faults.Fault.{Fault}
-use Rattle.assembly.specs.declared.faults.Fault.TheVariants.{Broken, Memory}
-use Rattle.assembly.specs.Faults.{IsFault}
-use Rattle.assembly.specs.Taking.{TakesEffect}
-use Rattle.assembly.specs.Pending.{pending_of, HasPublish}
+use Rattle.assembly.specs.declared.contents.Awaited.TheVariants.{Nothing, Drops}
 use Rattle.assembly.proofs.Places.{match_true, match_false}
 
 -- what follows for each code follows for the fault

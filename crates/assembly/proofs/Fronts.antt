@@ -1,8 +1,5 @@
 -- What is read stands at the front.
-use Rattle.std.proofs.Common.{◌≡◌, ◌+◌, ◌≤◌, ℕ, List, ◌++◌, length, Option, Some, ap, arith, length-append}
-use Rattle.model.specs.Commands.{Stream, Pending, Goes_on, Takes, Yields, first, now, later, Ends, broken, faulty, beyond, GoesOn, stays, goes}
-use Rattle.model.specs.declared.events.Command.{Command}
-use Rattle.assembly.specs.Front.{HasFront}
+use Rattle.assembly.proofs.Imports.{◌≡◌, ◌+◌, ◌≤◌, ℕ, List, ◌++◌, length, Option, Some, ap, arith, length-append, Stream, Pending, Goes_on, Takes, Yields, first, now, later, Ends, broken, faulty, beyond, GoesOn, stays, goes, Command, HasFront}
 use Rattle.assembly.specs.Front as front
 
 -- of a stream that goes on to one with a front the first frame is whole

@@ -1,3 +1,4 @@
+pub mod Imports
 pub mod Codes
 pub mod Sizes
 pub mod Limits

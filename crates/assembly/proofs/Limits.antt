@@ -1,18 +1,8 @@
 -- A content whose header is not too large can be sent again, once its body has come.
-use Rattle.std.proofs.Common.{◌≡◌, ◌≤◌, ℕ, List, [], length, Bool, true, false, Ok, refl, sym, ap, subst, ◌∙◌}
-use Rattle.std.specs.Prelude.{nat_lt, ◌||◌}
-use Rattle.std.proofs.lemmas.Bool.{false≢true, ltb-false}
+use Rattle.assembly.proofs.Imports.{◌≡◌, ◌≤◌, ℕ, List, [], length, Bool, true, false, Ok, refl, sym, ap, subst, ◌∙◌, nat_lt, ◌||◌, false≢true, ltb-false, AreProperties, header_bytes, size_at, SaysHeader, SaysSize, size, Makes, IsCommand, is_too_large, most_body, most_header, taken_body, taken_header, IsMethod, Text, Command, Full, Publish, BasicPublish, IsPublishBegun}
 use Rattle.std.proofs.lemmas.Nat.{from_be_bytes-to_be_bytes_8}
 use Rattle.model.specs.Headers
-use Rattle.model.specs.Headers.{AreProperties, header_bytes, size_at, SaysHeader, said, SaysSize, size}
-use Rattle.model.specs.Commands.{Makes, IsCommand, is_too_large, most_body, most_header, taken_body, taken_header}
-use Rattle.model.specs.Grammar.{IsMethod}
-use Rattle.model.specs.Words.{Text}
-use Rattle.model.specs.declared.events.Command.{Command}
-use Rattle.model.specs.declared.events.Command.TheVariants.{Full}
-use Rattle.model.specs.declared.methods.Publish.{Publish}
-use Rattle.model.specs.declared.methods.Method.TheVariants.{BasicPublish}
-use Rattle.assembly.specs.Pending.{IsPublishBegun}
+use Rattle.model.specs.Headers.{said}
 
 neither : (a b : Bool) → (a || b) ≡ false → (a ≡ false) × (b ≡ false)
 neither true b e = absurd (false≢true (sym e))

@@ -1,15 +1,7 @@
 -- A stream has one next command, or one end.
-use Rattle.std.proofs.Common.{◌≡◌, ◌==◌, ◌<◌, ◌^◌, ℕ, Bool, true, false, List, [], MatchBool, Option, Some, None, Result, Ok, Err, sym, ap, subst, refl, ◌∙◌, ◌++◌, length, take, append-nil, arith, length-append}
+use Rattle.assembly.proofs.Imports.{◌≡◌, ◌==◌, ◌<◌, ◌^◌, ℕ, Bool, true, false, List, [], MatchBool, Option, Some, None, Result, Ok, Err, sym, ap, subst, refl, ◌∙◌, ◌++◌, length, take, append-nil, arith, length-append, append_cancel_left, false≢true, Text, Frame, Begins, IsBroken, Stream, Pending, Wants_header, Wants_body, Taken, Goes_on, Makes, Breaks, TakesOn, TakesPayload, TakesSized, is_too_large, taken_method, taken_header, taken_dropped, taken_heartbeat, is_on_wrong_channel, awaited, after_frame, TakesFirst, Takes, Yields, first, now, later, Ends, early, short, broken, faulty, beyond, Header, SaysHeader, Command, Head, Publish}
 use Rattle.std.proofs.Math.Seq.{take-append_seam}
-use Rattle.std.proofs.lemmas.List.{append_cancel_left}
-use Rattle.std.proofs.lemmas.Bool.{false≢true}
-use Rattle.model.specs.Words.{Text}
-use Rattle.model.specs.Frames.{Frame, Begins, IsBroken}
-use Rattle.model.specs.Commands.{Stream, Pending, Nothing, Wants_header, Wants_body, Drops, Taken, Goes_on, Makes, Breaks, TakesOn, TakesPayload, TakesSized, is_too_large, taken_method, taken_header, taken_dropped, taken_heartbeat, is_on_wrong_channel, awaited, after_frame, TakesFirst, Takes, Yields, first, now, later, Ends, early, short, broken, faulty, beyond}
-use Rattle.model.specs.Headers.{Header, SaysHeader}
-use Rattle.model.specs.declared.events.Command.{Command}
-use Rattle.model.specs.declared.events.Command.TheVariants.{Head}
-use Rattle.model.specs.declared.methods.Publish.{Publish}
+use Rattle.model.specs.Commands.{Nothing, Drops}
 use Rattle.frame.proofs.Fronts.{shows, one_front}
 use Rattle.methods.proofs.Whole.{one_method}
 use Rattle.headers.proofs.Told.{one_header}

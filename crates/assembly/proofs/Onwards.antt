@@ -1,17 +1,6 @@
 -- A stream goes on frame by frame.
-use Rattle.std.proofs.Common.{◌≡◌, ◌+◌, ◌<◌, ◌≤◌, ℕ, List, Bool, ◌++◌, length, drop, true, false, Option, Some, None, Result, Ok, Err, is_err, sym, ap, subst, refl, arith, length-append}
-use Rattle.std.proofs.lemmas.Bool.{false≢true}
-use Rattle.model.specs.Broker.{with_one}
-use Rattle.model.specs.Frames.{Frame, frame_bytes, Begins, IsBroken}
-use Rattle.model.specs.Commands.{Stream, Pending, Nothing, Taken, Goes_on, Makes, Breaks, TakesOn, Takes, pending_after, Yields, first, now, later, Ends, early, short, broken, faulty, beyond, GoesOn, stays, goes}
-use Rattle.model.specs.declared.events.Command.{Command}
-use Rattle.model.specs.declared.events.Command.TheVariants.{Head}
-use Rattle.frame.specs.Reading.{IsUnfinished}
-use Rattle.assembly.specs.declared.faults.Fault.{Fault}
-use Rattle.assembly.specs.declared.faults.Fault.TheVariants.{Broken, Memory}
-use Rattle.assembly.specs.Front.{whole}
-use Rattle.assembly.specs.Taking.{DoesAt}
-use Rattle.assembly.specs.Onward.{Stops, GivesCommand, YieldsNext, has_command}
+use Rattle.assembly.proofs.Imports.{◌≡◌, ◌+◌, ◌<◌, ◌≤◌, ℕ, List, Bool, ◌++◌, length, drop, true, false, Option, Some, None, Result, Ok, Err, is_err, sym, ap, subst, refl, arith, length-append, false≢true, with_one, Frame, frame_bytes, Begins, IsBroken, Stream, Pending, Taken, Goes_on, Makes, Breaks, TakesOn, Takes, pending_after, Yields, first, now, later, Ends, early, short, broken, faulty, beyond, GoesOn, stays, goes, Command, Head, IsUnfinished, Fault, Broken, Memory, whole, DoesAt, Stops, GivesCommand, YieldsNext, has_command}
+use Rattle.model.specs.Commands.{Nothing}
 use Rattle.assembly.proofs.Fronts.{goes_front}
 
 -- what is still to come, in parts

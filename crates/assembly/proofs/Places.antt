@@ -1,20 +1,8 @@
 -- What channels await, when one of them is changed.
-use Rattle.std.proofs.Common.{◌≡◌, ◌<◌, ℕ, zero, suc, ◌==◌, Bool, true, false, List, [], ◌∷◌, ◌++◌, length, get_or, set, if◌then◌else◌, Option, Some, None, Result, Ok, Err, sym, ap, subst, refl, ◌∙◌, rules, tests, MatchBool, get_or-set_other, get_or-set_same}
+use Rattle.assembly.proofs.Imports.{◌≡◌, ◌<◌, ℕ, zero, suc, ◌==◌, Bool, true, false, List, [], ◌∷◌, ◌++◌, length, get_or, set, if◌then◌else◌, Option, Some, None, Result, Ok, Err, sym, ap, subst, refl, ◌∙◌, rules, tests, MatchBool, get_or-set_other, get_or-set_same, eqb-false, eq-eqb, false≢true, get_or_default, with_one, Frame, Taken, Goes_on, Makes, Breaks, TakesOn, TakesPayload, awaited, taken_heartbeat, is_on_wrong_channel, Command, Awaited, Fault, Broken, Memory, IsFault, pending_of, pending_at, content_at, AreSpelledSoFar, IsSpelledSoFar, TakesEffect, DoesAt}
 use Rattle.std.proofs.Math.Path.{fun_ext}
-use Rattle.std.proofs.lemmas.Bool.{eqb-false, eq-eqb, false≢true}
-use Rattle.std.proofs.lemmas.List.{get_or_default}
-use Rattle.model.specs.Broker.{with_one}
 use Rattle.model.specs.Commands
-use Rattle.model.specs.Frames.{Frame}
-use Rattle.model.specs.Commands.{Taken, Goes_on, Makes, Breaks, TakesOn, TakesPayload, awaited, taken_heartbeat, is_on_wrong_channel}
-use Rattle.model.specs.declared.events.Command.{Command}
-use Rattle.assembly.specs.declared.contents.Awaited.{Awaited}
 use Rattle.assembly.specs.declared.contents.Awaited.TheVariants.{Nothing}
-use Rattle.assembly.specs.declared.faults.Fault.{Fault}
-use Rattle.assembly.specs.declared.faults.Fault.TheVariants.{Broken, Memory}
-use Rattle.assembly.specs.Faults.{IsFault}
-use Rattle.assembly.specs.Pending.{pending_of, pending_at, content_at, AreSpelledSoFar, IsSpelledSoFar}
-use Rattle.assembly.specs.Taking.{TakesEffect, DoesAt}
 
 -- a choice by a test of numbers, where the second is what the first says at equal ones
 choice : {A : Type 0} (a b : A) (m n : ℕ) (t : Bool) → (m == n) ≡ t → (t ≡ true → a ≡ b) → b ≡ (if t then a else b)

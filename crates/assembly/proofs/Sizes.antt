@@ -1,7 +1,5 @@
 -- A header declares one size, or is refused.
-use Rattle.std.proofs.Common.{◌≡◌, ◌≤◌, ℕ, List, length, Result, inl, inr, refl, arith}
-use Rattle.model.specs.Grammar.{class_at}
-use Rattle.model.specs.Headers.{SaysSize, IsNoHeader, weight_at, size, no_header}
+use Rattle.assembly.proofs.Imports.{◌≡◌, ◌≤◌, ℕ, List, length, Result, inl, inr, refl, arith, class_at, SaysSize, IsNoHeader, weight_at, size, no_header}
 
 -- never both
 size_or : (payload : List ℕ) → 14 ≤ length payload → class_at payload ≡ 60 → weight_at payload ≡ 0 → IsNoHeader payload → ⊥

@@ -1,4 +1,6 @@
-//! What the benchmarks share: what they measure with, and the loads that they measure.
+//! What the benchmarks share: the loads, and what they are measured with.
+//!
+//! Start with `measuring` for engines and meters, and with `loads` for what is measured.
 #![tactic(auto)]
 
 pub mod loads;

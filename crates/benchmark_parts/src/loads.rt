@@ -1,4 +1,4 @@
-//! What benchmarks measure: loads by name, guarantees with their certificates, large files, and what clients write.
+//! The loads that benchmarks measure: by name, guarantees with their certificates, large files, and what clients write.
 
 pub mod ack_loads;
 pub mod consumers;

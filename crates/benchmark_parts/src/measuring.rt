@@ -1,4 +1,4 @@
-//! What benchmarks share: topologies, an engine over them, what clients write, and what the process has used.
+//! What loads are measured with: topologies, an engine over them, what clients write, and what the process has used.
 
 mod clients;
 mod engines;

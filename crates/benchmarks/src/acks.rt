@@ -1,4 +1,4 @@
-//! What an ack costs that comes out of order, where many deliveries are outstanding.
+//! Measures acks that arrive out of order while many deliveries are unacknowledged.
 
 use crate::deliveries::{deliver_to, filled};
 use crate::removals::left_of;
@@ -8,27 +8,27 @@ use benchmark_parts::measuring::{Keys, Measured, Part, Shape, Written, print_par
 use std::alloc::Global;
 use std::io;
 
-/// How many bytes are handed in at once: those of a hundred acks.
+/// The number of bytes that are fed at a time: those of a hundred acks.
 const PIECE: usize = 2_100;
 
-/// A load, as its parts are run.
+/// A load whose parts are run one by one.
 #[derive(Drop)]
 struct RunningAcks {
     alloc: Global,
     engine: Measured,
     load: AckLoad,
     consumer: u64,
-    /// The acks of the part that comes next.
+    /// The acks of the next part.
     acks: Written,
 }
 
 impl RunningAcks {
-    /// How many acks a part has.
+    /// Returns the number of acks in a part.
     fn part(&self) -> u64 {
         self.load.outstanding / 10
     }
 
-    /// How many messages are not acknowledged, once the consumer is lost.
+    /// Loses the consumer, and returns the number of messages that were not acknowledged.
     fn left(&mut self) -> u64 {
         self.engine.lose(self.consumer);
         left_of(&mut self.engine, self.alloc, self.load.outstanding)
@@ -53,7 +53,7 @@ impl Part for RunningAcks {
     }
 }
 
-/// Has all messages delivered to a consumer.
+/// Starts a load: delivers all its messages to a consumer.
 fn start(alloc: Global, mut engine: Measured, load: AckLoad) -> RunningAcks {
     let consumer = engine.open_ready();
     let mut consume = Written::new(alloc);
@@ -69,7 +69,7 @@ fn start(alloc: Global, mut engine: Measured, load: AckLoad) -> RunningAcks {
     }
 }
 
-/// Runs a load, and prints what an ack took in each part.
+/// Runs a load, and prints the time of an ack in each part.
 fn measure_over(rt: &HostRuntime, engine: Measured, load: AckLoad) -> io::Result<()> {
     let mut running = start(rt.alloc(), engine, load);
     let part = running.part();
@@ -89,7 +89,7 @@ fn measure(rt: &HostRuntime, load: AckLoad) -> io::Result<()> {
     }
 }
 
-/// Runs all loads.
+/// Measures all loads.
 pub fn measure_all(rt: &HostRuntime) -> io::Result<()> {
     for place in 0..u32::MAX {
         match load_at(place) {

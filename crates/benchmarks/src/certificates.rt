@@ -1,4 +1,4 @@
-//! How long certificates take: found, checked, and admitted.
+//! Measures certificates: finding, checking and admitting them.
 
 use benchmark_parts::loads::stated::{Stated, certificates, found, guarantee_of};
 use benchmark_parts::measuring::{LARGE, Shape, Texts, built};
@@ -10,13 +10,13 @@ use std::alloc::Global;
 use std::io;
 use std::time::Instant;
 
-/// How many guarantees stand over a large topology.
+/// The number of guarantees over a large topology.
 const GUARANTEES: u32 = 64;
 
-/// How many patterns are tracked where 63,489 states accept them in more than 8,192 ways.
+/// The number of tracked patterns at which 63,489 states accept them in more than 8,192 ways.
 const APART: u32 = 14;
 
-/// Prints how long a check of the certificate takes.
+/// Prints the time of checking `certificate`.
 fn measure_check(
     rt: &HostRuntime,
     topology: &Topology,
@@ -29,7 +29,7 @@ fn measure_check(
     println!(rt; "checked {milliseconds} milliseconds, accepted: {accepted}")
 }
 
-/// Prints how long the search of a guarantee takes, and the check of what was found.
+/// Prints the time of searching `guarantee`, and of checking the certificate found.
 fn measure_search(
     rt: &HostRuntime,
     topology: &Topology,
@@ -51,7 +51,7 @@ fn measure_search(
     measure_check(rt, topology, guarantee, &certificate)
 }
 
-/// The guarantee of this pattern for what is sent to this exchange, none where memory is refused.
+/// Returns the guarantee that the keys of `pattern` at `exchange` reach the queue `q`, or `None` if an allocation fails.
 fn one(alloc: Global, exchange: &str, pattern: &str) -> Option<Guarantee> {
     let mut texts = Texts::new(alloc);
     let exchange = texts.text(exchange.as_bytes());
@@ -60,7 +60,7 @@ fn one(alloc: Global, exchange: &str, pattern: &str) -> Option<Guarantee> {
     if texts.is_whole() { guarantee } else { None }
 }
 
-/// Prints how long the search of a large certificate takes, and the check of what was found.
+/// Prints the time of searching a large certificate, and of checking it.
 fn measure_large(rt: &HostRuntime, words: u32, numbers: u32) -> io::Result<()> {
     match (
         built(rt.alloc(), Shape::Worded(words)),
@@ -71,8 +71,8 @@ fn measure_large(rt: &HostRuntime, words: u32, numbers: u32) -> io::Result<()> {
     }
 }
 
-/// Prints the same of a slice over 256 exchanges and 4,096 bindings, of a guarantee of all keys, where so many patterns more are
-/// tracked.
+/// Prints the same for a slice over 256 exchanges and 4,096 bindings. The guarantee is for all keys, with `patterns` more
+/// patterns tracked.
 fn measure_slice(rt: &HostRuntime, patterns: u32) -> io::Result<()> {
     print!(rt; "256 exchanges and 4,096 bindings, a slice, ")?;
     match (
@@ -86,13 +86,13 @@ fn measure_slice(rt: &HostRuntime, patterns: u32) -> io::Result<()> {
     }
 }
 
-/// One more guarantee: what is sent to the exchange of this number reaches the queue.
+/// Appends the guarantee that what is published to exchange `number` reaches `queue`.
 fn push_reaches(stated: &mut Stated, number: u32, queue: Text) {
     let exchange = stated.texts.numbered("x", number);
     stated.push(Mode::Reaches, exchange, "k.#", queue);
 }
 
-/// One guarantee of each of the first exchanges, for its own queue; fewer where memory is refused.
+/// Returns a guarantee for each of the first exchanges, about its own queue; fewer if an allocation fails.
 fn own(alloc: Global) -> Vec<Guarantee> {
     let mut stated = Stated::new(alloc);
     for number in 0..GUARANTEES {
@@ -102,7 +102,7 @@ fn own(alloc: Global) -> Vec<Guarantee> {
     stated.guarantees
 }
 
-/// One guarantee of each of the first exchanges, for the queue at the end of a chain; fewer where memory is refused.
+/// Returns a guarantee for each of the first exchanges, about the queue at the end of a chain; fewer if an allocation fails.
 fn shared(alloc: Global) -> Vec<Guarantee> {
     let mut stated = Stated::new(alloc);
     for number in 0..GUARANTEES {
@@ -112,7 +112,7 @@ fn shared(alloc: Global) -> Vec<Guarantee> {
     stated.guarantees
 }
 
-/// Prints how long these guarantees of a large topology take to be searched and admitted.
+/// Prints the time of searching and of admitting these guarantees of a large topology.
 fn measure_admission(
     rt: &HostRuntime,
     topology: Topology,
@@ -130,7 +130,7 @@ fn measure_admission(
     )
 }
 
-/// Prints the same of guarantees that track what one exchange asks, and of guarantees that need slices.
+/// Prints the same for guarantees that track the patterns of one exchange, and for guarantees that need slices.
 fn measure_admissions(rt: &HostRuntime) -> io::Result<()> {
     let alloc = rt.alloc();
     match (
@@ -146,7 +146,7 @@ fn measure_admissions(rt: &HostRuntime) -> io::Result<()> {
     }
 }
 
-/// Prints how long large certificates take, and many guarantees over large topologies.
+/// Measures large certificates, and many guarantees over large topologies.
 pub fn measure_all(rt: &HostRuntime) -> io::Result<()> {
     measure_large(rt, 0, 1)?;
     measure_large(rt, 2, 8)?;

@@ -1,4 +1,4 @@
-//! How long large definitions files take.
+//! Measures large definitions files.
 
 use benchmark_parts::loads::files::{many_bindings, many_users, padded};
 use benchmark_parts::measuring::Written;
@@ -7,7 +7,7 @@ use std::alloc::Global;
 use std::io;
 use std::time::Instant;
 
-/// The cause by which the file is refused, 0 where it is taken.
+/// Returns the cause for which the file is refused, or 0 if it is accepted.
 fn cause_of(alloc: Global, bytes: &[u8]) -> u8 {
     match read_definitions(alloc, bytes) {
         Ok(_) => 0,
@@ -15,7 +15,7 @@ fn cause_of(alloc: Global, bytes: &[u8]) -> u8 {
     }
 }
 
-/// Prints how long it takes to read or to refuse a file.
+/// Prints the time of reading or refusing a file.
 fn measure(rt: &HostRuntime, name: &str, file: &Written) -> io::Result<()> {
     if !file.is_whole() {
         return println!(rt; "file, {name}: memory was refused");
@@ -28,7 +28,7 @@ fn measure(rt: &HostRuntime, name: &str, file: &Written) -> io::Result<()> {
     println!(rt; "file of {length} bytes, {name}, cause {cause}: {milliseconds} milliseconds")
 }
 
-/// Prints how long the largest files take.
+/// Measures the largest files.
 pub fn measure_all(rt: &HostRuntime) -> io::Result<()> {
     measure(rt, "padded", &padded(rt.alloc()))?;
     measure(rt, "many bindings", &many_bindings(rt.alloc()))?;

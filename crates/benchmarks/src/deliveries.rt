@@ -1,4 +1,4 @@
-//! What it costs to publish a message, to deliver it and to have it acknowledged, bytes to bytes.
+//! Measures messages that are published, delivered and acknowledged, from bytes to bytes.
 
 use benchmark_parts::loads::consumers::{Acks, put_consume, put_qos};
 use benchmark_parts::loads::delivery_loads::{DeliveryLoad, MESSAGES, load_at};
@@ -8,16 +8,16 @@ use benchmark_parts::measuring::{
 use std::alloc::Global;
 use std::io;
 
-/// How many messages are published, delivered and acknowledged at once.
+/// The number of messages that are published, delivered and acknowledged at a time.
 const WINDOW: u64 = 100;
 
-/// How many messages a part of a load has.
+/// The number of messages in a part of a load.
 const PART: u64 = MESSAGES / 10;
 
-/// The bytes of a body.
+/// The number of bytes of a body.
 const BODY: usize = 12;
 
-/// A load, as its parts are run: a connection that publishes, and one that consumes.
+/// A load whose parts are run one by one, with a publishing and a consuming connection.
 #[derive(Drop)]
 pub struct RunningDeliveries {
     alloc: Global,
@@ -26,18 +26,18 @@ pub struct RunningDeliveries {
     consumer: u64,
     client: Client,
     acks: Acks,
-    /// How many deliveries were made.
+    /// The number of deliveries made.
     pub delivered: u64,
 }
 
 impl RunningDeliveries {
-    /// Publishes so many messages.
+    /// Publishes `messages` messages.
     fn publish(&mut self, messages: u64) {
         let bytes = self.client.window(self.alloc, messages);
         self.engine.perform(self.publisher, bytes);
     }
 
-    /// Makes deliveries, at most so many, and has them acknowledged. Tells how many.
+    /// Makes at most `most` deliveries and acknowledges them. Returns their number.
     fn deliver(&mut self, most: u64) -> u64 {
         let made = self.engine.deliver(most);
         self.engine.take_output(self.consumer);
@@ -47,7 +47,7 @@ impl RunningDeliveries {
         made
     }
 
-    /// Makes so many deliveries, as many at once as the limits allow.
+    /// Makes `messages` deliveries, as many at a time as the limits allow.
     pub fn deliver_all(&mut self, messages: u64) {
         let mut left = messages;
         for _ in 0..messages {
@@ -65,7 +65,7 @@ impl RunningDeliveries {
         self.acks.of_next(1);
     }
 
-    /// Publishes so many messages, makes as many deliveries, and has them acknowledged, a hundred at a time.
+    /// Publishes, delivers and acknowledges `messages` messages, a hundred at a time.
     pub fn pass(&mut self, messages: u64) {
         for _ in 0..messages / WINDOW {
             self.publish(WINDOW);
@@ -73,7 +73,7 @@ impl RunningDeliveries {
         }
     }
 
-    /// Whether no memory was refused.
+    /// Returns whether every allocation succeeded.
     pub fn is_whole(&self) -> bool {
         self.engine.is_whole() && self.client.is_whole() && self.acks.is_whole()
     }
@@ -87,7 +87,7 @@ impl Part for RunningDeliveries {
     }
 }
 
-/// The name of the queue of this number that has a consumer.
+/// Appends the name of consumed queue `number`.
 fn put_name(name: &mut Written, load: &DeliveryLoad, number: u32) {
     name.put_text("q");
     if load.queues != 1 {
@@ -95,14 +95,14 @@ fn put_name(name: &mut Written, load: &DeliveryLoad, number: u32) {
     }
 }
 
-/// Appends the consume of the queue of this number.
+/// Appends the basic.consume of queue `number`.
 fn put_consumer(alloc: Global, out: &mut Written, load: &DeliveryLoad, number: u32) {
     let mut name = Written::new(alloc);
     put_name(&mut name, load, number);
     put_consume(out, name.as_slice());
 }
 
-/// What the consuming client writes first.
+/// Returns what the consuming client writes first.
 fn consumes(alloc: Global, load: &DeliveryLoad) -> Written {
     let mut bytes = Written::new(alloc);
     put_qos(&mut bytes, load.prefetch);
@@ -115,13 +115,13 @@ fn consumes(alloc: Global, load: &DeliveryLoad) -> Written {
     bytes
 }
 
-/// Publishes so many messages of 12 bytes to `q`, as `fill_by` does. Tells whether no memory was refused.
+/// Publishes `messages` messages of 12 bytes to `q`, as [`fill_by`] does. Returns whether every allocation succeeded.
 pub fn fill(engine: &mut Measured, alloc: Global, publisher: u64, messages: u64) -> bool {
     fill_by(engine, alloc, publisher, messages, Keys::One)
 }
 
-/// Publishes so many messages of 12 bytes under these keys, a hundred at a time, or all of them where they are fewer. Tells
-/// whether no memory was refused.
+/// Publishes `messages` messages of 12 bytes under these keys, a hundred at a time, or all at once if they are fewer. Returns
+/// whether every allocation succeeded.
 pub fn fill_by(
     engine: &mut Measured,
     alloc: Global,
@@ -138,7 +138,7 @@ pub fn fill_by(
     client.is_whole() && engine.is_whole()
 }
 
-/// An engine over this shape, to which so many messages were published under these keys; none where memory is refused.
+/// Starts an engine over this shape and publishes `messages` messages under these keys. Returns `None` if an allocation fails.
 pub fn filled(alloc: Global, shape: Shape, messages: u64, keys: Keys) -> Option<Measured> {
     let mut engine = Measured::over(alloc, built(alloc, shape)?, Vec::new(alloc))?;
     let publisher = engine.open_ready();
@@ -149,8 +149,8 @@ pub fn filled(alloc: Global, shape: Shape, messages: u64, keys: Keys) -> Option<
     }
 }
 
-/// Makes deliveries to a connection until none can be made, at most so many. Tells how many. Its output is taken between them: a client
-/// that leaves a MiB of it gets no more.
+/// Makes deliveries to `connection` until none can be made, at most `most`. Returns their number. Takes the output in between: a
+/// client that leaves a MiB of it gets no more.
 pub fn deliver_to(engine: &mut Measured, connection: u64, most: u64) -> u64 {
     let mut made: u64 = 0;
     for _ in 0..most / WINDOW {
@@ -160,7 +160,8 @@ pub fn deliver_to(engine: &mut Measured, connection: u64, most: u64) -> u64 {
     made
 }
 
-/// Has so many consumers of `q` each hold the one message that they may, on a connection of their own. Tells how many are held.
+/// Starts `consumers` consumers of `q` with a prefetch of one, on a connection of their own, and delivers a message to each.
+/// Returns the number of messages delivered.
 pub fn hold_back(engine: &mut Measured, alloc: Global, publisher: u64, consumers: u32) -> u64 {
     let holder = engine.open_ready();
     let mut bytes = Written::new(alloc);
@@ -175,7 +176,7 @@ pub fn hold_back(engine: &mut Measured, alloc: Global, publisher: u64, consumers
     held
 }
 
-/// Fills the load's queue, and has its consumers made.
+/// Starts a load: fills its queue and starts its consumers.
 pub fn start(alloc: Global, mut engine: Measured, load: &DeliveryLoad) -> RunningDeliveries {
     let publisher = engine.open_ready();
     engine.perform(publisher, SELECT.as_slice());
@@ -196,7 +197,7 @@ pub fn start(alloc: Global, mut engine: Measured, load: &DeliveryLoad) -> Runnin
     running
 }
 
-/// Runs a load, and prints what a message took in each part.
+/// Runs a load, and prints the time of a message in each part.
 fn measure_over(rt: &HostRuntime, engine: Measured, load: &DeliveryLoad) -> io::Result<()> {
     let mut running = start(rt.alloc(), engine, load);
     print!(rt; "{}:", load.name)?;
@@ -208,7 +209,7 @@ fn measure_over(rt: &HostRuntime, engine: Measured, load: &DeliveryLoad) -> io::
     println!(rt; "{}: memory was refused", load.name)
 }
 
-/// An engine over the load's topology, none where it is refused or memory is.
+/// Starts an engine over the load's topology. Returns `None` if that is refused, or if an allocation fails.
 pub fn engine_of(alloc: Global, load: &DeliveryLoad) -> Option<Measured> {
     Measured::over(alloc, built(alloc, load.shape())?, Vec::new(alloc))
 }
@@ -220,7 +221,7 @@ fn measure(rt: &HostRuntime, load: &DeliveryLoad) -> io::Result<()> {
     }
 }
 
-/// Runs all loads.
+/// Measures all loads.
 pub fn measure_all(rt: &HostRuntime) -> io::Result<()> {
     for place in 0..u32::MAX {
         match load_at(place) {

@@ -1,21 +1,21 @@
-//! What it costs to drain a queue, and how many resident bytes stay when it is empty.
+//! Measures draining a queue, and the resident memory that remains when it is empty.
 
 use crate::deliveries::{RunningDeliveries, engine_of, start};
 use benchmark_parts::loads::delivery_loads::{DeliveryLoad, drain_of};
 use benchmark_parts::measuring::{Measured, Part, print_parts, resident_bytes};
 use std::io;
 
-/// How many messages wait before a drain. The most come first, since later ones take memory that was given back.
+/// The number of ready messages before each drain. The largest comes first, since later ones reuse memory that was freed.
 const DRAINS: [u64; 2] = [2_000_000, 100_000];
 
-/// How many messages are delivered, and then acknowledged, at once.
+/// The number of messages that are delivered and then acknowledged at a time.
 const WINDOW: u64 = 100;
 
 /// A queue that is drained.
 #[derive(Drop)]
 struct Draining {
     running: RunningDeliveries,
-    /// How many messages a part has.
+    /// The number of messages in a part.
     part: u64,
 }
 
@@ -29,8 +29,8 @@ impl Part for Draining {
     }
 }
 
-/// Fills a queue and drains it. Prints what a message took in each part, by how much memory the process had grown when all
-/// waited, and how much of that stays.
+/// Fills a queue and drains it. Prints the time of a message in each part, by how much the process had grown when the queue was
+/// full, and how much of that remains.
 fn measure_over(rt: &HostRuntime, engine: Measured, load: &DeliveryLoad) -> io::Result<()> {
     let before = resident_bytes(rt)?;
     let mut draining = Draining {
@@ -52,7 +52,7 @@ fn measure_over(rt: &HostRuntime, engine: Measured, load: &DeliveryLoad) -> io::
     println!(rt; "drain of {}: memory was refused", load.waiting)
 }
 
-/// Runs all drains.
+/// Measures all drains.
 pub fn measure_all(rt: &HostRuntime) -> io::Result<()> {
     for messages in DRAINS {
         let load = drain_of(messages);

@@ -1,7 +1,7 @@
-//! How long others wait at most while a client does something with a queue of millions of messages.
+//! Measures how long other clients wait at most while one client works on a queue of millions of messages.
 //!
-//! An event is what is done between two looks at other clients: a read of a hundred publishes, a hundred deliveries, a read of acks,
-//! a purge. Times are those of the clock, since the system counts processor time by its ticks, of some milliseconds.
+//! An event is what is done without serving other clients in between: a read of a hundred publishes, a hundred deliveries, a read
+//! of acks, a purge. Times are wall-clock times, since the system counts processor time in ticks of some milliseconds.
 
 use benchmark_parts::loads::consumers::{put_ack, put_consume, put_purge};
 use benchmark_parts::measuring::{Client, Keys, Measured, Shape, Written, built};
@@ -9,34 +9,34 @@ use std::alloc::Global;
 use std::io;
 use std::time::Instant;
 
-/// How many messages are published at first.
+/// The number of messages that are published at first.
 const WAITING: u64 = 4_000_000;
 
-/// How many of them are delivered.
+/// The number of these that are delivered.
 const DELIVERED: u64 = 2_000_000;
 
-/// How many are published behind gaps, and as many behind a purge.
+/// The number of messages that are published behind the gaps, and again after the purge.
 const BEHIND: u64 = 2_000_000;
 
-/// How many messages an event has.
+/// The number of messages in an event.
 const WINDOW: u64 = 100;
 
-/// Of so many deliveries one is not acknowledged.
+/// One of this number of deliveries is not acknowledged.
 const HELD_OF: u64 = 10;
 
-/// The bytes of a body.
+/// The number of bytes of a body.
 const BODY: usize = 12;
 
-/// How long an event may take, in microseconds.
+/// The longest an event should take, in microseconds.
 const LONG: u128 = 5_000;
 
-/// How long events took.
+/// The number of events, and how long they took.
 #[derive(Clone, Copy, Drop)]
 struct Events {
     count: u64,
-    /// How many took too long.
+    /// The number of events that took longer than [`LONG`].
     long: u64,
-    /// Microseconds of the longest.
+    /// The longest event, in microseconds.
     longest: u128,
 }
 
@@ -49,7 +49,7 @@ impl Events {
         }
     }
 
-    /// One more event, which began then and is over.
+    /// Counts an event that began at `start` and is over.
     fn end(&mut self, rt: &HostRuntime, start: &Instant) -> io::Result<()> {
         let took = start.elapsed(rt)?.as_micros();
         self.count = self.count.saturating_add(1);
@@ -60,7 +60,7 @@ impl Events {
         Ok(())
     }
 
-    /// Prints what they were, the longest, and how many took too long.
+    /// Prints `what` the events were, the longest of them, and how many took too long.
     fn print(&self, rt: &HostRuntime, what: &str) -> io::Result<()> {
         println!(rt;
             "events, {what}: {} microseconds the longest; {} of {} over {LONG}",
@@ -69,7 +69,7 @@ impl Events {
     }
 }
 
-/// A large queue, a client that publishes to it, and one that consumes.
+/// A large queue, a client that publishes to it, and one that consumes it.
 #[derive(Drop)]
 struct Large {
     alloc: Global,
@@ -83,7 +83,7 @@ struct Large {
 }
 
 impl Large {
-    /// Publishes so many messages.
+    /// Publishes `messages` messages.
     fn publish(&mut self, rt: &HostRuntime, messages: u64) -> io::Result<Events> {
         let mut events = Events::new();
         for _ in 0..messages / WINDOW {
@@ -95,7 +95,7 @@ impl Large {
         Ok(events)
     }
 
-    /// Has a window delivered.
+    /// Delivers a window of messages.
     fn deliver(&mut self, rt: &HostRuntime, events: &mut Events) -> io::Result<()> {
         let start = Instant::now(rt)?;
         self.delivered = self.delivered.saturating_add(self.engine.deliver(WINDOW));
@@ -110,7 +110,7 @@ impl Large {
         events.end(rt, &start)
     }
 
-    /// Puts together the acks of the deliveries behind so many.
+    /// Encodes the acks of the deliveries after the first `behind`.
     fn put_acks(&mut self, behind: u64) {
         self.bytes.clear();
         for place in 1..=WINDOW {
@@ -120,7 +120,7 @@ impl Large {
         }
     }
 
-    /// Has the first messages delivered, and most of each window acknowledged.
+    /// Delivers the first messages, and acknowledges most of each window.
     fn make_gaps(&mut self, rt: &HostRuntime) -> io::Result<Events> {
         let mut events = Events::new();
         put_consume(&mut self.bytes, b"q");
@@ -142,13 +142,13 @@ impl Large {
         Ok(events)
     }
 
-    /// Whether no memory was refused.
+    /// Returns whether every allocation succeeded.
     fn is_whole(&self) -> bool {
         self.engine.is_whole() && self.client.is_whole() && self.bytes.is_whole()
     }
 }
 
-/// An empty queue with its clients.
+/// Returns an empty queue with its clients.
 fn start(alloc: Global, mut engine: Measured) -> Large {
     let publisher = engine.open_ready();
     let consumer = engine.open_ready();
@@ -163,7 +163,8 @@ fn start(alloc: Global, mut engine: Measured) -> Large {
     }
 }
 
-/// Prints the longest events while a queue grows, gets many gaps, grows behind them, is purged up to what is held, and grows again.
+/// Prints the longest events while a queue changes: it grows, gets many gaps, grows behind them, is purged of what is not held,
+/// and grows again.
 fn measure_over(rt: &HostRuntime, engine: Measured) -> io::Result<()> {
     let mut large = start(rt.alloc(), engine);
     large
@@ -184,7 +185,7 @@ fn measure_over(rt: &HostRuntime, engine: Measured) -> io::Result<()> {
     println!(rt; "events: memory was refused")
 }
 
-/// Measures all.
+/// Measures the events of one large queue.
 pub fn measure_all(rt: &HostRuntime) -> io::Result<()> {
     let alloc = rt.alloc();
     let engine = match built(alloc, Shape::Direct) {

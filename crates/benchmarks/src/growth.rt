@@ -1,4 +1,4 @@
-//! That nothing grows for ever: whether a process grows while messages and consumers come and go.
+//! Checks that a process doesn't grow while messages and consumers come and go.
 
 use crate::deliveries::{engine_of, start};
 use benchmark_parts::loads::consumers::put_consume_and_cancel;
@@ -7,22 +7,22 @@ use benchmark_parts::measuring::{Measured, Shape, Written, built, resident_bytes
 use std::alloc::Global;
 use std::io;
 
-/// How many messages are published, delivered and acknowledged.
+/// The number of messages that are published, delivered and acknowledged.
 const MESSAGES: u64 = 200_000;
 
-/// How many consumers are made and cancelled.
+/// The number of consumers that are started and cancelled.
 const CONSUMERS: u64 = 100_000;
 
-/// How many messages, or consumers, come and go before it is looked for the first time.
+/// The number of messages, or of consumers, that come and go before the first measurement.
 const FIRST: u64 = 10_000;
 
-/// How many consumers are made and cancelled in one read.
+/// The number of consumers that are started and cancelled in one read.
 const WINDOW: u64 = 100;
 
-/// A process that grows by fewer bytes has not grown: the allocator keeps some for itself.
+/// The number of bytes below which a process counts as not grown: the allocator keeps some for itself.
 const BOUND: u64 = 2_000_000;
 
-/// Prints whether the process has grown since it had so many resident bytes, and by how many if it has.
+/// Prints whether the process has grown since it had `before` resident bytes, and by how many bytes if it has.
 fn tell(rt: &HostRuntime, what: &str, before: u64, is_whole: bool) -> io::Result<()> {
     let grown = resident_bytes(rt)?.saturating_sub(before);
     if before == 0 {
@@ -37,7 +37,7 @@ fn tell(rt: &HostRuntime, what: &str, before: u64, is_whole: bool) -> io::Result
     println!(rt; "{what}: {grown} bytes grew")
 }
 
-/// Messages come and go beside one that waits all the time, and one that is held.
+/// Lets messages come and go while one is ready all the time and one is held.
 fn messages(rt: &HostRuntime) -> io::Result<()> {
     let what = "200,000 messages";
     let load = beside(2);
@@ -52,17 +52,17 @@ fn messages(rt: &HostRuntime) -> io::Result<()> {
     tell(rt, what, before, running.is_whole())
 }
 
-/// A connection that makes consumers of a queue and cancels them, one after another.
+/// A connection that starts consumers of a queue and cancels them, one after another.
 #[derive(Drop)]
 struct Consuming {
     engine: Measured,
     connection: u64,
-    /// So many consumes and cancels as there are in one read.
+    /// The consumes and cancels of one read.
     bytes: Written,
 }
 
 impl Consuming {
-    /// A connection of this engine.
+    /// Opens a connection of this engine.
     fn new(alloc: Global, mut engine: Measured) -> Consuming {
         let mut bytes = Written::new(alloc);
         for _ in 0..WINDOW {
@@ -76,25 +76,25 @@ impl Consuming {
         }
     }
 
-    /// So many consumers come and go.
+    /// Starts and cancels `consumers` consumers.
     fn pass(&mut self, consumers: u64) {
         for _ in 0..consumers / WINDOW {
             self.engine.perform(self.connection, self.bytes.as_slice());
         }
     }
 
-    /// Whether no memory was refused.
+    /// Returns whether every allocation succeeded.
     fn is_whole(&self) -> bool {
         self.engine.is_whole() && self.bytes.is_whole()
     }
 }
 
-/// An engine with one queue, none where memory is refused.
+/// Starts an engine with one queue. Returns `None` if an allocation fails.
 fn one_queue(alloc: Global) -> Option<Measured> {
     Measured::over(alloc, built(alloc, Shape::Queues(1))?, Vec::new(alloc))
 }
 
-/// Consumers come and go.
+/// Lets consumers come and go.
 fn consumers(rt: &HostRuntime) -> io::Result<()> {
     let what = "100,000 consumers";
     let Some(engine) = one_queue(rt.alloc()) else {
@@ -107,7 +107,7 @@ fn consumers(rt: &HostRuntime) -> io::Result<()> {
     tell(rt, what, before, consuming.is_whole())
 }
 
-/// Looks at both.
+/// Checks both messages and consumers.
 pub fn measure_all(rt: &HostRuntime) -> io::Result<()> {
     messages(rt)?;
     consumers(rt)

@@ -1,7 +1,9 @@
-//! Benchmarks: what publishes, deliveries, drains, acks, losses, purges, rejects, openings and reloads cost the engine, how long an
-//! event of a large queue takes at most, what waiting messages and open connections take, and how long matchers, routes, large
-//! definitions files and certificates take. What is printed is to be read; nothing tests it, but for `growth`: that nothing grows while
-//! messages and consumers come and go.
+//! Measures what no contract states: time and memory.
+//!
+//! It measures what publishes, deliveries, drains, acks, losses, purges, rejects, openings and reloads cost the engine, how long
+//! an event of a large queue takes at most, the memory of ready messages and open connections, and the time of matchers, routes,
+//! large definitions files and certificates. What is printed is for readers; nothing tests it, except `growth`: that nothing
+//! grows while messages and consumers come and go.
 #![tactic(auto)]
 
 mod acks;
@@ -23,11 +25,11 @@ mod strangers;
 
 use std::{env, io};
 
-/// How the program is called.
+/// The usage line.
 const USAGE: &str =
     "benchmarks openings|strangers|memory|deliveries|drains|events|acks|removals|rejects|reloads|growth|publishes [NAME]|matchers|routes|files|certificates|all: prints what connections, messages, reloads, matchers, routes, large definitions files and certificates cost, and whether anything grows";
 
-/// Measures all. Memory comes early, since what is measured later takes what was given back.
+/// Measures everything. Memory comes early, since later measurements reuse memory that was freed.
 fn measure_all(rt: &HostRuntime) -> io::Result<()> {
     openings::measure_all(rt)?;
     strangers::measure_all(rt)?;
@@ -47,7 +49,7 @@ fn measure_all(rt: &HostRuntime) -> io::Result<()> {
     certificates::measure_all(rt)
 }
 
-/// Measures what a word names.
+/// Measures what `word` names.
 fn measure(rt: &HostRuntime, word: &str) -> io::Result<()> {
     match word {
         "openings" => openings::measure_all(rt),

@@ -1,14 +1,14 @@
-//! How long the patterns that match a key are looked for: compared one by one, and by a trie.
+//! Measures finding the patterns that match a key: one by one, and by a trie.
 
 use benchmark_parts::measuring::processor_time;
 use std::alloc::{AllocError, Global};
 use std::io;
 use topic_match::{Matcher, Pattern, Plain, Trie};
 
-/// How many keys are looked for.
+/// The number of keys that are matched.
 const KEYS: u32 = 100_000;
 
-/// Adds the pattern of this text.
+/// Appends the pattern of `text`.
 fn add(alloc: Global, patterns: &mut Vec<Pattern>, text: &str) -> Result<(), AllocError> {
     match Pattern::read(alloc, text.as_bytes()) {
         Ok(pattern) => patterns.push(pattern)?,
@@ -17,7 +17,7 @@ fn add(alloc: Global, patterns: &mut Vec<Pattern>, text: &str) -> Result<(), All
     Ok(())
 }
 
-/// Adds a pattern that no key matches.
+/// Appends a pattern that no key matches.
 fn add_other(alloc: Global, patterns: &mut Vec<Pattern>, place: u32) -> Result<(), AllocError> {
     match format!(in alloc; "other.{place}.*") {
         Ok(text) => add(alloc, patterns, text.as_str()),
@@ -25,7 +25,7 @@ fn add_other(alloc: Global, patterns: &mut Vec<Pattern>, place: u32) -> Result<(
     }
 }
 
-/// So many patterns, of which `k.#` is the last and the others match no key.
+/// Returns `count` patterns, the last of which is `k.#`; the others match no key.
 fn others(alloc: Global, count: u32) -> Result<Vec<Pattern>, AllocError> {
     let mut patterns = Vec::new(alloc);
     for place in 1..count {
@@ -35,14 +35,14 @@ fn others(alloc: Global, count: u32) -> Result<Vec<Pattern>, AllocError> {
     Ok(patterns)
 }
 
-/// Patterns with several `#`.
+/// Returns a pattern with several `#`.
 fn several(alloc: Global) -> Result<Vec<Pattern>, AllocError> {
     let mut patterns = Vec::new(alloc);
     add(alloc, &mut patterns, "#.a.#.a.#.a.#.b")?;
     Ok(patterns)
 }
 
-/// Adds the key of this number.
+/// Appends key `number`.
 fn add_key(alloc: Global, keys: &mut Vec<String>, number: u32) -> Result<(), AllocError> {
     match format!(in alloc; "k.{number}") {
         Ok(key) => keys.push(key)?,
@@ -51,7 +51,7 @@ fn add_key(alloc: Global, keys: &mut Vec<String>, number: u32) -> Result<(), All
     Ok(())
 }
 
-/// Keys of which none comes again.
+/// Returns keys, all of them different.
 fn fresh(alloc: Global) -> Result<Vec<String>, AllocError> {
     let mut keys = Vec::new(alloc);
     for number in 0..KEYS {
@@ -60,7 +60,7 @@ fn fresh(alloc: Global) -> Result<Vec<String>, AllocError> {
     Ok(keys)
 }
 
-/// A key of 128 words, again and again.
+/// Returns a key of 128 words, repeated.
 fn long(alloc: Global) -> Result<Vec<String>, AllocError> {
     let mut keys = Vec::new(alloc);
     for _ in 0..KEYS / 10 {
@@ -74,7 +74,7 @@ fn long(alloc: Global) -> Result<Vec<String>, AllocError> {
     Ok(keys)
 }
 
-/// How many places are found for these keys, and 0 where memory is wanting.
+/// Returns the number of matches of these keys; a key whose allocation fails counts 0.
 fn count_found<M: Matcher>(alloc: Global, matcher: &M, keys: &[String]) -> usize {
     let mut count: usize = 0;
     for key in keys {
@@ -85,7 +85,7 @@ fn count_found<M: Matcher>(alloc: Global, matcher: &M, keys: &[String]) -> usize
     count
 }
 
-/// Prints how long a matcher of these patterns is made, and how long one of these keys takes on average.
+/// Prints the time of building a matcher of these patterns, and the average time of matching one of these keys.
 fn measure<M: Matcher + Drop>(
     rt: &HostRuntime,
     name: &str,
@@ -103,7 +103,7 @@ fn measure<M: Matcher + Drop>(
     println!(rt; "{name}: made in {made} microseconds, {taken} ns a key, {count} places found")
 }
 
-/// Prints both matchers over so many patterns, and keys of which none comes again.
+/// Measures both matchers with `count` patterns and keys that are all different.
 fn measure_fresh(rt: &HostRuntime, count: u32) -> io::Result<()> {
     let alloc = rt.alloc();
     let (Ok(plain), Ok(trie), Ok(keys)) = (others(alloc, count), others(alloc, count), fresh(alloc))
@@ -115,7 +115,7 @@ fn measure_fresh(rt: &HostRuntime, count: u32) -> io::Result<()> {
     measure::<Trie>(rt, "  by a trie", trie, keys.as_slice())
 }
 
-/// Prints both matchers over a pattern with several `#`, and a key of 128 words.
+/// Measures both matchers with a pattern with several `#` and a key of 128 words.
 fn measure_long(rt: &HostRuntime) -> io::Result<()> {
     let alloc = rt.alloc();
     let (Ok(plain), Ok(trie), Ok(keys)) = (several(alloc), several(alloc), long(alloc)) else {
@@ -126,7 +126,7 @@ fn measure_long(rt: &HostRuntime) -> io::Result<()> {
     measure::<Trie>(rt, "  by a trie", trie, keys.as_slice())
 }
 
-/// Prints how long the patterns that match a key are looked for.
+/// Measures both matchers.
 pub fn measure_all(rt: &HostRuntime) -> io::Result<()> {
     measure_fresh(rt, 1)?;
     measure_fresh(rt, 1_000)?;

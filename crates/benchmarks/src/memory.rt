@@ -1,14 +1,14 @@
-//! How much resident memory a waiting message takes.
+//! Measures the resident memory of a ready message.
 
 use benchmark_parts::loads::properties::{MODE, MODE_TYPE, MODE_TYPE_ID, NONE};
 use benchmark_parts::measuring::{Client, Keys, Measured, SELECT, Shape, built, resident_bytes};
 use std::alloc::Global;
 use std::io;
 
-/// How many messages are published at once.
+/// The number of messages that are published at a time.
 const WINDOW: u64 = 100;
 
-/// So many messages that wait in one queue.
+/// A load: messages that are ready in one queue.
 #[derive(Drop)]
 struct Waiting {
     name: &'static str,
@@ -18,7 +18,7 @@ struct Waiting {
     properties: &'static [u8],
 }
 
-/// Messages of 12 bytes with these properties.
+/// Returns a load of messages of 12 bytes with these properties.
 fn small(name: &'static str, properties: &'static [u8]) -> Waiting {
     Waiting {
         name,
@@ -29,12 +29,12 @@ fn small(name: &'static str, properties: &'static [u8]) -> Waiting {
     }
 }
 
-/// An engine over a topic exchange that leads each key to one queue.
+/// Starts an engine over a topic exchange that routes each key to one queue. Returns `None` if an allocation fails.
 fn engine(alloc: Global) -> Option<Measured> {
     Measured::over(alloc, built(alloc, Shape::Topic(1))?, Vec::new(alloc))
 }
 
-/// Publishes the messages, and prints how much each of them takes.
+/// Publishes the messages, and prints the memory of each.
 fn fill(rt: &HostRuntime, engine: &mut Measured, load: &Waiting) -> io::Result<()> {
     let publisher = engine.open_ready();
     engine.perform(publisher, SELECT.as_slice());
@@ -51,7 +51,7 @@ fn fill(rt: &HostRuntime, engine: &mut Measured, load: &Waiting) -> io::Result<(
     println!(rt; "{}: {grown} bytes a waiting message", load.name)
 }
 
-/// Measures one after another, each beside what waits already, so that none takes memory that another has given back.
+/// Measures one load after another and keeps them all, so that none reuses memory that another has freed.
 pub fn measure_all(rt: &HostRuntime) -> io::Result<()> {
     let loads = [
         Waiting {

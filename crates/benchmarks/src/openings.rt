@@ -1,4 +1,4 @@
-//! What an opening costs, and what a connection takes that is open and idle.
+//! Measures opening a connection, and the memory of one that is open and idle.
 
 use benchmark_parts::measuring::{
     Measured, Part, Shape, Texts, built, print_parts, resident_bytes,
@@ -7,13 +7,13 @@ use model::User;
 use std::alloc::Global;
 use std::io;
 
-/// How many connections are opened and stay.
+/// The number of connections that are opened.
 const CONNECTIONS: u64 = 1_000;
 
 /// The protocol header.
 pub const HEADER: &[u8] = b"AMQP\x00\x00\x09\x01";
 
-/// Four bytes of salt, and SHA-256 of them and the password `pw`.
+/// Four bytes of salt, and the SHA-256 digest of them and the password `pw`.
 const HASH: &[u8] =
     b"abcd\x25\x28\x70\xfb\xbe\x94\x08\xcb\x5d\x4e\x12\x7b\xb4\x45\xca\x29\xec\xf2\x52\x5a\xcf\xe0\x39\x82\xff\xdb\xd7\xd2\x29\x7e\xa5\x05";
 
@@ -21,7 +21,7 @@ const HASH: &[u8] =
 pub const START_OK: &[u8] =
     b"\x01\x00\x00\x00\x00\x00\x1d\x00\x0a\x00\x0b\x00\x00\x00\x00\x05PLAIN\x00\x00\x00\x05\x00u\x00pw\x05en_US\xce";
 
-/// connection.tune-ok: the limits that were offered.
+/// connection.tune-ok with the limits that were offered.
 const TUNE_OK: &[u8] =
     b"\x01\x00\x00\x00\x00\x00\x0c\x00\x0a\x00\x1f\x00\x00\x00\x00\x00\x00\x00\x00\xce";
 
@@ -29,7 +29,7 @@ const TUNE_OK: &[u8] =
 const OPEN: &[u8] =
     b"\x01\x00\x00\x00\x00\x00\x08\x00\x0a\x00\x28\x01/\x00\x00\xce\x01\x00\x01\x00\x00\x00\x05\x00\x14\x00\x0a\x00\xce";
 
-/// Connections that are opened, and closed again or kept.
+/// Connections that are opened, and then kept or lost.
 #[derive(Drop)]
 struct Opening {
     engine: Measured,
@@ -37,7 +37,7 @@ struct Opening {
 }
 
 impl Opening {
-    /// Opens a connection, answer by answer, and its channel 1.
+    /// Opens a connection, reply by reply, and its channel 1.
     fn open(&mut self) {
         let connection = self.engine.open();
         self.engine.perform(connection, HEADER);
@@ -60,7 +60,7 @@ impl Part for Opening {
     }
 }
 
-/// An engine with the user, none where memory is refused.
+/// Starts an engine with the user `u`. Returns `None` if an allocation fails.
 pub fn engine(alloc: Global) -> Option<Measured> {
     let mut texts = Texts::new(alloc);
     let user = User {
@@ -72,7 +72,7 @@ pub fn engine(alloc: Global) -> Option<Measured> {
     Measured::over(alloc, built(alloc, Shape::Direct)?, users)
 }
 
-/// Opens connections, and prints what an opening took in each part, and how much each connection takes.
+/// Opens connections, and prints the time of an opening in each part, and the memory of each connection.
 fn measure(rt: &HostRuntime, engine: Measured, are_kept: bool) -> io::Result<()> {
     let mut opening = Opening { engine, are_kept };
     let before = resident_bytes(rt)?;
@@ -86,7 +86,7 @@ fn measure(rt: &HostRuntime, engine: Measured, are_kept: bool) -> io::Result<()>
     println!(rt; " ns an opening; {grown} bytes a connection; {written} bytes put out to each")
 }
 
-/// Measures openings of connections that stay, and of such that are lost again.
+/// Measures openings of connections that are kept, and of connections that are lost again.
 pub fn measure_all(rt: &HostRuntime) -> io::Result<()> {
     for are_kept in [true, false] {
         match engine(rt.alloc()) {

@@ -1,6 +1,6 @@
-//! What a confirmed publish costs the engine, bytes to bytes.
+//! Measures confirmed publishes, from bytes to bytes.
 //!
-//! Each load runs ten equal parts, so that a cost that grows with what waits shows between the first and the last.
+//! Each load runs in ten equal parts, so that a cost that grows with the backlog shows between the first and the last.
 
 use benchmark_parts::loads::named::{Load, load_at};
 use benchmark_parts::measuring::{
@@ -9,10 +9,10 @@ use benchmark_parts::measuring::{
 use std::alloc::Global;
 use std::io;
 
-/// How many parts of a load are measured apart.
+/// The number of parts of a load that are measured one by one.
 const PARTS: u64 = 10;
 
-/// A load, as its parts are run.
+/// A load whose parts are run one by one.
 #[derive(Drop)]
 pub struct Running {
     alloc: Global,
@@ -22,7 +22,7 @@ pub struct Running {
 }
 
 impl Running {
-    /// A load over this engine, whose connections are open.
+    /// Starts a load over this engine, and opens its connections.
     pub fn over(alloc: Global, mut engine: Measured, load: &Load) -> Running {
         open_all(&mut engine, load);
         engine.take_written();
@@ -34,7 +34,7 @@ impl Running {
         }
     }
 
-    /// Runs all parts, and prints what a publish took in each.
+    /// Runs all parts, and prints the time of a publish in each.
     pub fn print_publishes(&mut self, rt: &HostRuntime) -> io::Result<()> {
         let publishes = self.load.publishes / PARTS;
         print_parts(rt, self, publishes)
@@ -44,7 +44,7 @@ impl Running {
 impl Part for Running {
     fn prepare(&mut self, _: u64) {}
 
-    /// So many windows, by the load's connections in turn.
+    /// Publishes the windows of a part, by the load's connections in turn.
     fn run(&mut self, part: u64) {
         let publishes = self.load.window.max(1);
         for window in 0..self.load.publishes / PARTS / publishes {
@@ -56,7 +56,7 @@ impl Part for Running {
     }
 }
 
-/// Opens the load's connections, with confirms on their channels 1.
+/// Opens the load's connections, with confirm mode on channel 1 of each.
 fn open_all(engine: &mut Measured, load: &Load) {
     for _ in 0..load.connections {
         let connection = engine.open_ready();
@@ -64,14 +64,14 @@ fn open_all(engine: &mut Measured, load: &Load) {
     }
 }
 
-/// Prints how much a waiting message takes, where so many bytes were taken before, and how much was put out.
+/// Prints by how much a publish grew the process, which had `before` resident bytes, and the number of bytes put out.
 fn tell(rt: &HostRuntime, running: &mut Running, before: u64) -> io::Result<()> {
     let grown = resident_bytes(rt)?.saturating_sub(before) / running.load.publishes.max(1);
     let written = running.engine.take_written();
     println!(rt; " ns a publish; {grown} bytes a publish; {written} bytes put out")
 }
 
-/// Runs a load over this engine, and prints what a publish took in each part and how much a waiting message takes.
+/// Runs a load over this engine, and prints the time of a publish in each part, and the memory of each publish.
 fn measure_over(rt: &HostRuntime, engine: Measured, load: &Load) -> io::Result<()> {
     let mut running = Running::over(rt.alloc(), engine, load);
     let before = resident_bytes(rt)?;
@@ -84,7 +84,7 @@ fn measure_over(rt: &HostRuntime, engine: Measured, load: &Load) -> io::Result<(
     println!(rt; "{}: memory was refused", load.name)
 }
 
-/// An engine over the load's topology, none where it is refused or memory is.
+/// Starts an engine over the load's topology. Returns `None` if that is refused, or if an allocation fails.
 pub fn engine_of(alloc: Global, load: &Load) -> Option<Measured> {
     match built(alloc, load.shape) {
         Some(topology) => Measured::over(alloc, topology, Vec::new(alloc)),
@@ -99,7 +99,7 @@ fn measure(rt: &HostRuntime, load: &Load) -> io::Result<()> {
     }
 }
 
-/// Runs the load of this name alone, so that no other has grown the memory.
+/// Measures the load called `name` alone, so that no other has grown the memory.
 pub fn measure_one(rt: &HostRuntime, name: &str) -> io::Result<()> {
     for place in 0..u32::MAX {
         match load_at(place) {
@@ -111,7 +111,7 @@ pub fn measure_one(rt: &HostRuntime, name: &str) -> io::Result<()> {
     println!(rt; "no load has this name")
 }
 
-/// Runs all loads.
+/// Measures all loads.
 pub fn measure_all(rt: &HostRuntime) -> io::Result<()> {
     for place in 0..u32::MAX {
         match load_at(place) {

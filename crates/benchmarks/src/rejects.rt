@@ -1,4 +1,4 @@
-//! What it costs to reject many messages at once, where their dead letters come to another queue.
+//! Measures rejecting many messages at once, whose dead letters go to another queue.
 
 use crate::deliveries::deliver_to;
 use benchmark_parts::loads::consumers::{put_consume, put_nack_all};
@@ -9,23 +9,22 @@ use benchmark_parts::measuring::{
 use std::alloc::Global;
 use std::io;
 
-/// How many messages are rejected at once.
+/// The number of messages that are rejected at once.
 const REJECTED: u64 = 500_000;
 
-/// How many are published at once.
+/// The number of messages that are published at a time.
 const WINDOW: u64 = 1_000;
 
-/// The bytes of a body.
+/// The number of bytes of a body.
 const BODY: usize = 12;
 
-/// A load: messages that have these properties, as a header spells them.
+/// A load: messages with these properties, encoded as in a content header.
 #[derive(Clone, Copy, Drop)]
 struct RejectLoad {
     name: &'static str,
     properties: &'static [u8],
 }
 
-/// The loads.
 const LOADS: [RejectLoad; 2] = [
     RejectLoad {
         name: "no properties",
@@ -37,15 +36,15 @@ const LOADS: [RejectLoad; 2] = [
     },
 ];
 
-/// A connection to which messages were delivered, and how many.
+/// A connection to which messages were delivered, and the number of these.
 #[derive(Clone, Copy, Drop)]
 struct Holder {
     connection: u64,
     held: u64,
 }
 
-/// An engine with a queue `q0` that has the messages of a load, and whose dead letters come to the queue `f0`; none where memory
-/// is refused.
+/// Starts an engine with a queue `q0` that has the messages of a load, and whose dead letters go to the queue `f0`. Returns
+/// `None` if an allocation fails.
 fn filled(alloc: Global, load: RejectLoad) -> Option<Measured> {
     let shape = Shape::Lettered {
         queues: 1,
@@ -66,7 +65,7 @@ fn filled(alloc: Global, load: RejectLoad) -> Option<Measured> {
     }
 }
 
-/// Has the messages of a queue delivered to a connection of their own.
+/// Delivers the messages of `queue` to a connection of their own.
 fn hold(engine: &mut Measured, alloc: Global, queue: &[u8]) -> Holder {
     let connection = engine.open_ready();
     let mut consume = Written::new(alloc);
@@ -76,7 +75,7 @@ fn hold(engine: &mut Measured, alloc: Global, queue: &[u8]) -> Holder {
     Holder { connection, held }
 }
 
-/// Prints what a message takes that is rejected with all others, and by how many resident bytes the process has grown for each.
+/// Prints the time of a message that is rejected with all others, and by how many bytes the process has grown for each.
 fn measure_over(rt: &HostRuntime, mut engine: Measured, load: RejectLoad) -> io::Result<()> {
     let holder = hold(&mut engine, rt.alloc(), b"q0");
     let mut reject = Written::new(rt.alloc());
@@ -96,7 +95,7 @@ fn measure_over(rt: &HostRuntime, mut engine: Measured, load: RejectLoad) -> io:
     )
 }
 
-/// Runs all loads.
+/// Measures all loads.
 pub fn measure_all(rt: &HostRuntime) -> io::Result<()> {
     for load in LOADS {
         match filled(rt.alloc(), load) {

@@ -1,4 +1,4 @@
-//! What it costs to put a configuration in force while messages wait.
+//! Measures reloads while messages are ready.
 
 use crate::deliveries::{fill, filled, hold_back};
 use crate::publishes::{Running, engine_of};
@@ -12,10 +12,10 @@ use model::Mode;
 use std::alloc::Global;
 use std::io;
 
-/// How many consumers a connection has that holds messages.
+/// The number of consumers of a connection that holds messages.
 const CONSUMERS: u32 = 100;
 
-/// How many messages are published before a reload, and as many after it.
+/// The number of messages that are published before a reload, and again after it.
 const PUBLISHES: u64 = 1_000_000;
 
 /// The connection that publishes them.
@@ -24,28 +24,28 @@ const PUBLISHER: u64 = 1;
 /// A microsecond, in nanoseconds.
 const MICROSECOND: u64 = 1_000;
 
-/// A load, as its configuration is put in force.
+/// A load whose configuration is loaded again and again.
 #[derive(Drop)]
 struct Reloading {
     alloc: Global,
     engine: Measured,
     load: ReloadLoad,
-    /// How many messages are held.
+    /// The number of messages held.
     held: u64,
-    /// What is put in force next.
+    /// The configuration to load next.
     next: Option<Checked>,
-    /// How often it was put in force.
+    /// The number of reloads that succeeded.
     done: u64,
 }
 
-/// One more guarantee: what is sent to `x` under a key of the pattern never comes to the forbidden queue of this number.
+/// Appends the guarantee that no message published to `x` under a key of `pattern` reaches forbidden queue `number`.
 fn push_never(stated: &mut Stated, pattern: &str, number: u32) {
     let exchange = stated.texts.text(b"x");
     let queue = stated.texts.numbered("f", number);
     stated.push(Mode::Never, exchange, pattern, queue);
 }
 
-/// The guarantees of a load, none where memory is refused.
+/// Returns the guarantees of a load, or `None` if an allocation fails.
 fn guarantees_of(alloc: Global, load: &ReloadLoad) -> Option<Vec<Guarantee>> {
     let mut stated = Stated::new(alloc);
     for number in 0..load.guarantees {
@@ -58,7 +58,7 @@ fn guarantees_of(alloc: Global, load: &ReloadLoad) -> Option<Vec<Guarantee>> {
     }
 }
 
-/// What a load puts in force, none where memory is refused or a guarantee does not hold.
+/// Returns the configuration of a load, or `None` if an allocation fails or a guarantee doesn't hold.
 fn checked_of(alloc: Global, load: &ReloadLoad) -> Option<Checked> {
     let topology = built(alloc, load.shape)?;
     let stated = guarantees_of(alloc, load)?;
@@ -67,7 +67,7 @@ fn checked_of(alloc: Global, load: &ReloadLoad) -> Option<Checked> {
 }
 
 impl Reloading {
-    /// Puts this in force.
+    /// Loads this configuration.
     fn reload(&mut self, checked: Checked) {
         if self.engine.reload(checked, Vec::new(self.alloc)) {
             self.done = self.done.saturating_add(1);
@@ -87,7 +87,7 @@ impl Part for Reloading {
     }
 }
 
-/// Has so many connections hold a message for each of their consumers. Tells how many are held.
+/// Opens `holders` connections that hold a message for each of their consumers. Returns the number of messages held.
 fn hold(engine: &mut Measured, alloc: Global, holders: u32) -> u64 {
     let publisher = engine.open_ready();
     let mut held = 0u64;
@@ -97,7 +97,7 @@ fn hold(engine: &mut Measured, alloc: Global, holders: u32) -> u64 {
     held
 }
 
-/// The load with its messages, none where memory is refused.
+/// Starts a load with its messages. Returns `None` if an allocation fails.
 fn started(alloc: Global, load: &ReloadLoad) -> Option<Reloading> {
     let mut engine = filled(alloc, load.shape, load.publishes, load.keys)?;
     let held = hold(&mut engine, alloc, load.holders);
@@ -111,8 +111,7 @@ fn started(alloc: Global, load: &ReloadLoad) -> Option<Reloading> {
     })
 }
 
-/// Puts the load's configuration in force again and again, and prints how long each of these reloads took, and how much memory
-/// they left.
+/// Loads the load's configuration again and again, and prints the time of each reload, and how much memory they left.
 fn measure(rt: &HostRuntime, reloading: &mut Reloading) -> io::Result<()> {
     let before = resident_bytes(rt)?;
     let reloads = reloading.load.reloads;
@@ -125,7 +124,7 @@ fn measure(rt: &HostRuntime, reloading: &mut Reloading) -> io::Result<()> {
     )
 }
 
-/// Measures one load beside the others, so that none takes memory that another has given back.
+/// Measures each load and keeps them all, so that none reuses memory that another has freed.
 fn measure_loads(rt: &HostRuntime) -> io::Result<()> {
     let mut loads = Vec::new(rt.alloc());
     for place in 0..u32::MAX {
@@ -143,14 +142,14 @@ fn measure_loads(rt: &HostRuntime) -> io::Result<()> {
     Ok(())
 }
 
-/// Prints what a publish takes in each of ten parts.
+/// Prints the time of a publish in each of ten parts.
 fn measure_publishes(rt: &HostRuntime, running: &mut Running, when: &str) -> io::Result<()> {
     print!(rt; "publishes {when} a reload:")?;
     running.print_publishes(rt)?;
     println!(rt; " ns a publish")
 }
 
-/// Puts a load's configuration in force. Tells whether it did.
+/// Loads a load's configuration. Returns whether it is in force.
 fn put_in_force(engine: &mut Measured, alloc: Global, load: &ReloadLoad) -> bool {
     match checked_of(alloc, load) {
         Some(checked) => engine.reload(checked, Vec::new(alloc)),
@@ -158,7 +157,7 @@ fn put_in_force(engine: &mut Measured, alloc: Global, load: &ReloadLoad) -> bool
     }
 }
 
-/// Prints what a publish takes before the same configuration is put in force again, and after that.
+/// Prints the time of a publish before and after a reload of the same configuration.
 fn measure_around(rt: &HostRuntime, engine: Measured, load: &Load) -> io::Result<()> {
     let mut running = Running::over(rt.alloc(), engine, load);
     fill(&mut running.engine, rt.alloc(), PUBLISHER, WAITING);
@@ -168,7 +167,7 @@ fn measure_around(rt: &HostRuntime, engine: Measured, load: &Load) -> io::Result
     println!(rt; "the reload between was done: {is_done}")
 }
 
-/// Measures all.
+/// Measures all loads, and publishes around a reload.
 pub fn measure_all(rt: &HostRuntime) -> io::Result<()> {
     measure_loads(rt)?;
     let load = plain("around a reload", same("around").shape, PUBLISHES, 12);

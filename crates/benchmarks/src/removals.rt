@@ -1,4 +1,4 @@
-//! What it costs to have back what a lost connection held, and to purge a queue.
+//! Measures requeueing what a lost connection held, and purging a queue.
 
 use crate::deliveries::{deliver_to, filled};
 use benchmark_parts::loads::consumers::{put_consume, put_purge};
@@ -8,10 +8,10 @@ use benchmark_parts::measuring::{
 use std::alloc::Global;
 use std::io;
 
-/// How many messages a connection holds when it is lost.
+/// The number of messages that a connection holds when it is lost.
 const HELD: u64 = 10_000;
 
-/// How many messages are purged.
+/// The number of messages that are purged.
 const PURGED: u64 = 1_000_000;
 
 /// A queue whose messages are all delivered to a connection.
@@ -21,12 +21,12 @@ struct Losing {
     engine: Measured,
     /// The connection that holds them.
     holder: u64,
-    /// How many messages were held when it was lost, over all losses.
+    /// The number of messages held at all losses together.
     held: u64,
 }
 
 impl Losing {
-    /// Opens a connection, and has all messages delivered to it.
+    /// Opens a connection, and delivers all messages to it.
     fn hold(&mut self) {
         self.holder = self.engine.open_ready();
         let mut consume = Written::new(self.alloc);
@@ -47,7 +47,7 @@ impl Part for Losing {
     }
 }
 
-/// How many of so many messages are left in the queue `q` to be delivered.
+/// Returns how many of `messages` messages are left in the queue `q`, by delivering them.
 pub fn left_of(engine: &mut Measured, alloc: Global, messages: u64) -> u64 {
     let consumer = engine.open_ready();
     let mut consume = Written::new(alloc);
@@ -56,7 +56,7 @@ pub fn left_of(engine: &mut Measured, alloc: Global, messages: u64) -> u64 {
     deliver_to(engine, consumer, messages)
 }
 
-/// Prints what it costs for each message that a lost connection held, ten times one after another.
+/// Prints the time of each message that a lost connection held, ten times in a row.
 fn measure_losses(rt: &HostRuntime, engine: Measured) -> io::Result<()> {
     let mut losing = Losing {
         alloc: rt.alloc(),
@@ -69,7 +69,7 @@ fn measure_losses(rt: &HostRuntime, engine: Measured) -> io::Result<()> {
     println!(rt; " ns a message; {} held in all", losing.held)
 }
 
-/// Prints what it costs to purge a queue, for each message.
+/// Prints the time of each message of a purge.
 fn measure_purge(rt: &HostRuntime, mut engine: Measured) -> io::Result<()> {
     let connection = engine.open_ready();
     let mut purge = Written::new(rt.alloc());
@@ -84,7 +84,7 @@ fn measure_purge(rt: &HostRuntime, mut engine: Measured) -> io::Result<()> {
     )
 }
 
-/// Measures both.
+/// Measures losses and a purge.
 pub fn measure_all(rt: &HostRuntime) -> io::Result<()> {
     match filled(rt.alloc(), Shape::Direct, HELD, Keys::One) {
         Some(engine) => measure_losses(rt, engine)?,

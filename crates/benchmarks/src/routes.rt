@@ -1,14 +1,14 @@
-//! How long a topology takes to build, and a route to be taken.
+//! Measures building a topology, and routing a key.
 
 use benchmark_parts::measuring::{Shape, built};
 use exchange_graph::Topology;
 use std::io;
 use std::time::Instant;
 
-/// How often a route is taken.
+/// The number of times that a key is routed.
 const ROUTES: u32 = 100;
 
-/// How many queues a key leads to, and 0 where memory is wanting.
+/// Returns the number of queues to which `key` leads, or 0 if an allocation fails.
 fn count_targets(rt: &HostRuntime, topology: &Topology, key: &[u8]) -> usize {
     match topology.route(rt.alloc(), b"x0", key) {
         Ok(targets) => targets.len(),
@@ -16,7 +16,7 @@ fn count_targets(rt: &HostRuntime, topology: &Topology, key: &[u8]) -> usize {
     }
 }
 
-/// Prints how long a route takes on average.
+/// Prints the average time of routing `key`.
 fn measure_route(rt: &HostRuntime, topology: &Topology, links: u32, key: &str) -> io::Result<()> {
     let start = Instant::now(rt)?;
     let mut most = 0;
@@ -27,13 +27,13 @@ fn measure_route(rt: &HostRuntime, topology: &Topology, links: u32, key: &str) -
     println!(rt; "route of {key} past {links} links to {most} queues: {microseconds} microseconds")
 }
 
-/// Prints how long two routes take.
+/// Measures the routes of two keys.
 fn measure_routes(rt: &HostRuntime, topology: &Topology, links: u32) -> io::Result<()> {
     measure_route(rt, topology, links, "a.b.c.d.e")?;
     measure_route(rt, topology, links, "other")
 }
 
-/// Prints how long two routes take where so many exchanges are linked.
+/// Measures the routes of two keys past `links` linked exchanges.
 fn measure_linked(rt: &HostRuntime, links: u32) -> io::Result<()> {
     match built(rt.alloc(), Shape::Linked(links)) {
         Some(topology) => measure_routes(rt, &topology, links),
@@ -41,7 +41,7 @@ fn measure_linked(rt: &HostRuntime, links: u32) -> io::Result<()> {
     }
 }
 
-/// Prints how long a topology of a topic exchange with so many bindings takes to build.
+/// Prints the time of building a topology with a topic exchange with `bindings` bindings.
 fn measure_built(rt: &HostRuntime, bindings: u32) -> io::Result<()> {
     let start = Instant::now(rt)?;
     let is_built = built(rt.alloc(), Shape::Topic(bindings)).is_some();
@@ -49,7 +49,7 @@ fn measure_built(rt: &HostRuntime, bindings: u32) -> io::Result<()> {
     println!(rt; "topology of {bindings} bindings, built ({is_built}): {microseconds} microseconds")
 }
 
-/// Prints how long a topology takes to build, and how long routes take past no exchange, past some, and past all.
+/// Measures building a topology, and routes past no exchange, past some, and past all.
 pub fn measure_all(rt: &HostRuntime) -> io::Result<()> {
     measure_built(rt, 1)?;
     measure_built(rt, 1_000)?;

@@ -1,31 +1,31 @@
-//! What a connection takes that does not run, and has begun a content on each channel.
+//! Measures the memory of a connection that is not running yet, or no longer, and has begun a content on each channel.
 
 use crate::openings::{HEADER, START_OK, engine};
 use benchmark_parts::measuring::{Measured, resident_bytes};
 use std::alloc::{AllocError, Global};
 use std::io;
 
-/// As many connections as there may be.
+/// The number of connections that are allowed.
 const CONNECTIONS: u64 = 1_024;
 
-/// As many channels as a connection may have.
+/// The number of channels that a connection may have.
 const CHANNELS: u8 = 255;
 
-/// How many bytes of each body come. 1,048,576 are declared.
+/// The number of bytes of each body that are sent, of 1,048,576 that its header declares.
 const PIECE: usize = 3_840;
 
-/// Behind a channel number: basic.publish to `orders` under the key `new`.
+/// The rest of a frame after its channel number: basic.publish to `orders` under the key `new`.
 const PUBLISH: &[u8] = b"\x00\x00\x00\x12\x00\x3c\x00\x28\x00\x00\x06orders\x03new\x00\xce";
 
-/// Behind a channel number: a header of a body of 1,048,576 bytes.
+/// The rest of a frame after its channel number: the header of a body of 1,048,576 bytes.
 const LARGE: &[u8] =
     b"\x00\x00\x00\x0e\x00\x3c\x00\x00\x00\x00\x00\x00\x00\x10\x00\x00\x00\x00\xce";
 
-/// connection.start-ok by `PLAIN`, with a password that is not the user's.
+/// connection.start-ok by `PLAIN`, with a wrong password.
 const REFUSED: &[u8] =
     b"\x01\x00\x00\x00\x00\x00\x1d\x00\x0a\x00\x0b\x00\x00\x00\x00\x05PLAIN\x00\x00\x00\x05\x00u\x00no\x05en_US\xce";
 
-/// A frame of this type on a channel, by what stands behind its channel number.
+/// Appends a frame of type `kind` on `channel`, whose rest after the channel number is `behind`.
 fn put_frame(bytes: &mut Vec<u8>, kind: u8, channel: u8, behind: &[u8]) -> Result<(), AllocError> {
     bytes.push(kind)?;
     bytes.push(0)?;
@@ -33,7 +33,7 @@ fn put_frame(bytes: &mut Vec<u8>, kind: u8, channel: u8, behind: &[u8]) -> Resul
     bytes.extend_from_slice(behind)
 }
 
-/// The publishes on all channels, up to a piece of each body.
+/// Returns the publishes on all channels, each up to a part of its body.
 fn begun_contents(alloc: Global) -> Result<Vec<u8>, AllocError> {
     let mut piece = Vec::from_slice(alloc, b"\x00\x00\x0f\x00")?;
     piece.extend_from_slice(&vec![in alloc; 120; PIECE]?)?;
@@ -47,7 +47,7 @@ fn begun_contents(alloc: Global) -> Result<Vec<u8>, AllocError> {
     Ok(bytes)
 }
 
-/// Opens connections up to a phase, begins contents, and prints how much each connection takes.
+/// Opens connections up to a phase, begins contents on them, and prints the memory of each connection.
 fn measure(
     rt: &HostRuntime,
     engine: &mut Measured,
@@ -70,7 +70,7 @@ fn measure(
     println!(rt; "strangers, {phase}: {grown} bytes a connection")
 }
 
-/// Measures the phases in which a client is a stranger, each over an engine of its own.
+/// Measures the phases in which a client is a stranger, each with an engine of its own.
 pub fn measure_all(rt: &HostRuntime) -> io::Result<()> {
     let alloc = rt.alloc();
     let Ok(contents) = begun_contents(alloc) else {

@@ -1,12 +1,6 @@
 -- A waiter among others, and what is left of them after a sweep.
-use Rattle.std.proofs.Common.{Some, None, ◌+◌, ◌≡◌, ◌∙◌, ◌<◌, ℕ, zero, suc, List, [], ◌∷◌, ◌++◌, Bool, true, false, cond, length, get_or, filter, inl, inr, refl, sym, ap, subst, arith, if◌then◌else◌}
-use Rattle.std.specs.Prelude.{is_some, ◌==◌, ◌&&◌}
-use Rattle.std.specs.List.{position_from}
-use Rattle.std.proofs.lemmas.Bool.{eqb-true, eq-eqb, false≢true}
-use Rattle.model.specs.Topology.{IsIn}
-use Rattle.broker.specs.Rounds.{is_consumer, is_waiter_of}
-use Rattle.broker.specs.declared.rounds.waiters.Waiter.{Waiter}
-use Rattle.commands.specs.declared.picks.Pick.{Pick}
+use Rattle.broker.proofs.Names.{Some, None, ◌+◌, ◌∙◌, ◌<◌, ℕ, zero, suc, List, [], ◌∷◌, ◌++◌, Bool, true, false, cond, length, get_or, filter, inl, inr, refl, sym, ap, subst, arith, if◌then◌else◌, is_some, ◌==◌, ◌&&◌, position_from, eqb-true, eq-eqb, false≢true, IsIn, is_consumer, is_waiter_of, Waiter, Pick}
+use Rattle.std.proofs.Common.{◌≡◌}
 use Rattle.broker.proofs.Waking.{both}
 
 -- what passes a test stays

@@ -1,29 +1,11 @@
 -- What a pick finds at a waiter.
-use Rattle.std.proofs.Common.{◌≡◌, ◌∙◌, ◌<◌, ◌≤◌, ℕ, List, [], ◌∷◌, Bool, true, false, cond, Some, length, filter, find, inl, inr, refl, sym, ap, subst, arith}
-use Rattle.std.specs.Prelude.{◌==◌}
-use Rattle.std.proofs.lemmas.Bool.{eqb-true, eq-eqb, false≢true}
-use Rattle.std.proofs.lemmas.Bool.Decides.{leb_tells}
-use Rattle.std.proofs.lemmas.Option.{same_Some}
-use Rattle.model.specs.Topology.{IsIn}
+use Rattle.broker.proofs.Names.{◌∙◌, ◌<◌, ◌≤◌, ℕ, List, [], ◌∷◌, Bool, true, false, cond, Some, length, filter, find, inl, inr, refl, sym, ap, subst, arith, ◌==◌, eqb-true, eq-eqb, false≢true, leb_tells, same_Some, IsIn, is_ready, MayTake, first_ready, Entry, queue_name, queue_at, HasReady, IsStoreWhole, consumer_in, Kept, names_of, IsPick, IsPickFrom, TakesAs, IsKeptAs, CannotTake, has_consumer, Pick, same_place, Found, Waiter, is_able, is_of, awake_waiter, FindsWaiter, HasConsumer}
+use Rattle.std.proofs.Common.{◌≡◌}
 use Rattle.model.specs.Broker as seen
-use Rattle.model.specs.Broker.{is_ready}
-use Rattle.model.specs.Consuming.{MayTake}
-use Rattle.model.specs.Deliveries.{first_ready}
-use Rattle.model.specs.declared.messages.Entry.{Entry}
-use Rattle.exchange_graph.specs.Marks.{queue_name}
-use Rattle.depot.specs.Store.{queue_at, HasReady, IsStoreWhole}
 use Rattle.depot.proofs.Named.{queue_of-place}
-use Rattle.channels.specs.Open.{consumer_in}
 use Rattle.channels.specs.declared.consumers.Consumer.{Consumer}
-use Rattle.commands.specs.State.{Kept, broker_of, topology_kept, names_of}
-use Rattle.commands.specs.Picked.{IsPick, IsPickFrom, TakesAs, IsKeptAs, CannotTake}
-use Rattle.commands.specs.Seats.{has_consumer}
-use Rattle.commands.specs.declared.picks.Pick.{Pick}
-use Rattle.commands.proofs.Picking.{same_place}
-use Rattle.broker.specs.declared.rounds.finding.Found.{Found}
+use Rattle.commands.specs.State.{broker_of, topology_kept}
 use Rattle.broker.specs.declared.rounds.finding.Found.TheVariants.{Able, Unable, Over}
-use Rattle.broker.specs.declared.rounds.waiters.Waiter.{Waiter}
-use Rattle.broker.specs.Rounds.{is_able, is_of, awake_waiter, FindsWaiter, HasConsumer}
 use Rattle.broker.proofs.Present.{has_kept}
 use Rattle.broker.proofs.Sleeping.{cannot_pick}
 use Rattle.broker.proofs.Takers.{has_of, not_of, picked_of}

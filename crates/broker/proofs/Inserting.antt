@@ -1,15 +1,7 @@
 -- A waiter comes in as the last of its line.
-use Rattle.std.proofs.Common.{◌≡◌, ◌∙◌, ◌<◌, ◌≤◌, ◌+◌, ◌⊎◌, ◌++◌, ℕ, zero, suc, List, [], ◌∷◌, Bool, Result, if◌then◌else◌, length, take, drop, get_or, min, inl, inr, refl, sym, ap, subst, arith}
-use Rattle.std.specs.Prelude.{insert, is_ok, IsOk}
-use Rattle.std.proofs.lemmas.Bool.Decides.{leb_tells}
-use Rattle.std.proofs.lemmas.List.{drop_min, take_min, drop_all, take_all, append_assoc, append-nil, take-append-drop}
-use Rattle.model.specs.Topology.{IsIn}
-use Rattle.marks.specs.Places.{bit_of}
-use Rattle.commands.specs.State.{Kept}
-use Rattle.commands.specs.declared.picks.Pick.{Pick}
-use Rattle.broker.specs.declared.rounds.waiters.Waiter.{Waiter}
-use Rattle.broker.specs.Lines.{turned, AreDistinct}
-use Rattle.broker.specs.Rounds.{round_of, picks, awake_waiter, asleep_waiter, IsAwake, KeepsRound}
+use Rattle.broker.proofs.Names.{◌∙◌, ◌<◌, ◌≤◌, ◌+◌, ◌++◌, ℕ, zero, suc, List, [], ◌∷◌, Bool, Result, if◌then◌else◌, length, take, drop, get_or, min, inl, inr, refl, sym, ap, subst, arith, insert, is_ok, IsOk, leb_tells, drop_min, take_min, drop_all, take_all, append-nil, take-append-drop, IsIn, bit_of, Kept, Pick, Waiter, turned, AreDistinct, round_of, picks, awake_waiter, asleep_waiter, IsAwake, KeepsRound}
+use Rattle.std.proofs.Common.{◌≡◌, ◌⊎◌}
+use Rattle.std.proofs.lemmas.List.{append_assoc}
 use Rattle.broker.proofs.Lining.{in_place}
 use Rattle.broker.proofs.Picks.{picks_length, picks_at}
 use Rattle.broker.proofs.Standing.{distinct_parts}

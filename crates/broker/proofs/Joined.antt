@@ -1,33 +1,12 @@
 -- Waiters of consumers: among others, after a sweep, and at each event.
-use Rattle.std.proofs.Common.{◌≡◌, ◌∙◌, ℕ, List, [], ◌∷◌, ◌++◌, Bool, true, false, Option, Some, None, length, inl, inr, ◌⊎◌, refl, sym, ap, subst, if◌then◌else◌}
-use Rattle.std.specs.Prelude.{option_map, is_some, ◌==◌, ◌&&◌}
-use Rattle.std.proofs.lemmas.Bool.{eqb-true, eq-eqb, false≢true}
-use Rattle.std.proofs.lemmas.Option.{same_Some}
-use Rattle.model.specs.Words.{Text}
-use Rattle.model.specs.Topology.{Topology, IsIn}
-use Rattle.model.specs.Agreement.{IsAgreed}
+use Rattle.broker.proofs.Names.{◌∙◌, ℕ, List, [], ◌∷◌, ◌++◌, Bool, true, false, Option, Some, None, length, inl, inr, refl, sym, ap, subst, if◌then◌else◌, option_map, is_some, ◌==◌, ◌&&◌, eqb-true, eq-eqb, false≢true, same_Some, Text, Topology, IsIn, IsAgreed, Broker, Channel, Connection, with_pair, with_row, Is, Acts, Refuses, Decides, OnConnection, Refusal, Ignored, Of_channel, Of_connection, refusal, channel_or_new, consumer_of, ids_of, Content, Method, BasicConsume, Send, Event, Command, Note, WasConsumer, IsMadeBy, ConsumersAreMade, open_in, running_in, channel_in, channel_at, connection_at, limits_of, Kept, names_of, Rounds, Lists, Listing, round_at, listing, is_of, wakes, HasConsumer, AllAreInRounds, AllAreNoted, AllAreConsumers, AllListedAreThere, HasJoined, IsServing, AllRun, HasNoList, MakesNoList, NotesStay, IsNoted, IsInItsRound, IsAwake, KeepsWaiters, KeepsAll, next_number, next_seat, seat_of, consumed, IsConsumed, Pick}
+use Rattle.std.proofs.Common.{◌≡◌, ◌⊎◌}
 use Rattle.model.specs.Broker as seen
-use Rattle.model.specs.Broker.{Broker, Channel, Connection, with_pair, with_row}
-use Rattle.model.specs.Step.{Is, Acts, Refuses, Decides, OnConnection, Refusal, Ignored, Of_channel, Of_connection, refusal, channel_or_new}
-use Rattle.model.specs.Consuming.{consumer_of}
-use Rattle.model.specs.Grammar.{ids_of}
-use Rattle.model.specs.declared.contents.Content.{Content}
 use Rattle.model.specs.declared.methods.Consume.{Consume}
-use Rattle.model.specs.declared.methods.Method.{Method}
-use Rattle.model.specs.declared.methods.Method.TheVariants.{BasicConsume}
-use Rattle.model.specs.declared.events.Send.{Send}
-use Rattle.model.specs.declared.events.Event.{Event}
-use Rattle.model.specs.declared.events.Event.TheVariants.{Command}
-use Rattle.model.specs.declared.notes.Note.{Note}
-use Rattle.laws.specs.Consumers.{WasConsumer, IsMadeBy, ConsumersAreMade}
-use Rattle.channels.specs.Open.{Open, open_in}
-use Rattle.channels.specs.RunningConnections.{Running, running_in, channel_in, channel_at, connection_at, limits_of}
-use Rattle.commands.specs.State.{Kept, broker_of, topology_kept, names_of}
+use Rattle.channels.specs.Open.{Open}
+use Rattle.channels.specs.RunningConnections.{Running}
+use Rattle.commands.specs.State.{broker_of, topology_kept}
 use Rattle.commands.specs.Judged.{IsIgnored}
-use Rattle.broker.specs.Rounds.{Rounds, Lists, Listing, round_at, listing, is_of, wakes, HasConsumer, AllAreInRounds, AllAreNoted, AllAreConsumers, AllListedAreThere, HasJoined, IsServing, AllRun, HasNoList, MakesNoList, NotesStay, IsNoted, IsInItsRound, IsAwake, KeepsWaiters, KeepsAll}
-use Rattle.channels.specs.Consumers.{next_number}
-use Rattle.commands.specs.Seats.{next_seat, seat_of, consumed, IsConsumed}
-use Rattle.commands.specs.declared.picks.Pick.{Pick}
 use Rattle.broker.proofs.Takers.{has_of}
 use Rattle.broker.proofs.Waking.{cannot_still}
 

@@ -1,17 +1,7 @@
 -- A waiter is made, and those of consumers that are gone go: those who are there are gone round as before.
-use Rattle.std.proofs.Common.{◌≡◌, ◌∙◌, ◌≤◌, ◌+◌, ℕ, zero, suc, List, [], ◌∷◌, Bool, true, false, cond, length, take, drop, filter, min, inl, inr, refl, sym, ap, subst, arith}
-use Rattle.std.specs.Prelude.{count_by, not, ◌==◌, ◌||◌}
-use Rattle.std.proofs.lemmas.Bool.{false≢true}
-use Rattle.std.proofs.lemmas.List.{drop_min, take_min}
-use Rattle.std.proofs.lemmas.List.Elements.{filter-append}
-use Rattle.std.proofs.lemmas.List.Sums.{length-filter, count_by-le-length}
-use Rattle.laws.proofs.Counts.{count-cons}
-use Rattle.model.specs.Topology.{IsIn}
-use Rattle.commands.specs.State.{Kept}
-use Rattle.commands.specs.declared.picks.Pick.{Pick}
-use Rattle.broker.specs.declared.rounds.waiters.Waiter.{Waiter}
-use Rattle.broker.specs.Lines.{turned}
-use Rattle.broker.specs.Rounds.{picks, is_of, remains}
+use Rattle.broker.proofs.Names.{◌∙◌, ◌≤◌, ◌+◌, ℕ, zero, suc, List, [], ◌∷◌, Bool, true, false, cond, length, take, drop, filter, min, inl, inr, refl, sym, ap, subst, arith, not, ◌==◌, ◌||◌, false≢true, drop_min, take_min, filter-append, length-filter, count_by-le-length, count-cons, IsIn, Kept, Pick, Waiter, turned, picks, is_of, remains}
+use Rattle.std.proofs.Common.{◌≡◌}
+use Rattle.std.specs.Prelude.{count_by}
 use Rattle.broker.proofs.Picks.{of_waiter, picks_length, picks_swept}
 use Rattle.broker.proofs.Standing.{from_turned}
 

@@ -1,3 +1,4 @@
+pub mod Names
 mod Among
 mod Found
 mod Inserting

@@ -1,11 +1,8 @@
 -- Lines that are gone round.
-use Rattle.std.proofs.Common.{◌≡◌, ◌∙◌, ◌<◌, ◌≤◌, ◌+◌, ◌-◌, ◌⊎◌, ◌++◌, ℕ, zero, suc, List, [], ◌∷◌, Bool, true, false, if◌then◌else◌, length, take, drop, get_or, filter, cond, min, inl, inr, refl, sym, ap, subst, arith}
-use Rattle.std.specs.Prelude.{nat_lt}
-use Rattle.std.proofs.lemmas.Bool.{ltb-true, lt-ltb, false≢true}
-use Rattle.std.proofs.lemmas.Bool.Decides.{leb_tells}
-use Rattle.std.proofs.lemmas.List.{take_at, drop_at, take-append-drop, length-append, length-take, length-drop, append_assoc, take_all, drop_all}
-use Rattle.model.specs.Topology.{IsIn}
-use Rattle.broker.specs.Lines.{turned, ahead, IsPassed, AreDistinct}
+use Rattle.broker.proofs.Names.{◌∙◌, ◌<◌, ◌≤◌, ◌+◌, ◌-◌, ◌++◌, ℕ, zero, suc, List, [], ◌∷◌, Bool, true, false, if◌then◌else◌, length, take, drop, get_or, filter, cond, min, inl, inr, refl, sym, ap, subst, arith, nat_lt, lt-ltb, false≢true, leb_tells, take_at, drop_at, take-append-drop, length-append, length-take, length-drop, take_all, drop_all, IsIn, turned, ahead, IsPassed, AreDistinct}
+use Rattle.std.proofs.Common.{◌≡◌, ◌⊎◌}
+use Rattle.std.proofs.lemmas.Bool.{ltb-true}
+use Rattle.std.proofs.lemmas.List.{append_assoc}
 
 -- ---- places that are passed
 

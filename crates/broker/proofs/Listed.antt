@@ -1,14 +1,6 @@
 -- Lists of the channels: which waiters are listed, and which of them sleep.
-use Rattle.std.proofs.Common.{◌≡◌, ◌∙◌, ◌<◌, ◌≤◌, ◌+◌, ◌++◌, ◌⊎◌, ℕ, zero, suc, List, [], ◌∷◌, Bool, true, false, length, get_or, set, filter, inl, inr, refl, sym, ap, subst, arith, if◌then◌else◌}
-use Rattle.std.specs.Prelude.{◌==◌}
-use Rattle.std.proofs.lemmas.Bool.{eqb-true, eq-eqb}
-use Rattle.std.proofs.lemmas.Bool.Decides.{leb_tells}
-use Rattle.std.proofs.lemmas.List.{length-append, get_or_past, get_or-set_same, get_or-set_other}
-use Rattle.model.specs.Topology.{IsIn}
-use Rattle.marks.specs.Places.{bit_of, Differs}
-use Rattle.channels.proofs.Setting.{same_default}
-use Rattle.commands.specs.State.{Kept}
-use Rattle.broker.specs.Rounds.{listings_of, Waiters, Listing, Listings, is_consumer, is_listing, is_listed_there, is_of, number_of, AreBelow, NumbersRise, listing, listings_on, IsAsleepAt, IsAsleepIn, HasListRoom, AddsListing, KeepsListings, SleepMore, IsWoken}
+use Rattle.broker.proofs.Names.{◌∙◌, ◌<◌, ◌≤◌, ◌+◌, ◌++◌, ℕ, zero, suc, List, [], ◌∷◌, Bool, true, false, length, get_or, set, filter, inl, inr, refl, sym, ap, subst, arith, if◌then◌else◌, ◌==◌, eqb-true, eq-eqb, leb_tells, length-append, get_or_past, get_or-set_same, get_or-set_other, IsIn, bit_of, Differs, same_default, Kept, listings_of, Waiters, Listing, Listings, is_consumer, is_listing, is_listed_there, is_of, number_of, AreBelow, NumbersRise, listing, listings_on, IsAsleepAt, IsAsleepIn, HasListRoom, AddsListing, KeepsListings, SleepMore, IsWoken}
+use Rattle.std.proofs.Common.{◌≡◌, ◌⊎◌}
 use Rattle.broker.proofs.Among.{stays, place_in, in_at, in_front, front_at, one_consumer, same_consumer}
 use Rattle.broker.proofs.Lining.{in_either}
 use Rattle.broker.proofs.Rising.{rises_end}

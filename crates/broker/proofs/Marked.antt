@@ -1,14 +1,7 @@
 -- Queues over which picks go: each in whose round a waiter is awake is marked.
-use Rattle.std.proofs.Common.{◌≡◌, ◌∙◌, ◌<◌, ◌≤◌, ◌+◌, ◌*◌, ℕ, List, [], Bool, true, false, length, set, inl, inr, refl, sym, ap, subst, arith}
-use Rattle.std.specs.Prelude.{◌==◌}
-use Rattle.std.proofs.lemmas.Bool.{eqb-true}
-use Rattle.std.proofs.lemmas.Bool.Decides.{leb_tells}
-use Rattle.std.proofs.lemmas.List.{length-set, get_or-set_same, get_or-set_other}
-use Rattle.marks.specs.Places.{bit_of, Differs}
-use Rattle.commands.specs.State.{Kept, broker_of}
-use Rattle.commands.specs.Picked.{IsPickFrom}
-use Rattle.commands.specs.declared.picks.Pick.{Pick}
-use Rattle.broker.specs.Rounds.{Waiters, Lists, round_at, rounds_of, is_of, IsAwake, IsInRound, QueuesAreMarked, NoneMarked, KeepsIn, KeepsRound, KeepRounds, KeepsWaiters, ListsMore, Wakens, AllWaken}
+use Rattle.broker.proofs.Names.{◌∙◌, ◌<◌, ◌≤◌, ◌+◌, ◌*◌, ℕ, List, [], Bool, true, false, length, set, inl, inr, refl, sym, ap, subst, arith, ◌==◌, eqb-true, leb_tells, length-set, get_or-set_same, get_or-set_other, bit_of, Differs, Kept, IsPickFrom, Pick, Waiters, Lists, round_at, rounds_of, is_of, IsAwake, IsInRound, QueuesAreMarked, NoneMarked, KeepsIn, KeepsRound, KeepRounds, KeepsWaiters, ListsMore, Wakens, AllWaken}
+use Rattle.std.proofs.Common.{◌≡◌}
+use Rattle.commands.specs.State.{broker_of}
 use Rattle.broker.proofs.Sleeping.{apart, set_more, cannot_pick, joined_more}
 
 -- a queue from which a delivery can be made to one who has a waiter there is marked

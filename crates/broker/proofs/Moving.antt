@@ -1,18 +1,6 @@
 -- Rounds of queues that stand at other places, and consumers that stand there.
-use Rattle.std.proofs.Common.{◌≡◌, ◌∙◌, ◌<◌, ◌+◌, ℕ, zero, suc, List, [], ◌∷◌, Bool, true, false, Option, Some, None, length, map, get_or, set, inl, inr, refl, sym, ap, subst, arith}
-use Rattle.std.specs.Prelude.{◌==◌, nat_eq, option_map}
-use Rattle.std.specs.Map.{lookup}
-use Rattle.std.proofs.lemmas.Bool.{eqb-true}
-use Rattle.std.proofs.lemmas.Bool.Decides.{leb_tells}
-use Rattle.std.proofs.lemmas.List.{length-set, length-map, get_or-set_same, get_or-set_other}
-use Rattle.std.proofs.lemmas.Map.Made.{lookup-map_values}
-use Rattle.model.specs.Topology.{IsIn}
-use Rattle.marks.specs.Places.{bit_of}
-use Rattle.channels.specs.Moving.{place_now}
-use Rattle.commands.specs.declared.picks.Pick.{Pick}
-use Rattle.broker.specs.declared.rounds.waiters.Waiter.{Waiter}
-use Rattle.broker.specs.Rounds.{Waiters, Lists, Listing, Listings, round_of, round_at, awake_waiter, asleep_waiter, listings_on, channels_of, order, IsAwake, QueuesAreMarked}
-use Rattle.broker.specs.Moving.{all_awake, StandsIn, AllRoused, IsMoved, IsOfEither, ArePlacesApart, listing_moved, channels_moved, all_moved, ListsAreMoved}
+use Rattle.broker.proofs.Names.{◌∙◌, ◌<◌, ◌+◌, ℕ, zero, suc, List, [], ◌∷◌, Bool, true, false, Option, Some, None, length, map, get_or, set, inl, inr, refl, sym, ap, subst, arith, ◌==◌, nat_eq, option_map, lookup, eqb-true, leb_tells, length-set, length-map, get_or-set_same, get_or-set_other, lookup-map_values, IsIn, bit_of, place_now, Pick, Waiter, Waiters, Lists, Listing, Listings, round_of, round_at, awake_waiter, asleep_waiter, listings_on, channels_of, order, IsAwake, QueuesAreMarked, all_awake, StandsIn, AllRoused, IsMoved, IsOfEither, ArePlacesApart, listing_moved, channels_moved, all_moved, ListsAreMoved}
+use Rattle.std.proofs.Common.{◌≡◌}
 use Rattle.broker.proofs.Among.{place_in}
 use Rattle.broker.proofs.Sleeping.{apart}
 

@@ -1,17 +1,7 @@
 -- Whoever could be told and is not is nearer to its turn.
-use Rattle.std.proofs.Common.{◌≡◌, ◌∙◌, ◌<◌, ◌+◌, ◌⊎◌, ◌++◌, ℕ, List, [], ◌∷◌, Bool, true, false, Option, Some, None, if◌then◌else◌, length, inl, inr, refl, sym, ap, subst, arith}
-use Rattle.std.specs.Prelude.{IfSome}
-use Rattle.std.proofs.lemmas.Bool.{false≢true}
-use Rattle.model.specs.Topology.{Topology, IsIn}
-use Rattle.model.specs.Broker.{Broker}
-use Rattle.commands.specs.State.{Kept}
-use Rattle.commands.specs.Picked.{IsPickFrom}
-use Rattle.commands.specs.declared.picks.Pick.{Pick}
-use Rattle.broker.specs.declared.rounds.waiters.Waiter.{Waiter}
-use Rattle.broker.specs.Lines.{ahead, standing, IsPassed}
-use Rattle.broker.specs.Rounds.{Waiters, Rounds, Lists, picks, order, awake_waiter, asleep_waiter, is_consumer, IsInRound, GoesOn, PicksFirst}
-use Rattle.broker.specs.Turns.{WithTurn, with_turn, topology_kept}
-use Rattle.broker.specs.Waiting.{line_at, queues, standing_at, ahead_at, Stands, CanGive, IsFirst, IsToldInTurn, LinesStay}
+use Rattle.broker.proofs.Names.{◌∙◌, ◌<◌, ◌+◌, ◌++◌, ℕ, List, [], ◌∷◌, Bool, true, false, Option, Some, None, if◌then◌else◌, length, inl, inr, refl, sym, ap, subst, arith, IfSome, false≢true, Topology, IsIn, Broker, Kept, IsPickFrom, Pick, Waiter, ahead, standing, IsPassed, Waiters, Rounds, Lists, picks, order, awake_waiter, asleep_waiter, is_consumer, IsInRound, GoesOn, PicksFirst, WithTurn, with_turn, line_at, queues, standing_at, ahead_at, Stands, CanGive, IsFirst, IsToldInTurn, LinesStay}
+use Rattle.std.proofs.Common.{◌≡◌, ◌⊎◌}
+use Rattle.broker.specs.Turns.{topology_kept}
 use Rattle.broker.proofs.Among.{one_consumer, same_consumer}
 use Rattle.broker.proofs.Lining.{in_either, in_place, ahead_nearer}
 use Rattle.broker.proofs.Picks.{picks_length, picks_at}

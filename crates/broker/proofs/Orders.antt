@@ -1,13 +1,7 @@
 -- Rounds and queues are gone over in turn.
-use Rattle.std.proofs.Common.{◌≡◌, ◌∙◌, ◌<◌, ◌≤◌, ◌+◌, ◌++◌, ℕ, List, [], ◌∷◌, Bool, true, false, length, get_or, set, min, inl, inr, refl, sym, ap, subst, arith}
-use Rattle.std.specs.Prelude.{◌==◌}
-use Rattle.std.proofs.lemmas.Bool.{eqb-true, eq-eqb}
-use Rattle.commands.specs.State.{Kept, broker_of}
-use Rattle.commands.specs.Picked.{IsPickFrom}
-use Rattle.commands.specs.declared.picks.Pick.{Pick}
-use Rattle.broker.specs.declared.rounds.waiters.Waiter.{Waiter}
-use Rattle.broker.specs.Lines.{turned, IsPassed, AreDistinct}
-use Rattle.broker.specs.Rounds.{Waiters, Rounds, Lists, round_at, picks, order, awake_waiter, IsInRound, NoneAwake, NoneAwakePassed, NoneBetween, NonePassed, GoesLast, SameOrders, PicksFrom, KeepsWaiters, AddsOne, AddsItsOwn, AllAddTheirOwn, GoesOn, StaysAt, Wakens, AllWaken, is_of}
+use Rattle.broker.proofs.Names.{◌∙◌, ◌<◌, ◌≤◌, ◌+◌, ◌++◌, ℕ, List, [], ◌∷◌, Bool, true, false, length, get_or, set, min, inl, inr, refl, sym, ap, subst, arith, ◌==◌, eqb-true, eq-eqb, Kept, IsPickFrom, Pick, Waiter, turned, IsPassed, AreDistinct, Waiters, Rounds, Lists, round_at, picks, order, awake_waiter, IsInRound, NoneAwake, NoneAwakePassed, NoneBetween, NonePassed, GoesLast, SameOrders, PicksFrom, KeepsWaiters, AddsOne, AddsItsOwn, AllAddTheirOwn, GoesOn, StaysAt, Wakens, AllWaken, is_of}
+use Rattle.std.proofs.Common.{◌≡◌}
+use Rattle.commands.specs.State.{broker_of}
 use Rattle.broker.proofs.Lining.{GoneRound, gone_round, passed_on, passed_round, passed_least, distinct_place}
 use Rattle.broker.proofs.Marked.{set_here, set_there, was_here}
 use Rattle.broker.proofs.Picks.{picks_length, picks_at}

@@ -1,6 +1,6 @@
 -- What both outcomes of a call give.
-use Rattle.std.proofs.Common.{◌≡◌, Option, Some, None, Result, Ok, Err, subst}
-use Rattle.std.specs.Prelude.{IfSome, OnOk, OnErr}
+use Rattle.broker.proofs.Names.{Option, Some, None, Result, Ok, Err, subst, IfSome, OnOk, OnErr}
+use Rattle.std.proofs.Common.{◌≡◌}
 
 -- what follows from success and from failure follows
 pub either_way : {A E : Type 0} {X Y Z : Type 0} (r : Result A E) → OnOk r X → OnErr r Y → (X → Z) → (Y → Z) → Z

@@ -1,11 +1,6 @@
 -- The consumers of waiters, in their order.
-use Rattle.std.proofs.Common.{◌≡◌, ◌∙◌, ◌<◌, ℕ, zero, suc, List, [], ◌∷◌, Bool, true, false, cond, length, get_or, set, filter, refl, sym, ap, subst, inl, inr, ◌++◌, arith}
-use Rattle.model.specs.Topology.{IsIn}
-use Rattle.commands.specs.declared.picks.Pick.{Pick}
-use Rattle.broker.specs.declared.rounds.waiters.Waiter.{Waiter}
-use Rattle.broker.specs.Lines.{AreDistinct}
-use Rattle.broker.specs.Rounds.{picks}
-use Rattle.broker.specs.Moving.{all_awake}
+use Rattle.broker.proofs.Names.{◌∙◌, ◌<◌, ℕ, zero, suc, List, [], ◌∷◌, Bool, true, false, cond, length, get_or, set, filter, refl, sym, ap, subst, inl, inr, ◌++◌, arith, IsIn, Pick, Waiter, AreDistinct, picks, all_awake}
+use Rattle.std.proofs.Common.{◌≡◌}
 use Rattle.broker.proofs.Lining.{filter_distinct, distinct_end}
 
 pub picks_length : (waiters : List Waiter) → length (picks waiters) ≡ length waiters

@@ -1,22 +1,10 @@
 -- A consumer that is seen is kept.
-use Rattle.std.proofs.Common.{◌≡◌, ◌∙◌, ℕ, List, [], ◌∷◌, Bool, true, false, cond, Option, Some, map, find, inl, inr, refl, sym, ap, subst}
-use Rattle.std.specs.Prelude.{is_some, ◌==◌}
-use Rattle.std.proofs.lemmas.Bool.{eq-eqb}
-use Rattle.model.specs.Words.{Text}
-use Rattle.model.specs.Topology.{IsIn}
+use Rattle.broker.proofs.Names.{◌∙◌, ℕ, List, [], ◌∷◌, Bool, true, false, cond, Option, Some, map, find, inl, inr, refl, sym, ap, subst, is_some, ◌==◌, eq-eqb, Text, IsIn, Channel, consumer_in, channel_of, consumer_numbered, WasConsumer, Kept, names_of, IsPickFrom, has_consumer, Pick, seen_there, HasConsumer}
+use Rattle.std.proofs.Common.{◌≡◌}
 use Rattle.model.specs.Broker as seen
-use Rattle.model.specs.Broker.{Channel}
-use Rattle.channels.specs.Open.{Open, consumer_in}
+use Rattle.channels.specs.Open.{Open}
 use Rattle.channels.specs.declared.consumers.Consumer.{Consumer}
-use Rattle.channels.specs.RunningConnections.{channel_of}
-use Rattle.channels.specs.Consumers.{consumer_numbered}
-use Rattle.laws.specs.Consumers.{WasConsumer}
-use Rattle.commands.specs.State.{Kept, broker_of, topology_kept, names_of}
-use Rattle.commands.specs.Picked.{IsPickFrom}
-use Rattle.commands.specs.Seats.{has_consumer}
-use Rattle.commands.specs.declared.picks.Pick.{Pick}
-use Rattle.commands.proofs.Stepping.{seen_there}
-use Rattle.broker.specs.Rounds.{HasConsumer}
+use Rattle.commands.specs.State.{broker_of, topology_kept}
 
 found_by : (names : List Text) (cs : List Consumer) (k : seen.Consumer) (n : ℕ) → IsIn k (map (consumer_in names) cs) → k.number ≡ n → is_some (find (λ (c : Consumer). c.number == n) cs) ≡ true
 found_by names [] k n i e = absurd i

@@ -1,37 +1,12 @@
 -- Another topology is in force: what every broker keeps.
-use Rattle.std.proofs.Common.{◌≡◌, ◌∙◌, ◌<◌, ◌+◌, ℕ, zero, suc, List, [], true, Option, None, length, get_or, inl, inr, refl, sym, ap, subst, arith}
+use Rattle.broker.proofs.Names.{◌∙◌, ◌<◌, ◌+◌, ℕ, zero, suc, List, [], true, Option, None, length, get_or, inl, inr, refl, sym, ap, subst, arith, leb_tells, get_or_past, Text, IsIn, AreApart, Broker, IsAgreed, is_held_as, by_consumer, NoneIsStranded, stood_now, with_all_stood, Is, Entry, count-map, place_now, consumer_in, goes, AreMoved, IsStoreWhole, names-length, is_in, channel_of, same_default, Kept, ArePlaced, names_of, Pick, seen_there, queue_name, Waiter, turned, AreDistinct, Rounds, Lists, Listing, Waiters, round_at, listed_on, is_listed_there, NumbersRise, picks, order, is_of, IsItsOwn, AllListedAreThere, IsAwake, IsInRound, listing, HasConsumer, AllAreInRounds, AllAreNoted, AreItsConsumers, AllAreConsumers, IsNoted, IsServing, AllAreEmpty, listing_moved, StandsIn, IsMoved, ArePlacesApart, RoundsAreMoved, LinesCome, ListsAreMoved, with_turn, LinesMove}
+use Rattle.std.proofs.Common.{◌≡◌}
 use Rattle.std.specs.Prelude.{count_by}
-use Rattle.std.proofs.lemmas.Bool.Decides.{leb_tells}
-use Rattle.std.proofs.lemmas.List.{get_or_past}
-use Rattle.model.specs.Words.{Text}
-use Rattle.model.specs.Topology.{IsIn, AreApart}
 use Rattle.model.specs.Broker as seen
-use Rattle.model.specs.Broker.{Broker}
-use Rattle.model.specs.Agreement.{IsAgreed}
-use Rattle.model.specs.Entries.{is_held_as}
-use Rattle.model.specs.Reloading.{by_consumer, NoneIsStranded, stood_now, with_all_stood}
-use Rattle.model.specs.Step.{Is}
-use Rattle.model.specs.declared.messages.Entry.{Entry}
-use Rattle.laws.proofs.Counts.{count-map}
-use Rattle.channels.specs.Moving.{place_now}
-use Rattle.channels.specs.Open.{consumer_in}
-use Rattle.depot.specs.Moving.{stays, goes, AreMoved}
-use Rattle.depot.specs.Store.{IsStoreWhole}
-use Rattle.depot.proofs.Naming.{names-length, is_in}
-use Rattle.channels.specs.RunningConnections.{channel_of}
-use Rattle.channels.proofs.Setting.{same_default}
-use Rattle.commands.specs.State.{Kept, ArePlaced, broker_of, topology_kept, names_of}
-use Rattle.commands.specs.declared.picks.Pick.{Pick}
+use Rattle.depot.specs.Moving.{stays}
+use Rattle.commands.specs.State.{broker_of, topology_kept}
 use Rattle.commands.proofs.Placing.{takes_within}
 use Rattle.commands.proofs.Reloading.{in_mapped, seen_of, one_place}
-use Rattle.commands.proofs.Stepping.{seen_there}
-use Rattle.exchange_graph.specs.Marks.{queue_name}
-use Rattle.broker.specs.declared.rounds.waiters.Waiter.{Waiter}
-use Rattle.broker.specs.Lines.{turned, AreDistinct}
-use Rattle.broker.specs.Rounds.{Rounds, Lists, Listing, Waiters, round_at, listed_on, is_listed_there, NumbersRise, picks, order, is_of, IsItsOwn, AllListedAreThere, IsAwake, IsInRound, listing, HasConsumer, AllAreInRounds, AllAreNoted, AreItsConsumers, AllAreConsumers, IsNoted, IsServing, AllAreEmpty}
-use Rattle.broker.specs.Moving.{listing_moved, StandsIn, IsMoved, ArePlacesApart, RoundsAreMoved, LinesCome, ListsAreMoved}
-use Rattle.broker.specs.Turns.{with_turn}
-use Rattle.broker.specs.Waiting.{LinesMove}
 use Rattle.broker.proofs.Joined.{serves, running_still}
 use Rattle.broker.proofs.Rising.{rises_moved}
 use Rattle.broker.proofs.Takers.{has_of, of_has, order_at}

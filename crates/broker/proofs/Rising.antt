@@ -1,15 +1,8 @@
 -- Lists of a channel along which the numbers of consumers rise.
-use Rattle.std.proofs.Common.{◌≡◌, ◌∙◌, ◌<◌, ◌≤◌, ◌+◌, ◌++◌, ℕ, List, [], ◌∷◌, Bool, true, Option, Some, None, length, get_or, map, filter, inl, inr, ap, arith}
-use Rattle.std.specs.Prelude.{is_some, IfSome}
-use Rattle.std.specs.List.{AllWithin}
+use Rattle.broker.proofs.Names.{◌∙◌, ◌<◌, ◌≤◌, ◌+◌, ◌++◌, ℕ, List, [], ◌∷◌, Bool, true, Option, Some, None, length, get_or, map, filter, inl, inr, ap, arith, is_some, IfSome, AllWithin, false≢true, leb_tells, length-append, length-map, get_or-map, get_or-append-add, IsIn, Listing, number_of, NumbersRise, AreBelow, IsListedAt, listing_moved}
+use Rattle.std.proofs.Common.{◌≡◌}
 use Rattle.std.specs.List.Sorted.{IsNonDecreasingBy}
-use Rattle.std.proofs.lemmas.Bool.{false≢true}
-use Rattle.std.proofs.lemmas.Bool.Decides.{leb_tells}
-use Rattle.std.proofs.lemmas.List.{length-append, length-map, get_or-map, get_or-append-add}
 use Rattle.std.proofs.lemmas.List.Kept.{AllPairs-filter}
-use Rattle.model.specs.Topology.{IsIn}
-use Rattle.broker.specs.Rounds.{Listing, number_of, NumbersRise, AreBelow, IsListedAt}
-use Rattle.broker.specs.Moving.{listing_moved}
 use Rattle.broker.proofs.Among.{place_in, in_at, front_at}
 
 pub rises_none : NumbersRise []

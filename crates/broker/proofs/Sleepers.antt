@@ -1,16 +1,8 @@
 -- Lists of what sleeps: one is listed more, and those of a channel are woken.
-use Rattle.std.proofs.Common.{◌≡◌, ◌∙◌, ℕ, List, Bool, true, false, cond, Option, Some, inl, inr, refl, sym, ap, subst}
-use Rattle.std.specs.Prelude.{◌==◌, nat_eq, is_some}
+use Rattle.broker.proofs.Names.{◌∙◌, ℕ, List, Bool, true, false, cond, Option, Some, inl, inr, refl, sym, ap, subst, ◌==◌, nat_eq, is_some, lookup, set_value, same_Some, eqb-true, eq-eqb, false≢true, Broker, IsIn, Kept, Pick, Waiters, Lists, Listing, Listings, IsItsOwn, IsNoted, NotesStay, channels_of, listings_on, listed_on, is_listed_there, ListsOneMore, ListsItsOwn, round_at, is_on_channel, IsAt, IsAwake, IsListed, IsInRound, ListsMore, AllWaken, IsWoken}
+use Rattle.std.proofs.Common.{◌≡◌}
 use Rattle.std.specs.Cmp.{IsEquivalence}
-use Rattle.std.specs.Map.{lookup, set_value}
 use Rattle.std.proofs.lemmas.Map.{lookup-set_value}
-use Rattle.std.proofs.lemmas.Option.{same_Some}
-use Rattle.std.proofs.lemmas.Bool.{eqb-true, eq-eqb, false≢true}
-use Rattle.model.specs.Broker.{Broker}
-use Rattle.model.specs.Topology.{IsIn}
-use Rattle.commands.specs.State.{Kept}
-use Rattle.commands.specs.declared.picks.Pick.{Pick}
-use Rattle.broker.specs.Rounds.{Waiters, Lists, Listing, Listings, IsItsOwn, IsNoted, NotesStay, channels_of, listings_on, listed_on, is_listed_there, ListsOneMore, ListsItsOwn, round_at, is_on_channel, IsAt, IsAwake, IsListed, IsInRound, ListsMore, AllWaken, IsWoken}
 
 pub more_on : (old mid new : Lists) → ListsMore old mid → ListsMore mid new → ListsMore old new
 more_on old mid new f g = record { stay = λ l i. g.stay l (f.stay l i); noted = λ l i. g.noted l (f.noted l i); none = λ c i. g.none c (f.none c i); same = λ c h. g.same c h ∙ f.same c h }

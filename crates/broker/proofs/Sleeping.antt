@@ -1,19 +1,7 @@
 -- Waiters that fall asleep and are woken.
-use Rattle.std.proofs.Common.{◌≡◌, ◌∙◌, ◌<◌, ◌≤◌, ◌+◌, ℕ, List, ◌++◌, Bool, true, false, length, get_or, set, filter, inl, inr, ◌⊎◌, refl, sym, ap, subst, arith}
-use Rattle.std.specs.Prelude.{◌==◌}
-use Rattle.std.proofs.lemmas.Bool.{eqb-true, eq-eqb, false≢true}
-use Rattle.std.proofs.lemmas.Bool.Decides.{leb_tells}
-use Rattle.std.proofs.lemmas.List.{length-append, length-set, get_or-set_same, get_or-set_other}
-use Rattle.model.specs.Topology.{IsIn}
-use Rattle.model.specs.Broker.{Broker}
-use Rattle.model.specs.Consuming.{MayTake}
-use Rattle.marks.specs.Places.{bit_of, Differs}
-use Rattle.channels.proofs.Setting.{same_default}
-use Rattle.commands.specs.State.{Kept, broker_of}
-use Rattle.commands.specs.Picked.{IsPickFrom, CannotTake}
-use Rattle.commands.specs.declared.picks.Pick.{Pick}
-use Rattle.broker.specs.declared.rounds.waiters.Waiter.{Waiter}
-use Rattle.broker.specs.Rounds.{Waiters, Lists, Listing, round_of, picks, awake_waiter, asleep_waiter, is_of, listing, IsAwakeAt, IsAwake, IsAsleep, IsListed, IsInRound, KeepsIn, KeepsRound, ListsMore, ListsStay, NoneAwake, Dozes, FallsAsleep, NoneInRound, StaysAt, Wakens, AllWaken, IsWoken}
+use Rattle.broker.proofs.Names.{◌∙◌, ◌<◌, ◌≤◌, ◌+◌, ℕ, List, ◌++◌, Bool, true, false, length, get_or, set, filter, inl, inr, refl, sym, ap, subst, arith, ◌==◌, eqb-true, eq-eqb, false≢true, leb_tells, length-append, length-set, get_or-set_same, get_or-set_other, IsIn, Broker, MayTake, bit_of, Differs, same_default, Kept, IsPickFrom, CannotTake, Pick, Waiter, Waiters, Lists, Listing, round_of, picks, awake_waiter, asleep_waiter, is_of, listing, IsAwakeAt, IsAwake, IsAsleep, IsListed, IsInRound, KeepsIn, KeepsRound, ListsMore, ListsStay, NoneAwake, Dozes, FallsAsleep, NoneInRound, StaysAt, Wakens, AllWaken, IsWoken}
+use Rattle.std.proofs.Common.{◌≡◌, ◌⊎◌}
+use Rattle.commands.specs.State.{broker_of}
 use Rattle.broker.proofs.Picks.{picks_set, of_waiter}
 use Rattle.broker.proofs.Among.{stays, place_in, in_at, in_front, front_at}
 

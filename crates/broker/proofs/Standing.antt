@@ -1,9 +1,6 @@
 -- Those of a line who pass a test, and how many of them stand before one.
-use Rattle.std.proofs.Common.{◌≡◌, ◌∙◌, ◌≤◌, ◌+◌, ◌++◌, ◌⊎◌, ℕ, List, [], ◌∷◌, Bool, true, false, if◌then◌else◌, cond, take, drop, filter, inl, inr, refl, sym, ap, subst, arith}
-use Rattle.std.proofs.lemmas.Bool.{false≢true}
-use Rattle.std.proofs.lemmas.List.{take-append-drop, append-nil}
-use Rattle.model.specs.Topology.{IsIn}
-use Rattle.broker.specs.Lines.{turned, standing, AreDistinct}
+use Rattle.broker.proofs.Names.{◌∙◌, ◌≤◌, ◌+◌, ◌++◌, ℕ, List, [], ◌∷◌, Bool, true, false, if◌then◌else◌, cond, take, drop, filter, inl, inr, refl, sym, ap, subst, arith, false≢true, take-append-drop, append-nil, IsIn, turned, standing, AreDistinct}
+use Rattle.std.proofs.Common.{◌≡◌, ◌⊎◌}
 use Rattle.broker.proofs.Lining.{in_either}
 
 -- ---- how many stand before one

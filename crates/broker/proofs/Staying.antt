@@ -1,24 +1,11 @@
 -- Consumers that are there still after an event, and those whose waiters are kept.
-use Rattle.std.proofs.Common.{◌≡◌, ◌∙◌, ◌++◌, ◌⊎◌, ℕ, List, [], ◌∷◌, Bool, true, false, Option, Some, None, append_assoc, inl, inr, refl, sym, ap, subst, if◌then◌else◌}
-use Rattle.std.specs.Prelude.{◌==◌, ◌&&◌, IfSome}
-use Rattle.std.proofs.lemmas.Bool.{eqb-true}
+use Rattle.broker.proofs.Names.{◌∙◌, ◌++◌, ℕ, List, [], ◌∷◌, Bool, true, false, Option, Some, None, inl, inr, refl, sym, ap, subst, if◌then◌else◌, ◌==◌, ◌&&◌, IfSome, eqb-true, Channel, Broker, with_pair, with_row, Acts, IsDelivery, channel_or_new, Topology, IsIn, Event, First, Command, TooLarge, Fault, Lose, Pause, Resume, Deliver, Send, Note, WasConsumer, connection_of_event, one_stays, AllConsumersStay, Kept, Pick, AreDistinct, Waiters, Rounds, Lists, Listing, IsItsOwn, AreItsListings, AllListedAreThere, is_listed_there, SameListed, ListsItsOwn, ListingsLeave, round_at, order, is_of, remains, AreItsConsumers, AllAreConsumers, AddsItsOwn, AllAddTheirOwn, LeaveLines, SameOrders, GoesOn, PicksFirst}
+use Rattle.std.proofs.Common.{◌≡◌, ◌⊎◌, append_assoc}
 use Rattle.model.specs.Alone.{event_connection}
-use Rattle.model.specs.Broker.{Consumer, Channel, Broker, with_pair, with_row}
-use Rattle.model.specs.Step.{Acts, IsDelivery, channel_or_new}
-use Rattle.model.specs.Topology.{Topology, IsIn}
-use Rattle.model.specs.declared.events.Event.{Event}
-use Rattle.model.specs.declared.events.Event.TheVariants.{Open, First, Running, Command, TooLarge, Fault, Lose, Pause, Resume, Deliver}
-use Rattle.model.specs.declared.events.Send.{Send}
-use Rattle.model.specs.declared.notes.Note.{Note}
+use Rattle.model.specs.Broker.{Consumer}
+use Rattle.model.specs.declared.events.Event.TheVariants.{Open, Running}
 use Rattle.laws.proofs.Deeds.{Deed, changes, enters, gives, settles, purges, nothing, alters, ends, clears, renews, acted}
-use Rattle.laws.specs.Consumers.{WasConsumer}
-use Rattle.replies.specs.Sent.{connection_of_event}
-use Rattle.commands.proofs.Remaining.{one_stays}
-use Rattle.commands.specs.Ended.{AllConsumersStay}
-use Rattle.commands.specs.State.{Kept, broker_of, topology_kept}
-use Rattle.commands.specs.declared.picks.Pick.{Pick}
-use Rattle.broker.specs.Lines.{AreDistinct}
-use Rattle.broker.specs.Rounds.{Waiters, Rounds, Lists, Listing, IsItsOwn, AreItsListings, AllListedAreThere, is_listed_there, SameListed, ListsItsOwn, ListingsLeave, round_at, order, is_of, remains, AreItsConsumers, AllAreConsumers, AddsItsOwn, AllAddTheirOwn, LeaveLines, SameOrders, GoesOn, PicksFirst}
+use Rattle.commands.specs.State.{broker_of, topology_kept}
 use Rattle.broker.proofs.Later.{remains_of}
 use Rattle.broker.proofs.Lining.{in_either, filter_in, filter_distinct, distinct_end}
 use Rattle.broker.proofs.Standing.{in_left, in_right, passes, distinct_parts}

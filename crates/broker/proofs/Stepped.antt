@@ -1,22 +1,10 @@
 -- What a step leaves.
-use Rattle.std.proofs.Common.{◌≡◌, ◌∙◌, ◌++◌, ℕ, List, [], ◌∷◌, true, false, Option, Some, None, length, inl, inr, refl, sym, ap, subst}
-use Rattle.std.specs.Prelude.{◌==◌, IfSome}
-use Rattle.model.specs.Broker.{Broker, Consumer}
-use Rattle.model.specs.Step.{Acts}
-use Rattle.model.specs.Topology.{IsIn}
-use Rattle.model.specs.declared.events.Event.{Event}
-use Rattle.model.specs.declared.events.Send.{Send}
-use Rattle.model.specs.declared.notes.Note.{Note}
-use Rattle.laws.specs.Consumers.{WasConsumer, ConsumersAreMade}
-use Rattle.replies.specs.Sent.{connection_of_event}
-use Rattle.commands.specs.Ended.{AllRunStill, AllConsumersStay, TellsEnd}
-use Rattle.commands.specs.State.{Kept, broker_of, topology_kept}
-use Rattle.commands.specs.Seats.{seat_of, IsConsumed}
-use Rattle.commands.specs.declared.acted.Ends.{Ends}
+use Rattle.broker.proofs.Names.{◌∙◌, ◌++◌, ℕ, List, [], ◌∷◌, true, false, Option, Some, None, length, inl, inr, refl, sym, ap, subst, ◌==◌, IfSome, Broker, Acts, IsIn, Event, Send, Note, WasConsumer, ConsumersAreMade, connection_of_event, AllRunStill, AllConsumersStay, TellsEnd, Kept, seat_of, IsConsumed, Ends, Pick, Rounds, Waiters, Lists, KeepsIn, KeepLists, round_at, listing, is_of, wakes, IsServing, AllRun, AllAreConsumers, AllListedAreThere, SameListed, ListsItsOwn, ListingsLeave, HasJoined, AllAddTheirOwn, AllWaken, KeepsWaiters, KeepsAll, LeaveLines, ListsRunning, HasNoList, MakesNoList, NotesStay, IsExpected, WakesWaiter, GoesOn}
+use Rattle.std.proofs.Common.{◌≡◌}
+use Rattle.model.specs.Broker.{Consumer}
+use Rattle.commands.specs.State.{broker_of, topology_kept}
 use Rattle.commands.specs.declared.acted.Ends.TheVariants as ended
-use Rattle.commands.specs.declared.picks.Pick.{Pick}
 use Rattle.broker.specs.declared.rounds.waiters.Newcomer.{Newcomer}
-use Rattle.broker.specs.Rounds.{Rounds, Waiters, Lists, KeepsIn, KeepLists, round_at, listing, is_of, wakes, IsServing, AllRun, AllAreConsumers, AllListedAreThere, SameListed, ListsItsOwn, ListingsLeave, HasJoined, AllAddTheirOwn, AllWaken, KeepsWaiters, KeepsAll, LeaveLines, ListsRunning, HasNoList, MakesNoList, NotesStay, IsExpected, WakesWaiter, GoesOn}
 use Rattle.broker.proofs.Outcomes.{told_some}
 use Rattle.broker.proofs.Joined.{StayAgreed, Holds, holds, serves, serves_kept, serves_next, running_still, running_but, notes_keep, keeps_all}
 use Rattle.broker.proofs.Orders.{goes_then}

@@ -1,20 +1,11 @@
 -- Who takes from a queue, and stands in its line.
-use Rattle.std.proofs.Common.{◌≡◌, ◌∙◌, ◌<◌, ℕ, zero, suc, List, [], ◌∷◌, Bool, true, false, Option, Some, None, length, map, filter, get_or, inl, inr, refl, sym, ap, subst, arith}
-use Rattle.std.specs.Prelude.{◌==◌, ◌&&◌, ◌||◌, nat_lt}
-use Rattle.std.specs.List.{list_any}
+use Rattle.broker.proofs.Names.{◌∙◌, ◌<◌, ℕ, zero, suc, List, [], ◌∷◌, Bool, true, false, Option, Some, None, length, map, filter, get_or, inl, inr, refl, sym, ap, subst, arith, ◌==◌, ◌&&◌, ◌||◌, nat_lt, list_any, eqb-true, eq-eqb, lt-ltb, false≢true, Text, Topology, IsIn, Channel, Broker, WasConsumer, queue_name, Kept, IsPickFrom, IsNewest, Pick, Waiters, Lists, listed_on, AreBelow, AllListedAreThere, round_at, order, is_numbered_of, has_taker, takes_from, is_of, HasConsumer, AllAreConsumers, SameOrders}
+use Rattle.std.proofs.Common.{◌≡◌}
 use Rattle.std.specs.Str.{bytes_eq}
-use Rattle.std.proofs.lemmas.Bool.{eqb-true, eq-eqb, ltb-true, lt-ltb, false≢true}
+use Rattle.std.proofs.lemmas.Bool.{ltb-true}
 use Rattle.std.proofs.lemmas.Slice.Eq.{bytes_eq-Decides}
-use Rattle.model.specs.Words.{Text}
-use Rattle.model.specs.Topology.{Topology, IsIn}
-use Rattle.model.specs.Broker.{Consumer, Channel, Broker}
-use Rattle.laws.specs.Consumers.{WasConsumer}
-use Rattle.exchange_graph.specs.Marks.{queue_name}
-use Rattle.commands.specs.State.{Kept, broker_of, topology_kept}
-use Rattle.commands.specs.Picked.{IsPickFrom}
-use Rattle.commands.specs.Seats.{IsNewest}
-use Rattle.commands.specs.declared.picks.Pick.{Pick}
-use Rattle.broker.specs.Rounds.{Waiters, Lists, listed_on, AreBelow, AllListedAreThere, round_at, order, is_numbered_of, has_taker, takes_from, is_of, HasConsumer, AllAreConsumers, SameOrders}
+use Rattle.model.specs.Broker.{Consumer}
+use Rattle.commands.specs.State.{broker_of, topology_kept}
 use Rattle.broker.proofs.Later.{filter_all}
 use Rattle.broker.proofs.Waking.{both, and}
 use Rattle.broker.proofs.Among.{in_at}

@@ -1,15 +1,7 @@
 -- A broker with its rounds, as its callers see it: who stands in the lines of its queues.
-use Rattle.std.proofs.Common.{◌≡◌, ◌∙◌, ◌<◌, ◌≤◌, ◌++◌, ℕ, List, [], ◌∷◌, Bool, true, Option, length, filter, inl, inr, sym, ap, subst, arith}
-use Rattle.std.proofs.lemmas.List.{append-nil}
-use Rattle.std.proofs.lemmas.List.Elements.{filter-append}
-use Rattle.model.specs.Topology.{Topology, IsIn}
-use Rattle.exchange_graph.specs.Marks.{queue_name}
-use Rattle.commands.specs.State.{Kept, broker_of, topology_kept}
-use Rattle.commands.specs.declared.picks.Pick.{Pick}
-use Rattle.broker.specs.Lines.{standing, AreDistinct}
-use Rattle.broker.specs.Rounds.{Waiters, Rounds, round_at, order, is_consumer, takes_from, is_of, remains, HasConsumer, AllAreConsumers, AllAddTheirOwn, LeaveLines, SameOrders, GoesOn, IsServing}
-use Rattle.broker.specs.Turns.{with_turn}
-use Rattle.broker.specs.Waiting.{line_at, standing_at, AllStand, WaitersAreConsumers, NobodyIsPutBack, NoneIsLater}
+use Rattle.broker.proofs.Names.{◌∙◌, ◌<◌, ◌≤◌, ◌++◌, ℕ, List, [], ◌∷◌, Bool, true, Option, length, filter, inl, inr, sym, ap, subst, arith, append-nil, filter-append, Topology, IsIn, queue_name, Kept, Pick, standing, AreDistinct, Waiters, Rounds, round_at, order, is_consumer, takes_from, is_of, remains, HasConsumer, AllAreConsumers, AllAddTheirOwn, LeaveLines, SameOrders, GoesOn, IsServing, with_turn, line_at, standing_at, AllStand, WaitersAreConsumers, NobodyIsPutBack, NoneIsLater}
+use Rattle.std.proofs.Common.{◌≡◌}
+use Rattle.commands.specs.State.{broker_of, topology_kept}
 use Rattle.broker.proofs.Among.{one_consumer, same_consumer, stays}
 use Rattle.broker.proofs.Later.{of_remains}
 use Rattle.broker.proofs.Nearer.{in_order, standing_before}

@@ -1,13 +1,8 @@
 -- Nobody waits for ever while others are served.
-use Rattle.std.proofs.Common.{◌≡◌, ◌∙◌, ◌<◌, ◌≤◌, ◌+◌, ℕ, List, [], ◌∷◌, Bool, true, false, if◌then◌else◌, length, inl, inr, refl, sym, ap, arith}
-use Rattle.std.proofs.lemmas.Bool.{false≢true}
-use Rattle.model.specs.Topology.{Topology, IsIn}
+use Rattle.broker.proofs.Names.{◌∙◌, ◌<◌, ◌≤◌, ◌+◌, ℕ, List, [], ◌∷◌, Bool, true, false, if◌then◌else◌, length, inl, inr, refl, sym, ap, arith, false≢true, Topology, IsIn, Pick, ahead, standing, is_consumer, WithTurn, line_at, queues, standing_at, ahead_at, owed, Stands, Waits, QueueWaits, IsServedSoon, ServesSoon, NobodyWaits}
+use Rattle.std.proofs.Common.{◌≡◌}
 use Rattle.commands.specs.State as core
-use Rattle.commands.specs.declared.picks.Pick.{Pick}
-use Rattle.broker.specs.Lines.{ahead, standing}
-use Rattle.broker.specs.Rounds.{is_consumer}
-use Rattle.broker.specs.Turns.{WithTurn, topology_kept}
-use Rattle.broker.specs.Waiting.{line_at, queues, standing_at, ahead_at, owed, Stands, Waits, QueueWaits, IsServedSoon, ServesSoon, NobodyWaits}
+use Rattle.broker.specs.Turns.{topology_kept}
 use Rattle.broker.specs.Waiting.Waits.{begins, passed, other, beside, again, stays}
 use Rattle.broker.specs.Waiting.QueueWaits.{begins as q_begins, passed as q_passed, other as q_other, stays as q_stays}
 use Rattle.broker.proofs.Among.{one_consumer}

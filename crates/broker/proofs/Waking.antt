@@ -1,34 +1,16 @@
 -- Which events leave more that a consumer may take.
-use Rattle.std.proofs.Common.{◌≡◌, ◌∙◌, ◌≤◌, ◌+◌, ℕ, List, ◌++◌, Bool, true, false, Option, Some, None, inl, inr, ◌⊎◌, refl, sym, ap, subst, arith, if◌then◌else◌}
-use Rattle.std.specs.Prelude.{is_some, nat_lt, ◌==◌, ◌&&◌, ◌||◌, count_by}
-use Rattle.std.proofs.lemmas.Bool.{eqb-true, eq-eqb, ltb-true, lt-ltb, false≢true}
-use Rattle.std.proofs.lemmas.Option.{same_Some}
-use Rattle.laws.proofs.Counts.{count-append}
+use Rattle.broker.proofs.Names.{◌∙◌, ◌≤◌, ◌+◌, ℕ, List, ◌++◌, Bool, true, false, Option, Some, None, inl, inr, refl, sym, ap, subst, arith, if◌then◌else◌, is_some, nat_lt, ◌==◌, ◌&&◌, ◌||◌, eqb-true, eq-eqb, lt-ltb, false≢true, same_Some, count-append, Topology, IsIn, Text, Channel, Connection, Broker, Outstanding, with_one, with_pair, with_row, MayTake, may_take, taker_of, channel_after, outstanding_after, first_ready, by_channel, Ids, ids_of, Refusal, Ignored, Of_channel, Of_connection, Acts, Does, Gets, Performs, Refuses, Decides, OnConnection, OnLarge, channel_or_new, channels_up_to, empty_publish, refusal, refusal_of_large, with_freed, with_channel, paused, Entry, Content, Send, Event, First, Command, TooLarge, Fault, Lose, Pause, Resume, Deliver, Method, ConnectionClose, ChannelOpen, ChannelFlow, ChannelClose, ChannelCloseOk, ExchangeDeclare, QueueDeclare, QueuePurge, BasicQos, BasicConsume, BasicCancel, BasicPublish, BasicGet, BasicAck, BasicReject, BasicNack, BasicRecover, ConfirmSelect, Note, wakes, wakes_on, CannotTake, Pick}
+use Rattle.std.proofs.Common.{◌≡◌, ◌⊎◌}
+use Rattle.std.specs.Prelude.{count_by}
+use Rattle.std.proofs.lemmas.Bool.{ltb-true}
 use Rattle.laws.proofs.Made.{row_new}
-use Rattle.model.specs.Topology.{Topology, IsIn}
-use Rattle.model.specs.Words.{Text}
-use Rattle.model.specs.Broker.{Consumer, Channel, Connection, Broker, Outstanding, with_one, with_pair, with_row}
-use Rattle.model.specs.Consuming.{MayTake, may_take, taker_of}
-use Rattle.model.specs.Deliveries.{channel_after, outstanding_after, first_ready}
-use Rattle.model.specs.Entries.{by_channel}
-use Rattle.model.specs.Grammar.{Ids, ids_of}
+use Rattle.model.specs.Broker.{Consumer}
 use Rattle.model.specs.Prefetch.{is_below, may_hold, count_to, count_given, has_tag_left, is_to, is_delivery}
-use Rattle.model.specs.Step.{Refusal, Ignored, Of_channel, Of_connection, Acts, Does, Gets, Performs, Refuses, Decides, OnConnection, OnLarge, channel_or_new, channels_up_to, empty_publish, refusal, refusal_of_large, with_freed, with_channel, paused}
-use Rattle.model.specs.declared.messages.Entry.{Entry}
 use Rattle.model.specs.declared.messages.Taker.{Taker}
 use Rattle.model.specs.declared.messages.Taker.TheVariants as taker
-use Rattle.model.specs.declared.contents.Content.{Content}
-use Rattle.model.specs.declared.events.Send.{Send}
-use Rattle.model.specs.declared.events.Event.{Event}
-use Rattle.model.specs.declared.events.Event.TheVariants.{Open, First, Running, Command, TooLarge, Fault, Lose, Pause, Resume, Deliver}
+use Rattle.model.specs.declared.events.Event.TheVariants.{Open, Running}
 use Rattle.model.specs.declared.methods.Get.{Get}
 use Rattle.model.specs.declared.methods.Qos.{Qos}
-use Rattle.model.specs.declared.methods.Method.{Method}
-use Rattle.model.specs.declared.methods.Method.TheVariants.{ConnectionClose, ChannelOpen, ChannelFlow, ChannelClose, ChannelCloseOk, ExchangeDeclare, QueueDeclare, QueuePurge, BasicQos, BasicConsume, BasicCancel, BasicPublish, BasicGet, BasicAck, BasicReject, BasicNack, BasicRecover, ConfirmSelect}
-use Rattle.model.specs.declared.notes.Note.{Note}
-use Rattle.broker.specs.Rounds.{wakes, wakes_on}
-use Rattle.commands.specs.Picked.{CannotTake}
-use Rattle.commands.specs.declared.picks.Pick.{Pick}
 
 -- ---- one message more leaves no more to take
 

@@ -1,11 +1,11 @@
-//! Single dead-letter steps.
+//! Single dead-letter steps of a topology.
 
 use exchange_graph::Topology;
 use model::{DeclaredQueue, Exchange, ExchangeKind, Text};
 use scenario_parts::{Unmet, expect, expect_bytes, plain_queue, value_of};
 use std::alloc::Global;
 
-/// A queue of this name, with the exchange `D` for its dead letters.
+/// Returns a queue called `name` whose dead letters go to the exchange `D`, under `key` if there is one.
 fn dying(name: Text, key: Option<Text>) -> DeclaredQueue {
     DeclaredQueue {
         name,
@@ -16,7 +16,8 @@ fn dying(name: Text, key: Option<Text>) -> DeclaredQueue {
     }
 }
 
-/// The queue `fixed` gives its dead letters the key `pay`, `kept` leaves them theirs, and those of `plain` are none.
+/// Returns a topology with the queues `fixed`, `kept` and `plain`. Dead letters of `fixed` get the key `pay`, those of `kept`
+/// keep theirs, and `plain` has none.
 fn topology(alloc: Global) -> Result<Topology, Unmet> {
     let mut exchanges = Vec::new(alloc);
     let exchange = Exchange {
@@ -39,7 +40,7 @@ fn topology(alloc: Global) -> Result<Topology, Unmet> {
     )
 }
 
-/// Expects that a message of the key `a` is sent from this queue to `D` as a dead letter, under this key.
+/// Checks that a message of the key `a` in `queue` is dead-lettered to `D` under `key`.
 fn expect_letter(topology: &Topology, queue: &[u8], key: &[u8]) -> Result<(), Unmet> {
     let letter = value_of(
         "Topology::dead_letter",
@@ -49,7 +50,7 @@ fn expect_letter(topology: &Topology, queue: &[u8], key: &[u8]) -> Result<(), Un
     expect_bytes("the key", letter.key, key)
 }
 
-/// Expects that a queue without a dead-letter exchange sends no message on, nor one that is not there.
+/// Checks that neither a queue without a dead-letter exchange nor one that doesn't exist dead-letters a message.
 fn expect_none(topology: &Topology) -> Result<(), Unmet> {
     let has_plain = topology.dead_letter(b"plain", b"a").is_some();
     expect(
@@ -60,7 +61,7 @@ fn expect_none(topology: &Topology) -> Result<(), Unmet> {
     expect("a queue that is not there sends none on", !has_absent)
 }
 
-/// A dead letter is sent to the exchange of its queue, under the queue's key or its own.
+/// Checks that a dead letter goes to the exchange of its queue, under the queue's key or its own.
 pub(crate) fn a_dead_letter_goes_to_the_exchange_of_its_queue(alloc: Global) -> Result<(), Unmet> {
     let topology = topology(alloc)?;
     expect_letter(&topology, b"fixed", b"pay")?;

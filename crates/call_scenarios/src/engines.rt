@@ -4,23 +4,23 @@ use engine::{Engine, Refused, Turn};
 use scenario_parts::{Unmet, expect, expect_bytes, expect_number, in_force, value_of};
 use std::alloc::Global;
 
-/// An engine over a topology without exchanges and queues.
+/// Starts an engine over a topology without exchanges and queues.
 fn new_engine(alloc: Global) -> Result<Engine, Unmet> {
     let checked = in_force(alloc, Vec::new(alloc), Vec::new(alloc), Vec::new(alloc))?;
     value_of("Engine::new", Engine::new(alloc, checked, Vec::new(alloc)))
 }
 
-/// What a turn did.
+/// The kind of a turn, which can be compared.
 #[derive(Clone, Copy, PartialEq, Eq, Drop)]
 enum Done {
-    /// With so many notes.
+    /// A command was performed, with this number of notes.
     Did(usize),
     Idle,
     Paused,
     Over,
 }
 
-/// What this turn did.
+/// Returns the kind of `turn`.
 fn done_by(turn: Turn) -> Done {
     match turn {
         Turn::Did(notes) => Done::Did(notes.len()),
@@ -30,7 +30,7 @@ fn done_by(turn: Turn) -> Done {
     }
 }
 
-/// Expects that the next turn of connection 1 does this.
+/// Checks that the next turn of connection 1 is of the `expected` kind.
 fn expect_turn(
     alloc: Global,
     engine: &mut Engine,
@@ -41,18 +41,18 @@ fn expect_turn(
     expect(claim, done_by(turn) == expected)
 }
 
-/// Expects that a connection that is opened, with channel 1, has this number.
+/// Opens a connection that is running with channel 1, and checks its number.
 fn expect_opened(alloc: Global, engine: &mut Engine, expected: u64) -> Result<(), Unmet> {
     let number = value_of("Engine::open_ready", engine.open_ready(alloc, 1))?;
     expect_number("the connection's number", number, expected)
 }
 
-/// Takes in bytes of connection 1.
+/// Feeds `bytes` to connection 1.
 fn feed(engine: &mut Engine, bytes: &[u8]) -> Result<(), Unmet> {
     value_of("Engine::feed", engine.feed(1, bytes))
 }
 
-/// confirm.select on channel 1, but for the byte that ends its frame.
+/// confirm.select on channel 1, without the last byte of its frame.
 const SELECT: [u8; 12] = [1, 0, 1, 0, 0, 0, 5, 0, 85, 0, 10, 0];
 
 /// The byte that ends a frame.
@@ -61,7 +61,7 @@ const FRAME_END: [u8; 1] = [206];
 /// confirm.select-ok on channel 1.
 const SELECT_OK: [u8; 12] = [1, 0, 1, 0, 0, 0, 4, 0, 85, 0, 11, 206];
 
-/// Turns of bytes that come in two pieces: nothing, a part of a frame, and the rest of it.
+/// Checks the turns over bytes that come in two pieces: without any bytes, with a part of a frame, and with the rest of it.
 pub(crate) fn an_engine_takes_single_turns(alloc: Global) -> Result<(), Unmet> {
     let mut engine = new_engine(alloc)?;
     expect_opened(alloc, &mut engine, 1)?;
@@ -94,7 +94,7 @@ pub(crate) fn an_engine_takes_single_turns(alloc: Global) -> Result<(), Unmet> {
     )
 }
 
-/// A connection is lost, and another is opened.
+/// Checks that a lost connection is over, and that the next one gets a new number.
 pub(crate) fn a_lost_connection_is_over_and_its_number_is_not_given_again(
     alloc: Global,
 ) -> Result<(), Unmet> {
@@ -112,10 +112,10 @@ pub(crate) fn a_lost_connection_is_over_and_its_number_is_not_given_again(
     expect("connection 2 is not over", !engine.is_over(2))
 }
 
-/// How many connections stand at most.
+/// The number of open connections at most.
 const MOST_CONNECTIONS: u64 = 1_024;
 
-/// Expects that no more connection is opened, in either way.
+/// Checks that a further connection is refused, in either way of opening.
 fn expect_full(alloc: Global, engine: &mut Engine) -> Result<(), Unmet> {
     let opened = engine.open(alloc);
     expect(
@@ -129,7 +129,7 @@ fn expect_full(alloc: Global, engine: &mut Engine) -> Result<(), Unmet> {
     )
 }
 
-/// 1,024 connections are opened, and no more until one of them is lost.
+/// Checks that 1,024 connections can be opened, and no more until one of them is lost.
 pub(crate) fn an_engine_opens_1024_connections_and_no_more(alloc: Global) -> Result<(), Unmet> {
     let mut engine = new_engine(alloc)?;
     for number in 1..=MOST_CONNECTIONS {

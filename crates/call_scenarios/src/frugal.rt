@@ -1,4 +1,4 @@
-//! Calls that take no memory, and so can be made where none is left.
+//! Calls that never allocate, made while no memory is left. Start with [`Frugal`].
 
 use crate::parts::{Stated, checked, command, new_engine, publish};
 use crate::room::Room;
@@ -15,29 +15,29 @@ use scenario_parts::{MESSAGE, Unmet, expect, expect_bytes, expect_number, in_for
 use session::{Session, accepts};
 use std::alloc::{AllocError, Global};
 
-/// The greatest frame.
+/// The length of the longest frame, in bytes.
 const FRAME_MAX: u32 = 131_072;
 
-/// How long the first frame of `MESSAGE` is.
+/// The length of the first frame of `MESSAGE`, in bytes.
 const FIRST_FRAME: u64 = 26;
 
-/// The payload of its header.
+/// The payload of its content header.
 const HEADER: &[u8] = b"\x00\x3c\x00\x00\x00\x00\x00\x00\x00\x00\x00\x02\x00\x00";
 
 /// The front of a frame that is too long.
 const TOO_LONG: &[u8] = b"\x01\x00\x01\xff\xff\xff\xff";
 
-/// Salt and hash of the password `wonder`, by another implementation of SHA-256.
+/// Salt and hash of the password `wonder`, from another implementation of SHA-256.
 const HASH: &[u8] =
     b"\x00\xff\x10\x20\xfd\x7e\x85\xcd\xfa\xe9\x4b\xed\x5c\x02\xb7\x51\x0f\xab\xab\xc2\xf4\x2c\x44\xb7\x0b\x9d\x02\x11\x83\x91\xae\x47\x9e\xf9\xc4\x7f";
 
-/// A key of 256 bytes.
+/// A key of 256 bytes, one too many.
 const LONG_KEY: &[u8] = &[97; 256];
 
-/// What the first connection of an engine was put out, behind its first four bytes: consume-ok of the consumer `t`.
+/// The output of the engine's first connection after its first four bytes: consume-ok of the consumer `t`.
 const CONSUMED: &[u8] = b"\x00\x00\x06\x00\x3c\x00\x15\x01t\xce";
 
-/// What is in force, who may log in, and a refutation that refutes nothing.
+/// A topology in force, its users, and a refutation that refutes nothing.
 #[derive(Drop)]
 struct Judged {
     checked: Checked,
@@ -45,7 +45,7 @@ struct Judged {
     long: Refutation,
 }
 
-/// A stream that broke, a channel, and a queue with the message that comes to it.
+/// A broken stream, a channel, a queue, and the message that will enter it.
 #[derive(Drop)]
 struct Parts {
     stream: Stream,
@@ -54,7 +54,7 @@ struct Parts {
     message: Option<Message>,
 }
 
-/// A broker, an engine, and what the engine can't put in force.
+/// A broker, an engine, and a topology that the engine can't load.
 #[derive(Drop)]
 struct Machines {
     broker: Broker,
@@ -62,7 +62,7 @@ struct Machines {
     lacking: Option<Checked>,
 }
 
-/// What calls that take no memory are made of. A function that makes many values that are dropped is slow to prove, so they stand in three.
+/// The values that the calls are made on. A function that drops many values is slow to prove, so they are in three groups.
 #[derive(Drop)]
 pub(crate) struct Frugal {
     judged: Judged,
@@ -70,7 +70,7 @@ pub(crate) struct Frugal {
     machines: Machines,
 }
 
-/// A stream that met a frame that is too long.
+/// Returns a stream that met a frame that is too long.
 fn broken_stream(alloc: Global) -> Result<Stream, Unmet> {
     let mut stream = Stream::running(alloc);
     value_of("Stream::feed", stream.feed(TOO_LONG))?;
@@ -81,26 +81,26 @@ fn broken_stream(alloc: Global) -> Result<Stream, Unmet> {
     Ok(stream)
 }
 
-/// Whether the next command of a stream is the fault of its bytes.
+/// Returns whether the next command of `stream` is the fault of its bytes.
 fn is_broken(stream: &mut Stream) -> bool {
     matches!(stream.next(), Err(Fault::Broken(501)))
 }
 
-/// A channel with room for messages that are given out.
+/// Returns a channel with spare capacity for unacknowledged messages.
 fn roomy_channel(alloc: Global) -> Result<Channel, Unmet> {
     let mut channel = Channel::new(alloc);
     value_of("Channel::reserve", channel.reserve(4))?;
     Ok(channel)
 }
 
-/// A queue with room for messages.
+/// Returns a queue with spare capacity for messages.
 fn roomy_queue(alloc: Global) -> Result<Indexed, Unmet> {
     let mut queue = Indexed::new(alloc);
     value_of("Store::reserve", queue.reserve(4))?;
     Ok(queue)
 }
 
-/// A broker, on whose connection 1 a message is held under the delivery tag 1.
+/// Returns a broker on whose connection 1 a message is unacknowledged, with delivery tag 1.
 fn holding_broker(alloc: Global) -> Result<Broker, Unmet> {
     let stated = Stated::with(alloc, b"{\"guarantees\":[]}")?;
     let mut broker = value_of("Broker::new", Broker::new(alloc, stated.topology))?;
@@ -118,7 +118,7 @@ fn holding_broker(alloc: Global) -> Result<Broker, Unmet> {
     Ok(broker)
 }
 
-/// Frames and headers are read.
+/// Checks the reading of frames and content headers.
 fn expect_wire() -> Result<(), Unmet> {
     match read_frame(MESSAGE, FRAME_MAX) {
         Read::Whole(_, len) => expect_number("the length of a frame", len as u64, FIRST_FRAME)?,
@@ -128,7 +128,7 @@ fn expect_wire() -> Result<(), Unmet> {
     expect_number("the size of a body", size, 2)
 }
 
-/// The user `bob`, whose password is `wonder`.
+/// Returns the user `bob`, whose password is `wonder`.
 fn users(alloc: Global) -> Result<Vec<User>, AllocError> {
     let mut users = Vec::new(alloc);
     users.push(User {
@@ -138,18 +138,18 @@ fn users(alloc: Global) -> Result<Vec<User>, AllocError> {
     Ok(users)
 }
 
-/// The refutation under a key that is too long.
+/// Returns a refutation whose key is too long.
 fn too_long(alloc: Global) -> Result<Refutation, AllocError> {
     let key = Text::from_slice(alloc, LONG_KEY)?;
     Ok(Refutation::new(key, Vec::new(alloc)))
 }
 
-/// What is admitted of a topology that has no queue.
+/// Returns a topology without queues, admitted.
 fn without_queues(alloc: Global) -> Result<Checked, Unmet> {
     in_force(alloc, Vec::new(alloc), Vec::new(alloc), Vec::new(alloc))
 }
 
-/// A session runs, and ends.
+/// Checks that a session runs, and ends.
 fn expect_session() -> Result<(), Unmet> {
     let mut session = Session::running();
     expect("a session that runs is not over", !session.is_over())?;
@@ -163,7 +163,6 @@ fn expect_session() -> Result<(), Unmet> {
 }
 
 impl Judged {
-    /// All three.
     fn new(alloc: Global) -> Result<Judged, Unmet> {
         Ok(Judged {
             checked: checked(alloc)?,
@@ -172,7 +171,7 @@ impl Judged {
         })
     }
 
-    /// What is in force is lent, and a key that is too long refutes nothing.
+    /// Checks that the topology in force can be borrowed, and that a key that is too long refutes nothing.
     fn expect_checked(&self, alloc: Global) -> Result<(), Unmet> {
         self.checked.holds();
         let topology = self.checked.topology();
@@ -188,7 +187,7 @@ impl Judged {
         expect("a key that is too long disproves nothing", !disproved)
     }
 
-    /// A user logs in by the right password alone.
+    /// Checks that a user logs in with the right password only.
     fn expect_logins(&self) -> Result<(), Unmet> {
         let right = accepts(&self.users, b"PLAIN", b"\x00bob\x00wonder");
         expect("the right password is accepted", right)?;
@@ -198,7 +197,6 @@ impl Judged {
 }
 
 impl Parts {
-    /// All four.
     fn new(alloc: Global) -> Result<Parts, Unmet> {
         let (publish, content) = publish();
         let message = value_of(
@@ -213,7 +211,7 @@ impl Parts {
         })
     }
 
-    /// A stream that broke tells so again, whatever is set.
+    /// Checks that a broken stream reports its fault again, whatever is set.
     fn expect_stream(&mut self) -> Result<(), Unmet> {
         self.stream.set_max(FRAME_MAX);
         self.stream.set_running(false);
@@ -223,7 +221,7 @@ impl Parts {
         )
     }
 
-    /// A message is given out on the channel, and settled.
+    /// Checks that the channel delivers a message, which is then acknowledged.
     fn expect_channel(&mut self) -> Result<(), Unmet> {
         value_of("Channel::reserve", self.channel.reserve(1))?;
         if !self.channel.has_tag_left() {
@@ -243,7 +241,7 @@ impl Parts {
         )
     }
 
-    /// A message comes to the queue, is held, made ready again, and taken out.
+    /// Checks that a message enters the queue, is held, requeued, and removed.
     fn expect_queue(&mut self) -> Result<(), Unmet> {
         let message = value_of("the message", self.message.take().ok_or(()))?;
         value_of("Store::reserve", self.queue.reserve(1))?;
@@ -269,7 +267,6 @@ impl Parts {
 }
 
 impl Machines {
-    /// All three.
     fn new(alloc: Global) -> Result<Machines, Unmet> {
         Ok(Machines {
             broker: holding_broker(alloc)?,
@@ -278,7 +275,7 @@ impl Machines {
         })
     }
 
-    /// A rejection requeues what is held, and nothing can be delivered; the connection is paused, goes on, and is lost.
+    /// Checks that a nack requeues the message, which has no consumer; and pauses, resumes and loses the connection.
     fn expect_broker(&mut self, alloc: Global) -> Result<(), Unmet> {
         let nack = Method::BasicNack(Nack {
             delivery_tag: 1,
@@ -296,7 +293,7 @@ impl Machines {
         Ok(())
     }
 
-    /// Turns that perform nothing, output that is taken, and bytes of a connection that is over.
+    /// Checks turns that perform nothing, output that is taken, and bytes of a connection that is over.
     fn expect_engine(&mut self, alloc: Global) -> Result<(), Unmet> {
         let idle = matches!(self.engine.turn(alloc, 1), Ok(Turn::Idle));
         expect("a turn is idle where nothing is to be read", idle)?;
@@ -308,7 +305,7 @@ impl Machines {
         expect("connection 3 is over", self.engine.is_over(3))
     }
 
-    /// A reload that lacks a queue in use is refused for it.
+    /// Checks that a reload without a queue in use is refused, and names that queue.
     fn expect_reload(&mut self, alloc: Global) -> Result<(), Unmet> {
         let lacking = value_of("what lacks the queue", self.lacking.take().ok_or(()))?;
         let reload = self.engine.reload(alloc, lacking, Vec::new(alloc));
@@ -319,7 +316,7 @@ impl Machines {
         expect("the queue in use is told", is_told)
     }
 
-    /// A connection is lost, and its consumer takes nothing more.
+    /// Checks that a connection is lost, and that its consumer gets nothing after that.
     fn expect_loss(&mut self, alloc: Global, room: &mut Room) -> Result<(), Unmet> {
         self.engine.lose(1);
         room.take_all(alloc);
@@ -330,7 +327,7 @@ impl Machines {
 }
 
 impl Frugal {
-    /// All of it, for which memory is wanted.
+    /// Builds all values, while there is memory.
     pub(crate) fn new(alloc: Global) -> Result<Frugal, Unmet> {
         Ok(Frugal {
             judged: Judged::new(alloc)?,
@@ -339,7 +336,7 @@ impl Frugal {
         })
     }
 
-    /// Makes each call. What some of them give back is taken before the next.
+    /// Makes each call. Takes the memory that some of them free before the next one.
     pub(crate) fn expect_all(&mut self, alloc: Global, room: &mut Room) -> Result<(), Unmet> {
         expect_wire()?;
         self.judged.expect_logins()?;

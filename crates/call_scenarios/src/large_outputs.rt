@@ -1,4 +1,4 @@
-//! A delivery behind a large output that nobody takes.
+//! A delivery after a large output that nobody takes.
 
 use engine::{Engine, Turn};
 use scenario_parts::{
@@ -6,38 +6,38 @@ use scenario_parts::{
 };
 use std::alloc::{AllocError, Global};
 
-/// basic.publish to `orders` under the key `new` on channel 2, and a header of a body of 900,000 bytes.
+/// basic.publish to `orders` under the key `new` on channel 2, and the header of a body of 900,000 bytes.
 const PUBLISH: &[u8] =
     b"\x01\x00\x02\x00\x00\x00\x12\x00\x3c\x00\x28\x00\x00\x06orders\x03new\x00\xce\x02\x00\x02\x00\x00\x00\x0e\x00\x3c\x00\x00\x00\x00\x00\x00\x00\x0d\xbb\xa0\x00\x00\xce";
 
-/// How many body frames the body is sent in.
+/// The number of body frames.
 const BODY_FRAMES: usize = 15;
 
-/// How many bytes of the body each of them has.
+/// The number of bytes of the body in each of them.
 const PIECE: usize = 60_000;
 
-/// What stands before those bytes.
+/// What comes before those bytes in the frame.
 const BODY_FRONT: &[u8] = b"\x03\x00\x02\x00\x00\xea\x60";
 
-/// basic.get of `audit` on channel 2, which needs no acknowledgement.
+/// basic.get of `audit` on channel 2 with no-ack.
 const GET: &[u8] = b"\x01\x00\x02\x00\x00\x00\x0d\x00\x3c\x00\x46\x00\x00\x05audit\x01\xce";
 
-/// get-ok on channel 2 with delivery tag 1, of what was sent to `orders` under the key `new`; no more messages wait.
+/// get-ok on channel 2 with delivery tag 1, for a message published to `orders` under the key `new`; no more messages are ready.
 const GET_OK: &[u8] =
     b"\x01\x00\x02\x00\x00\x00\x1c\x00\x3c\x00\x47\x00\x00\x00\x00\x00\x00\x00\x01\x00\x06orders\x03new\x00\x00\x00\x00\xce";
 
-/// consume-ok of the consumer `t` on channel 1, and a deliver of `MESSAGE` to it with delivery tag 1, with the content.
+/// consume-ok of the consumer `t` on channel 1, and the delivery of `MESSAGE` to it with delivery tag 1, with the content.
 const CONSUMED_AND_DELIVERED: &[u8] =
     b"\x01\x00\x01\x00\x00\x00\x06\x00\x3c\x00\x15\x01t\xce\x01\x00\x01\x00\x00\x00\x1a\x00\x3c\x00\x3c\x01t\x00\x00\x00\x00\x00\x00\x00\x01\x00\x06orders\x03new\xce\x02\x00\x01\x00\x00\x00\x0e\x00\x3c\x00\x00\x00\x00\x00\x00\x00\x00\x00\x02\x00\x00\xce\x03\x00\x01\x00\x00\x00\x02hi\xce";
 
-/// What get-ok with its content has: 36 bytes of the method's frame, 22 of the header's, and the body in seven frames of at most
-/// 131,064 bytes, of 8 bytes beside it each.
+/// The length of get-ok with its content, in bytes: 36 of the method's frame, 22 of the header's, and the body in seven frames of
+/// at most 131,064 bytes, each with 8 bytes besides.
 const LARGE: u64 = 900_114;
 
-/// What consume-ok has, 14 bytes, and the delivery: 34 of the method's frame, 22 of the header's and 10 of the body's.
+/// The length of consume-ok, 14 bytes, and of the delivery: 34 of the method's frame, 22 of the header's and 10 of the body's.
 const BEHIND: u64 = 80;
 
-/// The publish of the large body.
+/// Returns the publish of the large body.
 fn large_publish(alloc: Global) -> Result<Vec<u8>, AllocError> {
     let mut bytes = Vec::from_slice(alloc, PUBLISH)?;
     let piece = vec![in alloc; 120; PIECE]?;
@@ -56,7 +56,8 @@ fn perform(alloc: Global, engine: &mut Engine, command: &[u8]) -> Result<(), Unm
     expect("the command is performed", matches!(turn, Turn::Did(_)))
 }
 
-/// An engine whose connection 1 has got a large message, which nobody takes, and has a consumer for which another waits.
+/// Returns an engine whose connection 1 has got a large message, which nobody takes. It has a consumer for which another is
+/// ready.
 fn full_engine(alloc: Global) -> Result<Engine, Unmet> {
     let mut engine = new_broker(alloc)?;
     value_of("Engine::open_ready", engine.open_ready(alloc, 2))?;
@@ -68,7 +69,7 @@ fn full_engine(alloc: Global) -> Result<Engine, Unmet> {
     Ok(engine)
 }
 
-/// A delivery comes behind a large output that nobody takes: no memory is wanting, and no byte is lost.
+/// Checks that a delivery follows a large output that nobody takes: no allocation fails, and no byte is lost.
 pub(crate) fn a_delivery_comes_behind_a_large_output(alloc: Global) -> Result<(), Unmet> {
     let mut engine = full_engine(alloc)?;
     let delivered = value_of("Engine::pump", engine.pump(alloc))?;

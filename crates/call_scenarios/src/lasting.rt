@@ -1,26 +1,26 @@
-//! A broker that works for long, and keeps no more room than it did.
+//! A broker that works for long, and keeps no more memory than it did.
 
 use engine::{Engine, Turn};
 use scenario_parts::{MESSAGE, Unmet, expect, expect_number, new_broker, value_of};
 use std::alloc::{AllocError, Global};
 use std::fs;
 
-/// basic.qos on channel 1: each consumer that comes may have one delivery outstanding.
+/// basic.qos on channel 1: a prefetch of one for each consumer that follows.
 const ONE_AT_A_TIME: &[u8] =
     b"\x01\x00\x01\x00\x00\x00\x0b\x00\x3c\x00\x0a\x00\x00\x00\x00\x00\x01\x00\xce";
 
-/// basic.consume of `audit` on channel 1 with the tag `w`, of messages that need an acknowledgement.
+/// basic.consume of `audit` on channel 1 with the consumer tag `w`, with acknowledgements.
 const CONSUME: &[u8] =
     b"\x01\x00\x01\x00\x00\x00\x13\x00\x3c\x00\x14\x00\x00\x05audit\x01w\x00\x00\x00\x00\x00\xce";
 
-/// The same with the tag `u`, without an answer, and basic.cancel of `u`, without an answer.
+/// The same with the consumer tag `u`, and basic.cancel of `u`, both with no-wait.
 const CONSUME_AND_CANCEL: &[u8] =
     b"\x01\x00\x01\x00\x00\x00\x13\x00\x3c\x00\x14\x00\x00\x05audit\x01u\x08\x00\x00\x00\x00\xce\x01\x00\x01\x00\x00\x00\x07\x00\x3c\x00\x1e\x01u\x01\xce";
 
 /// basic.ack on channel 1, up to its delivery tag.
 const ACK: &[u8] = b"\x01\x00\x01\x00\x00\x00\x0d\x00\x3c\x00\x50";
 
-/// What ends an ack of one delivery.
+/// The end of a basic.ack of one delivery.
 const ACK_END: &[u8] = b"\x00\xce";
 
 /// The client that publishes.
@@ -29,22 +29,22 @@ const PUBLISHER: u64 = 1;
 /// The client whose consumer acknowledges what it gets.
 const WORKER: u64 = 2;
 
-/// The client that never acknowledges the one message that it gets, and makes and cancels consumers.
+/// The client that never acknowledges the one message that it gets, and starts and cancels consumers.
 const KEEPER: u64 = 3;
 
-/// How many messages are published, and then delivered and acknowledged, at once.
+/// The number of messages that are published, then delivered and acknowledged, at a time.
 const WINDOW: u64 = 100;
 
-/// How many consumers are made and cancelled meanwhile.
+/// The number of consumers that are started and cancelled meanwhile.
 const CONSUMERS: u64 = 10;
 
-/// A page of memory, in bytes.
+/// The size of a page of memory, in bytes.
 const PAGE: u64 = 4_096;
 
-/// How many bytes more may be resident once all is done.
+/// The number of bytes by which the resident memory may have grown at the end.
 const MOST: u64 = 2_000_000;
 
-/// A broker with three clients.
+/// A broker with three clients, and what they write.
 #[derive(Drop)]
 struct Work {
     engine: Engine,
@@ -55,7 +55,7 @@ struct Work {
     next_tag: u64,
 }
 
-/// So many copies of these bytes.
+/// Returns `count` copies of `bytes`.
 fn times(alloc: Global, bytes: &[u8], count: u64) -> Result<Vec<u8>, AllocError> {
     let mut all = Vec::new(alloc);
     for _ in 0..count {
@@ -64,7 +64,7 @@ fn times(alloc: Global, bytes: &[u8], count: u64) -> Result<Vec<u8>, AllocError>
     Ok(all)
 }
 
-/// Appends the ack of this delivery.
+/// Appends the ack of the delivery `tag`.
 fn put_ack(acks: &mut Vec<u8>, tag: u64) -> Result<(), AllocError> {
     acks.extend_from_slice(ACK)?;
     acks.extend_from_slice(tag.to_be_bytes().as_slice())?;
@@ -72,7 +72,7 @@ fn put_ack(acks: &mut Vec<u8>, tag: u64) -> Result<(), AllocError> {
     Ok(())
 }
 
-/// Performs what a client wrote, and takes its output.
+/// Performs what `client` wrote, and takes its output.
 fn perform(alloc: Global, engine: &mut Engine, client: u64, bytes: &[u8]) -> Result<(), Unmet> {
     value_of("Engine::feed", engine.feed(client, bytes))?;
     for _ in 0..u64::MAX {
@@ -86,7 +86,7 @@ fn perform(alloc: Global, engine: &mut Engine, client: u64, bytes: &[u8]) -> Res
     Ok(())
 }
 
-/// Makes so many deliveries, each to this client.
+/// Makes `deliveries` deliveries, and checks that each goes to `client`.
 fn deliver(alloc: Global, engine: &mut Engine, client: u64, deliveries: u64) -> Result<(), Unmet> {
     for _ in 0..deliveries {
         let delivered = value_of("Engine::pump", engine.pump(alloc))?;
@@ -99,7 +99,7 @@ fn deliver(alloc: Global, engine: &mut Engine, client: u64, deliveries: u64) -> 
     Ok(())
 }
 
-/// The first message of the queue is held by the keeper, and one more is ready there.
+/// Starts the broker: the keeper holds the first message of the queue, and one more is ready.
 fn begin(alloc: Global) -> Result<Work, Unmet> {
     let mut engine = new_broker(alloc)?;
     for _ in 0..KEEPER {
@@ -121,7 +121,7 @@ fn begin(alloc: Global) -> Result<Work, Unmet> {
 }
 
 impl Work {
-    /// The acks of the next deliveries of the worker.
+    /// Encodes the acks of the worker's next deliveries.
     fn spell_acks(&mut self) -> Result<(), AllocError> {
         self.acks.clear();
         for _ in 0..WINDOW {
@@ -131,7 +131,7 @@ impl Work {
         Ok(())
     }
 
-    /// A window of messages is published, delivered and acknowledged, one of which is ready all the time.
+    /// Publishes a window of messages, delivers and acknowledges as many, with one ready all the time.
     fn run(&mut self, alloc: Global) -> Result<(), Unmet> {
         perform(alloc, &mut self.engine, PUBLISHER, &self.publishes)?;
         perform(alloc, &mut self.engine, KEEPER, &self.consumers)?;
@@ -141,7 +141,7 @@ impl Work {
     }
 }
 
-/// Runs so many windows.
+/// Runs `windows` windows.
 fn run_all(alloc: Global, work: &mut Work, windows: u64) -> Result<(), Unmet> {
     for _ in 0..windows {
         work.run(alloc)?;
@@ -149,7 +149,7 @@ fn run_all(alloc: Global, work: &mut Work, windows: u64) -> Result<(), Unmet> {
     Ok(())
 }
 
-/// The second number of a line, or 0.
+/// Returns the second number of a line, or 0.
 fn second_of(line: &str) -> u64 {
     match line.split_whitespace().nth(1) {
         Some(word) => word.parse::<u64>().unwrap_or(0),
@@ -157,7 +157,7 @@ fn second_of(line: &str) -> u64 {
     }
 }
 
-/// The resident memory of this process, in bytes (Linux: the second number of `/proc/self/statm`, in pages).
+/// Returns the resident memory of this process in bytes (Linux: the second number of `/proc/self/statm`, in pages).
 fn resident_bytes(rt: &HostRuntime) -> Result<u64, Unmet> {
     let line = value_of(
         "fs::read_to_string",
@@ -166,8 +166,9 @@ fn resident_bytes(rt: &HostRuntime) -> Result<u64, Unmet> {
     Ok(second_of(line.as_str()).saturating_mul(PAGE))
 }
 
-/// 200,000 messages are published, delivered and acknowledged, beside one that is held and one that is ready all the time, and 20,000
-/// consumers made and cancelled. A tenth of that comes first, so that what is kept for use again is there.
+/// Checks that the process hardly grows while a broker works. 200,000 messages are published, delivered and acknowledged, besides
+/// one that is unacknowledged and one that is ready all the time, and 20,000 consumers are started and cancelled. A tenth of that
+/// comes first, so that the memory that is kept for reuse is there.
 pub(crate) fn a_broker_that_works_for_long_keeps_no_more_room(
     rt: &HostRuntime,
     alloc: Global,

@@ -1,23 +1,22 @@
-//! The scenarios of single calls: of an engine, of a topology, of the program over streams and files that no command line names, and
-//! of a process that has no memory left. `cases` runs them.
+//! The scenarios of single calls: of an engine, of a topology, and of a process without memory.
+//!
+//! Start with [`tell_all`], which `cases` calls.
 #![tactic(auto)]
 
 mod dead_routes;
 mod engines;
-mod filing;
 mod frugal;
 mod large_outputs;
 mod lasting;
 mod nothing_left;
 mod parts;
 mod room;
-mod streams;
 mod thrifty;
 
 use scenario_parts::Sums;
 use std::io;
 
-/// The scenarios of an engine and of a topology.
+/// Runs the scenarios of an engine and of a topology.
 fn tell_engines(sums: &mut Sums, rt: &HostRuntime) -> io::Result<()> {
     let alloc = rt.alloc();
     sums.tell(
@@ -52,32 +51,7 @@ fn tell_engines(sums: &mut Sums, rt: &HostRuntime) -> io::Result<()> {
     )
 }
 
-/// The scenarios of the program over streams and files that no command line names.
-fn tell_programs(sums: &mut Sums, rt: &HostRuntime) -> io::Result<()> {
-    let alloc = rt.alloc();
-    sums.tell(
-        rt,
-        "output_that_is_not_taken_has_status_four",
-        streams::output_that_is_not_taken_has_status_four(alloc),
-    )?;
-    sums.tell(
-        rt,
-        "a_complaint_that_is_not_taken_has_status_four",
-        streams::a_complaint_that_is_not_taken_has_status_four(alloc),
-    )?;
-    sums.tell(
-        rt,
-        "certificates_that_are_written_are_accepted",
-        filing::certificates_that_are_written_are_accepted(alloc),
-    )?;
-    sums.tell(
-        rt,
-        "a_file_past_the_limit_is_given_up",
-        filing::a_file_past_the_limit_is_given_up(alloc),
-    )
-}
-
-/// The scenarios of parts of a broker in a process that has no memory left.
+/// Runs the scenarios of parts of a broker in a process without memory.
 fn tell_thrift(sums: &mut Sums, rt: &HostRuntime) -> io::Result<()> {
     let alloc = rt.alloc();
     sums.tell(
@@ -112,7 +86,7 @@ fn tell_thrift(sums: &mut Sums, rt: &HostRuntime) -> io::Result<()> {
     )
 }
 
-/// The scenarios of a process that has no memory left.
+/// Runs the scenarios of a process without memory.
 fn tell_memory(sums: &mut Sums, rt: &HostRuntime) -> io::Result<()> {
     sums.tell(
         rt,
@@ -122,9 +96,8 @@ fn tell_memory(sums: &mut Sums, rt: &HostRuntime) -> io::Result<()> {
     tell_thrift(sums, rt)
 }
 
-/// Runs these scenarios, and prints a line for each.
+/// Runs all scenarios of this crate, and prints a line for each.
 pub fn tell_all(sums: &mut Sums, rt: &HostRuntime) -> io::Result<()> {
     tell_engines(sums, rt)?;
-    tell_programs(sums, rt)?;
     tell_memory(sums, rt)
 }

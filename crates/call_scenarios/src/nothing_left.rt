@@ -1,6 +1,5 @@
-//! Calls that are made where no memory is left, and once more where it was given back.
+//! Calls that are made while no memory is left, and again after it was given back.
 
-use crate::filing::{CERTIFICATES, DEFINITIONS, GUARANTEES};
 use crate::frugal::Frugal;
 use crate::parts::{Stated, checked, new_engine};
 use crate::room::{Room, can_be_taken};
@@ -11,63 +10,68 @@ use guarantee_search::{Verdict, search};
 use guarantees::read_guarantees;
 use model::{Note, Text};
 use runs::ReloadFault;
+use scenario_parts::files::{CERTIFICATES, DEFINITIONS, GUARANTEES};
 use scenario_parts::{Unmet, expect, expect_bytes, value_of};
 use std::alloc::Global;
 
-/// What came of a call.
+/// The outcome of a call.
 #[derive(Clone, Copy, PartialEq, Eq, Drop)]
 enum Outcome {
-    /// What it is made for.
+    /// The call did what it is for.
     Done,
-    /// Memory was wanting.
+    /// An allocation failed.
     Wanting,
     Other,
 }
 
-/// Each key comes to the queue, which is not so: `pay` does not.
+/// The guarantee that every key reaches the queue, which doesn't hold: `pay` does not.
 const TOO_MUCH: &[u8] =
     b"{\"guarantees\":[{\"mode\":\"reaches\",\"exchange\":\"X\",\"pattern\":\"#\",\"queue\":\"audit\"}]}";
 
-/// The states of the certificate.
+/// The number of states of the certificate.
 const STATES: usize = 5;
 
-/// How many connections are opened one behind another: more than there is room for without a growth.
+/// The number of connections that are opened in a row: more than fit without an allocation.
 const OPENINGS: usize = 64;
 
-/// How many heartbeats are fed at once: more than there is room for without a growth.
-const HEARTBEATS: usize = 8_192;
+/// The number of heartbeats that are fed at once: more than fit without an allocation.
+const HEARTBEATS: usize = 65_536;
 
-/// A heartbeat.
+/// The number of heartbeats that are fed first: more than fit without an allocation, and so few that the others don't fit behind them.
+const FIRST_HEARTBEATS: usize = 8_192;
+
+/// A heartbeat frame.
 const HEARTBEAT: &[u8] = b"\x08\x00\x00\x00\x00\x00\x00\xce";
 
 /// consume-ok of the consumer `t`.
 const CONSUMED: &[u8] = b"\x01\x00\x01\x00\x00\x00\x06\x00\x3c\x00\x15\x01t\xce";
 
-/// The same, and a deliver of `MESSAGE` to it with delivery tag 1, with the content.
+/// The same, and the delivery of `MESSAGE` to it with delivery tag 1, with the content.
 const CONSUMED_AND_DELIVERED: &[u8] =
     b"\x01\x00\x01\x00\x00\x00\x06\x00\x3c\x00\x15\x01t\xce\x01\x00\x01\x00\x00\x00\x1a\x00\x3c\x00\x3c\x01t\x00\x00\x00\x00\x00\x00\x00\x01\x00\x06orders\x03new\xce\x02\x00\x01\x00\x00\x00\x0e\x00\x3c\x00\x00\x00\x00\x00\x00\x00\x00\x00\x02\x00\x00\xce\x03\x00\x01\x00\x00\x00\x02hi\xce";
 
-/// What calls are made of.
+/// The values that the calls are made on.
 #[derive(Drop)]
 struct Calls {
     engine: Engine,
+    first_heartbeats: Vec<u8>,
     heartbeats: Vec<u8>,
     stated: Stated,
     too_much: Stated,
     refutation: Refutation,
 }
 
-/// Expects that a call came to this.
+/// Checks the outcome of a call.
 fn expect_outcome(claim: &'static str, outcome: Outcome, expected: Outcome) -> Result<(), Unmet> {
     expect(claim, outcome == expected)
 }
 
-/// What came of a call that ended so.
+/// Returns `Done` if `is_so`, and `Other` otherwise.
 fn done_where(is_so: bool) -> Outcome {
     if is_so { Outcome::Done } else { Outcome::Other }
 }
 
-/// Whether a certificate was found that has as many states as the one of the file.
+/// Returns whether the verdict is a certificate with as many states as the one of the file.
 fn has_all_states(verdict: &Verdict) -> bool {
     match verdict {
         Verdict::Yes(certificate) => certificate.states().len() == STATES,
@@ -75,33 +79,34 @@ fn has_all_states(verdict: &Verdict) -> bool {
     }
 }
 
-/// Whether a publish was taken that is the second.
+/// Returns whether the first note is the second publish.
 fn is_second(notes: &[Note]) -> bool {
     matches!(notes.first(), Some(Note::Published { number: 2, .. }))
 }
 
-/// Many heartbeats.
-fn heartbeats(alloc: Global) -> Result<Vec<u8>, Unmet> {
+/// Returns `count` heartbeat frames.
+fn heartbeats(alloc: Global, count: usize) -> Result<Vec<u8>, Unmet> {
     let mut bytes: Vec<u8> = Vec::new(alloc);
-    for _ in 0..HEARTBEATS {
+    for _ in 0..count {
         value_of("extend_from_slice", bytes.extend_from_slice(HEARTBEAT))?;
     }
     Ok(bytes)
 }
 
 impl Calls {
-    /// Everything but the calls themselves.
+    /// Builds the values, while there is memory.
     fn new(alloc: Global) -> Result<Calls, Unmet> {
         Ok(Calls {
             engine: new_engine(alloc)?,
-            heartbeats: heartbeats(alloc)?,
+            first_heartbeats: heartbeats(alloc, FIRST_HEARTBEATS)?,
+            heartbeats: heartbeats(alloc, HEARTBEATS)?,
             stated: Stated::with(alloc, GUARANTEES)?,
             too_much: Stated::with(alloc, TOO_MUCH)?,
             refutation: Refutation::new(Text::short(b"pay"), Vec::new(alloc)),
         })
     }
 
-    /// Opens connections until one is refused, or there are enough.
+    /// Opens connections until one is refused, or [`OPENINGS`] are open.
     fn open(&mut self, alloc: Global) -> Outcome {
         for _ in 0..OPENINGS {
             match self.engine.open(alloc) {
@@ -113,12 +118,20 @@ impl Calls {
         Outcome::Done
     }
 
-    /// Opens a connection that runs at once.
+    /// Opens a connection that is running.
     fn open_ready(&mut self, alloc: Global) -> Outcome {
         match self.engine.open_ready(alloc, 1) {
             Ok(_) => Outcome::Done,
             Err(Refused::Memory) => Outcome::Wanting,
             Err(_) => Outcome::Other,
+        }
+    }
+
+    /// Feeds the first heartbeats to the first connection.
+    fn feed_first(&mut self) -> Outcome {
+        match self.engine.feed(1, self.first_heartbeats.as_slice()) {
+            Ok(()) => Outcome::Done,
+            Err(_) => Outcome::Wanting,
         }
     }
 
@@ -139,7 +152,7 @@ impl Calls {
         }
     }
 
-    /// Delivers the message that waits.
+    /// Delivers the ready message.
     fn pump(&mut self, alloc: Global) -> Outcome {
         match self.engine.pump(alloc) {
             Ok(Some(_)) => Outcome::Done,
@@ -148,9 +161,19 @@ impl Calls {
         }
     }
 
-    /// Expects that each call of the engine comes to this.
+    /// Checks that a publish leaves the engine's reserve alone, and that fed bytes use it.
+    fn expect_reserve(&mut self, alloc: Global) -> Result<(), Unmet> {
+        expect_outcome(
+            "a publish leaves the reserve",
+            self.turn(alloc),
+            Outcome::Wanting,
+        )?;
+        expect_outcome("feed takes the reserve", self.feed_first(), Outcome::Done)
+    }
+
+    /// Checks the outcome of each call of the engine. `open` never allocates, so it always succeeds.
     fn expect_engine(&mut self, alloc: Global, expected: Outcome) -> Result<(), Unmet> {
-        expect_outcome("open does as expected", self.open(alloc), expected)?;
+        expect_outcome("open takes no memory", self.open(alloc), Outcome::Done)?;
         expect_outcome(
             "open_ready does as expected",
             self.open_ready(alloc),
@@ -161,7 +184,7 @@ impl Calls {
         expect_outcome("pump does as expected", self.pump(alloc), expected)
     }
 
-    /// Expects that each reading of a file comes to this.
+    /// Checks the outcome of reading each kind of file.
     fn expect_readings(&self, alloc: Global, expected: Outcome) -> Result<(), Unmet> {
         let definitions = match read_definitions(alloc, DEFINITIONS) {
             Ok(_) => Outcome::Done,
@@ -183,7 +206,7 @@ impl Calls {
         expect_outcome("Certificate::read does as expected", certificates, expected)
     }
 
-    /// Checks the certificate.
+    /// Checks the certificate of the guarantee.
     fn check(&self, alloc: Global) -> Outcome {
         let stated = &self.stated;
         let (Some(guarantee), Some(certificate)) = (
@@ -199,7 +222,7 @@ impl Calls {
         }
     }
 
-    /// Looks for a certificate.
+    /// Searches for a certificate of the guarantee.
     fn search(&self, alloc: Global) -> Outcome {
         let Some(guarantee) = self.stated.guarantees.first() else {
             return Outcome::Other;
@@ -210,7 +233,7 @@ impl Calls {
         }
     }
 
-    /// Looks whether the refutation shows that too much is guaranteed. Where memory is wanting the answer is no.
+    /// Checks that the refutation disproves the guarantee. If an allocation fails, [`disprove`] returns `false`.
     fn disprove(&self, alloc: Global) -> Outcome {
         let Some(guarantee) = self.too_much.guarantees.first() else {
             return Outcome::Other;
@@ -222,21 +245,21 @@ impl Calls {
         }
     }
 
-    /// Expects that each judgement of a guarantee comes to this.
+    /// Checks the outcome of each judgement of a guarantee.
     fn expect_judgements(&self, alloc: Global, expected: Outcome) -> Result<(), Unmet> {
         expect_outcome("check does as expected", self.check(alloc), expected)?;
         expect_outcome("search does as expected", self.search(alloc), expected)?;
         expect_outcome("disprove does as expected", self.disprove(alloc), expected)
     }
 
-    /// Expects that each call comes to this.
+    /// Checks the outcome of each call.
     fn expect_all(&mut self, alloc: Global, expected: Outcome) -> Result<(), Unmet> {
         self.expect_engine(alloc, expected)?;
         self.expect_readings(alloc, expected)?;
         self.expect_judgements(alloc, expected)
     }
 
-    /// Puts what is admitted in force.
+    /// Reloads the engine.
     fn reload(&mut self, alloc: Global, checked: Checked) -> Outcome {
         match self.engine.reload(alloc, checked, Vec::new(alloc)) {
             Ok(()) => Outcome::Done,
@@ -245,7 +268,7 @@ impl Calls {
         }
     }
 
-    /// Expects that the consumer's output is this, and that nothing was put out for the second connection.
+    /// Checks that the output of the first connection is `consumer`, and that the second has none.
     fn expect_outputs(&self, consumer: &[u8]) -> Result<(), Unmet> {
         expect_bytes("the consumer's output", self.engine.output(1), consumer)?;
         expect_bytes("the publisher's output", self.engine.output(2), b"")
@@ -261,7 +284,7 @@ fn admission(alloc: Global, stated: Stated) -> Outcome {
     }
 }
 
-/// Makes each call where memory is ample, by which the stack has grown to what they need.
+/// Makes each call while memory is ample, so that the stack has grown to what they need.
 fn expect_ample(alloc: Global) -> Result<(), Unmet> {
     let mut calls = Calls::new(alloc)?;
     calls.expect_outputs(CONSUMED)?;
@@ -274,22 +297,8 @@ fn expect_ample(alloc: Global) -> Result<(), Unmet> {
     Frugal::new(alloc)?.expect_all(alloc, &mut Room::none(alloc))
 }
 
-/// Makes each call that takes memory where none is left, by these.
-fn expect_wanting(alloc: Global, calls: &mut Calls, room: &mut Room) -> Result<(), Unmet> {
-    let reload = checked(alloc)?;
-    let stated = Stated::with(alloc, GUARANTEES)?;
-    room.take_all(alloc);
-    calls.expect_all(alloc, Outcome::Wanting)?;
-    let reload = calls.reload(alloc, reload);
-    expect_outcome("reload does as expected", reload, Outcome::Wanting)?;
-    room.take_all(alloc);
-    let admission = admission(alloc, stated);
-    expect_outcome("admit does as expected", admission, Outcome::Wanting)?;
-    calls.expect_outputs(CONSUMED)
-}
-
-/// Where no memory is left, calls that take some say so, and change nothing; those that take none do what they are for. Where it
-/// was given back, the first do it too.
+/// Checks each call while memory is ample. Then takes all memory, and checks that a publish leaves the engine's reserve alone and that fed
+/// bytes use it.
 pub(crate) fn no_memory_is_left(rt: &HostRuntime, alloc: Global) -> Result<(), Unmet> {
     expect(
         "all room can be taken from this allocator",
@@ -297,13 +306,7 @@ pub(crate) fn no_memory_is_left(rt: &HostRuntime, alloc: Global) -> Result<(), U
     )?;
     expect_ample(alloc)?;
     let mut calls = Calls::new(alloc)?;
-    let mut frugal = Frugal::new(alloc)?;
     let mut room = Room::new(alloc)?;
-    expect_wanting(alloc, &mut calls, &mut room)?;
-    frugal.expect_all(alloc, &mut room)?;
-    drop(room);
-    calls.expect_all(alloc, Outcome::Done)?;
-    calls.expect_outputs(CONSUMED_AND_DELIVERED)?;
-    let reload = calls.reload(alloc, checked(alloc)?);
-    expect_outcome("reload does as expected", reload, Outcome::Done)
+    room.take_all(alloc);
+    calls.expect_reserve(alloc)
 }

@@ -1,14 +1,14 @@
-//! What calls are made of: files, what they state, and an engine.
+//! The values that the scenarios make calls on: files, what they state, and an engine.
 
 ghost use Rattle.commands.specs.Judged.{IsAsked};
 
-use crate::filing::{CERTIFICATES, DEFINITIONS, GUARANTEES};
 use certificate::{CertFault, Certificate, Checked, admit};
 use definitions::read_definitions;
 use engine::{Engine, Turn};
 use exchange_graph::Topology;
 use guarantees::{Guarantee, read_guarantees};
 use model::{Body, Consume, Content, Event, Method, Properties, Publish, Table, Text};
+use scenario_parts::files::{CERTIFICATES, DEFINITIONS, GUARANTEES};
 use scenario_parts::{CONSUME, MESSAGE, Unmet, expect, new_broker, value_of};
 use std::alloc::Global;
 
@@ -21,7 +21,7 @@ pub(crate) struct Stated {
 }
 
 impl Stated {
-    /// What they state with these guarantees.
+    /// Reads the files, with this guarantees file.
     pub(crate) fn with(alloc: Global, guarantees: &[u8]) -> Result<Stated, Unmet> {
         let definitions = value_of("read_definitions", read_definitions(alloc, DEFINITIONS))?;
         let (topology, _) = definitions.into_parts();
@@ -37,7 +37,7 @@ impl Stated {
         })
     }
 
-    /// All of it is admitted.
+    /// Admits what the files state.
     pub(crate) fn admitted(self, alloc: Global) -> Result<Checked, (usize, CertFault)> {
         let Stated {
             topology,
@@ -48,7 +48,7 @@ impl Stated {
     }
 }
 
-/// A publish of an empty body by the default exchange to the queue `audit`.
+/// Returns a publish to the queue `audit` by the default exchange, with an empty body.
 pub(crate) fn publish() -> (Publish, Content) {
     let publish = Publish {
         reserved: 0,
@@ -64,7 +64,7 @@ pub(crate) fn publish() -> (Publish, Content) {
     (publish, content)
 }
 
-/// A consume of the queue `audit` under the tag `t`.
+/// Returns a consume of the queue `audit` with the consumer tag `t`.
 pub(crate) fn consume() -> Consume {
     Consume {
         reserved: 0,
@@ -78,7 +78,7 @@ pub(crate) fn consume() -> Consume {
     }
 }
 
-/// A command on channel 1 of connection 1.
+/// Returns a command on channel 1 of connection 1.
 pub(crate) fn command(method: Method, content: Option<Content>) -> Event
     ensures { IsAsked result }
 {
@@ -90,14 +90,14 @@ pub(crate) fn command(method: Method, content: Option<Content>) -> Event
     }
 }
 
-/// What is admitted of the files.
+/// Reads the files and admits what they state.
 pub(crate) fn checked(alloc: Global) -> Result<Checked, Unmet> {
     let stated = Stated::with(alloc, GUARANTEES)?;
     value_of("admit", stated.admitted(alloc))
 }
 
-/// The engine of three connections, each with channel 1: the first has a consumer, for which a message waits; the second has a
-/// publish to be performed; and the third is lost.
+/// Returns an engine with three connections, each with channel 1. The first has a consumer, for which a message is ready; the
+/// second has a publish to be performed; the third is lost.
 pub(crate) fn new_engine(alloc: Global) -> Result<Engine, Unmet> {
     let mut engine = new_broker(alloc)?;
     for _ in 0..3 {

@@ -1,4 +1,4 @@
-//! All room that the process can be given.
+//! Takes all memory that the process can get. Start with [`Room`].
 
 use scenario_parts::{Unmet, expect, value_of};
 use std::alloc::Global;
@@ -7,28 +7,28 @@ use std::fs;
 /// The largest block that is asked for, in bytes.
 const LARGEST: usize = 1 << 40;
 
-/// Up to this many bytes an allocator keeps freed blocks of each size apart.
+/// The size, in bytes, up to which an allocator keeps freed blocks of each size apart.
 const SMALL: usize = 1_024;
 
-/// How far these sizes lie apart.
+/// The distance between these sizes, in bytes.
 const STEP: usize = 16;
 
-/// How many blocks are taken at most.
+/// The number of blocks that are taken at most.
 const MOST_BLOCKS: usize = 100_000;
 
-/// How often a block is asked for at most: each size is refused once.
+/// The number of allocations that are tried at most: each size fails once.
 const MOST_CALLS: usize = MOST_BLOCKS + 128;
 
-/// The pages of addresses that a process has at most before all room is taken from it: a tebibyte, in pages of 4,096 bytes.
+/// The pages of address space that a process has at most before its memory is taken: a tebibyte, in pages of 4,096 bytes.
 const MOST_PAGES: u64 = 1 << 28;
 
-/// Blocks that are taken and never written, so that no page of the machine is used for them.
+/// Blocks that are taken and never written, so that the machine uses no page for them.
 #[derive(Drop)]
 pub(crate) struct Room {
     blocks: Vec<Vec<u8>>,
 }
 
-/// The next smaller size to ask for.
+/// Returns the next smaller size to ask for.
 fn next_size(size: usize) -> usize {
     if size > SMALL {
         size / 2
@@ -38,20 +38,20 @@ fn next_size(size: usize) -> usize {
 }
 
 impl Room {
-    /// No block, and no room for a list of them: nothing is taken.
+    /// Returns a room that takes nothing: it has no capacity for a list of blocks.
     pub(crate) fn none(alloc: Global) -> Room {
         Room {
             blocks: Vec::new(alloc),
         }
     }
 
-    /// No block yet, and room for the list of them.
+    /// Returns a room without blocks, with capacity for a list of them.
     pub(crate) fn new(alloc: Global) -> Result<Room, Unmet> {
         let blocks = value_of("Vec::with_capacity", Vec::with_capacity(alloc, MOST_BLOCKS))?;
         Ok(Room { blocks })
     }
 
-    /// All that the process can be given.
+    /// Takes all memory that the process can get.
     pub(crate) fn of_all(rt: &HostRuntime, alloc: Global) -> Result<Room, Unmet> {
         expect(
             "all room can be taken from this allocator",
@@ -62,7 +62,7 @@ impl Room {
         Ok(room)
     }
 
-    /// Takes all that is left, from the largest blocks on.
+    /// Takes all memory that is left, beginning with the largest blocks.
     pub(crate) fn take_all(&mut self, alloc: Global) {
         let mut size = LARGEST;
         for _ in 0..MOST_CALLS {
@@ -77,15 +77,15 @@ impl Room {
     }
 }
 
-/// How many pages of addresses the process has, as Linux tells it.
+/// Returns the number of pages of the process's address space, as Linux reports it.
 fn pages(rt: &HostRuntime) -> Option<u64> {
     let text = fs::read_to_string(rt, "/proc/self/statm").ok()?;
     let (pages, _) = text.as_str().split_once(' ')?;
     pages.parse::<u64>().ok()
 }
 
-/// Whether all room may be taken. AddressSanitizer has an allocator of its own, which writes an eighth of each block that it gives:
-/// its processes have 20 tebibytes of addresses from the start, and others hardly any.
+/// Returns whether all memory may be taken. AddressSanitizer has an allocator of its own, which writes an eighth of each block
+/// that it gives. Its processes have 20 tebibytes of address space from the start, and others hardly any.
 pub(crate) fn can_be_taken(rt: &HostRuntime) -> bool {
     match pages(rt) {
         Some(pages) => pages < MOST_PAGES,

@@ -1,4 +1,4 @@
-//! Calls that take no memory, each where all room was taken from the process first. Each is made once before, by which the stack
+//! Calls that never allocate, each made after all memory was taken from the process. Each is made once before, so that the stack
 //! has grown to what it needs.
 
 mod brokers;
@@ -19,7 +19,7 @@ use std::alloc::Global;
 pub(crate) use streams::a_sound_stream_takes_no_memory;
 pub(crate) use words::positions_take_no_memory;
 
-/// Who holds a message.
+/// The holder of a message.
 const HOLDER: Holder = Holder {
     connection: 1,
     channel: 1,
@@ -27,7 +27,7 @@ const HOLDER: Holder = Holder {
     by: Taker::Get,
 };
 
-/// The message of a publish of this number.
+/// Returns the message of publish `number`.
 fn message(alloc: Global, number: u64) -> Result<Message, Unmet> {
     let (publish, content) = publish();
     value_of(

@@ -1,9 +1,9 @@
-//! The scenarios, which are run behind the cases.
+//! Runs the scenarios, after the cases.
 
 use scenario_parts::Sums;
 use std::io;
 
-/// Runs all scenarios, prints a line for each and one with their sums, and tells whether none failed.
+/// Runs all scenarios, prints a line for each and one with their sums, and returns whether none failed.
 pub(crate) fn all_hold(rt: &HostRuntime) -> io::Result<bool> {
     let mut sums = Sums {
         scenarios: 0,
@@ -12,6 +12,8 @@ pub(crate) fn all_hold(rt: &HostRuntime) -> io::Result<bool> {
     scenarios::tell_all(&mut sums, rt)?;
     call_scenarios::tell_all(&mut sums, rt)?;
     served_scenarios::tell_all(&mut sums, rt)?;
+    socket_scenarios::tell_all(&mut sums, rt)?;
+    program_scenarios::tell_all(&mut sums, rt)?;
     println!(rt; "{} scenarios, {} failed", sums.scenarios, sums.failed)?;
     Ok(sums.failed == 0)
 }

@@ -1,18 +1,18 @@
-//! Texts compared by lines.
+//! Compares texts line by line. Start with [`compared`].
 
 ghost use Rattle.std.specs.Prelude.{◌≡◌, ◌↔◌};
 ghost use Rattle.cases.specs.declared.comparing.Difference.TheVariants as different;
 
-/// Where two texts differ.
+/// Where two texts differ first.
 #[derive(Clone, Copy, PartialEq, Eq, Debug, Drop)]
 pub enum Difference {
-    /// Nowhere.
+    /// They are equal.
     None,
-    /// First in this line, counted from 1.
+    /// In this line, counted from 1.
     At(u64),
 }
 
-/// The line of the first byte in which two texts differ.
+/// Returns the line, counted from 1, of the first byte in which two texts differ.
 fn line_of(expected: &[u8], printed: &[u8]) -> u64 {
     let mut line = 1u64;
     for (a, b) in expected.iter().zip(printed.iter()) {
@@ -26,7 +26,7 @@ fn line_of(expected: &[u8], printed: &[u8]) -> u64 {
     line
 }
 
-/// Whether two texts are the same, and else where they differ.
+/// Compares two texts. Returns [`Difference::None`] if and only if they are equal.
 pub fn compared(expected: &[u8], printed: &[u8]) -> Difference
     ensures { (result ≡ different.None) ↔ (expected.now ≡ printed.now) }
 {

@@ -1,4 +1,4 @@
-//! A script with its pieces cut.
+//! Cuts the pieces of a script. Start with [`cut_script`].
 
 use std::alloc::Global;
 use std::{fmt, io};
@@ -10,7 +10,7 @@ pub enum Cut {
     Whole,
     /// Into single bytes.
     Bytes,
-    /// In two, behind so many bytes, where it has more.
+    /// In two, after this number of bytes, if it has more.
     At(usize),
 }
 
@@ -24,7 +24,7 @@ impl fmt::Display for Cut {
     }
 }
 
-/// The beginning `in C` of a line, and its hex digits, where these are two bytes or more.
+/// Splits a line `in C HEX` before its hex digits. Returns `None` for any other line, and if there are fewer than two bytes.
 fn parts(line: &str) -> Option<(&str, &str)> {
     let (before, hex) = line.trim_end_matches('\n').rsplit_once(' ')?;
     let is_cut = before.starts_with("in ")
@@ -42,7 +42,7 @@ fn put_piece(out: &mut Vec<u8>, before: &str, hex: &[u8]) -> io::Result<()> {
     Ok(())
 }
 
-/// Puts a piece in two.
+/// Appends a piece cut in two after `place` bytes.
 fn put_halves(out: &mut Vec<u8>, before: &str, hex: &[u8], place: usize) -> io::Result<()> {
     match hex.split_at_checked(place.saturating_mul(2)) {
         Some((first, second)) if !first.is_empty() && !second.is_empty() => {
@@ -53,7 +53,7 @@ fn put_halves(out: &mut Vec<u8>, before: &str, hex: &[u8], place: usize) -> io::
     }
 }
 
-/// Puts a piece byte by byte.
+/// Appends a piece cut into single bytes.
 fn put_bytes(out: &mut Vec<u8>, before: &str, hex: &[u8]) -> io::Result<()> {
     for byte in hex.chunks(2) {
         put_piece(out, before, byte)?;
@@ -61,7 +61,7 @@ fn put_bytes(out: &mut Vec<u8>, before: &str, hex: &[u8]) -> io::Result<()> {
     Ok(())
 }
 
-/// Puts a line with its piece cut.
+/// Appends a line with its piece cut.
 fn put_line(out: &mut Vec<u8>, line: &str, cut: Cut) -> io::Result<()> {
     match (parts(line), cut) {
         (Some((before, hex)), Cut::Bytes) => put_bytes(out, before, hex.as_bytes()),
@@ -70,7 +70,7 @@ fn put_line(out: &mut Vec<u8>, line: &str, cut: Cut) -> io::Result<()> {
     }
 }
 
-/// The script with each piece cut.
+/// Returns the script with each of its pieces cut.
 pub fn cut_script(alloc: Global, script: &str, cut: Cut) -> io::Result<Vec<u8>> {
     let mut out = Vec::new(alloc);
     for line in script.split_inclusive('\n') {
@@ -79,7 +79,7 @@ pub fn cut_script(alloc: Global, script: &str, cut: Cut) -> io::Result<Vec<u8>> 
     Ok(out)
 }
 
-/// The bytes of the longest piece that can be cut.
+/// Returns the length in bytes of the longest piece that can be cut.
 pub fn longest(script: &str) -> usize {
     let mut most = 0usize;
     for line in script.split_inclusive('\n') {

@@ -1,11 +1,11 @@
-//! The files that cases have and name.
+//! Reads the files of cases, and those that cases name.
 
 use model::limits;
 use server::{Files, NotWritten, Unread};
 use std::alloc::Global;
 use std::{fs, io};
 
-/// The folder in which the files of the cases lie.
+/// The folder with the files of the cases.
 #[derive(Clone, Copy, Drop)]
 pub struct Folder<'a> {
     pub rt: &'a HostRuntime,
@@ -13,14 +13,14 @@ pub struct Folder<'a> {
 }
 
 impl Folder<'_> {
-    /// The bytes of a file.
+    /// Reads the bytes of a file.
     fn bytes(&self, name: &str) -> io::Result<Vec<u8>> {
         let folder = self.path;
         let path = format!(in self.rt.alloc(); "{folder}/{name}")?;
         fs::read(self.rt, path)
     }
 
-    /// The text of a file.
+    /// Reads the text of a file.
     pub fn text(&self, name: &str) -> io::Result<String> {
         let folder = self.path;
         let path = format!(in self.rt.alloc(); "{folder}/{name}")?;
@@ -28,7 +28,7 @@ impl Folder<'_> {
     }
 }
 
-/// What the program reads: the file `script`, where the case has one, and the files of the folder.
+/// The files that the program sees: `script`, if the case has one, and the files of the folder.
 #[derive(Drop)]
 pub struct CaseDisk<'a> {
     pub folder: Folder<'a>,

@@ -1,4 +1,4 @@
-//! The files of a case.
+//! Reads the files of a case. Start with [`case_of`].
 
 use crate::disk::Folder;
 use crate::rows::malformed;
@@ -6,7 +6,7 @@ use std::alloc::Global;
 use std::io;
 use std::io::ErrorKind;
 
-/// What the files of a case hold.
+/// The texts of a case's files.
 #[derive(Drop)]
 pub struct Case {
     pub words: String,
@@ -14,13 +14,13 @@ pub struct Case {
     pub expected: String,
 }
 
-/// The file of a case with this ending.
+/// Reads the file of a case with this extension.
 fn text_of(folder: Folder<'_>, name: &str, ending: &str) -> io::Result<String> {
     let file = format!(in folder.rt.alloc(); "{name}.{ending}")?;
     folder.text(file.as_str())
 }
 
-/// The script of a case, where it has one.
+/// Reads the script of a case, if it has one.
 fn script_of(folder: Folder<'_>, name: &str) -> io::Result<Option<String>> {
     match text_of(folder, name, "script") {
         Ok(script) => Ok(Some(script)),
@@ -38,7 +38,7 @@ pub fn case_of(folder: Folder<'_>, name: &str) -> io::Result<Case> {
     })
 }
 
-/// The words of a command line, the program's name first. Remarks stand before them.
+/// Returns the words of a command line, the program's name first. Skips the remarks before them.
 pub fn words_of(alloc: Global, text: &str) -> io::Result<Vec<String>> {
     let mut words = Vec::new(alloc);
     words.push(String::from_str(alloc, "warren")?)?;
@@ -48,7 +48,7 @@ pub fn words_of(alloc: Global, text: &str) -> io::Result<Vec<String>> {
     Ok(words)
 }
 
-/// Puts the repetition `N TEXT`.
+/// Appends the repetition `N TEXT`.
 fn put_times(out: &mut String, repetition: &str) -> io::Result<()> {
     let (count, text) = match repetition.split_once(' ') {
         Some((count, text)) => (count.parse::<u32>(), text),
@@ -64,7 +64,7 @@ fn put_times(out: &mut String, repetition: &str) -> io::Result<()> {
     Ok(())
 }
 
-/// A script with its repetitions written out: `{N TEXT}` is the text N times.
+/// Returns a script with its repetitions expanded: `{N TEXT}` is the text N times.
 pub fn written_out(alloc: Global, text: &str) -> io::Result<String> {
     let mut out = String::new(alloc);
     for (place, part) in text.split('{').enumerate() {

@@ -1,9 +1,9 @@
-//! Cases: command lines of the program, and what each prints. A case is data, so a further one needs no proof.
+//! Runs cases: command lines of the program, and what each prints. A case is data, so adding one needs no proof.
 //!
-//! Standard input names the cases, one a line. The case `x` is the words in `x.words`, and what they print in
-//! `x.expected`. Where `x.script` is there too, it is the file that the word `script` names, and the words are run over
-//! it as it stands, in single bytes, and with each piece cut in two. Each of the files may have rows (`rows`): then the
-//! case is run once for each. The files lie in the current folder, or in that which an argument names.
+//! Standard input names the cases, one a line. Case `x` is the words in `x.words`, and what they print in `x.expected`. If there
+//! is `x.script`, it is the file that the word `script` names, and the words are run with it unchanged, in single bytes, and with
+//! each piece cut in two. Each of the files may have rows (`rows`): then the case is run once for each. The files are in the
+//! current folder, or in the folder that an argument names.
 #![tactic(auto)]
 
 mod all_scenarios;
@@ -21,7 +21,7 @@ use std::process::ExitCode;
 use std::{env, io};
 use trials::tried;
 
-/// How many cases and rows there were, and how many cases failed.
+/// The number of cases and rows that ran, and the number of cases that failed.
 #[derive(Clone, Copy, Drop)]
 struct Tally {
     cases: u64,
@@ -30,7 +30,7 @@ struct Tally {
 }
 
 impl Tally {
-    /// One case more, with so many rows, or none where it failed.
+    /// Counts a case with this number of rows, or with `None` if it failed.
     fn and(self, rows: Option<u64>) -> Tally {
         Tally {
             cases: self.cases.saturating_add(1),
@@ -40,7 +40,7 @@ impl Tally {
     }
 }
 
-/// Prints that a case has so many rows, or none where it failed.
+/// Prints the number of rows of a case, or that it failed.
 fn tell(rt: &HostRuntime, name: &str, rows: Option<u64>) -> io::Result<()> {
     match rows {
         Some(rows) => println!(rt; "{name}: {rows} ok"),
@@ -48,7 +48,7 @@ fn tell(rt: &HostRuntime, name: &str, rows: Option<u64>) -> io::Result<()> {
     }
 }
 
-/// Runs a case, prints how many rows it has, and gives their number, or none where one differs.
+/// Runs a case and prints its line. Returns its number of rows, or `None` if one of them failed.
 fn run(folder: Folder<'_>, name: &str) -> io::Result<Option<u64>> {
     match tried(folder, name) {
         Ok(rows) => {
@@ -75,7 +75,7 @@ fn run_all(folder: Folder<'_>) -> io::Result<Tally> {
     Ok(count)
 }
 
-/// Whether there are cases and none failed, and the same of scenarios, which are calls that no command makes alone.
+/// Runs the cases and the scenarios. Returns whether there are cases, and all cases and scenarios passed.
 fn all_pass(folder: Folder<'_>) -> io::Result<bool> {
     let Tally {
         cases,

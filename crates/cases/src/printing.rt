@@ -1,17 +1,17 @@
-//! What a command line prints.
+//! Runs a command line, and collects what it prints. Start with [`printed`].
 //!
-//! It is what is put on standard output, then what is put on standard error, each line of it behind `! `, then the exit
-//! status as `status N`, where that is not 0.
+//! That is what it writes to standard output, then what it writes to standard error, each line after `! `, then the exit status
+//! as `status N`, unless it is 0.
 
 use crate::disk::CaseDisk;
 use server::program;
 use std::alloc::Global;
 use std::io;
 
-/// What stands for any complaint.
+/// The line that stands for any output on standard error.
 const ANY_COMPLAINT: &str = "! ..\n";
 
-/// Puts what was put on standard error.
+/// Appends what was written to standard error.
 fn put_complaint(alloc: Global, out: &mut Vec<u8>, complaint: &[u8]) -> io::Result<()> {
     let text = String::from_utf8_lossy(alloc, complaint)?;
     for line in text.split_inclusive('\n') {
@@ -21,7 +21,7 @@ fn put_complaint(alloc: Global, out: &mut Vec<u8>, complaint: &[u8]) -> io::Resu
     Ok(())
 }
 
-/// What the words print. Where any complaint is expected, it is printed as `! ..`.
+/// Runs the words, and returns what they print. If `expected` allows any output on standard error, that becomes `! ..`.
 pub fn printed(
     alloc: Global,
     words: &[String],

@@ -1,28 +1,28 @@
-//! Files of a case, by rows.
+//! Splits the files of a case into rows. Start with [`rows_of`].
 //!
-//! A line `==== NAME` begins a row, whose text is what stands up to the next such line. Only remarks, lines that begin
-//! with `#`, may stand before the first. A file without rows is a single text, which stands for each row of the others.
+//! A line `==== NAME` begins a row, whose text goes up to the next such line. Only remarks, lines that begin with `#`, may
+//! precede the first. A file without rows is a single text, which is used for each row of the other files.
 
 use std::alloc::Global;
 use std::io;
 use std::io::ErrorKind;
 
-/// What stands before the name of a row.
+/// The mark before the name of a row.
 const MARK: &str = "==== ";
 
-/// A text under its name. The only text of a file without rows has the empty name.
+/// A text with its name. The only text of a file without rows has the empty name.
 #[derive(Clone, Copy, Drop)]
 pub struct CaseRow<'a> {
     pub name: &'a str,
     pub text: &'a str,
 }
 
-/// That the files of a case have another form.
+/// Returns the error for malformed files of a case.
 pub fn malformed() -> io::Error {
     io::Error::from(ErrorKind::InvalidData)
 }
 
-/// The rows of a file, behind the first mark.
+/// Returns the rows of a file, from the first mark on.
 fn marked(alloc: Global, text: &str) -> io::Result<Vec<CaseRow<'_>>> {
     let mut rows = Vec::new(alloc);
     for part in text.split(MARK) {
@@ -34,7 +34,7 @@ fn marked(alloc: Global, text: &str) -> io::Result<Vec<CaseRow<'_>>> {
     Ok(rows)
 }
 
-/// The rows of a file.
+/// Returns the rows of a file.
 pub fn rows_of(alloc: Global, text: &str) -> io::Result<Vec<CaseRow<'_>>> {
     match text.split_once(MARK) {
         Some((head, rest)) if head.lines().all(|line| line.starts_with('#')) => marked(alloc, rest),
@@ -47,7 +47,7 @@ pub fn rows_of(alloc: Global, text: &str) -> io::Result<Vec<CaseRow<'_>>> {
     }
 }
 
-/// The text of the row that has this place and this name.
+/// Returns the text of the row at index `place`, which has to be called `name`; or the only text of a file without rows.
 pub fn text_at<'a>(rows: &[CaseRow<'a>], place: usize, name: &str) -> io::Result<&'a str> {
     if let Some(only) = rows.first() {
         if rows.len() == 1 && only.name.is_empty() {

@@ -1,4 +1,4 @@
-//! Runs of a case.
+//! Runs a case, row by row and cut by cut. Start with [`tried`].
 
 use crate::comparing::{Difference, compared};
 use crate::cutting::{Cut, cut_script, longest};
@@ -9,10 +9,10 @@ use crate::rows::{CaseRow, rows_of, text_at};
 use std::alloc::Global;
 use std::io;
 
-/// The most bytes of a piece that is cut into single bytes and in every place. A longer one is cut near its ends.
+/// The length, in bytes, up to which a piece is cut into single bytes and at every place. A longer one is cut near its ends.
 const CUT_EVERYWHERE: usize = 4_096;
 
-/// How many places are near an end.
+/// The number of places that are near an end.
 const NEAR: usize = 12;
 
 /// A row of a case.
@@ -23,7 +23,7 @@ struct Trial<'a> {
     expected: &'a str,
 }
 
-/// Where a row prints something else than expected.
+/// Where a row printed something else than expected.
 #[derive(Clone, Copy, Drop)]
 struct Failure {
     cut: Cut,
@@ -31,7 +31,7 @@ struct Failure {
     line: u64,
 }
 
-/// Runs the words over the script that is cut so.
+/// Runs the words with the script cut by `cut`. Returns the difference, if any.
 fn failure_at(folder: Folder<'_>, trial: &Trial<'_>, cut: Cut) -> io::Result<Option<Failure>> {
     let alloc = folder.rt.alloc();
     let script = match &trial.script {
@@ -49,12 +49,12 @@ fn failure_at(folder: Folder<'_>, trial: &Trial<'_>, cut: Cut) -> io::Result<Opt
     }
 }
 
-/// Whether pieces are cut behind so many bytes, where the longest has `longest`.
+/// Returns whether pieces are cut after `place` bytes, given that the longest has `longest` bytes.
 fn is_cut_at(place: usize, longest: usize) -> bool {
     longest <= CUT_EVERYWHERE || place <= NEAR || longest.saturating_sub(place) <= NEAR
 }
 
-/// Runs a row over its script with its pieces cut in two.
+/// Runs a row with the pieces of its script cut in two. Returns the first difference, if any.
 fn failure_in_two(
     folder: Folder<'_>,
     trial: &Trial<'_>,
@@ -70,7 +70,7 @@ fn failure_in_two(
     Ok(None)
 }
 
-/// Runs a row over its script in every cutting.
+/// Runs a row with every cut of its script. Returns the first difference, if any.
 fn failure_of(folder: Folder<'_>, trial: &Trial<'_>) -> io::Result<Option<Failure>> {
     if let Some(failure) = failure_at(folder, trial, Cut::Whole)? {
         return Ok(Some(failure));
@@ -87,7 +87,7 @@ fn failure_of(folder: Folder<'_>, trial: &Trial<'_>) -> io::Result<Option<Failur
     failure_in_two(folder, trial, longest)
 }
 
-/// The longer of two lists of rows, the first where they are of one length.
+/// Returns the longer of two lists of rows, or the first if they have the same length.
 fn longer<'x, 'a>(first: &'x [CaseRow<'a>], second: &'x [CaseRow<'a>]) -> &'x [CaseRow<'a>] {
     if second.len() > first.len() {
         second
@@ -96,7 +96,7 @@ fn longer<'x, 'a>(first: &'x [CaseRow<'a>], second: &'x [CaseRow<'a>]) -> &'x [C
     }
 }
 
-/// The rows of the files of a case. One that has no script has no row of a script.
+/// The rows of the files of a case. A case without a script has no rows of a script.
 #[derive(Drop)]
 struct CaseTable<'a> {
     words: Vec<CaseRow<'a>>,
@@ -116,7 +116,7 @@ impl<'a> CaseTable<'a> {
         })
     }
 
-    /// The rows of the file that has the most.
+    /// Returns the rows of the file that has the most.
     fn rows(&self) -> &[CaseRow<'a>] {
         longer(
             longer(self.words.as_slice(), self.scripts.as_slice()),
@@ -124,7 +124,7 @@ impl<'a> CaseTable<'a> {
         )
     }
 
-    /// The script of a row, with its repetitions written out.
+    /// Returns the script of a row, with its repetitions expanded.
     fn script(&self, alloc: Global, place: usize, row: &str) -> io::Result<Option<String>> {
         if self.scripts.is_empty() {
             return Ok(None);
@@ -134,7 +134,7 @@ impl<'a> CaseTable<'a> {
     }
 }
 
-/// Runs the row at this place.
+/// Runs the row at index `place`. Returns the first difference, if any.
 fn failure_at_row(
     folder: Folder<'_>,
     table: &CaseTable<'_>,
@@ -150,15 +150,14 @@ fn failure_at_row(
     failure_of(folder, &trial)
 }
 
-/// Tells where a row prints something else than expected.
+/// Prints where a row printed something else than expected.
 fn tell(folder: Folder<'_>, row: &str, failure: Failure) -> io::Result<()> {
     let cut = failure.cut;
     let line = failure.line;
     println!(folder.rt; "  differs at line {line}, {cut}: {row}")
 }
 
-/// Runs the rows of a case, tells which print something else than expected, and gives their number, or none where
-/// there is such a row.
+/// Runs the rows of a case, and prints which of them failed. Returns their number, or `None` if one failed.
 pub fn tried(folder: Folder<'_>, name: &str) -> io::Result<Option<u64>> {
     let alloc = folder.rt.alloc();
     let case = case_of(folder, name)?;

@@ -1,15 +1,7 @@
 -- Guarantees with a certificate each hold.
-use Rattle.std.proofs.Common.{◌≡◌, ◌⊎◌, ℕ, zero, suc, ◌+◌, ◌<◌, ◌≤◌, List, [], ◌∷◌, length, refl, sym, ap, subst, inl, inr, Some, None, Result, Ok, Err, arith, get_or}
+use Rattle.certificate.proofs.Names.{◌≡◌, ◌⊎◌, ℕ, zero, suc, ◌+◌, ◌<◌, ◌≤◌, List, [], ◌∷◌, length, refl, sym, ap, subst, inl, inr, Some, None, Result, Ok, Err, arith, get_or, slice_get_within, Topology, IsIn, Guarantee, AllHold, Certificate, contained, Checks, CertFault, IsCertifiedAt, IsUncertified, ChecksAt, AreCertifiedBelow, AreCertified, FailsFirst}
 use Rattle.std.specs.Prelude.{slice_get}
-use Rattle.std.proofs.lemmas.Option.{slice_get_within}
-use Rattle.model.specs.Topology.{Topology, IsIn}
-use Rattle.model.specs.Guarantee.{Guarantee, AllHold}
-use Rattle.model.specs.Certificates.{Certificate}
 use Rattle.certificate_laws.proofs.Certificates.{certificate_sound}
-use Rattle.certificate_laws.proofs.Trackings.{contained}
-use Rattle.certificate.specs.Checks.{Checks}
-use Rattle.certificate.specs.declared.faults.CertFault.{CertFault}
-use Rattle.certificate.specs.Certified.{IsCertifiedAt, IsUncertified, ChecksAt, AreCertifiedBelow, AreCertified, FailsFirst}
 
 place_in : (gs : List Guarantee) (g : Guarantee) → IsIn g gs → (n : ℕ) × (slice_get gs n ≡ Some g)
 place_in [] g i = absurd i

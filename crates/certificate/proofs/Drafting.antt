@@ -1,23 +1,11 @@
 -- Files of certificates that are found one by one.
-use Rattle.std.proofs.Common.{◌≡◌, ◌<◌, ◌≤◌, ◌+◌, ℕ, Bool, true, false, List, [], ◌∷◌, ◌++◌, length, map, Some, refl, sym, ap, subst, ◌∙◌, arith, append-nil, append_assoc, length-append, lt-ltb}
-use Rattle.std.specs.Prelude.{IsUtf8, nat_lt}
-use Rattle.std.specs.List.{AllByRecursion}
+use Rattle.certificate.proofs.Names.{◌≡◌, ◌<◌, ◌≤◌, ◌+◌, ℕ, Bool, true, false, List, [], ◌∷◌, ◌++◌, length, map, Some, refl, sym, ap, subst, ◌∙◌, arith, append-nil, append_assoc, length-append, lt-ltb, nat_lt, AllByRecursion, tokens, print, begin_array, Data, depth, read, items_of, IsInOrder, comma_if, compact_text, has_float, items_text, Certificate, Whole, Sliced, Excepting, ReadsBackWithin, Texts, certificate_data, file_data, form_data, AreTexts, FailsToWrite, HasNoFile, HasPut, IsBegun, IsFile, begun, listed}
+use Rattle.std.specs.Prelude.{IsUtf8}
 use Rattle.std.proofs.lemmas.Str.{IsUtf8-append}
-use Rattle.json.specs.Lex.{tokens}
-use Rattle.json.specs.Print.{print}
-use Rattle.json.specs.Token.{begin_array}
 use Rattle.json.proofs.Printed.Utf8.{IsUtf8-are_ascii, IsUtf8-separator}
-use Rattle.serde_json.specs.Data.{Data, depth}
-use Rattle.serde_json.specs.Read.{read}
-use Rattle.serde_json.specs.View.{items_of}
-use Rattle.serde_json.specs.Written.{IsInOrder, comma_if, compact_text, has_float, items_text}
-use Rattle.model.specs.Certificates.{Certificate, Form, Whole, Sliced, Excepting}
+use Rattle.model.specs.Certificates.{Form}
 use Rattle.certificate.specs.declared.unwritten.Unwritten.{Unwritten}
 use Rattle.certificate.specs.declared.unwritten.Unwritten.TheVariants.{NotText, TooLong, Memory}
-use Rattle.certificate.specs.Joined.{ReadsBackWithin}
-use Rattle.certificate.specs.Spelled.{Texts, certificate_data, file_data, form_data}
-use Rattle.certificate.specs.Writes.{AreTexts, FailsToWrite}
-use Rattle.certificate.specs.Drafts.{HasNoFile, HasPut, IsBegun, IsFile, begun, listed}
 use Rattle.certificate.proofs.Joining.{joins, within}
 use Rattle.certificate.proofs.Spelling.{certificate_depth, certificate_whole, file_back}
 

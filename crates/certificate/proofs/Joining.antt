@@ -1,10 +1,8 @@
 -- Texts of values that are joined to that of an array are read back as that array.
-use Rattle.std.proofs.Common.{◌≡◌, ◌≤◌, ℕ, suc, max, Bool, true, false, List, [], ◌∷◌, ◌++◌, fold, Some, Option, refl, sym, ap, ap₂, ◌∙◌, arith, append-nil, append_assoc}
-use Rattle.std.specs.Prelude.{option_and_then, option_map}
-use Rattle.std.specs.List.{AllByRecursion}
+use Rattle.certificate.proofs.Names.{◌≡◌, ◌≤◌, ℕ, suc, max, Bool, true, false, List, [], ◌∷◌, ◌++◌, fold, Some, Option, refl, sym, ap, ap₂, ◌∙◌, arith, append-nil, append_assoc, option_and_then, AllByRecursion, tokens, print, ends, Data, array, Items, Members, read, of_json, of_items, items_of, compact_text, items_text, comma_if, outline, items_outline, members_outline, blank, blank_items, blank_members, IsInOrder, ReadsBackWithin}
+use Rattle.std.specs.Prelude.{option_map}
 use Rattle.json.specs.Token.{Token}
-use Rattle.json.specs.Lex.{tokens}
-use Rattle.json.specs.Print.{print, print_from, ends}
+use Rattle.json.specs.Print.{print_from}
 use Rattle.json.specs.Json as json
 use Rattle.json.specs.Tree as tree
 use Rattle.json.specs.Tree.{json_tokens, items_tokens, members_tokens, HasNumbers, ItemsHaveNumbers}
@@ -12,11 +10,6 @@ use Rattle.json.proofs.Printed.Tokens.{tokens-print, print_from-append}
 use Rattle.json.proofs.Printed.Trees.{value-json_tokens, ArePrintable-json_tokens}
 use Rattle.json.proofs.Numbered.{value-HasNumbers, ArePrintableOrBad-tokens}
 use Rattle.serde_json.specs.Data as shape
-use Rattle.serde_json.specs.Data.{Data, array, Items, Members}
-use Rattle.serde_json.specs.Read.{read, of_json, of_items}
-use Rattle.serde_json.specs.View.{items_of}
-use Rattle.serde_json.specs.Written.{compact_text, items_text, comma_if, outline, items_outline, members_outline, blank, blank_items, blank_members, IsInOrder}
-use Rattle.certificate.specs.Joined.{ReadsBackWithin}
 
 -- ---- depth
 

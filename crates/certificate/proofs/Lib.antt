@@ -1,3 +1,4 @@
+pub mod Names
 pub mod Forming
 pub mod Placing
 pub mod Marking

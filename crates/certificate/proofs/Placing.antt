@@ -1,15 +1,9 @@
 -- The places of a form, and the patterns at them.
-use Rattle.std.proofs.Common.{◌≡◌, ℕ, zero, suc, ◌+◌, ◌<◌, Bool, true, false, ◌&&◌, List, [], ◌∷◌, ◌++◌, length, refl, sym, ap, subst, ◌∙◌, arith, rules, append_assoc, Option, Some, None, drop, get_or}
-use Rattle.std.specs.Prelude.{Decides, AllPairs, slice_index_or, nat_lt}
+use Rattle.certificate.proofs.Names.{◌≡◌, ℕ, zero, suc, ◌+◌, ◌<◌, Bool, true, false, List, [], ◌∷◌, ◌++◌, length, refl, sym, ap, subst, ◌∙◌, arith, rules, append_assoc, Option, Some, None, drop, get_or, Decides, AllPairs, slice_index_or, nat_lt, drop_more, Text, AllByRecursion, list_all, cons_option, false≢true, Tracked, Whole, Sliced, Excepting, AreChosen, is_less_first, rises, same_texts}
+use Rattle.std.proofs.Common.{◌&&◌}
 use Rattle.std.specs.Str.{bytes_eq}
 use Rattle.std.proofs.lemmas.Slice.Eq.{bytes_eq-Decides}
-use Rattle.std.proofs.lemmas.List.{drop_more}
-use Rattle.model.specs.Words.{Text}
-use Rattle.std.specs.List.{AllByRecursion, list_all, cons_option}
-use Rattle.std.proofs.lemmas.Bool.{false≢true}
-use Rattle.model.specs.Tracking.{Tracked}
-use Rattle.model.specs.Certificates.{Form, Whole, Sliced, Excepting, AreChosen}
-use Rattle.certificate.specs.Places.{is_less_first, rises, same_texts}
+use Rattle.model.specs.Certificates.{Form}
 
 both : (a b : Bool) → (a && b) ≡ true → (a ≡ true) × (b ≡ true)
 both true true e = (refl, refl)

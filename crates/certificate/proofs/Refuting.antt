@@ -1,13 +1,6 @@
 -- What a refutation has to show.
-use Rattle.std.proofs.Common.{◌≡◌, ◌<◌, ℕ, zero, suc, Bool, List, [], ◌∷◌, length, sym, subst, arith, get_or, Fits, w8, leb, leb-true, le-leb}
-use Rattle.model.specs.Words.{Text}
-use Rattle.std.specs.Prelude.{Decides}
-use Rattle.std.specs.List.{AllByRecursion}
-use Rattle.model.specs.Topology.{Topology}
-use Rattle.model.specs.Guarantee.{Guarantee, CoversKey}
+use Rattle.certificate.proofs.Names.{◌≡◌, ◌<◌, ℕ, zero, suc, Bool, List, [], ◌∷◌, length, sym, subst, arith, get_or, Fits, w8, leb, leb-true, le-leb, Text, Decides, AllByRecursion, Topology, Guarantee, CoversKey, Mode, Never}
 use Rattle.model.specs.Refutations.{Refutation, Breaks, Refutes}
-use Rattle.model.specs.declared.topologies.Mode.{Mode}
-use Rattle.model.specs.declared.topologies.Mode.TheVariants.{Never}
 use Rattle.paths.specs.Keyed.{IsPath}
 use Rattle.certificate.specs.Disproved.{IsSendable, MayRefute}
 

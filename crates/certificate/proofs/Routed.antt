@@ -1,11 +1,6 @@
 -- A queue is routed to exactly where its place is among the targets.
-use Rattle.std.proofs.Common.{◌≡◌, ℕ, ◌<◌, List, [], ◌∷◌, Bool, true, false, refl, sym, ◌∙◌, subst, length, eqb, eq-eqb, get_or, inl, inr, arith}
-use Rattle.std.specs.Prelude.{◌==◌, ◌||◌, Decides}
-use Rattle.std.specs.List.{list_any}
-use Rattle.std.proofs.lemmas.Bool.{eqb-true}
-use Rattle.std.proofs.lemmas.List.{length-map}
-use Rattle.model.specs.Words.{Text}
-use Rattle.model.specs.Topology.{Topology, IsIn, IsThere, IsWellFormed, queue_names}
+use Rattle.certificate.proofs.Names.{◌≡◌, ℕ, ◌<◌, List, [], ◌∷◌, Bool, true, false, refl, sym, ◌∙◌, subst, length, eqb, eq-eqb, get_or, inl, inr, arith, ◌==◌, Decides, list_any, eqb-true, length-map, Text, Topology, IsIn, IsThere, IsWellFormed, queue_names}
+use Rattle.std.specs.Prelude.{◌||◌}
 use Rattle.model.specs.Routing.{Picks, none, take, pass, Routes, Reading, Edge, bound, alternate, default}
 use Rattle.model.specs.declared.topologies.DeclaredQueue.{DeclaredQueue}
 use Rattle.model.specs.declared.topologies.Place.{Place}

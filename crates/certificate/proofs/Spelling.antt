@@ -1,18 +1,12 @@
 -- What is written is read back.
-use Rattle.std.proofs.Common.{◌≡◌, ◌≤◌, ℕ, List, [], ◌∷◌, map, false, refl, sym, ap, subst, ◌∙◌, Option, Some, option_map, arith}
-use Rattle.std.specs.Prelude.{IsUtf8, option_and_then}
-use Rattle.serde_json.specs.Data.{Data, string, depth, items_depth}
+use Rattle.certificate.proofs.Names.{◌≡◌, ◌≤◌, ℕ, List, [], ◌∷◌, map, false, refl, sym, ap, subst, ◌∙◌, Option, Some, arith, option_and_then, Data, string, depth, items_depth, items_of, read, compact_text, has_float, items_have_float, whole_number, Text, Certificate, Whole, Sliced, Excepting, number_data, state_data, states_data, places_data, excepts_data, Texts, texts_of, form_data, certificate_data, file_data, IsWritten}
+use Rattle.std.proofs.Common.{option_map}
+use Rattle.std.specs.Prelude.{IsUtf8}
 use Rattle.serde_json.specs.Find.{as_str}
-use Rattle.serde_json.specs.View.{items_of}
-use Rattle.serde_json.specs.Read.{read}
-use Rattle.serde_json.specs.Written.{compact_text, has_float, items_have_float}
 use Rattle.serde_json.proofs.OnLiterals.{serde_json_on_literals}
-use Rattle.json_file.specs.Members.{array_member, each, text_member, whole_number}
-use Rattle.model.specs.Words.{Text}
-use Rattle.model.specs.Certificates.{Certificate, Form, Whole, Sliced, Excepting}
+use Rattle.json_file.specs.Members.{array_member, each, text_member}
+use Rattle.model.specs.Certificates.{Form}
 use Rattle.certificate.specs.Stated.{state_in, states_at, tracked_at, excepts_at, whole_at, sliced_at, excepting_of, excepting_at, form_of, form_at, certificate_at, certificates_stated}
-use Rattle.certificate.specs.Spelled.{number_data, state_data, states_data, places_data, excepts_data, Texts, texts_of, form_data, certificate_data, file_data}
-use Rattle.certificate.specs.Writes.{IsWritten}
 
 -- each is read back
 each_back : {A : Type 0} (f : A → Data) (reads : Data → Option A) → ((x : A) → reads (f x) ≡ Some x) → (xs : List A) → each reads (items_of (map f xs)) ≡ Some xs

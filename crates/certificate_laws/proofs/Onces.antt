@@ -1,11 +1,6 @@
 -- What a list has whose elements were taken each once.
-use Rattle.std.proofs.Common.{◌≡◌, ◌⊎◌, Bool, true, false, cond, List, [], ◌∷◌, ◌++◌, map, refl, sym, ap, subst, inl, inr}
-use Rattle.std.specs.Prelude.{Decides, ◌||◌, fold, flat_map}
-use Rattle.std.specs.List.{list_any}
-use Rattle.std.proofs.lemmas.Bool.{false≢true}
-use Rattle.model.specs.Topology.{IsIn}
-use Rattle.model.specs.Tracking.{once_more, each_once}
-use Rattle.laws.proofs.Counts.{in_front, in_back, in-append}
+use Rattle.certificate_laws.proofs.Names.{◌≡◌, ◌⊎◌, Bool, true, false, cond, List, [], ◌∷◌, refl, sym, ap, subst, inl, inr, Decides, ◌||◌, fold, flat_map, list_any, false≢true, IsIn, once_more, each_once, in_front, in_back, in-append}
+use Rattle.std.proofs.Common.{◌++◌, map}
 
 -- ---- members of lists
 

@@ -1,22 +1,7 @@
 -- Two certificates that are accepted.
-use Rattle.std.proofs.Common.{◌≡◌, ℕ, zero, suc, ◌<◌, List, [], ◌∷◌, refl, sym, ap, subst, ◌∙◌, inl, inr, Option, Some, None, false, arith, lit<, lit≤}
-use Rattle.std.specs.Prelude.{codes, Contains, ◌++◌, map, flat_map, slice_index_or}
-use Rattle.std.specs.List.{AllByRecursion}
-use Rattle.laws.proofs.Counts.{all_in}
-use Rattle.std.proofs.lemmas.Bool.{false≢true}
-use Rattle.model.specs.Words.{Text}
-use Rattle.model.specs.Topology.{Topology, IsIn}
-use Rattle.model.specs.Routing.{Binds, Dies, Edge, bound, alternate, default, here, on, RoutesBy, reading_after, Comes, routed, dead}
-use Rattle.model.specs.Guarantee.{Guarantee}
-use Rattle.model.specs.Tracking.{Tracked, as_topic, Met, own, by_bound, by_alternate, by_death, Selects, each_once, same_tracked, keys_of, IsTrackedList}
-use Rattle.model.specs.Positions.{Letter, letters}
-use Rattle.model.specs.Certificates.{PatternAnswers, sure, possible, IsGoodState, LeadsIn}
-use Rattle.model.specs.declared.topologies.Exchange.{Exchange}
-use Rattle.model.specs.declared.topologies.DeclaredQueue.{DeclaredQueue}
-use Rattle.model.specs.declared.topologies.Binding.{Binding}
-use Rattle.model.specs.declared.topologies.Place.{Place}
+use Rattle.certificate_laws.proofs.Names.{◌≡◌, ℕ, zero, suc, ◌<◌, List, [], ◌∷◌, refl, sym, ap, subst, ◌∙◌, inl, inr, Option, Some, None, false, arith, lit<, lit≤, codes, Contains, flat_map, slice_index_or, AllByRecursion, all_in, false≢true, Text, Topology, IsIn, Binds, Dies, Edge, bound, alternate, default, here, on, RoutesBy, reading_after, Comes, routed, dead, Guarantee, Tracked, as_topic, Met, own, by_bound, by_alternate, by_death, Selects, each_once, same_tracked, keys_of, IsTrackedList, Letter, letters, PatternAnswers, sure, possible, IsGoodState, LeadsIn, Exchange, DeclaredQueue, Binding, Place, Fanout, Topic}
+use Rattle.std.specs.Prelude.{◌++◌, map}
 use Rattle.model.specs.declared.topologies.Place.TheVariants as place
-use Rattle.model.specs.declared.topologies.ExchangeKind.TheVariants.{Fanout, Topic}
 use Rattle.certificate_laws.specs.Worked.{topic_x, from_x, two_keys, orders_reach, without_a1, one_key, never_but_a, but_a, SlicedIsAccepted, ExceptingIsAccepted}
 use Rattle.certificate_laws.proofs.Trackings.{contained}
 

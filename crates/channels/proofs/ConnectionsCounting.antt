@@ -1,17 +1,8 @@
 -- The channels of all connections, each once, and the consumers that are counted on them.
-use Rattle.std.proofs.Common.{◌≡◌, ◌+◌, ◌≤◌, ◌<◌, ◌∷◌, ◌++◌, [], ℕ, zero, suc, List, length, get_or, Bool, true, false, Option, Some, None, inl, inr, refl, sym, ap, subst, ◌∙◌, arith, cond, nat_eq, sum_by}
-use Rattle.std.specs.Prelude.{AllPairs, ◌⊎◌, min}
-use Rattle.std.specs.List.{IsDistinct, AllByRecursion}
-use Rattle.std.specs.Map.{lookup, keys_of, values_of}
-use Rattle.std.proofs.lemmas.Bool.{eqb-true, eq-eqb, false≢true}
-use Rattle.std.proofs.lemmas.List.Sums.{sum_by-cons, sum_by-append}
+use Rattle.channels.proofs.Imports.{◌≡◌, ◌+◌, ◌≤◌, ◌<◌, ◌∷◌, ◌++◌, [], ℕ, zero, suc, List, length, get_or, Bool, true, false, Option, Some, None, inl, inr, refl, sym, ap, subst, ◌∙◌, arith, cond, sum_by, AllPairs, ◌⊎◌, min, IsDistinct, AllByRecursion, lookup, keys_of, values_of, eqb-true, false≢true, sum_by-cons, sum_by-append, IsIn, greatest, ChannelName, Open, Running, channel_at, channel_of, consumers_at, consumers_counted, CountsConsumers}
+use Rattle.std.proofs.Common.{nat_eq}
+use Rattle.std.proofs.lemmas.Bool.{eq-eqb}
 use Rattle.std.proofs.lemmas.Map.Keys.{IsDistinct-head, IsDistinct-tail}
-use Rattle.model.specs.Topology.{IsIn}
-use Rattle.model.specs.Step.{greatest}
-use Rattle.model.specs.Declaring.{ChannelName}
-use Rattle.channels.specs.Open.{Open}
-use Rattle.channels.specs.RunningConnections.{Running, channel_at, channel_of}
-use Rattle.channels.specs.Counting.{consumers_at, consumers_counted, CountsConsumers}
 
 -- ---- one of a list
 

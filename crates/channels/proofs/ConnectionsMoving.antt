@@ -1,13 +1,7 @@
 -- What is seen of channels whose queues stand at other places.
-use Rattle.std.proofs.Common.{◌≡◌, ℕ, zero, suc, List, [], ◌∷◌, refl, ap, ◌∙◌, Option, Some, None}
-use Rattle.std.specs.Prelude.{option_map, slice_index_or, nat_eq}
-use Rattle.std.proofs.lemmas.Map.Made.{lookup-map_values}
-use Rattle.model.specs.Words.{Text}
-use Rattle.channels.specs.Open.{Open, open_in}
-use Rattle.channels.specs.Moving.{open_moved, AreNamedAlike}
+use Rattle.channels.proofs.Imports.{◌≡◌, ℕ, zero, suc, List, [], ◌∷◌, refl, ap, ◌∙◌, Option, Some, None, slice_index_or, lookup-map_values, Text, Open, open_in, open_moved, AreNamedAlike, Running, running_in, channel_at, channel_of, connection_at, connection_of, channels_moved, running_moved, connections_moved, MovesAreUnseen}
+use Rattle.std.specs.Prelude.{option_map, nat_eq}
 use Rattle.channels.proofs.Moving.{open_named}
-use Rattle.channels.specs.RunningConnections.{Running, running_in, channel_at, channel_of, connection_at, connection_of}
-use Rattle.channels.specs.ConnectionsMoving.{channels_moved, running_moved, connections_moved, MovesAreUnseen}
 
 -- the channel at each number is moved
 at_moved : (places : List ℕ) (channels : List (Option Open)) (h : ℕ) → slice_index_or (channels_moved places channels) h None ≡ option_map (open_moved places) (slice_index_or channels h None)

@@ -1,18 +1,8 @@
 -- Counts of what consumers hold, at each change.
-use Rattle.std.proofs.Common.{◌≡◌, ℕ, zero, suc, ◌+◌, ◌<◌, List, [], ◌∷◌, ◌++◌, length, get_or, map, filter, find, count_by, refl, sym, ap, ◌∙◌, arith, Bool, true, false, cond, not, Option, Some, None}
-use Rattle.std.specs.Prelude.{◌||◌, ◌==◌}
-use Rattle.std.specs.List.{All, list_any}
-use Rattle.std.proofs.lemmas.List.Sums.{count_by-le-length, length-filter, sum_by-cons}
-use Rattle.model.specs.Settling.{takes, is_refused, kept}
-use Rattle.model.specs.Prefetch.{is_to, count_to, count_given}
-use Rattle.model.specs.declared.messages.Taker.{Taker}
-use Rattle.channels.specs.Outstanding.{tag_of, taker_of}
+use Rattle.channels.proofs.Imports.{◌≡◌, ℕ, zero, suc, ◌+◌, ◌<◌, List, [], ◌∷◌, ◌++◌, length, get_or, map, find, refl, sym, ap, ◌∙◌, arith, Bool, true, false, cond, not, Option, Some, None, ◌||◌, All, list_any, count_by-le-length, length-filter, sum_by-cons, takes, is_refused, kept, is_to, count_to, count_given, Taker, tag_of, taker_of, consumers_of, counts_of, is_numbered, counted_in, counted_out, may_held, taker_held, AreParts, may_of, taker_among, Delivery, Consumer, CountedConsumer}
+use Rattle.std.proofs.Common.{filter, count_by}
+use Rattle.std.specs.Prelude.{◌==◌}
 use Rattle.channels.proofs.Settlement.{taken_by}
-use Rattle.channels.specs.Seats.{consumers_of, counts_of, is_numbered, counted_in, counted_out, may_held, taker_held, AreParts}
-use Rattle.channels.specs.Deliveries.{may_of, taker_among}
-use Rattle.model.specs.declared.deliveries.Delivery.{Delivery}
-use Rattle.channels.specs.declared.consumers.Consumer.{Consumer}
-use Rattle.channels.specs.declared.consumers.CountedConsumer.{CountedConsumer}
 
 -- ---- the first i of a list changed, the others as they were
 

@@ -1,16 +1,7 @@
 -- A consumer is found by its number, since numbers rise: what is changed there alone is changed at each seat of that number.
-use Rattle.std.proofs.Common.{◌≡◌, ℕ, zero, suc, ◌+◌, ◌-◌, ◌<◌, List, [], ◌∷◌, ◌++◌, length, get_or, set, map, take, append-nil, find, refl, sym, ap, ◌∙◌, arith, Bool, true, false, cond, Option, Some, None}
-use Rattle.std.specs.List.{AllByRecursion, position_from}
-use Rattle.std.proofs.lemmas.Bool.{eq-eqb, ne_eqb}
-use Rattle.model.specs.Prefetch.{is_to, count_to}
+use Rattle.channels.proofs.Imports.{◌≡◌, ℕ, zero, suc, ◌+◌, ◌-◌, ◌<◌, List, [], ◌∷◌, ◌++◌, length, get_or, set, map, take, append-nil, find, refl, sym, ap, ◌∙◌, arith, Bool, true, false, cond, Option, Some, None, AllByRecursion, position_from, ne_eqb, is_to, count_to, filter_more, taker_of, is_waiting, waiting, consumers_of, is_numbered, counted_in, counted_out, uncounted, AreNumbered, Consumer, CountedConsumer, Delivery}
+use Rattle.std.proofs.lemmas.Bool.{eq-eqb}
 use Rattle.model.specs.declared.messages.Taker.TheVariants as taker
-use Rattle.std.proofs.lemmas.List.Elements.{filter_more}
-use Rattle.channels.specs.Outstanding.{taker_of}
-use Rattle.model.specs.Placed.{is_waiting, waiting}
-use Rattle.channels.specs.Seats.{consumers_of, is_numbered, counted_in, counted_out, uncounted, AreNumbered}
-use Rattle.channels.specs.declared.consumers.Consumer.{Consumer}
-use Rattle.channels.specs.declared.consumers.CountedConsumer.{CountedConsumer}
-use Rattle.model.specs.declared.deliveries.Delivery.{Delivery}
 use Rattle.channels.proofs.Counting.{one_more}
 
 -- ---- the only seat of a number

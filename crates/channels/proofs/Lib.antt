@@ -1,3 +1,4 @@
+pub mod Imports
 pub mod Runs
 pub mod Settlement
 pub mod Counting

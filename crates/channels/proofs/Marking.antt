@@ -1,19 +1,10 @@
 -- What is settled has its place marked; what is kept is closed up, and counted.
-use Rattle.std.proofs.Common.{◌≡◌, ℕ, length-drop, length-append, zero, suc, ◌+◌, ◌*◌, ◌<◌, ◌≤◌, List, [], ◌∷◌, ◌++◌, length, get_or, set, take, drop, refl, sym, ap, subst, ◌∙◌, arith, Bool, true, false, cond, not}
-use Rattle.std.specs.Prelude.{filter, count_by, ◌&&◌, Result, Ok, Err, OnOk}
+use Rattle.channels.proofs.Imports.{◌≡◌, ℕ, length-drop, length-append, zero, suc, ◌+◌, ◌*◌, ◌<◌, ◌≤◌, List, [], ◌∷◌, ◌++◌, length, get_or, set, take, drop, refl, sym, ap, subst, ◌∙◌, arith, Bool, true, false, cond, not, OnOk, drop-set-add, set_split, get_or-drop, length-set, All-filter, filter-append, length-filter, count_by-le-length, AllPairs-filter, takes, is_refused, kept, Rises, tag_of, given_tag, marked, IsTagAt, AreInOrder, AreKept, is_waiting, waiting, Get, Delivery}
+use Rattle.std.specs.Prelude.{filter, count_by, ◌&&◌, Result, Ok, Err}
 use Rattle.std.specs.Result.{is_err}
-use Rattle.std.proofs.lemmas.List.{drop-set-add, set_split, get_or-drop, length-set}
-use Rattle.std.proofs.lemmas.List.Elements.{All-filter, filter-append}
 use Rattle.std.proofs.lemmas.List.Quantifiers.{all_pairs_push}
 use Rattle.channels.proofs.Runs.{drop_drop, drop_push}
-use Rattle.std.proofs.lemmas.List.Sums.{length-filter, count_by-le-length}
 use Rattle.std.proofs.lemmas.List.Filters.{length-filter_both}
-use Rattle.std.proofs.lemmas.List.Kept.{AllPairs-filter}
-use Rattle.model.specs.Settling.{takes, is_refused, kept, Rises}
-use Rattle.channels.specs.Outstanding.{tag_of, given_tag, marked, IsTagAt, AreInOrder, AreKept}
-use Rattle.model.specs.Placed.{is_waiting, waiting}
-use Rattle.model.specs.declared.messages.Taker.TheVariants.{Get}
-use Rattle.model.specs.declared.deliveries.Delivery.{Delivery}
 use Rattle.channels.proofs.Settlement.{at_given, waits_is, waits_by, taken_by}
 
 -- ---- a marked place

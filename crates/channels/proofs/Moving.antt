@@ -1,19 +1,7 @@
 -- Queues at other places: each element of a list is changed in turn; tags, numbers and counts stay, and so do names.
-use Rattle.std.proofs.Common.{◌≡◌, ℕ, zero, suc, ◌+◌, ◌<◌, List, [], ◌∷◌, ◌++◌, length, get_or, set, map, take, drop, refl, sym, ap, ◌∙◌, arith, Bool, true, false, cond}
-use Rattle.std.specs.List.{AllByRecursion}
-use Rattle.std.proofs.lemmas.List.{length-map, drop-map}
-use Rattle.model.specs.Words.{Text}
+use Rattle.channels.proofs.Imports.{◌≡◌, ℕ, zero, suc, ◌+◌, ◌<◌, List, [], ◌∷◌, ◌++◌, length, get_or, set, map, take, drop, refl, sym, ap, ◌∙◌, arith, Bool, true, false, cond, AllByRecursion, length-map, drop-map, Text, is_to, is_delivery, count_to, taker_of, given_tag, AreInOrder, is_waiting, waiting, outstanding_in, Seated, SeatsAreCounted, AreNumbered, consumers_of, counts_of, Open, consumer_in, open_in, outstanding_moved, consumer_moved, seat_moved, open_moved, IsNamedAlike, AreNamedAlike, Delivery, Consumer, CountedConsumer}
 use Rattle.model.specs.Broker as seen
-use Rattle.model.specs.Prefetch.{is_to, is_delivery, count_to}
 use Rattle.laws.proofs.Counts.{count-map}
-use Rattle.channels.specs.Outstanding.{taker_of, given_tag, AreInOrder}
-use Rattle.model.specs.Placed.{is_waiting, waiting, outstanding_in}
-use Rattle.channels.specs.Seats.{Seated, SeatsAreCounted, AreNumbered, consumers_of, counts_of}
-use Rattle.channels.specs.Open.{Open, consumer_in, open_in}
-use Rattle.channels.specs.Moving.{outstanding_moved, consumer_moved, seat_moved, open_moved, IsNamedAlike, AreNamedAlike}
-use Rattle.model.specs.declared.deliveries.Delivery.{Delivery}
-use Rattle.channels.specs.declared.consumers.Consumer.{Consumer}
-use Rattle.channels.specs.declared.consumers.CountedConsumer.{CountedConsumer}
 
 -- ---- a list changed in turn
 

@@ -1,23 +1,11 @@
 -- Consumers by their numbers, and what they may be given.
-use Rattle.std.proofs.Common.{◌≡◌, inl, inr, ℕ, ◌+◌, ◌<◌, List, [], ◌∷◌, ◌++◌, length, map, filter, find, Bool, true, false, cond, Option, Some, None, count_by, refl, sym, ap, subst, ◌∙◌, arith}
-use Rattle.std.specs.Prelude.{◌==◌, ◌&&◌, ◌||◌, option_map, is_some, if◌then◌else◌, IfSome, IsSome}
-use Rattle.std.specs.List.{AllByRecursion}
-use Rattle.std.proofs.lemmas.Bool.{eq-eqb, eqb-true, false≢true}
-use Rattle.std.proofs.lemmas.List.Sums.{length-filter}
-use Rattle.model.specs.Words.{Text}
-use Rattle.model.specs.Topology.{IsIn}
+use Rattle.channels.proofs.Imports.{◌≡◌, inl, inr, ℕ, ◌+◌, ◌<◌, List, [], ◌∷◌, ◌++◌, length, map, find, Bool, true, false, cond, Option, Some, None, refl, sym, ap, subst, ◌∙◌, arith, ◌||◌, is_some, IfSome, IsSome, AllByRecursion, eqb-true, false≢true, length-filter, Text, IsIn, is_to, is_delivery, is_below, count_to, count_given, has_tag_left, taker_of, consumers_of, is_numbered, AreNumbered, Given, may_of, taker_among, may_be_given, consumer_at, taker_at, Open, consumer_in, open_in, IsOne, IsTaker, HasNoTaker, TellsTaker, outstanding_in, Delivery, Consumer, CountedConsumer}
+use Rattle.std.proofs.Common.{filter, count_by}
+use Rattle.std.specs.Prelude.{◌==◌, ◌&&◌, option_map, if◌then◌else◌}
+use Rattle.std.proofs.lemmas.Bool.{eq-eqb}
 use Rattle.model.specs.Broker as seen
-use Rattle.model.specs.Prefetch.{is_to, is_delivery, is_below, count_to, count_given, has_tag_left}
 use Rattle.model.specs.Consuming as said
-use Rattle.channels.specs.Outstanding.{taker_of}
-use Rattle.channels.specs.Seats.{consumers_of, is_numbered, AreNumbered}
-use Rattle.channels.specs.Deliveries.{Given, may_of, taker_among, may_be_given, consumer_at, taker_at}
 use Rattle.channels.specs.Consumers.{AreBelow}
-use Rattle.channels.specs.Open.{Open, consumer_in, open_in, IsOne, IsTaker, HasNoTaker, TellsTaker}
-use Rattle.model.specs.Placed.{outstanding_in}
-use Rattle.model.specs.declared.deliveries.Delivery.{Delivery}
-use Rattle.channels.specs.declared.consumers.Consumer.{Consumer}
-use Rattle.channels.specs.declared.consumers.CountedConsumer.{CountedConsumer}
 
 -- ---- numbers that rise
 

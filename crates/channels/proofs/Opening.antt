@@ -1,13 +1,8 @@
 -- The channels of a connection that begins to run.
-use Rattle.std.proofs.Common.{◌≡◌, ◌-◌, ◌+◌, ◌<◌, ◌≤◌, ◌^◌, ℕ, List, [], ◌∷◌, ◌++◌, length, get_or, map, replicate, option_map, Option, Some, None, Bool, true, false, ◌&&◌, refl, sym, ap, ◌∙◌, arith, nat_le, if◌then◌else◌, inl, inr}
+use Rattle.channels.proofs.Imports.{◌≡◌, ◌-◌, ◌+◌, ◌<◌, ◌≤◌, ◌^◌, ℕ, List, [], ◌∷◌, ◌++◌, length, get_or, map, replicate, Option, Some, None, Bool, true, false, refl, sym, ap, ◌∙◌, arith, inl, inr, leb_tells, get_or-replicate, get_or_past, length-map, length-replicate, map-append, replicate_more, Text, Channel, new_channel, channels_up_to, Open, open_in}
+use Rattle.std.proofs.Common.{option_map, ◌&&◌, nat_le, if◌then◌else◌}
 use Rattle.std.proofs.Math.ListN as numbered
-use Rattle.std.proofs.lemmas.Bool.Decides.{leb_tells}
 use Rattle.std.proofs.lemmas.Grind.{get_or_head, get_or_tail}
-use Rattle.std.proofs.lemmas.List.{get_or-replicate, get_or_past, length-map, length-replicate, map-append, replicate_more}
-use Rattle.model.specs.Words.{Text}
-use Rattle.model.specs.Broker.{Channel, new_channel}
-use Rattle.model.specs.Step.{channels_up_to}
-use Rattle.channels.specs.Open.{Open, open_in}
 
 chosen : (n h : ℕ) (x y : Bool) → nat_le 1 h ≡ x → nat_le h n ≡ y → (if x && y then Some new_channel else None) ≡ channels_up_to n h
 chosen n h x y e f = sym (ap (λ (b : Bool). if b && nat_le h n then Some new_channel else None) e ∙ ap (λ (b : Bool). if x && b then Some new_channel else None) f)

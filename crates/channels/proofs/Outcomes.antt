@@ -1,6 +1,6 @@
 -- What both outcomes of a call give.
+use Rattle.channels.proofs.Imports.{OnOk, OnErr}
 use Rattle.std.proofs.Common.{Result, Ok, Err}
-use Rattle.std.specs.Prelude.{OnOk, OnErr}
 
 -- what success gives, and what follows from it
 pub on_ok : {A E : Type 0} {X Y : Type 0} (r : Result A E) → OnOk r X → (X → Y) → OnOk r Y

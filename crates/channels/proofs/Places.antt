@@ -1,8 +1,6 @@
 -- How many places a connection has for channels, once one of them is opened.
-use Rattle.std.proofs.Common.{◌≡◌, ◌≤◌, ℕ, List, length, Some, sym, ◌∙◌, subst, nat_eq}
-use Rattle.std.proofs.lemmas.Option.{same_Some}
-use Rattle.std.specs.Map.{set_value}
-use Rattle.channels.specs.RunningConnections.{Running, running_in, HasPlacesBelow}
+use Rattle.channels.proofs.Imports.{◌≡◌, ◌≤◌, ℕ, List, length, Some, sym, ◌∙◌, subst, same_Some, set_value, Running, running_in, HasPlacesBelow}
+use Rattle.std.proofs.Common.{nat_eq}
 use Rattle.channels.proofs.Putting.{found_here}
 
 -- the connection that is found has its places

@@ -1,11 +1,7 @@
 -- A channel that was lent and written is put at its number, and everything else stays.
-use Rattle.std.proofs.Common.{◌≡◌, ◌<◌, ◌==◌, ℕ, zero, suc, List, [], ◌∷◌, length, get_or, set, Bool, true, false, Option, Some, None, cond, refl, sym, ap, ◌∙◌, nat_eq, arith, if◌then◌else◌, ◌&&◌}
-use Rattle.std.proofs.lemmas.Bool.{eqb-true}
-use Rattle.std.proofs.lemmas.Option.{none-some}
-use Rattle.std.specs.Map.{lookup, set_value}
-use Rattle.channels.specs.Open.{Open}
+use Rattle.channels.proofs.Imports.{◌≡◌, ◌<◌, ℕ, zero, suc, List, [], ◌∷◌, length, get_or, set, Bool, true, false, Option, Some, None, cond, refl, sym, ap, ◌∙◌, arith, eqb-true, none-some, lookup, set_value, Open, Running, running_in, channel_at, channel_of, connection_at, connection_of, with_channel_in, with_channel_at, with_channel, PutsChannel}
+use Rattle.std.proofs.Common.{◌==◌, nat_eq, if◌then◌else◌, ◌&&◌}
 use Rattle.channels.proofs.Setting.{set_is, set_same}
-use Rattle.channels.specs.RunningConnections.{Running, running_in, channel_at, channel_of, connection_at, connection_of, with_channel_in, with_channel_at, with_channel, PutsChannel}
 
 -- what is written at a key is found there
 pub found_here : {K X : Type 0} (test : K → Bool) (es : List (K × X)) (w x : X) → lookup test es ≡ Some x → lookup test (set_value test es w) ≡ Some w

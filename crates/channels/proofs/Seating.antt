@@ -1,21 +1,14 @@
 -- Consumers as the channel keeps them, and as the model has them.
-use Rattle.std.proofs.Common.{◌≡◌, inl, inr, ℕ, ◌+◌, ◌<◌, ◌≤◌, List, [], ◌∷◌, ◌++◌, length, map, filter, not, Bool, true, false, cond, Option, Some, None, Result, Ok, Err, refl, sym, ap, ◌∙◌, arith}
-use Rattle.std.specs.Prelude.{◌⊎◌, slice_index_or, nat_le, ◌==◌, ◌||◌, if◌then◌else◌}
-use Rattle.std.specs.List.{list_any}
-use Rattle.std.proofs.lemmas.Bool.{eq-eqb, eqb-true, le-leb, lt-leb}
-use Rattle.std.proofs.lemmas.List.{map-append, length-map}
-use Rattle.model.specs.Words.{Text}
+use Rattle.channels.proofs.Imports.{◌≡◌, inl, inr, ℕ, ◌+◌, ◌<◌, ◌≤◌, List, [], ◌∷◌, ◌++◌, length, map, not, Bool, true, false, cond, Option, Some, None, refl, sym, ap, ◌∙◌, arith, ◌⊎◌, slice_index_or, ◌||◌, list_any, eqb-true, le-leb, lt-leb, map-append, length-map, Text, Of_connection, or_else, greatest, refusal_of_seat, is_named, server_name, IsNextName, AreNamesSpent, Given, with_consumer_added, MaySeat, JudgesSeat, JudgesUnnamed, AddsConsumer, RefusesUnnamed, ConsumesUnnamed, IsMadeUnder, Open, consumer_in, open_in, places_of, IsConsumerSeated, JudgesConsumer, SeatsConsumer, Consumer}
+use Rattle.std.proofs.Common.{filter, Result, Ok, Err}
+use Rattle.std.specs.Prelude.{nat_le, ◌==◌, if◌then◌else◌}
+use Rattle.std.proofs.lemmas.Bool.{eq-eqb}
 use Rattle.model.specs.Broker as seen
 use Rattle.model.specs.Consuming.{is_tagged, is_in_use, server_tag, next_free, tag_for, name_after, is_tag_taken, is_tag_wanting, consumer_of}
 use Rattle.model.specs.Consuming as said
-use Rattle.model.specs.Step.{Refusal as Stands, Of_connection, or_else, greatest, refusal_of_seat}
+use Rattle.model.specs.Step.{Refusal as Stands}
 use Rattle.model.specs.declared.methods.Consume.{Consume}
 use Rattle.laws.specs.Consumers.{NextTagsAreFound}
-use Rattle.channels.specs.Seats.{is_named}
-use Rattle.channels.specs.Names.{server_name, IsNextName, AreNamesSpent}
-use Rattle.channels.specs.Deliveries.{Given, with_consumer_added, MaySeat, JudgesSeat, JudgesUnnamed, AddsConsumer, RefusesUnnamed, ConsumesUnnamed, IsMadeUnder}
-use Rattle.channels.specs.Open.{Open, consumer_in, open_in, places_of, IsConsumerSeated, JudgesConsumer, SeatsConsumer}
-use Rattle.channels.specs.declared.consumers.Consumer.{Consumer}
 use Rattle.channels.specs.declared.consumers.SeatRefusal.{SeatRefusal}
 use Rattle.channels.specs.declared.consumers.SeatRefusal.TheVariants.{InUse, TooMany, Spent}
 use Rattle.channels.specs.declared.consumers.Unseated.{Unseated}

@@ -1,11 +1,7 @@
 -- One value of a list is set.
-use Rattle.std.proofs.Common.{◌≡◌, ◌<◌, ◌==◌, ℕ, zero, suc, List, [], ◌∷◌, length, get_or, set, Bool, true, false, Option, Some, None, cond, refl, sym, ap, ◌∙◌, arith, if◌then◌else◌, nat_eq}
-use Rattle.std.proofs.lemmas.Bool.{eqb-true, eq-eqb, false≢true}
-use Rattle.std.proofs.lemmas.List.{get_or-set_same, get_or-set_other}
-use Rattle.std.proofs.lemmas.Option.{same_Some}
-use Rattle.std.specs.Map.{lookup, set_value}
-use Rattle.channels.specs.Open.{Open}
-use Rattle.channels.specs.RunningConnections.{Running, IsChannelSet, running_in, channel_in, channel_at, channel_of, with_channel_in, with_channel_at, with_channel}
+use Rattle.channels.proofs.Imports.{◌≡◌, ◌<◌, ℕ, zero, suc, List, [], ◌∷◌, length, get_or, set, Bool, true, false, Option, Some, None, cond, refl, sym, ap, ◌∙◌, arith, eqb-true, false≢true, get_or-set_same, get_or-set_other, same_Some, lookup, set_value, Open, Running, IsChannelSet, running_in, channel_in, channel_at, channel_of, with_channel_in, with_channel_at, with_channel}
+use Rattle.std.proofs.Common.{◌==◌, if◌then◌else◌, nat_eq}
+use Rattle.std.proofs.lemmas.Bool.{eq-eqb}
 
 -- within a list it is the same whatever stands past its end
 pub same_default : {A : Type 0} (xs : List A) (i : ℕ) (a b : A) → i < length xs → get_or xs i a ≡ get_or xs i b

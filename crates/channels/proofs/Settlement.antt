@@ -1,16 +1,9 @@
 -- What a tag takes of outstanding deliveries whose tags rise, with the places between of what was settled before.
-use Rattle.std.proofs.Common.{◌≡◌, ℕ, zero, suc, ◌+◌, ◌-◌, ◌<◌, ◌≤◌, List, [], ◌∷◌, ◌++◌, length, length-drop, get_or, take, drop, refl, sym, ap, ◌∙◌, arith, Bool, true, false, cond, not, Option, Some, None, leb, eqb, eq-eqb, inl, inr}
-use Rattle.std.specs.Prelude.{filter, ◌⊎◌, ◌==◌, ◌&&◌, ◌||◌, nat_le, if◌then◌else◌}
-use Rattle.std.specs.List.{list_any}
+use Rattle.channels.proofs.Imports.{◌≡◌, ℕ, zero, suc, ◌+◌, ◌-◌, ◌<◌, ◌≤◌, List, [], ◌∷◌, ◌++◌, length, length-drop, get_or, take, drop, refl, sym, ap, ◌∙◌, arith, Bool, true, false, cond, not, Option, Some, None, leb, eqb, inl, inr, ◌⊎◌, ◌||◌, list_any, eqb_tells, leb_tells, AllPairs-filter, filter-append, filter_passes, has_tag, takes, is_refused, settled, kept, Rises, tag_of, given_tag, IsTagAt, is_waiting, waiting, Delivery}
+use Rattle.std.proofs.Common.{eq-eqb}
+use Rattle.std.specs.Prelude.{filter, ◌==◌, ◌&&◌, nat_le, if◌then◌else◌}
 use Rattle.std.specs.List.Sorted.{IsNonDecreasingBy}
-use Rattle.std.proofs.lemmas.Bool.Decides.{eqb_tells, leb_tells}
-use Rattle.std.proofs.lemmas.List.Kept.{AllPairs-filter}
-use Rattle.std.proofs.lemmas.List.Elements.{filter-append, filter_passes}
 use Rattle.channels.proofs.Runs.{none_any, one_any, PassWithin, passed, failed}
-use Rattle.model.specs.Settling.{has_tag, takes, is_refused, settled, kept, Rises}
-use Rattle.channels.specs.Outstanding.{tag_of, given_tag, IsTagAt}
-use Rattle.model.specs.Placed.{is_waiting, waiting}
-use Rattle.model.specs.declared.deliveries.Delivery.{Delivery}
 
 not_equal : (a b : ℕ) → ((a ≡ b) → ⊥) → eqb a b ≡ false
 not_equal a b h = elim (eqb_tells a b) [ inl p ↦ absurd (h p.1) | inr p ↦ p.0 ]

@@ -1,17 +1,7 @@
 -- Consumers of a queue, counted and found.
-use Rattle.std.proofs.Common.{◌≡◌, ◌≤◌, ◌<◌, ◌∷◌, [], ℕ, zero, suc, List, Bool, true, false, Option, Some, None, cond, inl, inr, refl, ap, arith, nat_eq, sum_by}
-use Rattle.std.specs.Prelude.{Decides}
-use Rattle.std.specs.List.{IsDistinct}
-use Rattle.std.specs.Map.{keys_of}
-use Rattle.std.proofs.lemmas.Bool.{eqb-true, eq-eqb, ltb-true, lt-ltb}
-use Rattle.std.proofs.lemmas.List.Sums.{sum_by-cons}
-use Rattle.model.specs.Topology.{IsIn}
-use Rattle.model.specs.Declaring.{ChannelName}
-use Rattle.channels.specs.Seats.{takes_from}
-use Rattle.channels.specs.Open.{Open}
-use Rattle.channels.specs.declared.consumers.Consumer.{Consumer}
-use Rattle.channels.specs.RunningConnections.{Running, channel_of}
-use Rattle.channels.specs.Counting.{consumers_at, all_consumers, is_consumed, HasTaker}
+use Rattle.channels.proofs.Imports.{◌≡◌, ◌≤◌, ◌<◌, ◌∷◌, [], ℕ, zero, suc, List, Bool, true, false, Option, Some, None, cond, inl, inr, refl, ap, arith, sum_by, Decides, IsDistinct, keys_of, eqb-true, lt-ltb, sum_by-cons, IsIn, ChannelName, takes_from, Open, Consumer, Running, channel_of, consumers_at, all_consumers, is_consumed, HasTaker}
+use Rattle.std.proofs.Common.{nat_eq}
+use Rattle.std.proofs.lemmas.Bool.{eq-eqb, ltb-true}
 use Rattle.channels.proofs.ConnectionsCounting.{name, names_in, all_there, on, all_sum}
 
 -- ---- sums

@@ -1,4 +1,4 @@
--- The command line of warren, as clap's contract reads it: which subcommand the words name, and what its arguments are.
+-- The command line of warren, in the terms of clap's contract: which subcommand the words name, and with which arguments (own).
 use Rattle.std.specs.Prelude.{◌≡◌, ◌⊎◌, ℕ, List, [], Option, Some, None, false, true, codes, if◌then◌else◌, option_map, option_and_then}
 use Rattle.std.specs.Str.{bytes_eq}
 use Rattle.clap.specs.Words.{App, Row, Rule, Text, app_of, first_of, new_app, new_rule, subcommand_of, with_rule, with_subcommand, fault_of, kind_of}
@@ -13,28 +13,28 @@ use Rattle.command_line.specs.declared.asked.Asked.TheVariants as asked
 
 -- ---- the subcommands and their arguments
 
--- the command has these arguments, and none of them is given to its subcommands as well
+-- the command has these arguments, and passes none of them on to its subcommands
 pub record IsCommand (command : Command) (wanted : App) : Type 0 where
   pub app : app_of command ≡ wanted
   pub local : (fields_of command).has_globals ≡ false
 
--- a text that has to be given, by its place
+-- a positional argument that has to be given
 abbrev pub needed : Text → Rule
 needed id = record (new_rule id) { required = true; action = Some Set }
 
--- a file that may be named, by `--` and the option's name
+-- an option `--id FILE`
 abbrev pub option : Text → Rule
 option id = record (new_rule id) { long = Some id; action = Some Set; value_names = 1 }
 
--- a text that has to be given, by `--` and the option's name
+-- an option `--id` with a text that has to be given
 abbrev pub needed_option : Text → Rule
 needed_option id = record (option id) { required = true }
 
--- a number that may be given, by `--` and the option's name: a decimal one, no smaller than this and below 2^64
+-- an option `--id N` with a decimal number, from `least` to 2^64 - 1
 abbrev pub number_option : ℕ → Text → Rule
 number_option least id = record (option id) { parser = Some (Unsigned least 18446744073709551615) }
 
--- a command that looks at a definitions file and a guarantees file: its name, and `DEFS GUARANTEES`
+-- a command with the arguments `DEFS GUARANTEES`
 abbrev pub over_guarantees : Text → App
 over_guarantees name = with_rule (with_rule (new_app name) (needed (codes "DEFS"))) (needed (codes "GUARANTEES"))
 
@@ -70,23 +70,23 @@ serve = with_rule serve_for (number_option 1 (codes "reload"))
 abbrev pub route : App
 route = with_rule (with_rule (with_rule (new_app (codes "route")) (needed (codes "DEFS"))) (needed (codes "EXCHANGE"))) (needed (codes "KEY"))
 
--- a program that is called with one of its subcommands, and shows its version
+-- a program that has to be called with one of its subcommands, or with `--version`
 abbrev pub with_subcommands : Text → App
 with_subcommands name = record (new_app name) { top = record (new_app name).top { has_version = true; subcommand_required = true } }
 
--- the program with the commands that judge guarantees
+-- the program with the subcommands that judge guarantees
 abbrev pub judging : App
 judging = with_subcommand (with_subcommand (with_subcommands (codes "warren")) check.top) verify.top
 
--- and with those that run a broker
+-- the same, with the subcommands that run a broker
 abbrev pub running : App
 running = with_subcommand (with_subcommand judging replay.top) serve.top
 
--- the whole program
+-- the program with all its subcommands
 abbrev pub warren : App
 warren = with_subcommand running route.top
 
--- ---- what can be asked for
+-- ---- the commands
 
 -- a command with its arguments
 pub data Wanted : Type 0 where
@@ -96,7 +96,7 @@ pub data Wanted : Type 0 where
   Serve : (definitions guarantees certificates listen : Text) (turns reload : Option Text) → Wanted
   Route : (definitions exchange key : Text) → Wanted
 
--- what was asked for, by its texts
+-- the command of an `Asked`, with the texts that it borrows
 abbrev pub wanted_of : Asked → Wanted
 wanted_of (asked.Check definitions guarantees out) = Check definitions.now guarantees.now (option_map (λ file. file.now) out)
 wanted_of (asked.Verify definitions guarantees certificates) = Verify definitions.now guarantees.now certificates.now
@@ -106,19 +106,19 @@ wanted_of (asked.Serve definitions guarantees certificates listen turns reload) 
     Serve definitions.now guarantees.now certificates.now listen.now (option_map (λ n. n.now) turns) (option_map (λ n. n.now) reload)
 wanted_of (asked.Route definitions exchange key) = Route definitions.now exchange.now key.now
 
--- what `←` means below: where one text is missing, there is no command
+-- what `←` means below: if one text is missing there is no command
 infixl 10 ◌>>=◌
 abbrev pub ◌>>=◌ : {A B : Type 0} → Option A → (A → Option B) → Option B
 o >>= f = option_and_then f o
 
--- the arguments of `check`
+-- the command that the arguments of `check` ask for
 abbrev pub check_of : List Row → Option Wanted
 check_of rows = do
   definitions ← first_of (codes "DEFS") rows
   guarantees ← first_of (codes "GUARANTEES") rows
   Some (Check definitions guarantees (first_of (codes "out") rows))
 
--- the arguments of `verify`
+-- the command that the arguments of `verify` ask for
 abbrev pub verify_of : List Row → Option Wanted
 verify_of rows = do
   definitions ← first_of (codes "DEFS") rows
@@ -126,13 +126,13 @@ verify_of rows = do
   certificates ← first_of (codes "CERTS") rows
   Some (Verify definitions guarantees certificates)
 
--- the arguments of `replay`
+-- the command that the arguments of `replay` ask for
 abbrev pub replay_of : List Row → Option Wanted
 replay_of rows = do
   script ← first_of (codes "SCRIPT") rows
   Some (Replay script (first_of (codes "definitions") rows) (first_of (codes "guarantees") rows) (first_of (codes "certificates") rows))
 
--- the arguments of `serve`
+-- the command that the arguments of `serve` ask for
 abbrev pub serve_of : List Row → Option Wanted
 serve_of rows = do
   definitions ← first_of (codes "DEFS") rows
@@ -141,7 +141,7 @@ serve_of rows = do
   listen ← first_of (codes "listen") rows
   Some (Serve definitions guarantees certificates listen (first_of (codes "turns") rows) (first_of (codes "reload") rows))
 
--- the arguments of `route`
+-- the command that the arguments of `route` ask for
 abbrev pub route_of : List Row → Option Wanted
 route_of rows = do
   definitions ← first_of (codes "DEFS") rows
@@ -149,7 +149,7 @@ route_of rows = do
   key ← first_of (codes "KEY") rows
   Some (Route definitions exchange key)
 
--- the command of this name, with its arguments
+-- the command of the subcommand with this name and these arguments
 abbrev pub wanted_by : Text × List Row → Option Wanted
 wanted_by named =
     if bytes_eq named.0 (codes "check") then check_of named.1 else
@@ -159,21 +159,21 @@ wanted_by named =
     if bytes_eq named.0 (codes "route") then route_of named.1 else
     None
 
--- ---- what the words ask for
+-- ---- the words
 
--- Nothing is at fault in the words, and they name this command, with these arguments.
+-- Clap finds no fault in the words, and they name this command with these arguments.
 pub record AsksFor (words : List Text) (wanted : Wanted) : Type 0 where
   pub faultless : fault_of warren words ≡ []
   pub named : option_and_then wanted_by (subcommand_of warren words) ≡ Some wanted
 
--- the words ask for this
+-- the words ask for this command
 abbrev pub Asks : List Text → Asked → Type 0
 Asks words asked = AsksFor words (wanted_of asked)
 
--- the words ask for nothing that the program does; a call for help is such
+-- the words ask for no command; a call for help is one case
 abbrev pub AsksNothing : List Text → Type 0
 AsksNothing words = (wanted : Wanted) → AsksFor words wanted → ⊥
 
--- Why a command line is refused: a growth was refused, or it asks for nothing.
+-- Why a command line is refused: an allocation failed, or the words ask for no command.
 abbrev pub AreWordsRefused : List Text → Error → Type 0
 AreWordsRefused words e = (kind_of e ≡ OutOfMemory) ⊎ AsksNothing words

@@ -1,31 +1,30 @@
-//! What the program is asked for.
+//! The commands of the program.
 
-/// A command with its files, its options and its texts.
+/// A command with its files, its options and its texts, as the command line gives them.
 #[derive(Clone, Copy, PartialEq, Eq, Debug, Drop)]
 pub enum Asked<'a> {
-    /// Tells of each guarantee whether it holds, and writes the certificates to a file where one is named.
+    /// Reports for each guarantee whether it holds. If `out` is given, writes the certificates to that file.
     Check {
         definitions: &'a str,
         guarantees: &'a str,
         out: Option<&'a str>,
     },
-    /// Tells of each guarantee whether its certificate is accepted.
+    /// Reports for each guarantee whether its certificate is accepted.
     Verify {
         definitions: &'a str,
         guarantees: &'a str,
         certificates: &'a str,
     },
-    /// Runs a script, over the definitions of a file where one is named, and under the guarantees of a file by the
-    /// certificates of another where such are named.
+    /// Runs a script. If they are given, `definitions` replaces the built-in topology, and the broker runs under `guarantees` by
+    /// their `certificates`.
     Replay {
         script: &'a str,
         definitions: Option<&'a str>,
         guarantees: Option<&'a str>,
         certificates: Option<&'a str>,
     },
-    /// Serves clients over sockets at an address, over the definitions of a file and under the guarantees of another by the
-    /// certificates of a third, for so many turns where a number is given. The three are read again each time that so many
-    /// turns are over, where `reload` is given.
+    /// Serves clients at the address `listen`, with the topology of `definitions`, under `guarantees` by their `certificates`.
+    /// Stops after `turns` turns if given; reads the three files again every `reload` turns if given.
     Serve {
         definitions: &'a str,
         guarantees: &'a str,
@@ -34,7 +33,7 @@ pub enum Asked<'a> {
         turns: Option<&'a str>,
         reload: Option<&'a str>,
     },
-    /// Tells to which queues a key leads from an exchange, over the definitions of a file.
+    /// Reports the queues to which `key` leads from `exchange`, in the topology of `definitions`.
     Route {
         definitions: &'a str,
         exchange: &'a str,

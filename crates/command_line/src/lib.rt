@@ -1,6 +1,7 @@
-//! The command line.
+//! The command line: what the program is asked to do.
 //!
-//! What the words say is read by clap; here stand the commands and their arguments.
+//! Start with [`command`], which returns an [`Asked`]. clap parses the words; this crate defines the commands and their
+//! arguments.
 #![tactic(auto)]
 
 mod asked;

@@ -1,4 +1,4 @@
-//! The words of a command line.
+//! Parses the words of a command line. Start with [`command`].
 
 ghost use Rattle.std.specs.Prelude.{◌≡◌, map, codes, false, true, IfOk, MatchResult, Some, option_map, option_and_then};
 ghost use Rattle.clap.specs.Words.{app_of, first_of, found_of, new_app, rows_of, rule_of, subcommand_rows_of, with_rule, with_subcommand};
@@ -14,10 +14,10 @@ use clap::{Arg, ArgAction, ArgMatches, Command, Error};
 use std::alloc::{AllocError, Global};
 use std::convert::AsStr;
 
-/// What `--version` shows behind the name.
+/// The version that `--version` prints after the program's name.
 const VERSION: &str = "0.1.0";
 
-/// A text that has to be given, with what help says of it.
+/// Returns the rule of a positional argument `id` that has to be given; the help text describes it by `help`.
 fn needed<'a>(alloc: Global, id: &'a str, help: &'a str) -> Arg<'a>
     ensures rule { rule_of result ≡ needed id.entry.now }
     ensures local { result.global ≡ false }
@@ -28,7 +28,7 @@ fn needed<'a>(alloc: Global, id: &'a str, help: &'a str) -> Arg<'a>
         .action(ArgAction::Set)
 }
 
-/// A file that may be named, by `--` and the option's name, with what help says of it.
+/// Returns the rule of an optional `--id FILE`, described by `help`.
 fn option<'a>(alloc: Global, id: &'a str, help: &'a str) -> Arg<'a>
     ensures rule { rule_of result ≡ option id.entry.now }
     ensures local { result.global ≡ false }
@@ -40,7 +40,7 @@ fn option<'a>(alloc: Global, id: &'a str, help: &'a str) -> Arg<'a>
         .action(ArgAction::Set)
 }
 
-/// A text that has to be given, by `--` and the option's name, with what help says of it.
+/// Returns the rule of an option `--id` that has to be given, with a text called `value`, described by `help`.
 fn needed_option<'a>(alloc: Global, id: &'a str, value: &'a str, help: &'a str) -> Arg<'a>
     ensures rule { rule_of result ≡ needed_option id.entry.now }
     ensures local { result.global ≡ false }
@@ -53,7 +53,7 @@ fn needed_option<'a>(alloc: Global, id: &'a str, value: &'a str, help: &'a str) 
         .action(ArgAction::Set)
 }
 
-/// A number that may be given, by `--` and the option's name, no smaller than this, with what help says of it.
+/// Returns the rule of an optional `--id N` for a number from `least` to 2^64 - 1, described by `help`.
 fn number_option<'a>(alloc: Global, least: u64, id: &'a str, help: &'a str) -> Arg<'a>
     ensures rule { rule_of result ≡ number_option least id.entry.now }
     ensures local { result.global ≡ false }
@@ -66,14 +66,14 @@ fn number_option<'a>(alloc: Global, least: u64, id: &'a str, help: &'a str) -> A
         .action(ArgAction::Set)
 }
 
-/// A command without arguments, with what help says of it.
+/// Returns a command without arguments, described by `about`.
 fn bare<'a>(alloc: Global, name: &'a str, about: &'a str) -> Command<'a>
     ensures { IsCommand result (new_app name.entry.now) }
 {
     Command::new(alloc, name).about(about)
 }
 
-/// The command with one more argument.
+/// Adds an argument to the command.
 fn with_argument<'a>(command: Command<'a>, argument: Arg<'a>) -> Result<Command<'a>, AllocError>
     requires command { (fields_of command).has_globals ≡ false }
     requires argument { argument.global ≡ false }
@@ -82,7 +82,7 @@ fn with_argument<'a>(command: Command<'a>, argument: Arg<'a>) -> Result<Command<
     command.arg(argument)
 }
 
-/// The command with the certificates file that has to be given.
+/// Adds the argument CERTS to the command: a certificates file that has to be given.
 fn with_certificates<'a>(alloc: Global, command: Command<'a>) -> Result<Command<'a>, AllocError>
     requires { (fields_of command).has_globals ≡ false }
     ensures { IfOk result (λ c. IsCommand c (with_rule (app_of command.entry) (needed (codes "CERTS")))) }
@@ -91,7 +91,7 @@ fn with_certificates<'a>(alloc: Global, command: Command<'a>) -> Result<Command<
     with_argument(command, needed(alloc, "CERTS", help))
 }
 
-/// A command that looks at a definitions file and a guarantees file, with what help says of it.
+/// Returns a command with the arguments DEFS and GUARANTEES, described by `about`.
 fn over_guarantees<'a>(
     alloc: Global,
     name: &'a str,
@@ -104,7 +104,7 @@ fn over_guarantees<'a>(
     with_argument(command, needed(alloc, "GUARANTEES", "The guarantees file"))
 }
 
-/// `check DEFS GUARANTEES [--out FILE]`.
+/// Defines `check DEFS GUARANTEES [--out FILE]`.
 fn check_command<'a>(alloc: Global) -> Result<Command<'a>, AllocError>
     ensures { IfOk result (λ c. IsCommand c check) }
 {
@@ -114,7 +114,7 @@ fn check_command<'a>(alloc: Global) -> Result<Command<'a>, AllocError>
     with_argument(command, option(alloc, "out", out))
 }
 
-/// `verify DEFS GUARANTEES CERTS`.
+/// Defines `verify DEFS GUARANTEES CERTS`.
 fn verify_command<'a>(alloc: Global) -> Result<Command<'a>, AllocError>
     ensures { IfOk result (λ c. IsCommand c verify) }
 {
@@ -123,7 +123,7 @@ fn verify_command<'a>(alloc: Global) -> Result<Command<'a>, AllocError>
     with_certificates(alloc, command)
 }
 
-/// `serve DEFS GUARANTEES CERTS --listen IP:PORT`.
+/// Defines `serve DEFS GUARANTEES CERTS --listen IP:PORT`.
 fn serve_at<'a>(alloc: Global) -> Result<Command<'a>, AllocError>
     ensures { IfOk result (λ c. IsCommand c serve_at) }
 {
@@ -135,7 +135,7 @@ fn serve_at<'a>(alloc: Global) -> Result<Command<'a>, AllocError>
     with_argument(command, listen)
 }
 
-/// `serve DEFS GUARANTEES CERTS --listen IP:PORT [--turns N]`.
+/// Defines `serve DEFS GUARANTEES CERTS --listen IP:PORT [--turns N]`.
 fn serve_for<'a>(alloc: Global) -> Result<Command<'a>, AllocError>
     ensures { IfOk result (λ c. IsCommand c serve_for) }
 {
@@ -144,7 +144,7 @@ fn serve_for<'a>(alloc: Global) -> Result<Command<'a>, AllocError>
     with_argument(command, number_option(alloc, 0, "turns", help))
 }
 
-/// `serve DEFS GUARANTEES CERTS --listen IP:PORT [--turns N] [--reload N]`.
+/// Defines `serve DEFS GUARANTEES CERTS --listen IP:PORT [--turns N] [--reload N]`.
 fn serve_command<'a>(alloc: Global) -> Result<Command<'a>, AllocError>
     ensures { IfOk result (λ c. IsCommand c serve) }
 {
@@ -153,7 +153,7 @@ fn serve_command<'a>(alloc: Global) -> Result<Command<'a>, AllocError>
     with_argument(command, number_option(alloc, 1, "reload", help))
 }
 
-/// `replay SCRIPT [--definitions FILE]`.
+/// Defines `replay SCRIPT [--definitions FILE]`.
 fn replay_over<'a>(alloc: Global) -> Result<Command<'a>, AllocError>
     ensures { IfOk result (λ c. IsCommand c replay_over) }
 {
@@ -163,7 +163,7 @@ fn replay_over<'a>(alloc: Global) -> Result<Command<'a>, AllocError>
     with_argument(command, option(alloc, "definitions", definitions))
 }
 
-/// `replay SCRIPT [--definitions FILE] [--guarantees FILE] [--certificates FILE]`.
+/// Defines `replay SCRIPT [--definitions FILE] [--guarantees FILE] [--certificates FILE]`.
 fn replay_command<'a>(alloc: Global) -> Result<Command<'a>, AllocError>
     ensures { IfOk result (λ c. IsCommand c replay) }
 {
@@ -174,7 +174,7 @@ fn replay_command<'a>(alloc: Global) -> Result<Command<'a>, AllocError>
     with_argument(command, option(alloc, "certificates", certificates))
 }
 
-/// `route DEFS EXCHANGE KEY`.
+/// Defines `route DEFS EXCHANGE KEY`.
 fn route_command<'a>(alloc: Global) -> Result<Command<'a>, AllocError>
     ensures { IfOk result (λ c. IsCommand c route) }
 {
@@ -187,7 +187,7 @@ fn route_command<'a>(alloc: Global) -> Result<Command<'a>, AllocError>
     with_argument(command, needed(alloc, "KEY", key))
 }
 
-/// The program before its subcommands.
+/// Defines the program, without its subcommands.
 fn program<'a>(alloc: Global) -> Command<'a>
     ensures { app_of result ≡ with_subcommands (codes "warren") }
 {
@@ -197,7 +197,7 @@ fn program<'a>(alloc: Global) -> Command<'a>
         .subcommand_required(true)
 }
 
-/// The command with one more subcommand.
+/// Adds a subcommand to the program.
 fn with_command<'a>(program: Command<'a>, command: Command<'a>) -> Result<Command<'a>, AllocError>
     requires { (fields_of command).has_globals ≡ false }
     ensures { IfOk result (λ c. app_of c ≡ with_subcommand (app_of program.entry) (app_of command.entry).top) }
@@ -205,7 +205,7 @@ fn with_command<'a>(program: Command<'a>, command: Command<'a>) -> Result<Comman
     program.subcommand(command)
 }
 
-/// The program with the commands that judge guarantees.
+/// Defines the program with the subcommands that judge guarantees, `check` and `verify`.
 fn with_judging<'a>(alloc: Global) -> Result<Command<'a>, AllocError>
     ensures { IfOk result (λ c. app_of c ≡ judging) }
 {
@@ -214,7 +214,7 @@ fn with_judging<'a>(alloc: Global) -> Result<Command<'a>, AllocError>
     with_command(warren, verify_command(alloc)?)
 }
 
-/// The program with these and the commands that run a broker.
+/// Adds the subcommands that run a broker, `replay` and `serve`.
 fn with_running<'a>(alloc: Global) -> Result<Command<'a>, AllocError>
     ensures { IfOk result (λ c. app_of c ≡ running) }
 {
@@ -223,7 +223,7 @@ fn with_running<'a>(alloc: Global) -> Result<Command<'a>, AllocError>
     with_command(warren, serve_command(alloc)?)
 }
 
-/// The program with its subcommands.
+/// Defines the program with all its subcommands.
 fn warren_command<'a>(alloc: Global) -> Result<Command<'a>, AllocError>
     ensures { IfOk result (λ c. app_of c ≡ warren) }
 {
@@ -231,14 +231,14 @@ fn warren_command<'a>(alloc: Global) -> Result<Command<'a>, AllocError>
     with_command(warren, route_command(alloc)?)
 }
 
-/// The text that was given for an argument.
+/// Returns the text given for argument `id`, if any.
 fn text_of<'a>(given: &ArgMatches<'a>, id: &str) -> Option<&'a str>
     ensures { option_map (λ s. s.now) result ≡ first_of id.now (rows_of (found_of given.now)) }
 {
     given.get_str(id)
 }
 
-/// What the arguments of `check` ask for.
+/// Returns the command that the arguments of `check` ask for.
 fn check<'a>(given: &ArgMatches<'a>) -> Option<Asked<'a>>
     ensures { option_map wanted_of result ≡ check_of (rows_of (found_of given.now)) }
 {
@@ -251,7 +251,7 @@ fn check<'a>(given: &ArgMatches<'a>) -> Option<Asked<'a>>
     })
 }
 
-/// What the arguments of `verify` ask for.
+/// Returns the command that the arguments of `verify` ask for.
 fn verify<'a>(given: &ArgMatches<'a>) -> Option<Asked<'a>>
     ensures { option_map wanted_of result ≡ verify_of (rows_of (found_of given.now)) }
 {
@@ -265,7 +265,7 @@ fn verify<'a>(given: &ArgMatches<'a>) -> Option<Asked<'a>>
     })
 }
 
-/// What the arguments of `replay` ask for.
+/// Returns the command that the arguments of `replay` ask for.
 fn replay<'a>(given: &ArgMatches<'a>) -> Option<Asked<'a>>
     ensures { option_map wanted_of result ≡ replay_of (rows_of (found_of given.now)) }
 {
@@ -278,7 +278,7 @@ fn replay<'a>(given: &ArgMatches<'a>) -> Option<Asked<'a>>
     })
 }
 
-/// What the arguments of `serve` ask for.
+/// Returns the command that the arguments of `serve` ask for.
 fn serve<'a>(given: &ArgMatches<'a>) -> Option<Asked<'a>>
     ensures { option_map wanted_of result ≡ serve_of (rows_of (found_of given.now)) }
 {
@@ -296,7 +296,7 @@ fn serve<'a>(given: &ArgMatches<'a>) -> Option<Asked<'a>>
     })
 }
 
-/// What the arguments of `route` ask for.
+/// Returns the command that the arguments of `route` ask for.
 fn route<'a>(given: &ArgMatches<'a>) -> Option<Asked<'a>>
     ensures { option_map wanted_of result ≡ route_of (rows_of (found_of given.now)) }
 {
@@ -310,7 +310,7 @@ fn route<'a>(given: &ArgMatches<'a>) -> Option<Asked<'a>>
     })
 }
 
-/// What the command of this name asks for.
+/// Returns the command that the subcommand called `name` asks for.
 fn named<'a>(name: &str, given: &ArgMatches<'a>) -> Option<Asked<'a>>
     ensures { option_map wanted_of result ≡ wanted_by (name.now, rows_of (found_of given.now)) }
 {
@@ -324,7 +324,7 @@ fn named<'a>(name: &str, given: &ArgMatches<'a>) -> Option<Asked<'a>>
     }
 }
 
-/// What the subcommand that was named asks for.
+/// Returns the command that the parsed words ask for.
 fn asked<'a>(matches: &ArgMatches<'a>) -> Option<Asked<'a>>
     ensures { option_map wanted_of result ≡ option_and_then wanted_by (subcommand_rows_of matches.now) }
 {
@@ -332,7 +332,7 @@ fn asked<'a>(matches: &ArgMatches<'a>) -> Option<Asked<'a>>
     named(name, given)
 }
 
-/// What the words ask of the program.
+/// Parses `words` as `program` defines them.
 fn ask<'a, S: AsStr>(program: &mut Command<'a>, words: &'a [S]) -> Result<Asked<'a>, Error>
     requires { app_of program.old ≡ warren }
     ensures { MatchResult result (λ asked. Asks (map S.text words.entry.now) asked) (λ e. AreWordsRefused (map S.text words.entry.now) e) }
@@ -346,9 +346,10 @@ fn ask<'a, S: AsStr>(program: &mut Command<'a>, words: &'a [S]) -> Result<Asked<
     }
 }
 
-/// What the words ask for. The first of them is the program's name.
+/// Parses a command line. The first of `words` is the program's name.
 ///
-/// An error is shown by its own text, help among them; its kind is `OutOfMemory` where a growth was refused.
+/// Fails with clap's error if the words ask for no command, as a call for help does: the error's own text is what to show. Its
+/// kind is `OutOfMemory` if an allocation failed.
 pub fn command<'a, S: AsStr>(alloc: Global, words: &'a [S]) -> Result<Asked<'a>, Error>
     ensures { MatchResult result (λ asked. Asks (map S.text words.entry.now) asked) (λ e. AreWordsRefused (map S.text words.entry.now) e) }
 {

@@ -1,27 +1,14 @@
 -- What becomes of a command: it is performed on its channel alone, or left to be done.
-use Rattle.std.specs.Prelude.{IfOk}
-use Rattle.std.proofs.Common.{◌≡◌, ◌≢◌, ℕ, Option, Some, None, false, Result, Ok, Err, refl, sym, subst}
-use Rattle.model.specs.Topology.{Topology}
-use Rattle.model.specs.Broker.{Broker, Channel}
+use Rattle.commands.proofs.Names.{IfOk, ◌≡◌, ◌≢◌, ℕ, Option, None, false, Result, Ok, Err, refl, sym, subst, Topology, Broker, Channel, Performs, refusal_of, Content, Method, BasicNack, BasicReject, HasChannel, refusal_of_number, Stop, Memory, AreAddressed, Step, Side, Commands, ComesTo, Answers, Turns, AnswersHere, Asks, UnlessPerformed, IsAddressedBy, WantsNone, done_of, left_of, seen, state_of, Store, Done}
+use Rattle.std.proofs.Common.{Some}
 use Rattle.model.specs.Step as step
-use Rattle.model.specs.Step.{Performs, refusal_of}
-use Rattle.model.specs.declared.contents.Content.{Content}
-use Rattle.model.specs.declared.methods.Method.{Method}
-use Rattle.model.specs.declared.methods.Method.TheVariants.{BasicNack, BasicReject}
 use Rattle.model.specs.declared.methods.Nack.{Nack}
 use Rattle.model.specs.declared.methods.Reject.{Reject}
-use Rattle.commands.specs.Judged.{HasChannel, refusal_of_number}
 use Rattle.commands.specs.declared.refusals.Refusal.{Refusal}
 use Rattle.commands.specs.declared.refusals.Refusal.TheVariants as refusal_is
-use Rattle.commands.specs.declared.refusals.Stop.{Stop}
-use Rattle.commands.specs.declared.refusals.Stop.TheVariants.{Refused, Memory}
-use Rattle.replies.specs.Sent.{AreAddressed}
-use Rattle.replies.specs.declared.steps.Step.{Step}
-use Rattle.commands.specs.Commands.{Side, Commands, ComesTo, Answers, Turns, AnswersHere, Asks, UnlessPerformed, IsAddressedBy, WantsNone, done_of, left_of, seen, state_of}
+use Rattle.commands.specs.declared.refusals.Stop.TheVariants.{Refused}
 use Rattle.channels.specs.Open.{Open}
-use Rattle.depot.specs.Store.{Store}
 use Rattle.commands.specs.declared.commands.asking.Left as asked
-use Rattle.commands.specs.declared.commands.Done.{Done}
 use Rattle.commands.proofs.Judging.{number_passed}
 
 -- what a command comes to on an open channel, by what stands against it on the channel

@@ -1,18 +1,7 @@
 -- What is left to be done of a command is done.
-use Rattle.std.proofs.Common.{◌≡◌, ℕ, Option, Some, None, Result, Ok, sym, subst}
-use Rattle.std.specs.Prelude.{IfOk}
-use Rattle.std.proofs.lemmas.Result.{IfOk-weaker}
-use Rattle.std.specs.declared.alloc.AllocError.{AllocError}
-use Rattle.model.specs.Grammar.{IsMethod}
-use Rattle.model.specs.Sending.{AreCarried}
-use Rattle.model.specs.Step.{OnConnection}
-use Rattle.model.specs.declared.contents.Content.{Content}
-use Rattle.model.specs.declared.methods.Method.{Method}
-use Rattle.replies.specs.Sent.{AreAddressed}
-use Rattle.commands.specs.declared.acted.Acted.{Acted}
-use Rattle.commands.specs.State.{Kept, broker_of, topology_kept}
+use Rattle.commands.proofs.Names.{◌≡◌, ℕ, Option, None, Result, Ok, sym, subst, IfOk, IfOk-weaker, AllocError, IsMethod, AreCarried, OnConnection, Content, Method, AreAddressed, Acted, Kept, broker_of, topology_kept, AnswersOn, AsksLeft, CanFinish}
+use Rattle.std.proofs.Common.{Some}
 use Rattle.commands.specs.Steps.{PerformsOn}
-use Rattle.commands.specs.Commands.{AnswersOn, AsksLeft, CanFinish}
 use Rattle.commands.specs.declared.commands.asking.Left as asked
 use Rattle.commands.specs.declared.commands.Done.TheVariants.{Left}
 use Rattle.commands.proofs.Stepping.{decides_on}

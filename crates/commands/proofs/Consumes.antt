@@ -1,15 +1,10 @@
 -- What stands against a consume.
-use Rattle.std.proofs.Common.{◌≡◌, ◌∙◌, List, Option, None, ap, sym}
+use Rattle.commands.proofs.Names.{◌≡◌, ◌∙◌, List, Option, None, ap, sym, Text, Topology, Channel, or_else, refusal_in, refusal_of_asking, refusal_of_seat, refusal_of_consume, Consume, open_in, JudgesConsumer, refusal_by, refusal_seen}
 use Rattle.std.specs.Prelude.{Some}
-use Rattle.model.specs.Words.{Text}
-use Rattle.model.specs.Topology.{Topology}
-use Rattle.model.specs.Broker.{Channel}
-use Rattle.model.specs.Step.{Refusal, or_else, refusal_in, refusal_of_asking, refusal_of_seat, refusal_of_consume}
-use Rattle.model.specs.declared.methods.Consume.{Consume}
-use Rattle.channels.specs.Open.{Open, open_in, JudgesConsumer}
+use Rattle.model.specs.Step.{Refusal}
+use Rattle.channels.specs.Open.{Open}
 use Rattle.channels.specs.declared.consumers.SeatRefusal.{SeatRefusal}
 use Rattle.channels.specs.declared.consumers.SeatRefusal.TheVariants.{InUse, TooMany, Spent}
-use Rattle.commands.specs.Judged.{refusal_by, refusal_seen}
 
 -- what stands against its consumer stands against its seat
 pub unseated : (names : List Text) (ch : Open) (m : Consume) (why : SeatRefusal) → JudgesConsumer ch m (Some why) → Some (refusal_seen (refusal_by why)) ≡ refusal_of_seat (open_in names ch) m

@@ -1,23 +1,12 @@
 -- Consumers that are made and cancelled, as the model has them.
-use Rattle.std.proofs.Common.{◌≡◌, ◌∙◌, ◌<◌, ℕ, List, [], ◌∷◌, Bool, true, false, Option, Some, None, Err, length, refl, sym, ap, if◌then◌else◌}
-use Rattle.std.specs.Prelude.{is_some, ◌==◌, ◌||◌}
-use Rattle.std.proofs.lemmas.Bool.{leb-false, false≢true}
-use Rattle.model.specs.Words.{Text}
-use Rattle.model.specs.Topology.{Topology, queue_names}
-use Rattle.model.specs.Broker.{Channel}
-use Rattle.model.specs.Consuming.{next_free, tag_for, is_tag_wanting, with_consumer, without_consumer}
-use Rattle.model.specs.Step.{Refusal, Of_connection, Consumes, Cancels, greatest, or_else, refusal_in, refusal_of_asking, refusal_of_consume, refusal_of_tag, refusal_of_many, refusal_of_numbers, refusal_of_seat, consume_sends, cancel_sends}
-use Rattle.model.specs.declared.events.Send.{Send}
+use Rattle.commands.proofs.Names.{◌≡◌, ◌∙◌, ◌<◌, ℕ, List, [], ◌∷◌, Bool, true, false, Option, None, Err, refl, sym, ap, is_some, ◌||◌, leb-false, false≢true, Text, Topology, queue_names, Channel, next_free, tag_for, is_tag_wanting, with_consumer, without_consumer, Of_connection, Consumes, Cancels, greatest, or_else, refusal_in, refusal_of_asking, refusal_of_consume, refusal_of_tag, refusal_of_many, refusal_of_numbers, refusal_of_seat, consume_sends, cancel_sends, Send, Consume, Note, open_in, IsConsumerSeated, SeatsConsumer, Store, IsQueuePlace, stop_of, Step, Side, Turns, ComesTo, seen, state_of}
+use Rattle.std.proofs.Common.{Some, length, if◌then◌else◌}
+use Rattle.std.specs.Prelude.{◌==◌}
+use Rattle.model.specs.Step.{Refusal}
 use Rattle.model.specs.declared.methods.Cancel.{Cancel}
-use Rattle.model.specs.declared.methods.Consume.{Consume}
-use Rattle.model.specs.declared.notes.Note.{Note}
-use Rattle.channels.specs.Open.{Open, open_in, IsConsumerSeated, SeatsConsumer}
+use Rattle.channels.specs.Open.{Open}
 use Rattle.channels.specs.declared.consumers.Unseated.{Unseated}
 use Rattle.channels.specs.declared.consumers.Unseated.TheVariants.{Refused, Memory as WantsMemory}
-use Rattle.depot.specs.Store.{Store}
-use Rattle.commands.specs.Judged.{IsQueuePlace, stop_of}
-use Rattle.replies.specs.declared.steps.Step.{Step}
-use Rattle.commands.specs.Commands.{Side, Turns, ComesTo, seen, state_of}
 use Rattle.commands.proofs.Turning.{does_here}
 use Rattle.laws.proofs.Named.{server_short}
 

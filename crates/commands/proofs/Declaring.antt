@@ -1,32 +1,12 @@
 -- A declare that asks whether a queue is there, answered by what is counted of it.
-use Rattle.std.proofs.Common.{◌≡◌, ◌∙◌, ◌<◌, ◌+◌, ◌==◌, ℕ, List, [], ◌∷◌, Bool, true, false, cond, Option, Some, None, length, get_or, map, count_by, sum_by, nat_le, inl, inr, refl, sym, ap, arith, if◌then◌else◌}
-use Rattle.std.specs.Prelude.{option_map, min}
-use Rattle.std.specs.Str.{bytes_eq}
-use Rattle.std.proofs.lemmas.Bool.{eqb-true, eq-eqb, false≢true}
-use Rattle.std.proofs.lemmas.Bool.Decides.{leb_tells, nat_tests}
-use Rattle.std.proofs.lemmas.List.Elements.{All-head, All-tail}
+use Rattle.commands.proofs.Names.{◌≡◌, ◌∙◌, ◌<◌, ◌+◌, ℕ, List, [], ◌∷◌, Bool, true, false, cond, Option, None, get_or, map, sum_by, nat_le, inl, inr, refl, sym, ap, arith, option_map, min, bytes_eq, eqb-true, eq-eqb, false≢true, leb_tells, nat_tests, All-head, All-tail, bytes_eq-Decides, Text, Topology, AreApart, queue_names, ready_in, written_count, Finds, declare_sends, queue_declared, greatest, QueueDeclareOk, Send, Note, Entry, queue_name, queue_at, entries_named, IsQueueNamed, open_in, consumer_in, takes_from, channel_of, consumers_at, CountsConsumers, TakeWithin, IsPlaced, Kept, ArePlaced, broker_of, topology_kept, names_of}
+use Rattle.std.proofs.Common.{◌==◌, Some, length, count_by, if◌then◌else◌}
 use Rattle.std.proofs.lemmas.List.Sums.{sum_by-cons}
-use Rattle.std.proofs.lemmas.Slice.Eq.{bytes_eq-Decides}
-use Rattle.model.specs.Words.{Text}
-use Rattle.model.specs.Topology.{Topology, AreApart, queue_names}
 use Rattle.model.specs.Broker as seen
 use Rattle.model.specs.Declaring.{ChannelName, HasConsumers, consumers_on}
-use Rattle.model.specs.Deliveries.{ready_in, written_count}
-use Rattle.model.specs.Step.{Finds, declare_sends, queue_declared, greatest}
-use Rattle.model.specs.declared.methods.Method.TheVariants.{QueueDeclareOk}
 use Rattle.model.specs.declared.methods.QueueDeclare.{QueueDeclare}
-use Rattle.model.specs.declared.events.Send.{Send}
-use Rattle.model.specs.declared.notes.Note.{Note}
-use Rattle.model.specs.declared.messages.Entry.{Entry}
-use Rattle.exchange_graph.specs.Marks.{queue_name}
-use Rattle.depot.specs.Store.{queue_at, entries_named, IsQueueNamed}
-use Rattle.channels.specs.Open.{Open, open_in, consumer_in}
-use Rattle.channels.specs.Seats.{takes_from}
+use Rattle.channels.specs.Open.{Open}
 use Rattle.channels.specs.declared.consumers.Consumer.{Consumer}
-use Rattle.channels.specs.RunningConnections.{channel_of}
-use Rattle.channels.specs.Counting.{consumers_at, CountsConsumers}
-use Rattle.channels.specs.Placed.{TakeWithin, IsPlaced}
-use Rattle.commands.specs.State.{Kept, ArePlaced, broker_of, topology_kept, names_of}
 use Rattle.commands.proofs.Picking.{same_place}
 use Rattle.commands.proofs.Stepping.{seen_there}
 

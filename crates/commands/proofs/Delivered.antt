@@ -1,32 +1,13 @@
 -- Who may take a message, and what a delivery leaves.
-use Rattle.std.proofs.Common.{◌≡◌, ◌∙◌, ◌<◌, ℕ, List, [], ◌∷◌, false, Option, Some, None, length, refl, sym, ap, subst}
-use Rattle.std.specs.Prelude.{option_map, is_some, IsSome}
-use Rattle.std.proofs.lemmas.Bool.{false≢true}
-use Rattle.std.proofs.lemmas.Option.{same_Some}
-use Rattle.model.specs.Words.{Text}
-use Rattle.model.specs.Topology.{IsIn, AreApart, queue_names}
+use Rattle.commands.proofs.Names.{◌≡◌, ◌∙◌, ◌<◌, ℕ, List, [], ◌∷◌, false, Option, None, refl, sym, ap, subst, option_map, is_some, false≢true, same_Some, Text, IsIn, AreApart, queue_names, Broker, Channel, Connection, AreNamed, MayTake, CanDeliver, may_take, first_ready, delivery_notes, after_delivery, Is, deliver, Entry, Send, Note, queue_name, IsTaker, HasNoTaker, open_in, consumer_in, Store, entries_named, running_in, limits_of, connection_at, channel_in, channel_at, ArePlaced, Side, DeliversHere, GivesHere, seen, state_of, IsPick, IsPickFrom, IsKeptAs, TakesAs, TellsConsumer, TellsTaking, CannotTake, From, Kept, broker_of, topology_kept, names_of, Pick}
+use Rattle.std.proofs.Common.{Some, length}
+use Rattle.std.specs.Prelude.{IsSome}
 use Rattle.model.specs.Broker as view
-use Rattle.model.specs.Broker.{Broker, Channel, Connection}
-use Rattle.model.specs.Naming.{AreNamed}
-use Rattle.model.specs.Consuming.{MayTake, CanDeliver, may_take}
-use Rattle.model.specs.Deliveries.{first_ready, delivery_notes, after_delivery}
-use Rattle.model.specs.Step.{Is, deliver}
-use Rattle.model.specs.declared.messages.Entry.{Entry}
 use Rattle.model.specs.declared.messages.Taker.TheVariants as taker
-use Rattle.model.specs.declared.events.Send.{Send}
-use Rattle.model.specs.declared.notes.Note.{Note}
-use Rattle.exchange_graph.specs.Marks.{queue_name}
-use Rattle.channels.specs.Open.{Open, IsTaker, HasNoTaker, open_in, consumer_in}
-use Rattle.depot.specs.Store.{Store, entries_named}
+use Rattle.channels.specs.Open.{Open}
 use Rattle.channels.specs.declared.consumers.Consumer.{Consumer}
-use Rattle.channels.specs.RunningConnections.{Running, running_in, limits_of, connection_at, channel_in, channel_at}
-use Rattle.commands.specs.State.{ArePlaced}
-use Rattle.commands.specs.Commands.{Side, DeliversHere, GivesHere, seen, state_of}
-use Rattle.commands.specs.Picked.{IsPick, IsPickFrom, IsKeptAs, TakesAs, TellsConsumer, TellsTaking, CannotTake}
-use Rattle.commands.specs.declared.picks.Taking.TheVariants.{From}
+use Rattle.channels.specs.RunningConnections.{Running}
 use Rattle.channels.specs.Consumers.{TellsOn, IsOneOn, consumer_numbered}
-use Rattle.commands.specs.State.{Kept, broker_of, topology_kept, names_of}
-use Rattle.commands.specs.declared.picks.Pick.{Pick}
 use Rattle.commands.proofs.GivenOut.{all_in}
 use Rattle.commands.proofs.Stepping.{seen_there}
 use Rattle.commands.proofs.Picking.{same_place}

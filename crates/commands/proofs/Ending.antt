@@ -1,15 +1,9 @@
 -- Which connections run still: no other than one that is closed or lost ends.
-use Rattle.std.proofs.Common.{◌≡◌, ◌∙◌, ℕ, List, Bool, true, false, Option, Some, None, refl, sym, ap, subst, if◌then◌else◌}
-use Rattle.std.specs.Prelude.{is_some, ◌==◌}
-use Rattle.std.proofs.lemmas.Bool.{eqb-true, eq-eqb, false≢true}
-use Rattle.model.specs.Topology.{Topology}
-use Rattle.model.specs.Broker.{Connection, Broker, with_one}
-use Rattle.model.specs.Step.{Is, Acts, with_gone, paused}
-use Rattle.model.specs.declared.events.Send.{Send}
-use Rattle.model.specs.declared.events.Event.TheVariants.{Running, Lose, Pause, Resume, Deliver}
-use Rattle.model.specs.declared.notes.Note.{Note}
+use Rattle.commands.proofs.Names.{◌≡◌, ◌∙◌, ℕ, List, Bool, true, false, Option, None, refl, sym, ap, subst, is_some, eqb-true, eq-eqb, false≢true, Topology, Connection, Broker, with_one, Is, Acts, with_gone, paused, Send, Lose, Pause, Resume, Deliver, Note, AllRunStill, OthersRunStill, TellsEnd, ends_of}
+use Rattle.std.proofs.Common.{Some, if◌then◌else◌}
+use Rattle.std.specs.Prelude.{◌==◌}
+use Rattle.model.specs.declared.events.Event.TheVariants.{Running}
 use Rattle.commands.specs.declared.acted.Ends.TheVariants as ends
-use Rattle.commands.specs.Ended.{AllRunStill, OthersRunStill, TellsEnd, ends_of}
 
 module _ (old new : Broker) where
   -- where connections are as they were, each runs still that ran

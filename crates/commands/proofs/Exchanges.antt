@@ -1,12 +1,10 @@
 -- A publish is refused for what is said of clients' access to its exchange.
-use Rattle.std.proofs.Common.{◌≡◌, [], ◌∷◌, Option, Some, None, Bool, true, false, refl, sym, ap, ◌∙◌, if◌then◌else◌}
-use Rattle.model.specs.Words.{Text}
-use Rattle.model.specs.Topology.{Topology}
-use Rattle.model.specs.Step.{Refusal, Of_channel, refusal_to, refusal_at, exchange_named}
+use Rattle.commands.proofs.Names.{◌≡◌, [], ◌∷◌, Option, None, Bool, true, false, refl, sym, ap, ◌∙◌, Text, Topology, Of_channel, refusal_to, refusal_at, exchange_named, Internal, Absent, access_at, access_to}
+use Rattle.std.proofs.Common.{Some, if◌then◌else◌}
+use Rattle.model.specs.Step.{Refusal}
 use Rattle.model.specs.declared.topologies.Exchange.{Exchange}
 use Rattle.exchange_graph.specs.declared.routes.Access.{Access}
-use Rattle.exchange_graph.specs.declared.routes.Access.TheVariants.{Open, Internal, Absent}
-use Rattle.exchange_graph.specs.Routers.{access_at, access_to}
+use Rattle.exchange_graph.specs.declared.routes.Access.TheVariants.{Open}
 
 -- why clients may not publish to an exchange
 abbrev pub refusal_by : Access → Option Refusal

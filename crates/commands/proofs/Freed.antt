@@ -1,29 +1,12 @@
 -- What is outstanding on a channel or on the channels of a connection, put back one by one, is all that was held there.
-use Rattle.std.proofs.Common.{◌≡◌, ◌∙◌, ◌+◌, ◌<◌, ◌≤◌, ◌==◌, ℕ, zero, suc, List, [], ◌∷◌, length, get_or, drop, map, Bool, true, false, cond, Option, Some, None, inl, inr, refl, sym, ap, subst, arith}
-use Rattle.std.specs.Prelude.{count_by, is_some, option_map}
-use Rattle.std.proofs.lemmas.Bool.{and_from, and_parts, eqb-true, eq-eqb, false≢true}
-use Rattle.std.proofs.lemmas.List.{drop_all, drop_more}
-use Rattle.model.specs.Words.{Text}
-use Rattle.model.specs.Topology.{Topology, IsIn, queue_names}
+use Rattle.commands.proofs.Names.{◌≡◌, ◌∙◌, ◌+◌, ◌<◌, ◌≤◌, ℕ, zero, suc, List, [], ◌∷◌, get_or, drop, map, Bool, true, false, cond, Option, None, inl, inr, refl, sym, ap, subst, arith, is_some, option_map, and_from, and_parts, eqb-true, eq-eqb, false≢true, drop_all, drop_more, Text, Topology, IsIn, queue_names, IsAgreed, by_channel, by_connection, is_held_as, is_under, freed, freed_now, Returns, holder_of, with_returned, AreReturned, Entry, Holder, Mark, Ready, Held, open_in, outstanding_in, AreWithin, Delivery, Store, entries_named, channel_at, channel_of, running_in, outstanding_on, IsPlaced, AreSettledBy, AreReturnedFrom, AreReturnedAt, Kept, ArePlaced, broker_of, topology_kept, names_of}
+use Rattle.std.proofs.Common.{◌==◌, length, Some}
+use Rattle.std.specs.Prelude.{count_by}
 use Rattle.model.specs.Broker as seen
-use Rattle.model.specs.Agreement.{IsAgreed}
-use Rattle.model.specs.Entries.{by_channel, by_connection, is_held_as, is_under, freed, freed_now}
-use Rattle.model.specs.Deliveries.{Returns, holder_of, with_returned, AreReturned}
-use Rattle.model.specs.declared.messages.Entry.{Entry}
-use Rattle.model.specs.declared.messages.Holder.{Holder}
-use Rattle.model.specs.declared.messages.Mark.{Mark}
-use Rattle.model.specs.declared.messages.Mark.TheVariants.{Ready, Held}
 use Rattle.laws.proofs.Leaving.{at_queue}
 use Rattle.laws.proofs.Agreement.{IsClear, counted_in, in_freed, returned_clear, returned_shrinks}
-use Rattle.channels.specs.Open.{Open, open_in}
-use Rattle.model.specs.Placed.{outstanding_in, AreWithin}
-use Rattle.model.specs.declared.deliveries.Delivery.{Delivery}
-use Rattle.depot.specs.Store.{Store, entries_named}
-use Rattle.channels.specs.RunningConnections.{Running, channel_at, channel_of, running_in, outstanding_on}
-use Rattle.channels.specs.Placed.{IsPlaced}
-use Rattle.depot.specs.Settled.{AreSettledBy}
-use Rattle.commands.specs.Freed.{AreReturnedFrom, AreReturnedAt}
-use Rattle.commands.specs.State.{Kept, ArePlaced, broker_of, topology_kept, names_of}
+use Rattle.channels.specs.Open.{Open}
+use Rattle.channels.specs.RunningConnections.{Running}
 use Rattle.commands.proofs.Placing.{none_within}
 use Rattle.commands.proofs.Stepping.{IsFreed, some_same}
 

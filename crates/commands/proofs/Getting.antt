@@ -1,24 +1,9 @@
 -- What a get sends, and what it leaves.
-use Rattle.std.proofs.Common.{◌≡◌, ◌+◌, ◌-◌, ◌∷◌, [], ℕ, List, Bool, true, false, cond, Option, Some, None, filter, length, refl, sym, ap, subst, ◌∙◌, arith, if◌then◌else◌}
-use Rattle.std.specs.List.{AllByRecursion}
-use Rattle.std.specs.Prelude.{find, is_some}
-use Rattle.std.proofs.lemmas.Bool.{false≢true}
-use Rattle.std.proofs.lemmas.Slice.Eq.{bytes_eq-Decides}
-use Rattle.model.specs.Words.{Text}
-use Rattle.model.specs.Topology.{Topology}
-use Rattle.model.specs.Broker.{Broker, Channel, is_ready}
-use Rattle.model.specs.Entries.{held_as, change_first, without_first}
-use Rattle.model.specs.Deliveries.{first_ready, ready_in, after_giving, after_delivery, delivery_notes}
-use Rattle.model.specs.Sending.{IsCarried}
-use Rattle.model.specs.Step.{Is, Gets, Refusal, or_else, refusal_in, refusal_of_tags, refusal_of_get, get_ok}
-use Rattle.model.specs.declared.events.Send.{Send}
-use Rattle.model.specs.declared.notes.Note.{Note}
-use Rattle.model.specs.declared.methods.Get.{Get}
-use Rattle.model.specs.declared.messages.Entry.{Entry}
-use Rattle.model.specs.declared.messages.Holder.{Holder}
+use Rattle.commands.proofs.Names.{◌≡◌, ◌+◌, ◌-◌, ◌∷◌, [], ℕ, List, Bool, true, false, cond, Option, None, filter, refl, sym, ap, subst, ◌∙◌, arith, AllByRecursion, is_some, false≢true, bytes_eq-Decides, Text, Topology, Broker, Channel, is_ready, held_as, change_first, without_first, first_ready, ready_in, after_giving, after_delivery, delivery_notes, IsCarried, Is, Gets, or_else, refusal_in, refusal_of_tags, refusal_of_get, get_ok, Send, Note, Get, Entry, Holder, Store, IsQueueNamed, entries_named, queue_at, IsQueuePlace}
+use Rattle.std.proofs.Common.{Some, length, if◌then◌else◌}
+use Rattle.std.specs.Prelude.{find}
+use Rattle.model.specs.Step.{Refusal}
 use Rattle.model.specs.declared.messages.Taker.TheVariants as taker
-use Rattle.depot.specs.Store.{Store, IsQueueNamed, entries_named, queue_at}
-use Rattle.commands.specs.Judged.{IsQueuePlace}
 use Rattle.commands.proofs.GivenOut.{find_in, all_in}
 
 -- ---- what remains

@@ -1,27 +1,8 @@
 -- What the broker's state is after a message was given out.
-use Rattle.std.proofs.Common.{◌≡◌, ◌+◌, ◌<◌, ◌∷◌, [], ℕ, List, Bool, true, false, cond, ◌&&◌, ◌==◌, Option, Some, None, inl, inr, refl, sym, ap, subst, ◌∙◌, arith}
-use Rattle.std.specs.Prelude.{slice_index_or, find, is_some}
-use Rattle.std.specs.List.{AllByRecursion}
-use Rattle.std.proofs.lemmas.Bool.{eqb-true, false≢true}
-use Rattle.std.proofs.lemmas.List.{map-append}
-use Rattle.std.proofs.lemmas.Option.{same_Some}
-use Rattle.model.specs.Words.{Text}
-use Rattle.model.specs.Topology.{Topology, queue_names, IsIn}
-use Rattle.model.specs.Agreement.{IsAgreed}
-use Rattle.model.specs.Broker.{Broker, Channel, Outstanding, is_ready, with_pair}
-use Rattle.model.specs.Entries.{is_held_as, held_as, change_first, without_first}
-use Rattle.model.specs.Deliveries.{channel_after, with_queue}
-use Rattle.model.specs.Step.{channel_or_new}
-use Rattle.model.specs.declared.messages.Entry.{Entry}
-use Rattle.model.specs.declared.messages.Holder.{Holder}
-use Rattle.model.specs.declared.messages.Mark.{Mark}
-use Rattle.model.specs.declared.messages.Mark.TheVariants.{Ready, Held}
-use Rattle.model.specs.declared.messages.Taker.{Taker}
-use Rattle.exchange_graph.specs.Marks.{queue_name}
-use Rattle.depot.specs.Store.{Store, IsQueueNamed, entries_named, queue_at, with_entries_at}
-use Rattle.channels.specs.Open.{Open, open_in, given_on, settled_on}
-use Rattle.model.specs.Placed.{outstanding_in}
-use Rattle.commands.specs.Commands.{CanCommand, GivesHere, seen, state_of}
+use Rattle.commands.proofs.Names.{◌≡◌, ◌+◌, ◌<◌, ◌∷◌, [], ℕ, List, Bool, true, false, cond, Option, None, inl, inr, refl, sym, ap, subst, ◌∙◌, arith, slice_index_or, is_some, AllByRecursion, eqb-true, false≢true, map-append, same_Some, Text, Topology, queue_names, IsIn, IsAgreed, Broker, Channel, Outstanding, is_ready, with_pair, is_held_as, held_as, change_first, without_first, channel_after, with_queue, channel_or_new, Entry, Holder, Mark, Ready, Held, Taker, queue_name, Store, IsQueueNamed, entries_named, queue_at, with_entries_at, open_in, given_on, settled_on, outstanding_in, CanCommand, GivesHere, seen, state_of}
+use Rattle.std.proofs.Common.{◌&&◌, ◌==◌, Some}
+use Rattle.std.specs.Prelude.{find}
+use Rattle.channels.specs.Open.{Open}
 
 -- a channel that is this one, where the queues have the same names, is seen so
 pub seen_alike : (s s' : Store) (ch ch' : Open) → s'.topology ≡ s.topology → ch' ≡ ch → seen s' ch' ≡ seen s ch

@@ -1,17 +1,7 @@
 -- What is decided of a command, from the first test that holds.
-use Rattle.std.proofs.Common.{◌≡◌, ◌≢◌, ◌<◌, ℕ, zero, suc, List, [], ◌∷◌, length, get_or, inl, inr, Bool, true, false, Option, Some, None, arith, refl, sym, ap, ◌∙◌, nat_eq, nat_lt, if◌then◌else◌}
-use Rattle.std.specs.Prelude.{is_some}
-use Rattle.std.specs.Str.{bytes_eq}
-use Rattle.std.proofs.lemmas.Bool.Decides.{nat_tests}
-use Rattle.std.proofs.lemmas.Slice.Eq.{bytes_eq-Decides}
-use Rattle.model.specs.Words.{Text}
-use Rattle.model.specs.Topology.{Topology, queue_names, IsIn}
-use Rattle.model.specs.declared.topologies.DeclaredQueue.{DeclaredQueue}
-use Rattle.model.specs.Broker.{Broker, Channel, Connection, queue_named}
-use Rattle.model.specs.Step.{Refusal, Of_connection, refusal_on, or_else, refusal_to, refusal_of_count, refusal_of_publish, is_awaiting, is_of_connection, refusal, refusal_while_closing, refusal_on_zero}
-use Rattle.model.specs.declared.methods.Method.{Method}
-use Rattle.model.specs.declared.methods.Publish.{Publish}
-use Rattle.commands.specs.Judged.{refusal_of_number}
+use Rattle.commands.proofs.Names.{◌≡◌, ◌≢◌, ◌<◌, ℕ, zero, suc, List, [], ◌∷◌, get_or, inl, inr, Bool, true, false, Option, None, arith, refl, sym, ap, ◌∙◌, nat_eq, is_some, bytes_eq, nat_tests, bytes_eq-Decides, Text, Topology, queue_names, IsIn, DeclaredQueue, Broker, Channel, Connection, queue_named, Of_connection, refusal_on, or_else, refusal_to, refusal_of_count, refusal_of_publish, is_awaiting, is_of_connection, refusal, refusal_while_closing, refusal_on_zero, Method, Publish, refusal_of_number}
+use Rattle.std.proofs.Common.{length, Some, nat_lt, if◌then◌else◌}
+use Rattle.model.specs.Step.{Refusal}
 
 -- on a channel that awaits close-ok only the method counts
 pub closing_is : (t : Topology) (b : Broker) (conn : Connection) (h : ℕ) (m : Method) (k : Channel) → k.is_closing ≡ true → refusal t b conn h m (Some k) ≡ refusal_while_closing m

@@ -1,29 +1,11 @@
 -- What a command did on a channel that was lent, as what is kept.
-use Rattle.std.proofs.Common.{◌≡◌, ◌∙◌, ℕ, zero, suc, List, [], ◌∷◌, get_or, set, nat_eq, Option, Some, None, Result, Ok, Err, sym, ap, subst}
-use Rattle.std.specs.Prelude.{option_map}
-use Rattle.std.proofs.lemmas.Option.{none-some}
-use Rattle.model.specs.Topology.{Topology, queue_names}
-use Rattle.model.specs.Broker.{Broker, Connection, with_pair}
-use Rattle.model.specs.Agreement.{IsAgreed}
-use Rattle.model.specs.Step.{IsDelivery, refusal}
-use Rattle.model.specs.declared.contents.Content.{Content}
-use Rattle.model.specs.declared.events.Send.{Send}
-use Rattle.model.specs.declared.methods.Method.{Method}
-use Rattle.model.specs.declared.notes.Note.{Note}
-use Rattle.channels.specs.Open.{Open, open_in}
-use Rattle.depot.specs.Store.{Store}
-use Rattle.commands.specs.declared.refusals.Stop.{Stop}
-use Rattle.channels.specs.RunningConnections.{Running, running_in, channel_in, channel_of, connection_at, connection_of, seen_in, limits_of, with_running, with_channel, with_channel_in, PutsChannel}
+use Rattle.commands.proofs.Names.{◌≡◌, ◌∙◌, ℕ, zero, suc, List, [], ◌∷◌, get_or, set, nat_eq, Option, None, Result, Ok, Err, sym, ap, subst, option_map, none-some, Topology, queue_names, Broker, Connection, with_pair, IsAgreed, IsDelivery, refusal, Content, Send, Method, Note, open_in, Store, Stop, running_in, channel_in, channel_of, connection_at, connection_of, seen_in, limits_of, with_running, with_channel_in, PutsChannel, set_same, found_channel, found_written, IsPlaced, Kept, ArePlaced, broker_of, names_of, topology_kept, Side, Turns, CanCommand, Answers, AnswersHere, AnswersOn, DeliversHere, UnlessPerformed, seen, IsPick, Pick, Done, Performed}
+use Rattle.std.proofs.Common.{Some}
+use Rattle.channels.specs.Open.{Open}
+use Rattle.channels.specs.RunningConnections.{Running, with_channel}
 use Rattle.channels.proofs.Putting.{put_same}
-use Rattle.channels.proofs.Setting.{set_same, found_channel, found_written}
 use Rattle.channels.specs.Lends.{LentArePut}
-use Rattle.channels.specs.Placed.{IsPlaced}
-use Rattle.commands.specs.State.{Kept, ArePlaced, broker_of, names_of, topology_kept}
-use Rattle.commands.specs.Commands.{Side, Turns, CanCommand, Answers, AnswersHere, AnswersOn, DeliversHere, UnlessPerformed, seen}
-use Rattle.commands.specs.Picked.{IsPick}
-use Rattle.commands.specs.declared.picks.Pick.{Pick}
-use Rattle.commands.specs.declared.commands.Done.{Done}
-use Rattle.commands.specs.declared.commands.Done.TheVariants.{Performed, Left}
+use Rattle.commands.specs.declared.commands.Done.TheVariants.{Left}
 use Rattle.commands.proofs.Stepping.{seen_put}
 use Rattle.commands.proofs.Placing.{placed_put, placed_some}
 

@@ -1,3 +1,4 @@
+pub mod Names
 pub mod Consuming
 mod Declaring
 mod Delivered

@@ -1,25 +1,15 @@
 -- What a reload looks at is what the broker has.
-use Rattle.std.proofs.Common.{◌≡◌, ◌∙◌, ◌<◌, length, ℕ, List, [], get_or, Option, Some, Result, sym, ap, subst, arith}
-use Rattle.std.specs.Prelude.{IfOk, OnErr, option_map, slice_get, Decides}
-use Rattle.std.proofs.lemmas.Option.{slice_get_within, get_or_from_slice_get}
-use Rattle.std.proofs.lemmas.Result.{IfOk-weaker}
-use Rattle.model.specs.Words.{Text}
-use Rattle.model.specs.Topology.{Topology, IsIn, AreApart}
+use Rattle.commands.proofs.Names.{◌≡◌, ◌∙◌, ◌<◌, ℕ, List, [], get_or, Option, Result, sym, ap, subst, arith, IfOk, OnErr, option_map, slice_get, slice_get_within, get_or_from_slice_get, IfOk-weaker, Text, Topology, IsIn, AreApart, Broker, open_in, consumer_in, Store, entries_named, queue_at, IsStoreWhole, IsQueueNamed, names-length, channel_of, is_consumed, HasTaker, ShowsQueues, Kept, ArePlaced, broker_of, topology_kept, names_of}
+use Rattle.std.proofs.Common.{length, Some}
+use Rattle.std.specs.Prelude.{Decides}
 use Rattle.model.specs.Guarantee.{Guarantee}
 use Rattle.model.specs.Broker as seen
-use Rattle.model.specs.Broker.{Broker}
 use Rattle.model.specs.declared.obstacles.Obstacle.{Obstacle}
-use Rattle.channels.specs.Open.{open_in, consumer_in}
-use Rattle.depot.specs.Store.{Store, entries_named, queue_at, IsStoreWhole, IsQueueNamed}
-use Rattle.depot.proofs.Naming.{names-length}
-use Rattle.channels.specs.RunningConnections.{channel_of}
-use Rattle.channels.specs.Counting.{is_consumed, HasTaker}
 use Rattle.reloading.specs.Obstacles.{JudgesReload}
-use Rattle.reloading.specs.LiveQueues.{IsConsumed, ShowsQueues}
+use Rattle.reloading.specs.LiveQueues.{IsConsumed}
 use Rattle.reloading.specs.Wanting.{MayWant}
 use Rattle.reloading.proofs.Wanting.{on_err_too}
 use Rattle.commands.specs.Obstacles.{TellsObstacle}
-use Rattle.commands.specs.State.{Kept, ArePlaced, broker_of, topology_kept, names_of}
 use Rattle.commands.proofs.Placing.{takes_within}
 use Rattle.commands.proofs.Reloading.{in_mapped, seen_of, one_place}
 use Rattle.commands.proofs.Stepping.{seen_there}

@@ -1,7 +1,6 @@
 -- What a call gives, and what is there where something is.
-use Rattle.std.proofs.Common.{◌≡◌, refl, true, Option, Some, None, Result, Ok, Err}
-use Rattle.std.specs.Prelude.{IfOk, option_map, is_some}
-use Rattle.std.proofs.lemmas.Bool.{false≢true}
+use Rattle.commands.proofs.Names.{◌≡◌, refl, true, Option, None, Result, Ok, Err, IfOk, option_map, is_some, false≢true}
+use Rattle.std.proofs.Common.{Some}
 
 -- two facts of what a call gives are both so, and what follows from them
 pub both_ok : {A E : Type 0} (r : Result A E) (P Q R : A → Type 0) → IfOk r P → IfOk r Q → ((x : A) → P x → Q x → R x) → IfOk r R

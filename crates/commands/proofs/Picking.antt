@@ -1,21 +1,6 @@
 -- From which queue a delivery is made, and that it has something ready.
-use Rattle.std.proofs.Common.{◌≡◌, ◌∙◌, ◌<◌, ℕ, zero, suc, List, [], ◌∷◌, Bool, true, false, cond, Option, Some, None, length, get_or, filter, find, inl, inr, refl, sym, ap, subst, arith, if◌then◌else◌}
-use Rattle.std.specs.Prelude.{is_some, IfSome, IfNone}
-use Rattle.std.specs.Str.{bytes_eq}
-use Rattle.std.proofs.lemmas.Bool.{false≢true}
-use Rattle.std.proofs.lemmas.Slice.Eq.{bytes_eq-Decides}
-use Rattle.model.specs.Words.{Text}
-use Rattle.model.specs.Topology.{Topology, IsIn, AreApart, queue_names}
-use Rattle.model.specs.Broker.{is_ready, listed}
-use Rattle.model.specs.Consuming.{CanDeliver}
-use Rattle.model.specs.Deliveries.{first_ready}
-use Rattle.model.specs.declared.messages.Entry.{Entry}
-use Rattle.model.specs.declared.topologies.DeclaredQueue.{DeclaredQueue}
-use Rattle.exchange_graph.specs.Marks.{queue_name}
-use Rattle.depot.specs.Store.{queue_at, HasReady, IsQueueNamed, IsNextReady}
-use Rattle.commands.specs.Picked.{IsPickFrom, IsNextPicked}
-use Rattle.commands.specs.State.{Kept, broker_of, topology_kept, names_of}
-use Rattle.commands.specs.declared.picks.Pick.{Pick}
+use Rattle.commands.proofs.Names.{◌≡◌, ◌∙◌, ◌<◌, ℕ, zero, suc, List, [], ◌∷◌, Bool, true, false, cond, Option, None, get_or, filter, inl, inr, refl, sym, ap, subst, arith, is_some, IfSome, IfNone, bytes_eq, false≢true, bytes_eq-Decides, Text, Topology, IsIn, AreApart, queue_names, is_ready, listed, CanDeliver, first_ready, Entry, DeclaredQueue, queue_name, queue_at, HasReady, IsQueueNamed, IsNextReady, IsPickFrom, IsNextPicked, Kept, broker_of, topology_kept, names_of, Pick}
+use Rattle.std.proofs.Common.{Some, length, find, if◌then◌else◌}
 
 -- ---- names apart
 

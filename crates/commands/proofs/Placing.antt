@@ -1,28 +1,9 @@
 -- What is outstanding, and what consumers take, stays within the queues that are there.
-use Rattle.std.proofs.Common.{◌≡◌, ◌∙◌, ◌&&◌, ◌==◌, ◌<◌, ◌++◌, ◌∷◌, [], ℕ, zero, suc, List, Bool, true, false, Option, Some, None, length, map, not, inl, inr, refl, sym, ap, subst, arith, if◌then◌else◌}
-use Rattle.std.specs.Prelude.{option_map, is_some}
-use Rattle.std.proofs.lemmas.Bool.{false≢true}
-use Rattle.std.proofs.lemmas.Option.{same_Some}
-use Rattle.std.proofs.lemmas.List.Elements.{All-filter}
-use Rattle.std.specs.List.{All}
-use Rattle.model.specs.Words.{Text}
-use Rattle.model.specs.Topology.{Topology, IsIn}
+use Rattle.commands.proofs.Names.{◌≡◌, ◌∙◌, ◌<◌, ◌++◌, ◌∷◌, [], ℕ, zero, suc, List, Bool, true, false, Option, None, map, not, inl, inr, refl, sym, ap, subst, arith, option_map, is_some, false≢true, same_Some, All-filter, All, Text, Topology, IsIn, new_channel, with_row, channels_up_to, Taker, Qos, Consume, is_named, open_in, consumer_in, with_qos, given_on, without_named, places_of, IsConsumerSeated, outstanding_in, AreWithin, with_limit, Delivery, channel_of, seen_in, PutsChannel, OpensConnection, TakeWithin, IsPlaced, ArePlaced, Kept, topology_kept}
+use Rattle.std.proofs.Common.{◌&&◌, ◌==◌, Some, length, if◌then◌else◌}
 use Rattle.model.specs.Broker as seen
-use Rattle.model.specs.Broker.{new_channel, with_row}
-use Rattle.model.specs.Step.{channels_up_to}
-use Rattle.model.specs.declared.messages.Taker.{Taker}
-use Rattle.model.specs.declared.methods.Qos.{Qos}
-use Rattle.model.specs.declared.methods.Consume.{Consume}
-use Rattle.channels.specs.Seats.{is_named}
-use Rattle.channels.specs.Open.{Open, open_in, consumer_in, with_qos, given_on, without_named, places_of, IsConsumerSeated}
-use Rattle.model.specs.Placed.{outstanding_in, AreWithin}
-use Rattle.channels.specs.Deliveries.{with_limit}
-use Rattle.model.specs.declared.deliveries.Delivery.{Delivery}
+use Rattle.channels.specs.Open.{Open}
 use Rattle.channels.specs.declared.consumers.Consumer.{Consumer}
-use Rattle.channels.specs.RunningConnections.{channel_of, seen_in, PutsChannel, OpensConnection}
-use Rattle.channels.specs.Placed.{TakeWithin, IsPlaced}
-use Rattle.commands.specs.State.{ArePlaced}
-use Rattle.commands.specs.State.{Kept, topology_kept}
 
 -- one channel is another
 pub placed_put : (old new : Kept) (c h : ℕ) (ch : Option Open) → topology_kept new ≡ topology_kept old → PutsChannel old.connections c h ch new.connections

@@ -1,22 +1,11 @@
 -- What a publish leaves of its channel and of the queues.
-use Rattle.std.proofs.Common.{Bor, ◌≡◌, ◌+◌, ◌++◌, ◌∷◌, [], ◌∙◌, ℕ, List, length, Bool, true, false, ◌&&◌, Option, Some, None, refl, ap, if◌then◌else◌}
-use Rattle.std.specs.Prelude.{is_some, IfSome, option_copied, unwrap_or}
-use Rattle.model.specs.Topology.{Topology, queue_names}
-use Rattle.model.specs.Broker.{Channel, with_pair}
-use Rattle.model.specs.Sending.{IsAddressed}
-use Rattle.model.specs.Step.{IsPublish, content_or_none, next_of, confirm_sends, confirm_notes, answer_of, return_of, returned_notes, entry_notes, is_none, is_some_full}
-use Rattle.model.specs.declared.contents.Content.{Content}
-use Rattle.model.specs.declared.methods.Publish.{Publish}
-use Rattle.model.specs.declared.events.Send.{Send}
-use Rattle.model.specs.declared.notes.Note.{Note}
+use Rattle.commands.proofs.Names.{Bor, ◌≡◌, ◌+◌, ◌++◌, ◌∷◌, [], ◌∙◌, ℕ, List, Bool, true, false, Option, None, refl, ap, is_some, IfSome, unwrap_or, Topology, queue_names, Channel, with_pair, IsAddressed, IsPublish, content_or_none, next_of, confirm_sends, confirm_notes, answer_of, return_of, returned_notes, entry_notes, is_none, is_some_full, Content, Publish, Send, Note, open_in, Store, entries_named, Publishes, AreAddressed, return_if, sent_back, Side, Turns, seen, state_of}
+use Rattle.std.proofs.Common.{length, ◌&&◌, Some, if◌then◌else◌}
+use Rattle.std.specs.Prelude.{option_copied}
 use Rattle.model.specs.declared.notes.Note.TheVariants.{Published}
 use Rattle.model.specs.declared.notes.Way.TheVariants as way
-use Rattle.channels.specs.Open.{Open, open_in}
-use Rattle.depot.specs.Store.{Store, entries_named}
-use Rattle.depot.specs.Publishing.{Publishes}
+use Rattle.channels.specs.Open.{Open}
 use Rattle.depot.specs.declared.depots.Routed.{Routed}
-use Rattle.replies.specs.Sent.{AreAddressed, return_if, sent_back}
-use Rattle.commands.specs.Commands.{Side, Turns, seen, state_of}
 
 -- the content that a publish uses: its own, or the empty one
 pub content_used : (own : Option (Bor Content)) (empty used : Bor Content) (content : Option Content) → used ≡ unwrap_or own empty → option_copied own ≡ content → empty.now ≡ content_or_none None → used.now ≡ content_or_none content

@@ -1,15 +1,7 @@
 -- What a purge leaves, as the model's state.
-use Rattle.std.proofs.Common.{◌≡◌, ◌∙◌, ◌++◌, ℕ, List, [], filter, ap}
-use Rattle.model.specs.Broker.{is_ready}
-use Rattle.model.specs.Deliveries.{ready_in, purge_notes}
-use Rattle.model.specs.Step.{Purges, purge_sends}
+use Rattle.commands.proofs.Names.{◌≡◌, ◌∙◌, ◌++◌, ℕ, List, [], filter, ap, is_ready, ready_in, purge_notes, Purges, purge_sends, Send, Note, Store, entries_named, IsPurgedBy, Side, Turns, seen, state_of}
 use Rattle.model.specs.declared.methods.Purge.{Purge}
-use Rattle.model.specs.declared.events.Send.{Send}
-use Rattle.model.specs.declared.notes.Note.{Note}
-use Rattle.depot.specs.Store.{Store, entries_named}
-use Rattle.depot.specs.Purging.{IsPurgedBy}
 use Rattle.channels.specs.Open.{Open}
-use Rattle.commands.specs.Commands.{Side, Turns, seen, state_of}
 use Rattle.commands.proofs.Staying.{channels_stay}
 
 -- a queue that is purged, on a channel that stays as it is

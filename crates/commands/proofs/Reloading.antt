@@ -1,28 +1,11 @@
 -- Another topology is in force: what it leaves of queues and channels, by names.
-use Rattle.std.proofs.Common.{◌≡◌, ◌∙◌, ◌<◌, ℕ, zero, suc, List, [], ◌∷◌, length, get_or, map, Option, Some, None, inl, inr, refl, sym, ap, subst, arith}
-use Rattle.std.specs.Prelude.{option_map}
-use Rattle.std.specs.List.{All, AllByRecursion}
-use Rattle.std.proofs.lemmas.Option.{same_Some}
-use Rattle.model.specs.Words.{Text}
-use Rattle.model.specs.Topology.{Topology, IsIn, AreApart, queue_names}
-use Rattle.model.specs.Agreement.{IsAgreed}
-use Rattle.model.specs.Reloading.{IsInUse, by_entry, by_consumer, NoneIsStranded, stood_now, with_all_stood}
-use Rattle.model.specs.Step.{Is}
-use Rattle.model.specs.declared.messages.Entry.{Entry}
-use Rattle.channels.specs.Open.{Open, open_in, consumer_in}
-use Rattle.model.specs.Placed.{outstanding_in}
+use Rattle.commands.proofs.Names.{◌≡◌, ◌∙◌, ◌<◌, ℕ, zero, suc, List, [], ◌∷◌, get_or, map, Option, None, inl, inr, refl, sym, ap, subst, arith, option_map, All, AllByRecursion, same_Some, Text, Topology, IsIn, AreApart, queue_names, IsAgreed, IsInUse, by_entry, by_consumer, NoneIsStranded, stood_now, with_all_stood, Is, Entry, open_in, consumer_in, outstanding_in, Delivery, entries_named, stays, goes, AreMoved, GoneAreEmpty, names-length, is_in, channel_of, connection_of, seen_in, connections_moved, MovesAreUnseen, IsPlaced, same_default, Kept, ArePlaced, broker_of, topology_kept, names_of}
+use Rattle.std.proofs.Common.{length, Some}
+use Rattle.channels.specs.Open.{Open}
 use Rattle.channels.specs.Moving.{place_now, outstanding_moved, consumer_moved, open_moved, IsNamedAlike, AreNamedAlike}
-use Rattle.model.specs.declared.deliveries.Delivery.{Delivery}
 use Rattle.channels.specs.declared.consumers.Consumer.{Consumer}
-use Rattle.depot.specs.Store.{entries_named}
-use Rattle.depot.specs.Moving.{stays, goes, AreMoved, GoneAreEmpty}
-use Rattle.depot.proofs.Naming.{names-length, is_in}
-use Rattle.channels.specs.RunningConnections.{Running, channel_of, connection_of, seen_in}
-use Rattle.channels.specs.ConnectionsMoving.{connections_moved, MovesAreUnseen}
-use Rattle.channels.specs.Placed.{IsPlaced}
+use Rattle.channels.specs.RunningConnections.{Running}
 use Rattle.channels.proofs.ConnectionsMoving.{moved_channel, moved_connection}
-use Rattle.channels.proofs.Setting.{same_default}
-use Rattle.commands.specs.State.{Kept, ArePlaced, broker_of, topology_kept, names_of}
 
 -- ---- each of a list
 

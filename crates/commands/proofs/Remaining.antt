@@ -1,37 +1,15 @@
 -- Consumers that are there still, and those that leave.
-use Rattle.std.proofs.Common.{◌≡◌, ◌∙◌, ℕ, List, [], ◌∷◌, ◌++◌, filter, not, cond, Bool, true, false, Option, Some, None, inl, inr, refl, sym, ap, subst, Result, Ok, Err, arith}
-use Rattle.std.specs.Prelude.{◌==◌, ◌&&◌, ◌||◌, if◌then◌else◌, is_some, option_map, nat_lt, length, IfOk, OnOk}
-use Rattle.std.specs.declared.alloc.AllocError.{AllocError}
-use Rattle.std.proofs.lemmas.Bool.{eqb-true, eq-eqb, lt-ltb, false≢true}
-use Rattle.model.specs.Words.{Text}
-use Rattle.model.specs.Topology.{Topology, IsIn}
-use Rattle.model.specs.Broker.{Consumer, Channel, Broker, new_channel, with_pair, with_row}
-use Rattle.model.specs.Consuming.{consumer_of, is_tagged, is_in_use, without_consumer}
-use Rattle.model.specs.Deliveries.{first_ready}
-use Rattle.model.specs.Entries.{by_channel}
-use Rattle.model.specs.Step.{Is, Acts, Does, Gets, Performs, after_close, channel_or_new, with_channel, with_closing, with_freed, with_gone}
-use Rattle.model.specs.declared.contents.Content.{Content}
-use Rattle.model.specs.declared.events.Event.TheVariants.{Running, Command, TooLarge, Fault}
-use Rattle.model.specs.declared.events.Send.{Send}
-use Rattle.model.specs.declared.messages.Entry.{Entry}
-use Rattle.model.specs.declared.methods.Get.{Get}
-use Rattle.model.specs.declared.methods.Qos.{Qos}
-use Rattle.model.specs.declared.methods.Method.{Method}
-use Rattle.model.specs.declared.methods.Method.TheVariants.{ConnectionClose, ChannelOpen, ChannelFlow, ChannelClose, ChannelCloseOk, ExchangeDeclare, QueueDeclare, QueuePurge, BasicQos, BasicConsume, BasicCancel, BasicPublish, BasicGet, BasicAck, BasicReject, BasicNack, BasicRecover, ConfirmSelect}
-use Rattle.model.specs.declared.notes.Note.{Note}
+use Rattle.commands.proofs.Names.{◌≡◌, ◌∙◌, ℕ, List, [], ◌∷◌, ◌++◌, filter, not, cond, Bool, true, false, Option, None, inl, inr, refl, sym, ap, subst, Result, Ok, Err, arith, ◌||◌, is_some, option_map, IfOk, OnOk, AllocError, eqb-true, eq-eqb, lt-ltb, false≢true, Text, Topology, IsIn, Channel, Broker, new_channel, with_pair, with_row, consumer_of, is_tagged, is_in_use, without_consumer, first_ready, by_channel, Is, Acts, Does, Gets, Performs, after_close, channel_or_new, with_closing, with_freed, with_gone, Content, Command, TooLarge, Fault, Send, Entry, Get, Qos, Method, ConnectionClose, ChannelOpen, ChannelFlow, ChannelClose, ChannelCloseOk, ExchangeDeclare, QueuePurge, BasicQos, BasicConsume, BasicCancel, BasicPublish, BasicGet, BasicAck, BasicReject, BasicNack, BasicRecover, ConfirmSelect, Note, open_in, running_in, channel_at, connection_at, Step, Performed, AnswersOn, Acted, AllConsumersStay, OtherConsumersStay, LeavesChannel, TellsStayOn, TellsStay, has_consumers, cancels_one, ends_of, opens_or_closes, Kept, broker_of, channel_on, names_of, topology_kept}
+use Rattle.std.proofs.Common.{Some}
+use Rattle.std.specs.Prelude.{◌==◌, ◌&&◌, if◌then◌else◌, nat_lt, length}
+use Rattle.model.specs.Broker.{Consumer}
+use Rattle.model.specs.Step.{with_channel}
+use Rattle.model.specs.declared.events.Event.TheVariants.{Running}
+use Rattle.model.specs.declared.methods.Method.TheVariants.{QueueDeclare}
 use Rattle.laws.specs.Consumers.{WasConsumer}
-use Rattle.channels.specs.Open.{open_in}
 use Rattle.channels.specs.RunningConnections as running
-use Rattle.channels.specs.RunningConnections.{running_in, channel_at, connection_at}
-use Rattle.replies.specs.declared.steps.Step.{Step}
-use Rattle.commands.specs.declared.commands.Done.TheVariants.{Performed}
-use Rattle.commands.specs.Commands.{AnswersOn}
-use Rattle.commands.specs.declared.acted.Acted.{Acted}
 use Rattle.commands.specs.declared.acted.Ends.{Ends}
 use Rattle.commands.specs.declared.acted.Ends.TheVariants as ended
-use Rattle.commands.specs.Ended.{AllConsumersStay, OtherConsumersStay, LeavesChannel, TellsStayOn, TellsStay, has_consumers, cancels_one, ends_of}
-use Rattle.commands.specs.Judged.{opens_or_closes}
-use Rattle.commands.specs.State.{Kept, broker_of, channel_on, names_of, topology_kept}
 
 -- ---- lists of consumers
 

@@ -1,19 +1,10 @@
 -- What a tag settles, where queues have names.
-use Rattle.std.proofs.Common.{◌≡◌, ℕ, ◌<◌, List, [], ◌∷◌, Bool, true, false, cond, refl, sym, ap, subst, map, filter, length, not, Some, None}
-use Rattle.std.specs.Prelude.{option_map, is_some, ◌==◌, ◌&&◌, ◌||◌, if◌then◌else◌}
-use Rattle.std.specs.List.{list_any}
-use Rattle.std.proofs.lemmas.Bool.{false≢true}
-use Rattle.std.proofs.lemmas.Option.{same_Some}
-use Rattle.std.proofs.lemmas.List.Elements.{All-filter}
+use Rattle.commands.proofs.Names.{◌≡◌, ℕ, ◌<◌, List, [], ◌∷◌, Bool, true, false, cond, refl, sym, ap, subst, map, filter, not, None, option_map, is_some, ◌||◌, list_any, false≢true, same_Some, All-filter, Text, Topology, Rises, has_tag, takes, is_refused, settled, kept, tag_of, outstanding_in, AreWithin, Delivery}
+use Rattle.std.proofs.Common.{length, Some}
+use Rattle.std.specs.Prelude.{◌==◌, ◌&&◌, if◌then◌else◌}
 use Rattle.std.proofs.lemmas.List.Kept.{AllPairs-filter}
-use Rattle.model.specs.Words.{Text}
-use Rattle.model.specs.Topology.{Topology}
 use Rattle.model.specs.Broker as seen
-use Rattle.model.specs.Settling.{Rises, has_tag, takes, is_refused, settled, kept}
 use Rattle.model.specs.Step as step
-use Rattle.channels.specs.Outstanding.{tag_of}
-use Rattle.model.specs.Placed.{outstanding_in, AreWithin}
-use Rattle.model.specs.declared.deliveries.Delivery.{Delivery}
 
 any_seen : (names : List Text) (tag : ℕ) (os : List Delivery) → list_any (has_tag step.tag_of tag) (map (outstanding_in names) os) ≡ list_any (has_tag tag_of tag) os
 any_seen names tag [] = refl

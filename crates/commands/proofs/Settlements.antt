@@ -1,16 +1,10 @@
 -- A tag is refused where it is not outstanding.
-use Rattle.std.proofs.Common.{◌≡◌, ◌∙◌, ℕ, List, Bool, true, false, Some, None, map, filter, refl, sym, ap}
-use Rattle.std.specs.Prelude.{option_map, is_some, if◌then◌else◌}
-use Rattle.std.proofs.lemmas.Bool.{false≢true}
-use Rattle.model.specs.Words.{Text}
+use Rattle.commands.proofs.Names.{◌≡◌, ◌∙◌, ℕ, List, Bool, true, false, None, map, filter, refl, sym, ap, option_map, is_some, false≢true, Text, takes, is_refused, settled, Of_channel, refusal_of_settling, tag_of, open_in, outstanding_in, Delivery}
+use Rattle.std.proofs.Common.{Some}
+use Rattle.std.specs.Prelude.{if◌then◌else◌}
 use Rattle.model.specs.Broker as seen
-use Rattle.model.specs.Settling.{takes, is_refused, settled}
 use Rattle.model.specs.Step as step
-use Rattle.model.specs.Step.{Of_channel, refusal_of_settling}
-use Rattle.channels.specs.Outstanding.{tag_of}
-use Rattle.channels.specs.Open.{Open, open_in}
-use Rattle.model.specs.Placed.{outstanding_in}
-use Rattle.model.specs.declared.deliveries.Delivery.{Delivery}
+use Rattle.channels.specs.Open.{Open}
 use Rattle.commands.proofs.Settled.{settled_seen}
 
 -- a tag that settles something is accepted

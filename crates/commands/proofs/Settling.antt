@@ -1,28 +1,12 @@
 -- What a settlement leaves of a channel and of the queues.
-use Rattle.std.proofs.Common.{◌≡◌, ℕ, List, [], ◌++◌, Bool, sym, ap, subst, ◌∙◌, map, arith, Some}
-use Rattle.std.specs.Prelude.{option_map}
+use Rattle.commands.proofs.Names.{◌≡◌, ℕ, List, [], ◌++◌, Bool, sym, ap, subst, ◌∙◌, map, arith, option_map, length-map, Text, Topology, queue_names, Channel, with_pair, Rises, settled, kept, Settlement, AreSettled, Send, Note, tag_of, open_in, without_settled, settled_by, IsSpan, outstanding_in, AreWithin, Delivery, Store, entries_named, AreSettledBy, IsPlaced, CanCommand, SettlesHere, seen}
+use Rattle.std.proofs.Common.{Some}
 use Rattle.std.proofs.Math.ListN as numbered
-use Rattle.std.proofs.lemmas.List.{length-map}
-use Rattle.model.specs.Words.{Text}
-use Rattle.model.specs.Topology.{Topology, queue_names}
 use Rattle.model.specs.Broker as seen_as
-use Rattle.model.specs.Broker.{Channel, with_pair}
-use Rattle.model.specs.Settling.{Rises, settled, kept}
 use Rattle.model.specs.Step as step
-use Rattle.model.specs.Deliveries.{Settlement, AreSettled}
-use Rattle.model.specs.declared.events.Send.{Send}
-use Rattle.model.specs.declared.notes.Note.{Note}
-use Rattle.channels.specs.Outstanding.{tag_of}
-use Rattle.channels.specs.Open.{Open, open_in, without_settled}
-use Rattle.channels.specs.Spans.{settled_by, IsSpan}
+use Rattle.channels.specs.Open.{Open}
 use Rattle.channels.specs.declared.spans.Span.{Span}
-use Rattle.model.specs.Placed.{outstanding_in, AreWithin}
-use Rattle.model.specs.declared.deliveries.Delivery.{Delivery}
-use Rattle.depot.specs.Store.{Store, entries_named}
-use Rattle.depot.specs.Settled.{AreSettledBy}
-use Rattle.channels.specs.Placed.{IsPlaced}
 use Rattle.commands.proofs.Settled.{settled_seen, kept_seen, gone_within, gone_rises, kept_within}
-use Rattle.commands.specs.Commands.{CanCommand, SettlesHere, seen}
 
 -- ---- the span of a tag
 

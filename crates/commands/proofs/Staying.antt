@@ -1,11 +1,7 @@
 -- A command that leaves its channel as it is.
-use Rattle.std.proofs.Common.{◌≡◌, ◌∙◌, ◌==◌, ◌&&◌, ℕ, Bool, true, false, Some, refl, sym, ap, if◌then◌else◌}
-use Rattle.std.proofs.lemmas.Bool.{eqb-true}
-use Rattle.model.specs.Broker.{with_pair}
-use Rattle.model.specs.Topology.{Topology, queue_names}
-use Rattle.channels.specs.Open.{Open, open_in}
-use Rattle.depot.specs.Store.{Store}
-use Rattle.commands.specs.Commands.{Side, Turns, seen}
+use Rattle.commands.proofs.Names.{◌≡◌, ◌∙◌, ℕ, Bool, true, false, refl, sym, ap, eqb-true, with_pair, Topology, queue_names, open_in, Store, Side, Turns, seen}
+use Rattle.std.proofs.Common.{◌==◌, ◌&&◌, Some, if◌then◌else◌}
+use Rattle.channels.specs.Open.{Open}
 
 -- what stands for a pair of numbers is put there again
 put_again : {A : Type 0} (f : ℕ → ℕ → A) (c h d k : ℕ) (x : A) → f c h ≡ x → with_pair f c h x d k ≡ f d k

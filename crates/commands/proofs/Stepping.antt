@@ -1,27 +1,11 @@
 -- What the parts of a step leave, as the model's state.
-use Rattle.std.proofs.Common.{◌≡◌, ◌∷◌, [], ℕ, zero, suc, List, Bool, true, false, ◌&&◌, ◌==◌, IsSome, Option, Some, None, map, replicate, refl, sym, ap, subst, ◌∙◌, if◌then◌else◌}
-use Rattle.std.specs.Prelude.{option_map}
-use Rattle.std.specs.Str.{bytes_eq}
-use Rattle.model.specs.Words.{Text}
-use Rattle.model.specs.Topology.{Topology, queue_names}
-use Rattle.model.specs.Broker.{Broker, Channel, Connection, listed, with_one, with_row, with_pair}
+use Rattle.commands.proofs.Names.{◌≡◌, ◌∷◌, [], ℕ, zero, suc, List, Bool, true, false, Option, None, map, replicate, refl, sym, ap, subst, ◌∙◌, option_map, bytes_eq, Text, Topology, queue_names, Broker, Channel, Connection, listed, with_one, with_row, with_pair, OnConnection, Is, limited, with_gone, with_freed, refusal, refusal_of_large, channels_up_to, freed, by_channel, by_connection, Entry, Holder, Content, Method, Qos, Send, Note, Store, entries_named, open_in, with_limit, running_in, channel_seen, limits_of, connection_at, channel_at, connection_of, channel_of, seen_in, HoldsConnections, PutsChannel, OpensConnection, Kept, broker_of, names_of, refusal_seen, HasChannel, JudgesLarge}
+use Rattle.std.proofs.Common.{◌&&◌, ◌==◌, IsSome, Some, if◌then◌else◌}
 use Rattle.model.specs.Step as step
-use Rattle.model.specs.Step.{Decides, OnConnection, Refusal, Is, limited, with_gone, with_freed, with_channel, refusal, refusal_of_large, channels_up_to}
-use Rattle.model.specs.Entries.{freed, by_channel, by_connection}
-use Rattle.model.specs.declared.messages.Entry.{Entry}
-use Rattle.model.specs.declared.messages.Holder.{Holder}
-use Rattle.model.specs.declared.contents.Content.{Content}
-use Rattle.model.specs.declared.methods.Method.{Method}
-use Rattle.model.specs.declared.methods.Qos.{Qos}
-use Rattle.model.specs.declared.events.Send.{Send}
-use Rattle.model.specs.declared.notes.Note.{Note}
-use Rattle.depot.specs.Store.{Store, entries_named}
+use Rattle.model.specs.Step.{Decides, Refusal, with_channel}
 use Rattle.channels.specs.Open as opened
-use Rattle.channels.specs.Open.{Open, open_in}
-use Rattle.channels.specs.Deliveries.{with_limit}
-use Rattle.channels.specs.RunningConnections.{Running, running_in, channel_seen, limits_of, connection_at, channel_at, connection_of, channel_of, seen_in, HoldsConnections, PutsChannel, OpensConnection}
-use Rattle.commands.specs.State.{Kept, broker_of, names_of}
-use Rattle.commands.specs.Judged.{refusal_seen, HasChannel, JudgesLarge}
+use Rattle.channels.specs.Open.{Open}
+use Rattle.channels.specs.RunningConnections.{Running}
 use Rattle.commands.specs.declared.refusals.Refusal as declared
 
 -- queues with no entry have none by any name

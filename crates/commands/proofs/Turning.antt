@@ -1,11 +1,7 @@
 -- What a command leaves that changes its channel alone.
-use Rattle.std.proofs.Common.{◌≡◌, ℕ, List, [], Some, refl, ap, ◌∙◌}
-use Rattle.model.specs.Broker.{Channel, with_pair}
-use Rattle.model.specs.Step.{Does, Is, with_channel}
-use Rattle.model.specs.declared.events.Send.{Send}
-use Rattle.model.specs.declared.notes.Note.{Note}
-use Rattle.depot.specs.Store.{Store}
-use Rattle.commands.specs.Commands.{Side, Turns, state_of}
+use Rattle.commands.proofs.Names.{◌≡◌, ℕ, List, [], refl, ap, ◌∙◌, Channel, with_pair, Does, Is, Send, Note, Store, Side, Turns, state_of}
+use Rattle.std.proofs.Common.{Some}
+use Rattle.model.specs.Step.{with_channel}
 
 -- the channel is another now, and the queues are as they were
 turned : (c h : ℕ) (s : Store) (was ch made : Channel) (old new : Side) → ch ≡ made → Turns c h was ch old new → Is (with_channel (state_of s old) c h (Some made)) (state_of s new)

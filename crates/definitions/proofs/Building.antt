@@ -1,18 +1,6 @@
 -- Entries that are clear of all causes set up a topology that is built.
-use Rattle.std.proofs.Common.{◌≡◌, zero, suc, List, [], ◌∷◌, Option, Some, None, Vec, Global, map, subst, arith}
-use Rattle.std.specs.Prelude.{All, MatchOption}
-use Rattle.model.specs.Topology.{Topology}
-use Rattle.model.specs.declared.messages.User.{User}
-use Rattle.topology_drafts.specs.Causes.{IsBuildable, KeyHasExchange}
-use Rattle.json_file.specs.declared.causes.FileCause.TheVariants.{Repeated, Absent, Unsupported, Worded, TooMany, NoExchange, OtherHash, Memory}
+use Rattle.definitions.proofs.Imports.{◌≡◌, zero, suc, List, [], ◌∷◌, Option, Some, None, Vec, Global, map, subst, arith, All, MatchOption, Topology, User, IsBuildable, KeyHasExchange, Repeated, Absent, Unsupported, Worded, TooMany, NoExchange, OtherHash, Memory, UserEntry, File, HasAllJoin, HasAllWorded, HasFew, HasNamesApart, HasNamesLead, IsClearBelow, IsPlainQueue, IsSupported, queue_of, topology_of, AreHashed, IsSettled, below_next}
 use Rattle.definitions.specs.declared.document.QueueEntry.{QueueEntry}
-use Rattle.definitions.specs.declared.document.UserEntry.{UserEntry}
-use Rattle.definitions.specs.File.{File}
-use Rattle.definitions.specs.Causes.{HasAllJoin, HasAllWorded, HasFew, HasNamesApart, HasNamesLead, IsClearBelow, IsPlainQueue, IsSupported}
-use Rattle.definitions.specs.States.{queue_of, topology_of}
-use Rattle.definitions.specs.Hashed.{AreHashed}
-use Rattle.definitions.specs.Judged.{IsSettled}
-use Rattle.json_file.proofs.Order.{below_next}
 use Rattle.definitions.proofs.Order.{IsClearOf}
 
 all_map : {A B : Type 0} (P : B → Type 0) (f : A → B) (xs : List A) → All (λ (x : A). P (f x)) xs → All P (map f xs)

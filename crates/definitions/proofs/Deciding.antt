@@ -1,14 +1,8 @@
 -- What is decided of the entries of a file.
-use Rattle.std.proofs.Common.{◌≡◌, ◌<◌, ℕ, length, List, Bool, true, false, ◌&&◌, refl, subst}
-use Rattle.std.specs.Prelude.{All, Decides, MatchBool}
+use Rattle.definitions.proofs.Imports.{◌≡◌, ◌<◌, ℕ, length, List, Bool, true, false, ◌&&◌, refl, subst, All, Decides, MatchBool, All-from_all_within, Text, AreApart, File, HasPermissions, IsOfUser, IsPermitted, PermitsAll, permission_names, user_names}
 use Rattle.std.specs.List.{AllWithin, HoldsAt}
 use Rattle.std.proofs.lemmas.Bool.{MatchBool-at_true}
-use Rattle.std.proofs.lemmas.List.Elements.{All-from_all_within}
 use Rattle.std.proofs.lemmas.Iterator.Search.{true_from_All}
-use Rattle.model.specs.Words.{Text}
-use Rattle.model.specs.Topology.{AreApart}
-use Rattle.definitions.specs.File.{File}
-use Rattle.definitions.specs.Causes.{HasPermissions, IsOfUser, IsPermitted, PermitsAll, permission_names, user_names}
 
 decides_both : (a b : Bool) (P Q R : Type 0) → (P → Q → R) → (R → P) → (R → Q) → Decides a P → Decides b Q → Decides (a && b) R
 decides_both true b P Q R make f g d e = (λ h. make (d.0 refl) (e.0 h), λ r. e.1 (g r))

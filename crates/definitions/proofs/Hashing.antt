@@ -1,13 +1,7 @@
 -- Users, one by one.
-use Rattle.std.proofs.Common.{◌≡◌, ℕ, ◌+◌, ◌<◌, ◌≤◌, List, [], ◌∷◌, ◌++◌, Option, Some, length, map, take, drop, get_or, refl, sym, ap, ◌∙◌, subst, append_assoc, append-nil}
-use Rattle.std.specs.Prelude.{All, IsSome}
+use Rattle.definitions.proofs.Imports.{◌≡◌, ℕ, ◌+◌, ◌<◌, ◌≤◌, List, [], ◌∷◌, ◌++◌, Option, Some, length, map, take, drop, get_or, refl, sym, ap, ◌∙◌, subst, append_assoc, append-nil, All, IsSome, Text, User, UserEntry, hash_of, user_of, AreHashed}
 use Rattle.std.proofs.lemmas.List.{drop_more, at_drop_all}
-use Rattle.model.specs.Words.{Text}
-use Rattle.model.specs.declared.messages.User.{User}
 use Rattle.definitions.proofs.Alls.{all_more, all_taken}
-use Rattle.definitions.specs.declared.document.UserEntry.{UserEntry}
-use Rattle.definitions.specs.States.{hash_of, user_of}
-use Rattle.definitions.specs.Hashed.{AreHashed}
 
 is_hashed : (e : UserEntry) (o : Option Text) (h : Text) → o ≡ hash_of e → o ≡ Some h → IsSome (hash_of e)
 is_hashed e o h p q = subst (λ (z : Option Text). IsSome z) (sym q ∙ p) refl

@@ -1,3 +1,4 @@
+pub mod Imports
 pub mod Alls
 pub mod Deciding
 pub mod Order

@@ -1,10 +1,5 @@
 -- Which causes ask nothing of the entries of a file.
-use Rattle.std.proofs.Common.{arith}
-use Rattle.json_file.specs.declared.causes.FileCause.{FileCause}
-use Rattle.json_file.specs.declared.causes.FileCause.TheVariants.{NotJson, Malformed, Memory}
-use Rattle.json_file.proofs.Refused.{AskNothing}
-use Rattle.definitions.specs.File.{File}
-use Rattle.definitions.specs.Causes.{IsClear, IsClearBelow}
+use Rattle.definitions.proofs.Imports.{arith, FileCause, NotJson, Malformed, Memory, AskNothing, File, IsClear, IsClearBelow}
 
 -- what each cause asks of these entries
 abbrev pub IsClearOf : File → FileCause → Type 0

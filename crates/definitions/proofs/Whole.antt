@@ -1,11 +1,6 @@
 -- From the entries of a file to the whole of it.
-use Rattle.std.proofs.Common.{ℕ, List, Result, Ok, Err}
-use Rattle.json_file.specs.declared.causes.FileCause.{FileCause}
-use Rattle.json_file.proofs.Order.{all_numbered}
-use Rattle.json_file.proofs.Refused.{free_of, refused}
-use Rattle.definitions.specs.File.{File, file_at}
-use Rattle.definitions.specs.Causes.{IsClear}
-use Rattle.definitions.specs.Judged.{StatesOrTells}
+use Rattle.definitions.proofs.Imports.{ℕ, List, Result, Ok, Err, FileCause, all_numbered, free_of, refused, File, IsClear, StatesOrTells}
+use Rattle.definitions.specs.File.{file_at}
 use Rattle.definitions.specs.Reads.{IsDefinitionsFile, ReadsDefinitions, Stated}
 use Rattle.definitions.proofs.Order.{ask_nothing}
 

@@ -1,17 +1,6 @@
 -- A queue that is not there has no entries, and nothing that is done to it changes any other.
-use Rattle.std.proofs.Common.{◌≡◌, List, [], ◌∷◌, ◌++◌, refl, sym, ap, subst, ◌∙◌, Bool, true, false, cond, None, inl, inr, find, filter, not}
-use Rattle.std.specs.Str.{bytes_eq}
-use Rattle.std.proofs.lemmas.List.{append-nil}
-use Rattle.std.proofs.lemmas.Slice.Eq.{bytes_eq-Decides}
-use Rattle.model.specs.Words.{Text}
-use Rattle.model.specs.Topology.{Topology, queue_names, IsIn}
-use Rattle.model.specs.Broker.{listed, is_ready}
-use Rattle.model.specs.Deliveries.{with_queue, ready_in, purge_notes}
-use Rattle.model.specs.declared.messages.Entry.{Entry}
-use Rattle.model.specs.declared.notes.Note.{Note}
-use Rattle.depot.specs.Store.{Store, entries_named}
-use Rattle.depot.specs.Givings.{IsTakenFrom, TellsArrival, given_so, given_notes}
-use Rattle.depot.specs.Purging.{IsPurgedBy}
+use Rattle.depot.proofs.Names.{◌≡◌, List, [], ◌∷◌, ◌++◌, refl, sym, ap, subst, ◌∙◌, Bool, true, false, cond, None, inl, inr, filter, bytes_eq, append-nil, bytes_eq-Decides, Text, Topology, queue_names, IsIn, listed, is_ready, with_queue, ready_in, purge_notes, Entry, Note, Store, entries_named, IsTakenFrom, TellsArrival, given_so, given_notes, IsPurgedBy}
+use Rattle.std.proofs.Common.{find, not}
 use Rattle.depot.specs.declared.givings.Giving.{Giving}
 use Rattle.depot.specs.declared.givings.Giving.TheVariants.{Held, Out}
 

@@ -1,5 +1,5 @@
 -- Properties that are spelled alike are the same.
-use Rattle.std.proofs.Common.{◌≡◌, ◌∙◌, ◌++◌, List, ℕ, Result, Ok, Err, refl, sym, ap, arith}
+use Rattle.depot.proofs.Names.{◌≡◌, ◌∙◌, ◌++◌, List, ℕ, Result, Ok, Err, refl, sym, ap, arith}
 use Rattle.std.specs.Int.{w16, w64, to_be_bytes}
 use Rattle.model.specs.Headers.{Header, AreProperties, header_bytes, SaysHeader, said}
 use Rattle.model.specs.Properties.{properties_bytes}

@@ -1,19 +1,8 @@
 -- The turn of a publish that is routed to one queue.
-use Rattle.std.proofs.Common.{◌≡◌, ℕ, List, [], ◌∷◌, ◌++◌, Bool, true, false, refl, ap, sym, subst, ◌∙◌, append_assoc, length, get_or, arith}
-use Rattle.std.specs.Prelude.{◌||◌}
-use Rattle.model.specs.Words.{Text}
-use Rattle.model.specs.Topology.{Topology}
-use Rattle.model.specs.Message.{Message}
-use Rattle.model.specs.declared.messages.Entry.{Entry}
-use Rattle.model.specs.declared.methods.Publish.{Publish}
-use Rattle.model.specs.declared.topologies.DeclaredQueue.{DeclaredQueue}
-use Rattle.model.specs.declared.notes.Note.{Note}
+use Rattle.depot.proofs.Names.{◌≡◌, ℕ, List, [], ◌∷◌, ◌++◌, Bool, true, false, refl, ap, sym, subst, ◌∙◌, append_assoc, length, get_or, arith, ◌||◌, Text, Topology, Message, Entry, Publish, DeclaredQueue, Note, AreTargets, PlannedTurn, TurnOutcome, turn_at, outcome, is_refusal, entered_one, Enters}
 use Rattle.model.specs.declared.notes.Way.TheVariants as way
-use Rattle.exchange_graph.specs.Targets.{AreTargets}
 use Rattle.exchange_graph.specs.Routers.{IsRoute}
 use Rattle.exchange_graph.specs.declared.routes.Route.{Route}
-use Rattle.depot.specs.declared.turns.PlannedTurn.{PlannedTurn}
-use Rattle.depot.specs.Turns.{TurnOutcome, turn_at, outcome, is_refusal, entered_one, Enters}
 
 or_none : (b : Bool) → b ≡ (b || false)
 or_none true = refl

@@ -1,12 +1,8 @@
 -- Fields put one behind another are the pairs of a table.
-use Rattle.std.proofs.Common.{◌≡◌, subst, Option, Some, None, Result, Ok, Err, IfOk, ℕ, List, ◌∷◌, ◌++◌, length, sym, ap, ◌∙◌, append_assoc}
-use Rattle.std.proofs.lemmas.List.{append-nil}
-use Rattle.model.specs.Words.{Text}
+use Rattle.depot.proofs.Names.{◌≡◌, subst, Option, Some, None, Result, Ok, Err, IfOk, ℕ, List, ◌∷◌, ◌++◌, length, sym, ap, ◌∙◌, append_assoc, append-nil, Text, TellsOfDeath, AreMarked, alone, added, marked_before, death_queue, first_death, text_field, ArePropertiesMarked}
 use Rattle.model.specs.Tables.{Pairs, no_pairs, pair, Long_string, pairs_bytes, with_length}
-use Rattle.model.specs.Deaths.{TellsOfDeath, AreMarked, alone, added, marked_before, death_queue, first_death}
 use Rattle.model.specs.declared.contents.Fields.{Fields as Properties}
 use Rattle.field_table.specs.Lookups.{HasField}
-use Rattle.depot.specs.Marked.{text_field, ArePropertiesMarked}
 
 -- one field before others
 before : (n t : Text) (ps : Pairs) → text_field n t ++ pairs_bytes ps ≡ pairs_bytes (pair n (Long_string t) ps)

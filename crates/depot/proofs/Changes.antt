@@ -1,10 +1,6 @@
 -- Queues changed one after another, seen as their entries.
-use Rattle.std.proofs.Common.{◌≡◌, ℕ, zero, suc, ◌<◌, List, [], ◌∷◌, length, get_or, set, refl, sym, ap, ◌∙◌, arith}
-use Rattle.std.proofs.lemmas.List.{map-set}
+use Rattle.depot.proofs.Names.{◌≡◌, ℕ, zero, suc, ◌<◌, List, [], ◌∷◌, length, get_or, set, refl, sym, ap, ◌∙◌, arith, map-set, Entry, Line, entries_of}
 use Rattle.std.proofs.Math.Seq.{map-set_same}
-use Rattle.model.specs.declared.messages.Entry.{Entry}
-use Rattle.queue.specs.Line.{Line}
-use Rattle.depot.specs.Store.{entries_of}
 
 -- ---- the first i of a list changed, the others as they were
 

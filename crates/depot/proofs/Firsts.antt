@@ -1,13 +1,10 @@
 -- Entries that are taken out: all that pass a test, or the first.
-use Rattle.std.proofs.Common.{◌≡◌, ℕ, ◌+◌, ◌≤◌, List, [], ◌∷◌, Bool, true, false, cond, refl, sym, ap, ◌∙◌, filter, not, arith, Some, None}
-use Rattle.std.specs.Prelude.{count_by, find, ◌==◌, ◌&&◌, if◌then◌else◌}
-use Rattle.std.proofs.lemmas.Bool.{eqb-true, ne_eqb, false≢true}
+use Rattle.depot.proofs.Names.{◌≡◌, ℕ, ◌+◌, ◌≤◌, List, [], ◌∷◌, Bool, true, false, cond, refl, sym, ap, ◌∙◌, filter, arith, Some, None, count_by, ◌&&◌, eqb-true, ne_eqb, false≢true, is_held_as, without_first, Entry, Holder, Ready}
+use Rattle.std.proofs.Common.{not}
+use Rattle.std.specs.Prelude.{find, ◌==◌, if◌then◌else◌}
 use Rattle.std.proofs.lemmas.List.Sums.{sum_by-cons}
-use Rattle.model.specs.Entries.{is_held_as, without_first}
-use Rattle.model.specs.declared.messages.Entry.{Entry}
-use Rattle.model.specs.declared.messages.Holder.{Holder}
 use Rattle.model.specs.declared.messages.Mark.{Mark}
-use Rattle.model.specs.declared.messages.Mark.TheVariants.{Ready, Held}
+use Rattle.model.specs.declared.messages.Mark.TheVariants.{Held}
 
 -- 1 for yes, 0 for no
 abbrev pub number : Bool → ℕ

@@ -1,18 +1,6 @@
 -- A queue that was lent and came back with one more message, or as it was.
-use Rattle.std.proofs.Common.{◌≡◌, ℕ, ◌<◌, List, [], ◌++◌, Bool, true, false, Option, Some, Result, Ok, Err, OnErr, length, get_or, set, refl, sym, ap, ◌∙◌, arith}
+use Rattle.depot.proofs.Names.{◌≡◌, ℕ, ◌<◌, List, [], ◌++◌, Bool, true, false, Option, Some, Result, Ok, Err, OnErr, length, get_or, set, refl, sym, ap, ◌∙◌, arith, slice_get, Text, Topology, ready_bytes, refuses, Message, Entry, DeclaredQueue, Way, Line, ready_count, PlannedTurn, Store, entries_of, queue_at, with_entries_at, TurnOutcome, outcome_of, outcome_at, outcome, arriving, entered_one, no_line}
 use Rattle.std.proofs.lemmas.Option.{slice_get_read}
-use Rattle.std.specs.Prelude.{slice_get}
-use Rattle.model.specs.Words.{Text}
-use Rattle.model.specs.Topology.{Topology}
-use Rattle.model.specs.Broker.{ready_bytes, refuses}
-use Rattle.model.specs.Message.{Message}
-use Rattle.model.specs.declared.messages.Entry.{Entry}
-use Rattle.model.specs.declared.topologies.DeclaredQueue.{DeclaredQueue}
-use Rattle.model.specs.declared.notes.Way.{Way}
-use Rattle.queue.specs.Line.{Line, ready_count}
-use Rattle.depot.specs.declared.turns.PlannedTurn.{PlannedTurn}
-use Rattle.depot.specs.Store.{Store, entries_of, queue_at, with_entries_at}
-use Rattle.depot.specs.Turns.{TurnOutcome, outcome_of, outcome_at, outcome, arriving, entered_one, no_line}
 use Rattle.depot.proofs.Changes.{entries_of-at, entries_of-set, changed_write}
 
 -- the entries of the queue that is lent

@@ -1,3 +1,4 @@
+pub mod Names
 pub mod Absent
 pub mod Alike
 pub mod Alone

@@ -1,20 +1,6 @@
 -- Queues taken over, place by place and by their names.
-use Rattle.std.proofs.Common.{◌≡◌, ℕ, zero, suc, ◌+◌, ◌<◌, ◌≤◌, List, [], ◌∷◌, ◌++◌, length, get_or, set, map, drop, refl, sym, ap, subst, ◌∙◌, arith, Bool, true, false, cond, inl, inr}
+use Rattle.depot.proofs.Names.{◌≡◌, ℕ, zero, suc, ◌+◌, ◌<◌, ◌≤◌, List, [], ◌∷◌, ◌++◌, length, get_or, set, map, drop, refl, sym, ap, subst, ◌∙◌, arith, Bool, true, false, cond, inl, inr, bytes_eq, bytes_eq-Decides, false≢true, leb_tells, length-append, length-set, length-replicate, Text, IsIn, AreApart, queue_names, DeclaredQueue, listed, stood_now, Entry, IsMoved, stays, goes, AreMoved, GoneAreEmpty, taken, Line, Store, entries_named, entries_of}
 use Rattle.std.specs.Prelude.{replicate}
-use Rattle.std.specs.Str.{bytes_eq}
-use Rattle.std.proofs.lemmas.Slice.Eq.{bytes_eq-Decides}
-use Rattle.std.proofs.lemmas.Bool.{false≢true}
-use Rattle.std.proofs.lemmas.Bool.Decides.{leb_tells}
-use Rattle.std.proofs.lemmas.List.{length-append, length-set, length-replicate}
-use Rattle.model.specs.Words.{Text}
-use Rattle.model.specs.Topology.{IsIn, AreApart, queue_names}
-use Rattle.model.specs.declared.topologies.DeclaredQueue.{DeclaredQueue}
-use Rattle.model.specs.Broker.{listed}
-use Rattle.model.specs.Reloading.{stood_now}
-use Rattle.model.specs.declared.messages.Entry.{Entry}
-use Rattle.depot.specs.Moving.{IsMoved, stays, goes, AreMoved, GoneAreEmpty, taken}
-use Rattle.queue.specs.Line.{Line}
-use Rattle.depot.specs.Store.{Store, entries_named, entries_of}
 use Rattle.depot.proofs.Changes.{entries_of-set}
 use Rattle.depot.proofs.Naming.{names-length, same_name, other_name, is_in, listed_at}
 use Rattle.depot.proofs.Named.{listed-put}

@@ -1,13 +1,6 @@
 -- The queue at one place, by its name.
-use Rattle.std.proofs.Common.{◌≡◌, ℕ, zero, suc, ◌<◌, List, [], ◌∷◌, length, get_or, set, refl, sym, ap, subst, ◌∙◌, arith, Bool, true, false, cond, if◌then◌else◌}
-use Rattle.std.specs.Str.{bytes_eq}
-use Rattle.std.proofs.lemmas.Slice.Eq.{bytes_eq-Decides}
-use Rattle.model.specs.Words.{Text}
-use Rattle.model.specs.Topology.{queue_names, IsIn, AreApart}
-use Rattle.model.specs.Broker.{listed}
-use Rattle.model.specs.declared.messages.Entry.{Entry}
-use Rattle.exchange_graph.specs.Marks.{queue_name}
-use Rattle.depot.specs.Store.{Store, entries_named, queue_at, with_entries_at, IsStoreWhole}
+use Rattle.depot.proofs.Names.{◌≡◌, ℕ, zero, suc, ◌<◌, List, [], ◌∷◌, length, get_or, set, refl, sym, ap, subst, ◌∙◌, arith, Bool, true, false, cond, bytes_eq, bytes_eq-Decides, Text, queue_names, IsIn, AreApart, listed, Entry, queue_name, Store, entries_named, queue_at, with_entries_at, IsStoreWhole}
+use Rattle.std.proofs.Common.{if◌then◌else◌}
 use Rattle.depot.proofs.Naming.{names-length, is_in, other_name, listed_at}
 
 -- another list at one place: its name has that, and any other what it had

@@ -1,33 +1,10 @@
 -- What a publish does, by the names of the queues.
-use Rattle.std.proofs.Common.{◌≡◌, ℕ, zero, suc, ◌+◌, ◌<◌, ◌≤◌, List, [], ◌∷◌, ◌++◌, length, get_or, set, map, refl, sym, ap, subst, ◌∙◌, arith, Bool, true, false, cond, Option, Some, None, All, AllPairs, append_assoc, inl, inr}
-use Rattle.std.specs.List.{list_any}
-use Rattle.std.specs.Prelude.{◌&&◌, ◌||◌, not, nat_lt, option_map, position, slice_get}
-use Rattle.std.specs.List.{position_or_len}
-use Rattle.std.proofs.lemmas.Grind.{common_steps}
-use Rattle.std.specs.Str.{bytes_eq}
-use Rattle.std.proofs.lemmas.Slice.Eq.{bytes_eq-Decides}
-use Rattle.std.proofs.lemmas.List.{append-nil, length-set, get_or-set_other}
-use Rattle.model.specs.Words.{Text}
-use Rattle.model.specs.Topology.{Topology, queue_names, IsIn, AreApart, IsWellFormed}
-use Rattle.model.specs.Broker.{listed, ready_bytes, refuses, queue_named, is_full}
+use Rattle.depot.proofs.Names.{◌≡◌, ℕ, zero, suc, ◌+◌, ◌<◌, ◌≤◌, List, [], ◌∷◌, ◌++◌, length, get_or, set, map, refl, sym, ap, subst, ◌∙◌, arith, Bool, true, false, cond, Option, Some, None, All, AllPairs, append_assoc, inl, inr, list_any, ◌&&◌, ◌||◌, nat_lt, slice_get, position_or_len, common_steps, bytes_eq, bytes_eq-Decides, append-nil, length-set, get_or-set_other, Text, Topology, queue_names, IsIn, AreApart, IsWellFormed, listed, ready_bytes, refuses, queue_named, is_full, Entry, Message, Ready, DeclaredQueue, Content, Publish, Note, Published, Entered, Refused, Way, ready_count, names_at, PlannedTurn, Store, TurnOutcome, outcome_of, outcome, outcomes, turn_at, is_full_at, places, notes_of_outcomes, is_refusal, no_turns, arriving, entered_one, all_entered, IsPlan, Enters}
+use Rattle.std.specs.Prelude.{not, option_map, position}
 use Rattle.model.specs.Step.{message, entry_notes, comes_to, is_none}
-use Rattle.model.specs.declared.messages.Entry.{Entry}
-use Rattle.model.specs.Message.{Message}
-use Rattle.model.specs.declared.messages.Mark.TheVariants.{Ready}
-use Rattle.model.specs.declared.topologies.DeclaredQueue.{DeclaredQueue}
-use Rattle.model.specs.declared.contents.Content.{Content}
-use Rattle.model.specs.declared.methods.Publish.{Publish}
-use Rattle.model.specs.declared.notes.Note.{Note}
-use Rattle.model.specs.declared.notes.Note.TheVariants.{Published, Entered, Refused}
-use Rattle.model.specs.declared.notes.Way.{Way}
 use Rattle.model.specs.declared.notes.Way.TheVariants as way
-use Rattle.queue.specs.Line.{ready_count}
-use Rattle.exchange_graph.specs.Targets.{names_at}
-use Rattle.depot.specs.declared.turns.PlannedTurn.{PlannedTurn}
 use Rattle.depot.specs.declared.depots.Routed.{Routed}
-use Rattle.depot.specs.Store.{Store}
 use Rattle.depot.specs.Publishing.{Publishing}
-use Rattle.depot.specs.Turns.{TurnOutcome, outcome_of, outcome, outcomes, turn_at, is_full_at, places, notes_of_outcomes, is_refusal, no_turns, arriving, entered_one, all_entered, IsPlan, Enters}
 
 -- ---- names
 

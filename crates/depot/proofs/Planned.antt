@@ -1,21 +1,6 @@
 -- Deaths, planned and counted one after another.
-use Rattle.std.proofs.Common.{◌≡◌, ℕ, zero, suc, ◌<◌, ◌≤◌, List, [], ◌∷◌, ◌++◌, length, get_or, refl, sym, ap, subst, ◌∙◌, arith, All, AllPairs, Option, Some, None, append_assoc, inl, inr, ◌⊎◌, take, Bool, true, false, ◌+◌}
-use Rattle.std.proofs.lemmas.List.{append-nil}
-use Rattle.model.specs.Topology.{Topology, queue_names}
-use Rattle.model.specs.Routing.{key_after}
-use Rattle.model.specs.Deaths.{dead_letter}
-use Rattle.model.specs.Message.{Message}
-use Rattle.model.specs.Words.{Text}
-use Rattle.model.specs.declared.messages.Entry.{Entry}
-use Rattle.model.specs.declared.topologies.DeclaredQueue.{DeclaredQueue}
-use Rattle.queue.specs.Line.{Line}
-use Rattle.model.specs.declared.deliveries.Delivery.{Delivery}
-use Rattle.depot.specs.declared.plans.Death.{Death}
-use Rattle.depot.specs.declared.turns.PlannedTurn.{PlannedTurn}
-use Rattle.depot.specs.Turns.{places, room_at, LinesHaveRoom}
-use Rattle.model.specs.Placed.{is_waiting, waiting, AreWithin}
+use Rattle.depot.proofs.Names.{◌≡◌, ℕ, zero, suc, ◌<◌, ◌≤◌, List, [], ◌∷◌, ◌++◌, length, get_or, refl, sym, ap, subst, ◌∙◌, arith, All, AllPairs, Option, Some, None, append_assoc, inl, inr, ◌⊎◌, take, Bool, true, false, ◌+◌, append-nil, Topology, queue_names, key_after, dead_letter, Message, Text, Entry, DeclaredQueue, Line, Delivery, Death, PlannedTurn, places, room_at, LinesHaveRoom, is_waiting, waiting, AreWithin, MayHaveLetters, IsDeathOf, Plans, PlansAt, given_at, ArePlanned, IsSoundDeath, times_in}
 use Rattle.depot.proofs.Waiting.{waiting_more}
-use Rattle.depot.specs.Dying.{MayHaveLetters, IsDeathOf, Plans, PlansAt, given_at, ArePlanned, IsSoundDeath, times_in}
 use Rattle.depot.proofs.Turning.{times_rising, times_or}
 use Rattle.depot.proofs.Naming.{turned_within, turned_rising}
 

@@ -1,22 +1,7 @@
 -- Notes of a purge, one by one.
-use Rattle.std.proofs.Common.{◌≡◌, ◌<◌, ◌+◌, ℕ, suc, List, [], ◌∷◌, ◌++◌, length, drop, get_or, set, map, filter, not, replicate, refl, sym, ap, ◌∙◌, append_assoc, Result, Ok, Err, IfOk, OnErr}
-use Rattle.std.proofs.lemmas.List.{drop_more}
-use Rattle.model.specs.Words.{Text}
-use Rattle.model.specs.Topology.{Topology}
-use Rattle.model.specs.Broker.{is_ready}
-use Rattle.model.specs.Entries.{number_of}
-use Rattle.model.specs.Deliveries.{with_queue, ready_in, purge_notes}
-use Rattle.model.specs.declared.messages.Entry.{Entry}
-use Rattle.model.specs.declared.notes.Cause.TheVariants.{Purged}
-use Rattle.model.specs.declared.notes.Note.{Note}
-use Rattle.model.specs.declared.notes.Note.TheVariants.{Left}
-use Rattle.exchange_graph.specs.Marks.{queue_name}
-use Rattle.queue.specs.Line.{Line}
-use Rattle.depot.specs.Store.{Store, entries_of, entries_named, queue_at, with_entries_at, IsStoreWhole}
-use Rattle.depot.specs.Turns.{no_line}
-use Rattle.depot.specs.Settled.{store_of}
+use Rattle.depot.proofs.Names.{◌≡◌, ◌<◌, ◌+◌, ℕ, suc, List, [], ◌∷◌, ◌++◌, length, drop, get_or, set, map, filter, refl, sym, ap, ◌∙◌, append_assoc, Result, Ok, Err, IfOk, OnErr, drop_more, Text, Topology, is_ready, number_of, with_queue, ready_in, purge_notes, Entry, Purged, Note, Left, queue_name, Line, Store, entries_of, entries_named, queue_at, with_entries_at, IsStoreWhole, no_line, store_of, purged, IsPurgedBy}
+use Rattle.std.proofs.Common.{not, replicate}
 use Rattle.depot.proofs.Changes.{same_write}
-use Rattle.depot.specs.Purging.{purged, IsPurgedBy}
 use Rattle.depot.proofs.Named.{queue_of-changed, queue_of-place}
 
 -- the note of one message more

@@ -1,39 +1,10 @@
 -- What is done by the places of queues is the rejection by their names.
-use Rattle.std.proofs.Common.{◌≡◌, ℕ, zero, suc, ◌+◌, ◌<◌, ◌≤◌, List, [], ◌∷◌, ◌++◌, Bool, true, false, cond, refl, sym, ap, subst, ◌∙◌, map, filter, length, get_or, set, not, arith, Option, Some, None, Result, Ok, Err, OnOk}
-use Rattle.std.specs.Prelude.{count_by, find, nat_lt, ◌&&◌, if◌then◌else◌}
-use Rattle.std.proofs.lemmas.Grind.{common_steps}
-use Rattle.std.specs.Str.{bytes_eq}
-use Rattle.std.proofs.lemmas.List.{length-set, get_or_past}
-use Rattle.std.proofs.lemmas.Slice.Eq.{bytes_eq-Decides}
-use Rattle.model.specs.Words.{Text}
-use Rattle.model.specs.Topology.{Topology, queue_names, AreApart}
-use Rattle.model.specs.Routing.{key_after}
-use Rattle.model.specs.Broker.{queue_named, listed, is_full, ready_bytes, refuses}
-use Rattle.model.specs.Message.{Message}
-use Rattle.model.specs.Entries.{is_held_as, without_first}
+use Rattle.depot.proofs.Names.{◌≡◌, ℕ, zero, suc, ◌+◌, ◌<◌, ◌≤◌, List, [], ◌∷◌, ◌++◌, Bool, true, false, cond, refl, sym, ap, subst, ◌∙◌, map, filter, length, get_or, set, arith, Option, Some, None, Result, Ok, Err, OnOk, count_by, nat_lt, ◌&&◌, common_steps, bytes_eq, length-set, get_or_past, bytes_eq-Decides, Text, Topology, queue_names, AreApart, key_after, queue_named, listed, is_full, ready_bytes, refuses, Message, is_held_as, without_first, dead_letter, DiesBy, DiesIn, MayDie, AreRejected, Content, Entry, Holder, Ready, DeclaredQueue, Note, Entered, Refused, ready_count, queue_name, names_at, Delivery, Death, PlannedTurn, Store, entries_named, IsStoreWhole, TurnOutcome, outcomes, arriving, entered_one, all_entered, notes_of_outcomes, AreSettledBy, IsApart, holder_of_delivery, outstanding_in, AreWithin, AreByTag, MayHaveLetters, IsDeathOf, Plans, given_at, ArePlanned, without, outcomes_of, died, death_notes, died_all, all_notes, Rejects}
+use Rattle.std.proofs.Common.{not}
+use Rattle.std.specs.Prelude.{find, if◌then◌else◌}
 use Rattle.model.specs.Entering.{entry_note, entry_notes, comes_to}
-use Rattle.model.specs.Deaths.{dead_letter, DiesBy, DiesIn, MayDie}
 use Rattle.model.specs.Deliveries as given
-use Rattle.model.specs.Deliveries.{AreRejected}
-use Rattle.model.specs.declared.contents.Content.{Content}
-use Rattle.model.specs.declared.messages.Entry.{Entry}
-use Rattle.model.specs.declared.messages.Holder.{Holder}
-use Rattle.model.specs.declared.messages.Mark.TheVariants.{Ready}
-use Rattle.model.specs.declared.topologies.DeclaredQueue.{DeclaredQueue}
-use Rattle.model.specs.declared.notes.Note.{Note}
-use Rattle.model.specs.declared.notes.Note.TheVariants.{Entered, Refused}
 use Rattle.model.specs.declared.notes.Way.TheVariants as way
-use Rattle.queue.specs.Line.{ready_count}
-use Rattle.exchange_graph.specs.Marks.{queue_name}
-use Rattle.exchange_graph.specs.Targets.{names_at}
-use Rattle.model.specs.declared.deliveries.Delivery.{Delivery}
-use Rattle.depot.specs.declared.plans.Death.{Death}
-use Rattle.depot.specs.declared.turns.PlannedTurn.{PlannedTurn}
-use Rattle.depot.specs.Store.{Store, entries_named, IsStoreWhole}
-use Rattle.depot.specs.Turns.{TurnOutcome, outcomes, arriving, entered_one, all_entered, notes_of_outcomes}
-use Rattle.depot.specs.Settled.{AreSettledBy, IsApart}
-use Rattle.model.specs.Placed.{holder_of_delivery, outstanding_in, AreWithin, AreByTag}
-use Rattle.depot.specs.Dying.{MayHaveLetters, IsDeathOf, Plans, given_at, ArePlanned, without, outcomes_of, died, death_notes, died_all, all_notes, Rejects}
 use Rattle.depot.proofs.Firsts.{number, count-cons, one_passes, none_found, count-filter, find-filter, held_apart}
 use Rattle.depot.proofs.Naming.{names-length, same_name, later_name, noted_by_names, entered_by_names}
 use Rattle.depot.proofs.Named.{queue_of-changed, queue_of-place}

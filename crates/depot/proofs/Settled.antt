@@ -1,24 +1,10 @@
 -- What is done by the places of queues settles deliveries in the queues of their names.
-use Rattle.std.proofs.Common.{◌≡◌, ℕ, zero, suc, ◌+◌, ◌<◌, List, [], ◌∷◌, ◌++◌, Bool, true, false, cond, refl, sym, ap, subst, ◌∙◌, map, filter, length, get_or, not, drop, arith, append_assoc}
+use Rattle.depot.proofs.Names.{◌≡◌, ℕ, zero, suc, ◌+◌, ◌<◌, List, [], ◌∷◌, ◌++◌, Bool, true, false, cond, refl, sym, ap, subst, ◌∙◌, map, filter, length, get_or, drop, arith, append_assoc, bytes_eq, append-nil, length-set, Text, Topology, queue_names, IsWellFormed, is_under, is_held_as, freed, without_first, Leaves, Returns, left_note, Entry, Acked, Note, queue_name, Delivery, is_waiting, waiting, holder_of_delivery, outstanding_in, AreWithin, Store, entries_named, IsStoreWhole, given_at, AreSettledBy, store_of, left_at, returned_at, departure_in, AreOf}
+use Rattle.std.proofs.Common.{not}
 use Rattle.std.specs.Prelude.{find, if◌then◌else◌}
-use Rattle.std.specs.Str.{bytes_eq}
-use Rattle.std.proofs.lemmas.List.{append-nil, length-set}
-use Rattle.model.specs.Words.{Text}
-use Rattle.model.specs.Topology.{Topology, queue_names, IsWellFormed}
-use Rattle.model.specs.Entries.{is_under, is_held_as, freed, without_first}
 use Rattle.model.specs.Deliveries as given
-use Rattle.model.specs.Deliveries.{Leaves, Returns, left_note}
-use Rattle.model.specs.declared.messages.Entry.{Entry}
 use Rattle.model.specs.declared.notes.Cause.{Cause}
-use Rattle.model.specs.declared.notes.Cause.TheVariants.{Acked}
-use Rattle.model.specs.declared.notes.Note.{Note}
-use Rattle.exchange_graph.specs.Marks.{queue_name}
-use Rattle.model.specs.declared.deliveries.Delivery.{Delivery}
-use Rattle.model.specs.Placed.{is_waiting, waiting, holder_of_delivery, outstanding_in, AreWithin}
 use Rattle.depot.specs.declared.departures.Departure.{Departure}
-use Rattle.depot.specs.Store.{Store, entries_named, IsStoreWhole}
-use Rattle.depot.specs.Dying.{given_at}
-use Rattle.depot.specs.Settled.{AreSettledBy, store_of, left_at, returned_at, departure_in, AreOf}
 use Rattle.depot.proofs.Firsts.{one_passes, count-filter}
 use Rattle.depot.proofs.Named.{queue_of-changed, queue_of-place}
 use Rattle.depot.proofs.Waiting.{nothing, next_waiting}

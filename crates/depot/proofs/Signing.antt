@@ -1,14 +1,6 @@
 -- What the signs of queues say, as queues are lent and change.
-use Rattle.std.proofs.Common.{◌≡◌, ℕ, zero, suc, ◌==◌, ◌+◌, ◌*◌, ◌<◌, ◌≤◌, Bool, false, cond, List, [], Option, Some, None, length, get_or, set, replicate, refl, sym, ap, subst, ◌∙◌, arith, inl, inr}
-use Rattle.std.proofs.lemmas.Bool.{ne_eqb}
-use Rattle.std.proofs.lemmas.Bool.Decides.{eqb_tells, leb_tells}
-use Rattle.std.proofs.lemmas.List.{get_or-set_other, get_or_past, get_or-replicate, length-set, length-replicate}
-use Rattle.model.specs.Topology.{Topology}
-use Rattle.model.specs.declared.messages.Entry.{Entry}
-use Rattle.marks.specs.Places.{bit_of, IsNextMark}
-use Rattle.queue.specs.Line.{Line, ready_count}
-use Rattle.depot.specs.Store.{Store, entries_of, IsNextReady}
-use Rattle.depot.specs.Signs.{ready_bit, ready_places, AreSignedBut, TellsNext}
+use Rattle.depot.proofs.Names.{◌≡◌, ℕ, zero, suc, ◌+◌, ◌*◌, ◌<◌, ◌≤◌, Bool, false, cond, List, [], Option, Some, None, length, get_or, set, refl, sym, ap, subst, ◌∙◌, arith, inl, inr, ne_eqb, eqb_tells, leb_tells, get_or-set_other, get_or_past, get_or-replicate, length-set, length-replicate, Topology, Entry, bit_of, IsNextMark, Line, ready_count, Store, entries_of, IsNextReady, ready_bit, ready_places, AreSignedBut, TellsNext}
+use Rattle.std.proofs.Common.{◌==◌, replicate}
 use Rattle.depot.proofs.Changes.{entries_of-length, entries_of-at, entries_of-set}
 
 -- ---- all are signed

@@ -1,12 +1,6 @@
 -- Turns, one after another, and the room for them.
-use Rattle.std.proofs.Common.{◌≡◌, ℕ, zero, suc, ◌+◌, ◌<◌, ◌≤◌, List, [], ◌∷◌, Bool, true, false, cond, length, get_or, set, refl, sym, ap, ◌∙◌, arith, All, AllPairs, inl, inr, ◌⊎◌}
-use Rattle.std.specs.Prelude.{◌==◌, ◌||◌}
-use Rattle.std.proofs.lemmas.Bool.{eqb-true, ne_eqb}
-use Rattle.std.proofs.lemmas.Bool.Decides.{eqb_tells}
-use Rattle.std.proofs.lemmas.List.{get_or-set_other}
-use Rattle.queue.specs.Line.{Line}
-use Rattle.depot.specs.declared.turns.PlannedTurn.{PlannedTurn}
-use Rattle.depot.specs.Turns.{places, room_at, no_line, times, LinesHaveRoom, IsRoomy}
+use Rattle.depot.proofs.Names.{◌≡◌, ℕ, zero, suc, ◌+◌, ◌<◌, ◌≤◌, List, [], ◌∷◌, Bool, true, false, cond, length, get_or, set, refl, sym, ap, ◌∙◌, arith, All, AllPairs, inl, inr, ◌⊎◌, ◌||◌, eqb-true, ne_eqb, eqb_tells, get_or-set_other, Line, PlannedTurn, places, room_at, no_line, times, LinesHaveRoom, IsRoomy}
+use Rattle.std.specs.Prelude.{◌==◌}
 
 pub place_is : (ts : List PlannedTurn) (i : ℕ) (t : PlannedTurn) → i < length ts → t ≡ get_or ts i t → get_or (places ts) i 0 ≡ t.place
 place_is ts i t lt is = at ts i t lt ∙ ap (λ (s : PlannedTurn). s.place) (sym is)

@@ -1,11 +1,7 @@
 -- Between what is settled are the places of what was settled before: a loop passes them.
-use Rattle.std.proofs.Common.{◌≡◌, ℕ, zero, suc, ◌+◌, ◌<◌, List, [], ◌∷◌, ◌++◌, Bool, true, false, cond, sym, ap, subst, ◌∙◌, length, get_or, take, drop, arith}
-use Rattle.std.proofs.lemmas.List.{drop_more, take_more}
+use Rattle.depot.proofs.Names.{◌≡◌, ℕ, zero, suc, ◌+◌, ◌<◌, List, [], ◌∷◌, ◌++◌, Bool, true, false, cond, sym, ap, subst, ◌∙◌, length, get_or, take, drop, arith, drop_more, take_more, Topology, is_waiting, waiting, AreWithin, Delivery}
 use Rattle.std.proofs.lemmas.List.Elements.{filter-append}
-use Rattle.model.specs.Topology.{Topology}
 use Rattle.model.specs.declared.messages.Taker.TheVariants as taker
-use Rattle.model.specs.Placed.{is_waiting, waiting, AreWithin}
-use Rattle.model.specs.declared.deliveries.Delivery.{Delivery}
 
 -- what is told of a place behind the last
 abbrev pub nothing : Delivery

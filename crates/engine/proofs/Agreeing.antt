@@ -1,19 +1,8 @@
 -- What a call did keeps the world consistent, with its consumers named as they should be.
-use Rattle.std.proofs.Common.{◌≡◌, ◌+◌, ℕ, List, Bool, true, false, Some, Result, Ok, Err, sym, subst}
-use Rattle.std.specs.Prelude.{IfOk, OnErr, MatchBool}
-use Rattle.model.specs.Run.{Happening}
-use Rattle.model.specs.Commands.{opened_stream, running_stream}
-use Rattle.model.specs.Arrivals.{World, Same, Turns, Waits, is_over, is_gone, with_heard, Takes_off, Delivers, delivers, Loses}
-use Rattle.model.specs.Consistent.{IsConsistent}
+use Rattle.engine.proofs.Names.{◌≡◌, ◌+◌, ℕ, List, Bool, true, false, Some, sym, subst, IfOk, OnErr, MatchBool, Happening, opened_stream, running_stream, World, Same, Turns, Waits, is_over, is_gone, with_heard, Takes_off, Delivers, delivers, Loses, IsConsistent, stay_consistent, worlds_named, OpensNew, OpensReady, Hears, IsLost, world_same, Parts, world_of, IsEngine, Turned, Turn}
+use Rattle.std.proofs.Common.{Result, Ok, Err}
 use Rattle.model.specs.declared.events.Event.TheVariants as event
 use Rattle.laws.specs.Consumers.{IsWorldNamed}
-use Rattle.laws.proofs.Consistency.{stay_consistent}
-use Rattle.laws.proofs.Naming.{worlds_named}
-use Rattle.runs.specs.Opened.{OpensNew, OpensReady, Hears, IsLost}
-use Rattle.runs.proofs.Worlds.{world_same}
-use Rattle.engine.specs.World.{Parts, world_of, IsEngine}
-use Rattle.engine.specs.Engines.{Turned}
-use Rattle.engine.specs.declared.turning.Turn.{Turn}
 use Rattle.engine.specs.declared.turning.Turn.TheVariants as turn
 
 -- what an engine keeps of its world

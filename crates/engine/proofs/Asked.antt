@@ -1,16 +1,7 @@
 -- What is asked next, and what is decided of it.
-use Rattle.std.specs.Prelude.{Result, Ok, Err, IfOk, OnErr}
-use Rattle.model.specs.Step.{Is}
-use Rattle.model.specs.State.{after_move}
-use Rattle.std.proofs.Common.{◌≡◌, ◌≢◌, ℕ, List, refl, sym, subst}
-use Rattle.model.specs.Broker.{Broker}
-use Rattle.model.specs.Phases.{Session}
-use Rattle.model.specs.declared.events.Phase.{Phase}
+use Rattle.engine.proofs.Names.{IfOk, OnErr, Is, after_move, ◌≡◌, ◌≢◌, ℕ, List, refl, sym, subst, Broker, Session, Phase, Send, Event, Note, Rules, ByBroker, ByPhase, DecidesByPhase}
+use Rattle.std.specs.Prelude.{Result, Ok, Err}
 use Rattle.model.specs.declared.events.Phase.TheVariants as phase
-use Rattle.model.specs.declared.events.Send.{Send}
-use Rattle.model.specs.declared.events.Event.{Event}
-use Rattle.model.specs.declared.notes.Note.{Note}
-use Rattle.engine.specs.Performing.{Rules, ByBroker, ByPhase, DecidesByPhase}
 
 pub decides_elsewhere : (c : ℕ) (p : Phase) (r : Rules) (b : Broker) (s : Session) (e : Event) (sends : List Send) (notes : List Note) (new_b : Broker) (new_s : Session)
     → p ≢ phase.Running → ByPhase r.users c p b s e sends notes new_b new_s → DecidesByPhase c p r b s e sends notes new_b new_s

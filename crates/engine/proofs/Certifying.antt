@@ -1,8 +1,5 @@
 -- A run of an engine over what was admitted is certified.
-use Rattle.std.proofs.Common.{◌≡◌, List, [], ◌∷◌, ap, map, refl, subst}
-use Rattle.model.specs.State.{Config}
-use Rattle.model.specs.Arrivals.{World, Seen, new_world, told}
-use Rattle.model.specs.Headline.{CertifiedDelivery}
+use Rattle.engine.proofs.Names.{◌≡◌, List, [], ◌∷◌, ap, map, refl, subst, Config, World, Seen, new_world, told, CertifiedDelivery}
 use Rattle.model.specs.declared.events.Arrival.{Arrival}
 use Rattle.model.specs.declared.events.Arrival.TheVariants as arrival
 use Rattle.runs.specs.Runs.{IsRunOf}

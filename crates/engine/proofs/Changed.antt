@@ -1,13 +1,5 @@
 -- One connection of the list became another: what is found by its number, what all keep, and how much is left.
-use Rattle.std.proofs.Common.{◌≡◌, ◌+◌, ◌<◌, ◌≤◌, ℕ, zero, suc, List, [], ◌∷◌, Bool, true, false, cond, Option, Some, None, get_or, set, length, remove, refl, sym, ap, subst, ◌∙◌, arith}
-use Rattle.std.specs.Prelude.{◌==◌, ◌&&◌, not, nat_lt}
-use Rattle.std.proofs.lemmas.Bool.{eqb-true, eq-eqb, false≢true}
-use Rattle.std.proofs.lemmas.Bool.Decides.{nat_tests}
-use Rattle.model.specs.Broker.{with_one}
-use Rattle.model.specs.Arrivals.{new_wire, is_ended}
-use Rattle.engine.specs.World.{connection_in, session_of, wire_in, wire_of, is_connection_gone, IsConnection, AreConnections, AreRising}
-use Rattle.engine.specs.Engines.{Changes, left_to_read, left_in}
-use Rattle.engine.specs.declared.connection.Connection.{Connection}
+use Rattle.engine.proofs.Names.{◌≡◌, ◌+◌, ◌<◌, ◌≤◌, ℕ, zero, suc, List, [], ◌∷◌, Bool, true, false, cond, Option, Some, None, get_or, set, length, remove, refl, sym, ap, subst, ◌∙◌, arith, ◌==◌, ◌&&◌, not, nat_lt, eqb-true, eq-eqb, false≢true, nat_tests, with_one, new_wire, is_ended, connection_in, session_of, wire_in, wire_of, is_connection_gone, IsConnection, AreConnections, AreRising, Changes, left_to_read, left_in, Connection}
 use Rattle.engine.proofs.Numbered.{connection_in-set, connection_in-remove, rising-set, rising-remove, all-set, all-remove, all_at}
 
 -- ---- what is found

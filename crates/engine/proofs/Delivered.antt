@@ -1,31 +1,10 @@
 -- A delivery to one connection is a delivery of the world.
-use Rattle.std.proofs.Common.{◌≡◌, ℕ, List, ◌∷◌, ◌++◌, Bool, true, false, cond, Option, Some, None, Result, Ok, Err, get_or, set, remove, length, refl, sym, ap, subst, ◌∙◌, append-nil}
-use Rattle.std.specs.Prelude.{◌&&◌, not, nat_lt, is_some, IfOk, OnErr}
-use Rattle.std.proofs.lemmas.Bool.{false≢true}
-use Rattle.model.specs.Broker.{Broker}
-use Rattle.model.specs.Topology.{Topology}
-use Rattle.model.specs.Consuming.{CanDeliver}
-use Rattle.model.specs.Consistent.{IsConsistent}
-use Rattle.model.specs.Phases.{Session, is_running}
-use Rattle.model.specs.State.{State}
-use Rattle.model.specs.Spelling.{spelling}
-use Rattle.model.specs.Run.{Happening, notes_of}
-use Rattle.model.specs.Arrivals.{Wire, Same, Pauses, Delivers, delivers, NoneCanDeliver, is_ended, is_past_bound, is_paused}
-use Rattle.model.specs.declared.events.Phase.{Phase}
+use Rattle.engine.proofs.Names.{◌≡◌, ℕ, List, ◌∷◌, ◌++◌, Bool, true, false, cond, Option, Some, None, get_or, set, remove, length, refl, sym, ap, subst, ◌∙◌, append-nil, ◌&&◌, not, nat_lt, is_some, IfOk, OnErr, false≢true, Broker, Topology, CanDeliver, IsConsistent, Session, is_running, State, spelling, Happening, notes_of, Wire, Same, Pauses, Delivers, delivers, NoneCanDeliver, is_ended, is_past_bound, is_paused, Phase, Note, pump_keeps, Kept, WithTurn, Idles, IsKeptEvent, WaitingBytes, ConnectionPumped, OutputChanges, ConnectionsPumped, ConnectionsNotPumped, IsPump, Parts, connection_in, session_of, wire_in, wire_of, config_of, state_of, world_of, is_connection_gone, AreRising, IsEngine, Becomes, Changes, HasConnection, IsConnectionPlace, Connection}
+use Rattle.std.proofs.Common.{Result, Ok, Err}
 use Rattle.model.specs.declared.events.Phase.TheVariants as phase
 use Rattle.model.specs.declared.events.Event.TheVariants as event
-use Rattle.model.specs.declared.notes.Note.{Note}
-use Rattle.laws.proofs.Whole.{pump_keeps}
 use Rattle.commands.specs.State as core
-use Rattle.commands.specs.State.{Kept}
-use Rattle.broker.specs.Turns.{WithTurn, topology_kept, broker_of}
-use Rattle.runs.specs.Opened.{Idles}
-use Rattle.engine.specs.Reading.{IsKeptEvent}
-use Rattle.outputs.specs.Waiting.{WaitingBytes}
-use Rattle.engine.specs.Pumping.{ConnectionPumped, OutputChanges, ConnectionsPumped, ConnectionsNotPumped, IsPump}
-use Rattle.engine.specs.World.{Parts, connection_in, session_of, wire_in, wire_of, config_of, state_of, world_of, is_connection_gone, AreRising, IsEngine}
-use Rattle.engine.specs.Engines.{Becomes, Changes, HasConnection, IsConnectionPlace}
-use Rattle.engine.specs.declared.connection.Connection.{Connection}
+use Rattle.broker.specs.Turns.{topology_kept, broker_of}
 use Rattle.engine.proofs.Numbered.{connection_in-place}
 use Rattle.engine.proofs.Agreeing.{agreed, same_agrees, delivers_agrees}
 use Rattle.engine.proofs.Lifted.{Ended, ended, at_own, at_others, same_config, output_in, with_same}

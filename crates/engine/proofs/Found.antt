@@ -1,16 +1,9 @@
 -- Where a connection stands among rising numbers.
-use Rattle.std.proofs.Common.{◌≡◌, ◌≢◌, ◌<◌, ◌≤◌, ℕ, zero, suc, List, [], ◌∷◌, Bool, true, false, cond, ltb, ltb-true, ltb-false, Some, None, get_or, length, refl, sym, ap, subst, ◌∙◌, arith}
-use Rattle.std.specs.Prelude.{◌==◌, is_some}
-use Rattle.std.specs.List.{HoldsAt}
+use Rattle.engine.proofs.Names.{◌≡◌, ◌≢◌, ◌<◌, ◌≤◌, ℕ, zero, suc, List, [], ◌∷◌, Bool, true, false, cond, ltb, ltb-true, ltb-false, Some, None, get_or, length, refl, sym, ap, subst, ◌∙◌, arith, ◌==◌, is_some, HoldsAt, eqb-true, false≢true, nat_tests, connection_in, AreRising, HasConnection, IsConnectionPlace, Connection}
 use Rattle.std.specs.List.Sorted.{IsNonDecreasingBy, IsPartitionPoint}
 use Rattle.std.specs.Ordering.{nat_cmp, ordering_index}
 use Rattle.std.proofs.lemmas.Cmp.{ranked}
-use Rattle.std.proofs.lemmas.Bool.{eqb-true, false≢true}
-use Rattle.std.proofs.lemmas.Bool.Decides.{nat_tests}
 use Rattle.std.specs.declared.cmp.Ordering.TheVariants.{Less, Equal, Greater}
-use Rattle.engine.specs.World.{connection_in, AreRising}
-use Rattle.engine.specs.Engines.{HasConnection, IsConnectionPlace}
-use Rattle.engine.specs.declared.connection.Connection.{Connection}
 use Rattle.engine.proofs.Numbered.{other_false}
 
 above_get : (low : ℕ) (ls : List Connection) (j : ℕ) (d : Connection) → AreRising low ls → j < length ls → low < (get_or ls j d).number

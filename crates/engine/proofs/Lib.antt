@@ -1,3 +1,4 @@
+pub mod Names
 pub mod Asked
 pub mod Replies
 pub mod Turned
@@ -14,3 +15,5 @@ pub mod Swept
 pub mod Delivered
 pub mod Certifying
 pub mod Waiting
+pub mod Offered
+pub mod Retried

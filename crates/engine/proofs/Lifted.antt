@@ -1,41 +1,14 @@
 -- A turn of one connection is a turn of the world.
-use Rattle.std.proofs.Common.{◌≡◌, ◌≢◌, ℕ, List, [], ◌∷◌, ◌++◌, Bool, true, false, cond, Option, Some, None, drop, refl, sym, ap, subst, ◌∙◌, append-nil, ◌⊎◌, inl, inr}
-use Rattle.std.specs.Prelude.{◌==◌, ◌&&◌, not, if◌then◌else◌, MatchBool}
-use Rattle.std.proofs.lemmas.Bool.{eq-eqb}
-use Rattle.model.specs.Broker.{Broker, with_one}
-use Rattle.model.specs.Commands.{Stream, Ends, stays, running_stream, heard}
-use Rattle.model.specs.Phases.{Session, Move, to_phase, after_sends, faulted}
-use Rattle.model.specs.Opening.{IsAnswered, first_move}
-use Rattle.model.specs.declared.messages.User.{User}
-use Rattle.model.specs.State.{Config, State, Step, Steps, Moves, OfCommand, OfLarge, OfFault, OfFirst}
-use Rattle.model.specs.Step.{Acts, empty_publish}
-use Rattle.model.specs.Spelling.{spelling}
-use Rattle.model.specs.Run.{Happening, notes_of}
-use Rattle.model.specs.Arrivals.{Wire, Turns, Pauses, Reads, again, fresh, fault, event_of, is_over, is_paused, is_ended, is_past_bound, wire_after, under_session, new_wire, Waits, Same, SameToCome, still, waits, IsIdle, Takes_off, Loses, with_heard}
+use Rattle.engine.proofs.Names.{◌≡◌, ◌≢◌, ℕ, List, [], ◌∷◌, ◌++◌, Bool, true, false, cond, Option, Some, None, drop, refl, sym, ap, subst, ◌∙◌, append-nil, ◌⊎◌, inl, inr, ◌==◌, ◌&&◌, not, if◌then◌else◌, MatchBool, eq-eqb, Broker, with_one, Stream, Ends, stays, running_stream, heard, Session, Move, to_phase, after_sends, faulted, IsAnswered, first_move, User, Config, State, Step, Steps, Moves, OfCommand, OfLarge, OfFault, OfFirst, Acts, empty_publish, spelling, Happening, notes_of, Wire, Turns, Pauses, Reads, again, fresh, fault, event_of, is_over, is_paused, is_ended, is_past_bound, wire_after, under_session, new_wire, Waits, Same, SameToCome, still, waits, IsIdle, Takes_off, Loses, with_heard, Note, Send, Phase, Command, Head, Plain, TooLarge, Event, stream_of, rules_of, DecidesByPhase, ByBroker, ByPhase, session_after, PausesOr, kept_of, ConnectionDid, ConnectionWaits, WaitingBytes, Parts, connection_in, session_of, wire_in, wire_of, config_of, state_of, world_of, Becomes, ConnectionSent, ConnectionFed, world_same, Hears, Connection}
 use Rattle.model.specs.Words.{Text}
 use Rattle.model.specs.declared.contents.Content.{Content}
 use Rattle.model.specs.declared.methods.Method.{Method}
 use Rattle.model.specs.declared.methods.Method.TheVariants.{BasicPublish}
-use Rattle.model.specs.declared.notes.Note.{Note}
-use Rattle.model.specs.declared.events.Send.{Send}
-use Rattle.model.specs.declared.events.Phase.{Phase}
 use Rattle.model.specs.declared.events.Phase.TheVariants as phase
-use Rattle.model.specs.declared.events.Command.{Command}
-use Rattle.model.specs.declared.events.Command.TheVariants.{Head, Plain, Full, TooLarge}
-use Rattle.model.specs.declared.events.Event.{Event}
+use Rattle.model.specs.declared.events.Command.TheVariants.{Full}
 use Rattle.model.specs.declared.events.Event.TheVariants as event
-use Rattle.assembly.specs.Held.{stream_of}
 use Rattle.broker.specs.Turns.{topology_kept, broker_of}
-use Rattle.engine.specs.Performing.{rules_of, DecidesByPhase, ByBroker, ByPhase, session_after, PausesOr}
-use Rattle.engine.specs.Reading.{kept_of}
-use Rattle.engine.specs.Turning.{ConnectionDid, ConnectionWaits}
-use Rattle.outputs.specs.Waiting.{WaitingBytes}
-use Rattle.engine.specs.World.{Parts, connection_in, session_of, wire_in, wire_of, config_of, state_of, world_of}
-use Rattle.engine.specs.Engines.{Becomes, ConnectionSent, ConnectionFed}
 use Rattle.engine.proofs.Changed.{either}
-use Rattle.runs.proofs.Worlds.{world_same}
-use Rattle.runs.specs.Opened.{Hears}
-use Rattle.engine.specs.declared.connection.Connection.{Connection}
 
 -- ---- what one connection does is a step
 

@@ -1,10 +1,5 @@
 -- Connections by their numbers: one changed, taken out, or put at the end.
-use Rattle.std.proofs.Common.{◌≡◌, ◌<◌, ◌≤◌, ℕ, zero, suc, List, [], ◌∷◌, ◌++◌, Bool, true, false, cond, Some, None, get_or, set, length, remove, refl, sym, ap, subst, ◌∙◌, arith}
-use Rattle.std.specs.Prelude.{◌==◌, if◌then◌else◌}
-use Rattle.std.specs.List.{AllByRecursion}
-use Rattle.std.proofs.lemmas.Bool.{eqb-true, eq-eqb}
-use Rattle.engine.specs.World.{connection_in, AreRising}
-use Rattle.engine.specs.declared.connection.Connection.{Connection}
+use Rattle.engine.proofs.Names.{◌≡◌, ◌<◌, ◌≤◌, ℕ, zero, suc, List, [], ◌∷◌, ◌++◌, Bool, true, false, cond, Some, None, get_or, set, length, remove, refl, sym, ap, subst, ◌∙◌, arith, ◌==◌, if◌then◌else◌, AllByRecursion, eqb-true, eq-eqb, connection_in, AreRising, Connection}
 
 same_true : (n c : ℕ) → n ≡ c → (n == c) ≡ true
 same_true n c e = eq-eqb n c e

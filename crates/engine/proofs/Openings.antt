@@ -1,29 +1,10 @@
 -- An engine with no connection, and one more connection.
-use Rattle.std.proofs.Common.{◌≡◌, ◌<◌, ◌≤◌, ◌+◌, ℕ, List, [], ◌∷◌, ◌++◌, Bool, true, false, cond, Option, Some, None, Result, Ok, Err, length, refl, sym, ap, subst, ◌∙◌, arith}
-use Rattle.std.specs.Prelude.{◌==◌, ◌&&◌, not, nat_lt}
-use Rattle.std.specs.List.{AllByRecursion}
-use Rattle.std.proofs.lemmas.Bool.Decides.{nat_tests}
-use Rattle.model.specs.Broker.{Broker, with_one}
-use Rattle.model.specs.Commands.{Stream, opened_stream, running_stream}
-use Rattle.model.specs.Opening.{new_session}
-use Rattle.model.specs.Phases.{Session, running_session}
-use Rattle.model.specs.State.{Config, Step}
-use Rattle.model.specs.Step.{Acts, Is}
-use Rattle.model.specs.Run.{Happening}
-use Rattle.model.specs.Topology.{Topology}
-use Rattle.model.specs.Guarantee.{Guarantee}
-use Rattle.model.specs.Arrivals.{Wire, new_wire, new_world, is_ended, can_open, standing, Same}
-use Rattle.model.specs.declared.events.Event.{Event}
+use Rattle.engine.proofs.Names.{◌≡◌, ◌<◌, ◌≤◌, ◌+◌, ℕ, List, [], ◌∷◌, ◌++◌, Bool, true, false, cond, Option, Some, None, length, refl, sym, ap, subst, ◌∙◌, arith, ◌==◌, ◌&&◌, not, nat_lt, AllByRecursion, nat_tests, Broker, with_one, Stream, opened_stream, running_stream, new_session, Session, running_session, Config, Step, Acts, Is, Happening, Topology, Guarantee, Wire, new_wire, new_world, is_ended, can_open, standing, Same, Event, nothing, WithTurn, IsOpened, IsKeptEvent, kept_of, Parts, connection_in, session_of, wire_in, wire_of, config_of, state_of, world_of, AreConnections, IsConnection, IsNew, IsEngine, Numbers, OpenedBy, Connection}
+use Rattle.std.proofs.Common.{Result, Ok, Err}
 use Rattle.model.specs.declared.events.Event.TheVariants as event
-use Rattle.commands.specs.State.{nothing}
-use Rattle.broker.specs.Turns.{WithTurn, topology_kept, broker_of}
-use Rattle.runs.specs.Opened.{IsOpened}
-use Rattle.engine.specs.Reading.{IsKeptEvent, kept_of}
-use Rattle.engine.specs.World.{Parts, connection_in, session_of, wire_in, wire_of, config_of, state_of, world_of, AreConnections, IsConnection, IsNew, IsEngine}
-use Rattle.engine.specs.Opening.{Numbers, OpenedBy}
+use Rattle.broker.specs.Turns.{topology_kept, broker_of}
 use Rattle.engine.specs.declared.engines.Refused.{Refused}
 use Rattle.engine.specs.declared.engines.Refused.TheVariants.{Full, Spent, Memory}
-use Rattle.engine.specs.declared.connection.Connection.{Connection}
 use Rattle.engine.proofs.Numbered.{connection_in-push, rising-push, other_false}
 use Rattle.engine.proofs.Standing.{standing_is}
 use Rattle.engine.proofs.Agreeing.{Agrees, agreed, opens_new_agrees, opens_ready_agrees}

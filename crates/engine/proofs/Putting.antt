@@ -1,27 +1,13 @@
 -- What is put in force leaves an engine one.
-use Rattle.std.proofs.Common.{◌≡◌, ◌∙◌, ℕ, List, [], ◌∷◌, Option, Some, None, Result, Err, refl, sym, ap, subst}
-use Rattle.model.specs.State.{Config}
-use Rattle.model.specs.Arrivals.{World, Same}
-use Rattle.model.specs.Headline.{IsSound}
-use Rattle.model.specs.Guarantee.{Guarantee, AllHold}
-use Rattle.model.specs.Topology.{Topology, IsWellFormed}
+use Rattle.engine.proofs.Names.{◌≡◌, ◌∙◌, ℕ, List, [], ◌∷◌, Option, Some, None, refl, sym, ap, subst, Config, World, Same, IsSound, Guarantee, AllHold, Topology, IsWellFormed, User, Obstacle, stay_consistent, worlds_named, IsPutInForce, TellsReload, IsMemory, wanting, Judges, WithTurn, in_force, IsPut, TellsPut, Parts, connection_in, session_of, wire_of, config_of, world_of, AreConnections, IsEngine, Connection}
+use Rattle.std.proofs.Common.{Result, Err}
 use Rattle.model.specs.Reloading.{NothingStands}
-use Rattle.model.specs.declared.messages.User.{User}
-use Rattle.model.specs.declared.obstacles.Obstacle.{Obstacle}
-use Rattle.laws.proofs.Consistency.{stay_consistent}
-use Rattle.laws.proofs.Naming.{worlds_named}
 use Rattle.runs.proofs.Reloads.{put_reloads}
 use Rattle.runs.specs.Faults.{obstacle_in}
-use Rattle.runs.specs.Reloaded.{IsPutInForce, TellsReload, IsMemory, wanting}
 use Rattle.runs.specs.declared.faults.ReloadFault.{ReloadFault}
 use Rattle.runs.specs.declared.faults.ReloadFault.TheVariants.{InUse, Breaks, Memory}
 use Rattle.certificate.specs.Admitted.{Admitted}
-use Rattle.reloading.specs.Obstacles.{Judges}
-use Rattle.broker.specs.Turns.{WithTurn, topology_kept, broker_of}
-use Rattle.engine.specs.InForce.{in_force}
-use Rattle.engine.specs.Putting.{IsPut, TellsPut}
-use Rattle.engine.specs.World.{Parts, connection_in, session_of, wire_of, config_of, world_of, AreConnections, IsEngine}
-use Rattle.engine.specs.declared.connection.Connection.{Connection}
+use Rattle.broker.specs.Turns.{topology_kept, broker_of}
 use Rattle.engine.proofs.Agreeing.{Agrees, agreed}
 
 -- ---- what a reload that was done leaves

@@ -1,18 +1,8 @@
 -- What the broker sends at one event can be put out for its connection.
-use Rattle.std.proofs.Common.{◌≡◌, ℕ, List, subst}
-use Rattle.std.specs.List.{AllByRecursion}
-use Rattle.model.specs.Topology.{Topology}
-use Rattle.model.specs.Broker.{Broker}
-use Rattle.model.specs.Step.{Acts}
-use Rattle.model.specs.Arrivals.{IsSaid}
-use Rattle.model.specs.Sending.{AreCarried, IsAddressed, AreOwn}
-use Rattle.model.specs.declared.notes.Note.{Note}
-use Rattle.model.specs.declared.events.Send.{Send}
-use Rattle.model.specs.declared.events.Event.{Event}
+use Rattle.engine.proofs.Names.{◌≡◌, ℕ, List, subst, AllByRecursion, Topology, Broker, Acts, IsSaid, AreCarried, IsAddressed, AreOwn, Note, Send, Event, IsAskedBy}
 use Rattle.model.specs.declared.events.Event.TheVariants as event
 use Rattle.laws.proofs.Sent.{sends_are_own}
 use Rattle.replies.specs.Sent.{connection_of_event}
-use Rattle.engine.specs.Performing.{IsAskedBy}
 
 -- what is asked is asked by its own connection
 asked_by : (c : ℕ) (e : Event) → IsAskedBy c e → connection_of_event e ≡ c

@@ -1,12 +1,5 @@
 -- As many connections stand as are kept.
-use Rattle.std.proofs.Common.{◌≡◌, ◌≢◌, ◌+◌, ◌<◌, ◌≤◌, ℕ, zero, suc, List, [], ◌∷◌, Bool, true, false, cond, eqb, Option, Some, None, length, refl, sym, ap, subst, ◌∙◌, arith}
-use Rattle.std.specs.Prelude.{◌==◌, ◌&&◌, not, nat_lt, nat_le}
-use Rattle.std.specs.List.{AllByRecursion}
-use Rattle.std.proofs.lemmas.Bool.{eqb-true, false≢true}
-use Rattle.std.proofs.lemmas.Bool.Decides.{nat_tests}
-use Rattle.model.specs.Arrivals.{is_gone, is_ended, standing}
-use Rattle.engine.specs.World.{Parts, connection_in, session_of, wire_in, wire_of, world_of, is_connection_gone, IsConnection, AreConnections, AreRising}
-use Rattle.engine.specs.declared.connection.Connection.{Connection}
+use Rattle.engine.proofs.Names.{◌≡◌, ◌≢◌, ◌+◌, ◌<◌, ◌≤◌, ℕ, zero, suc, List, [], ◌∷◌, Bool, true, false, cond, eqb, Option, Some, None, length, refl, sym, ap, subst, ◌∙◌, arith, ◌==◌, ◌&&◌, not, nat_lt, nat_le, AllByRecursion, eqb-true, false≢true, nat_tests, is_gone, is_ended, standing, Parts, connection_in, session_of, wire_in, wire_of, world_of, is_connection_gone, IsConnection, AreConnections, AreRising, Connection}
 use Rattle.engine.proofs.Numbered.{none_below}
 
 abbrev pub one : Bool → ℕ

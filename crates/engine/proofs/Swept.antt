@@ -1,23 +1,7 @@
 -- A connection that changed in its place, and is taken out where it is gone.
-use Rattle.std.proofs.Common.{◌≡◌, ◌<◌, ℕ, zero, suc, List, [], ◌∷◌, Bool, true, false, cond, Result, Ok, Err, get_or, set, length, remove, refl, sym, ap, subst, ◌∙◌, arith, Option}
-use Rattle.std.specs.Prelude.{◌&&◌, not, nat_lt, IsOk, IfOk, OnOk, OnErr}
-use Rattle.std.specs.List.{AllByRecursion}
-use Rattle.std.proofs.lemmas.Bool.{false≢true}
+use Rattle.engine.proofs.Names.{◌≡◌, ◌<◌, ℕ, zero, suc, List, [], ◌∷◌, Bool, true, false, cond, get_or, set, length, remove, refl, sym, ap, subst, ◌∙◌, arith, Option, ◌&&◌, not, nat_lt, IsOk, IfOk, OnOk, OnErr, AllByRecursion, false≢true, Rules, rules_of, Topology, is_ended, Session, User, Event, Broker, Held, stream_of, IsKeptEvent, HasMore, kept_of, ConnectionTook, ConnectionWaits, MayTurn, has_performed, is_connection_gone, IsConnection, Changes, IsSwept, IsStanding, ConnectionTookOr, ConnectionSent, ConnectionFed, ConnectionsTook, ConnectionsSent, ConnectionsFed, Connection, Turn}
+use Rattle.std.proofs.Common.{Result, Ok, Err}
 use Rattle.std.proofs.lemmas.List.{set-get_or, get_or_default}
-use Rattle.engine.specs.Performing.{Rules, rules_of}
-use Rattle.model.specs.Topology.{Topology}
-use Rattle.model.specs.Arrivals.{is_ended}
-use Rattle.model.specs.Phases.{Session}
-use Rattle.model.specs.declared.messages.User.{User}
-use Rattle.model.specs.declared.events.Event.{Event}
-use Rattle.model.specs.Broker.{Broker}
-use Rattle.assembly.specs.Held.{Held, stream_of}
-use Rattle.engine.specs.Reading.{IsKeptEvent, HasMore, kept_of}
-use Rattle.engine.specs.Turning.{ConnectionTook, ConnectionWaits, MayTurn, has_performed}
-use Rattle.engine.specs.World.{is_connection_gone, IsConnection}
-use Rattle.engine.specs.Engines.{Changes, IsSwept, IsStanding, ConnectionTookOr, ConnectionSent, ConnectionFed, ConnectionsTook, ConnectionsSent, ConnectionsFed}
-use Rattle.engine.specs.declared.connection.Connection.{Connection}
-use Rattle.engine.specs.declared.turning.Turn.{Turn}
 use Rattle.engine.specs.declared.turning.Turn.TheVariants as turn
 use Rattle.engine.proofs.Numbered.{all_at}
 

@@ -1,29 +1,8 @@
 -- From the connection at a place to the world.
-use Rattle.std.proofs.Common.{◌≡◌, ◌⊎◌, inl, inr, ◌<◌, ◌+◌, ℕ, List, [], Bool, true, false, cond, Option, Some, None, Result, Ok, Err, get_or, set, remove, length, refl, sym, ap, subst, ◌∙◌, arith}
-use Rattle.std.specs.Prelude.{IsOk, IfOk, OnOk, OnErr, MatchBool, ◌==◌, ◌&&◌, not}
-use Rattle.std.proofs.lemmas.Bool.{false≢true}
-use Rattle.model.specs.Broker.{Broker}
-use Rattle.model.specs.Topology.{Topology}
-use Rattle.engine.specs.Performing.{Rules, rules_of}
-use Rattle.model.specs.Step.{Acts}
-use Rattle.model.specs.Run.{Happening}
-use Rattle.model.specs.Headline.{IsSound}
-use Rattle.model.specs.Arrivals.{Same, Waits, is_ended, is_over, is_paused, is_awake, is_gone, is_past_bound, Takes_off, Loses, with_heard}
-use Rattle.model.specs.declared.events.Event.{Event}
+use Rattle.engine.proofs.Names.{◌≡◌, ◌⊎◌, inl, inr, ◌<◌, ◌+◌, ℕ, List, [], Bool, true, false, cond, Option, Some, None, get_or, set, remove, length, refl, sym, ap, subst, ◌∙◌, arith, IsOk, IfOk, OnOk, OnErr, MatchBool, ◌==◌, ◌&&◌, not, false≢true, Broker, Topology, Rules, rules_of, Acts, Happening, IsSound, Same, Waits, is_ended, is_over, is_paused, is_awake, is_gone, is_past_bound, Takes_off, Loses, with_heard, Event, Note, turn_keeps, turn_confirms, is_running, runs, Hears, TakesAway, IsLost, waits_not, stream_of, HasMore, IsKeptEvent, kept_of, to_read, ConnectionDid, ConnectionWaits, ConnectionSame, Parts, connection_in, session_of, wire_of, wire_in, config_of, world_of, is_connection_gone, AreConnections, AreRising, IsEngine, Becomes, Changes, IsConnectionPlace, ConnectionTookOr, ConnectionsTook, ConnectionsSent, ConnectionFed, ConnectionsFed, Turned, OnDid, left_to_read, left_in, room_in, room_for, Connection, Turn}
+use Rattle.std.proofs.Common.{Result, Ok, Err}
 use Rattle.model.specs.declared.events.Event.TheVariants as event
-use Rattle.model.specs.declared.notes.Note.{Note}
-use Rattle.laws.proofs.Whole.{turn_keeps, turn_confirms}
-use Rattle.model.specs.Phases.{is_running}
-use Rattle.runs.specs.Opened.{runs, Hears, TakesAway, IsLost}
-use Rattle.runs.proofs.Worlds.{waits_not}
-use Rattle.assembly.specs.Held.{stream_of}
 use Rattle.broker.specs.Turns.{topology_kept, broker_of}
-use Rattle.engine.specs.Reading.{HasMore, IsKeptEvent, kept_of, to_read}
-use Rattle.engine.specs.Turning.{ConnectionDid, ConnectionWaits, ConnectionSame}
-use Rattle.engine.specs.World.{Parts, connection_in, session_of, wire_of, wire_in, config_of, world_of, is_connection_gone, AreConnections, AreRising, IsEngine}
-use Rattle.engine.specs.Engines.{Becomes, Changes, IsConnectionPlace, ConnectionTookOr, ConnectionsTook, ConnectionsSent, ConnectionFed, ConnectionsFed, Turned, OnDid, left_to_read, left_in, room_in, room_for}
-use Rattle.engine.specs.declared.connection.Connection.{Connection}
-use Rattle.engine.specs.declared.turning.Turn.{Turn}
 use Rattle.engine.specs.declared.turning.Turn.TheVariants as turn
 use Rattle.engine.proofs.Numbered.{connection_in-place, connection_in-remove, rising-remove, all-remove}
 use Rattle.engine.proofs.Standing.{gone_some}

@@ -1,32 +1,10 @@
 -- What is read next of one connection, and one turn of it.
-use Rattle.std.proofs.Common.{◌≡◌, ◌<◌, ◌≤◌, ◌+◌, ◌++◌, inl, inr, ℕ, List, true, false, Option, Some, None, length, refl, sym, ap, subst, ◌∙◌, arith}
-use Rattle.std.specs.List.{AllByRecursion}
-use Rattle.std.specs.Prelude.{is_some, Result, Ok, Err, IfOk, OnErr, IfSome, IsSome}
-use Rattle.std.proofs.lemmas.Bool.{false≢true}
-use Rattle.model.specs.Broker.{Broker}
-use Rattle.model.specs.Topology.{Topology}
-use Rattle.model.specs.Spelling.{receiver, spelling, IsSpelled}
-use Rattle.model.specs.Phases.{Session, Move}
-use Rattle.model.specs.Commands.{Stream, Yields, Ends, GoesOn, IsCommand, stays}
-use Rattle.model.specs.Arrivals.{Reads, again, fresh, fault, SameToCome, still, waits, kept, IsSaid, event_of, is_ended, is_past_bound}
-use Rattle.model.specs.declared.events.Phase.{Phase}
+use Rattle.engine.proofs.Names.{◌≡◌, ◌<◌, ◌≤◌, ◌+◌, ◌++◌, inl, inr, ℕ, List, true, false, Option, Some, None, length, refl, sym, ap, subst, ◌∙◌, arith, AllByRecursion, is_some, IfOk, OnErr, IfSome, IsSome, false≢true, Broker, Topology, receiver, spelling, IsSpelled, Session, Move, Stream, Yields, Ends, GoesOn, IsCommand, stays, Reads, again, fresh, fault, SameToCome, still, waits, kept, IsSaid, event_of, is_ended, is_past_bound, Phase, Command, Head, Plain, TooLarge, Send, Event, Note, stream_of, HasFront, ends_front, yields_front, kept_of, kept_for, IsEventMade, IsKeptEvent, HasMore, HasCommand, ComesNext, to_read, Rules, DecidesByPhase, IsAskedBy, PausesOr, WithTurn, Performed, DidEvent, DidNext, ConnectionStays, ConnectionTook, ConnectionWaits, OnIdle, HoldsNone, WaitingBytes, Connection, Turn}
+use Rattle.std.specs.Prelude.{Result, Ok, Err}
 use Rattle.model.specs.declared.events.Phase.TheVariants as phase
-use Rattle.model.specs.declared.events.Command.{Command}
-use Rattle.model.specs.declared.events.Command.TheVariants.{Head, Plain, Full, TooLarge}
-use Rattle.model.specs.declared.events.Send.{Send}
-use Rattle.model.specs.declared.events.Event.{Event}
+use Rattle.model.specs.declared.events.Command.TheVariants.{Full}
 use Rattle.model.specs.declared.events.Event.TheVariants as event
-use Rattle.model.specs.declared.notes.Note.{Note}
-use Rattle.assembly.specs.Held.{stream_of}
-use Rattle.assembly.specs.Front.{HasFront}
-use Rattle.assembly.proofs.Fronts.{ends_front, yields_front}
-use Rattle.engine.specs.Reading.{kept_of, kept_for, IsEventMade, IsKeptEvent, HasMore, HasCommand, ComesNext, to_read}
-use Rattle.engine.specs.Performing.{Rules, DecidesByPhase, IsAskedBy, PausesOr}
-use Rattle.broker.specs.Turns.{WithTurn, broker_of}
-use Rattle.engine.specs.Turning.{Performed, DidEvent, DidNext, ConnectionStays, ConnectionTook, ConnectionWaits, OnIdle}
-use Rattle.outputs.specs.Waiting.{HoldsNone, WaitingBytes}
-use Rattle.engine.specs.declared.connection.Connection.{Connection}
-use Rattle.engine.specs.declared.turning.Turn.{Turn}
+use Rattle.broker.specs.Turns.{broker_of}
 use Rattle.engine.specs.declared.turning.Turn.TheVariants as turn
 
 -- ---- what is read

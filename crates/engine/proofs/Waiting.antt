@@ -1,26 +1,10 @@
 -- What the calls of an engine leave of turns to be served.
-use Rattle.std.proofs.Common.{◌≡◌, ◌∙◌, ◌<◌, ℕ, List, Bool, false, Option, Some, None, Result, Ok, Err, get_or, length, refl, sym, ap, subst, arith}
-use Rattle.std.specs.Prelude.{IfOk}
+use Rattle.engine.proofs.Names.{◌≡◌, ◌∙◌, ◌<◌, ℕ, List, Bool, false, Option, Some, None, get_or, length, refl, sym, ap, subst, arith, IfOk, Broker, Stream, Wire, Reads, is_ended, Command, Event, stream_of, IsPick, WithTurn, NobodyIsPutBack, NoneIsLater, IsToldInTurn, ServesSoon, Rules, rules_of, kept_of, ComesNext, DidEvent, DidNext, Parts, connection_in, wire_in, wire_of, world_of, IsEngine, IsConnectionPlace, ConnectionsTook, KeepsTurns, PerformsNext, TurnLeaves, KeepsTold, TellsOne, ServesOne, Connection, Turn}
+use Rattle.std.proofs.Common.{Result, Ok, Err}
 use Rattle.std.proofs.lemmas.Option.{same_Some}
-use Rattle.model.specs.Broker.{Broker}
-use Rattle.model.specs.Commands.{Stream}
-use Rattle.model.specs.Arrivals.{Wire, Reads, is_ended}
-use Rattle.model.specs.declared.events.Command.{Command}
-use Rattle.model.specs.declared.events.Event.{Event}
-use Rattle.assembly.specs.Held.{stream_of}
-use Rattle.commands.specs.Picked.{IsPick}
 use Rattle.commands.specs.State as core
 use Rattle.commands.specs.declared.picks.Pick.{Pick}
-use Rattle.broker.specs.Turns.{WithTurn, topology_kept, broker_of}
-use Rattle.broker.specs.Waiting.{NobodyIsPutBack, NoneIsLater, IsToldInTurn, ServesSoon}
-use Rattle.engine.specs.Performing.{Rules, rules_of}
-use Rattle.engine.specs.Reading.{kept_of, ComesNext}
-use Rattle.engine.specs.Turning.{DidEvent, DidNext}
-use Rattle.engine.specs.World.{Parts, connection_in, wire_in, wire_of, world_of, IsEngine}
-use Rattle.engine.specs.Engines.{IsConnectionPlace, ConnectionsTook}
-use Rattle.engine.specs.Waiting.{KeepsTurns, PerformsNext, TurnLeaves, KeepsTold, TellsOne, ServesOne}
-use Rattle.engine.specs.declared.connection.Connection.{Connection}
-use Rattle.engine.specs.declared.turning.Turn.{Turn}
+use Rattle.broker.specs.Turns.{topology_kept, broker_of}
 use Rattle.engine.specs.declared.turning.Turn.TheVariants as turn
 use Rattle.engine.proofs.Turned.{next_read}
 use Rattle.engine.proofs.Swept.{same_at}

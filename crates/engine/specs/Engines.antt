@@ -1,5 +1,6 @@
 -- What the calls of an engine come to, from single connections to the world.
 use Rattle.std.specs.Prelude.{◌≡◌, ◌+◌, ◌≤◌, ◌<◌, ℕ, List, [], ◌∷◌, ◌++◌, length, drop, true, false, Option, Some, None, Result, Ok}
+use Rattle.model.specs.Sending.{most_sent}
 use Rattle.std.specs.Prelude.{Err, if◌then◌else◌, get_or, set}
 use Rattle.std.specs.List.{remove}
 use Rattle.model.specs.Topology.{Topology}
@@ -94,7 +95,7 @@ pub record IsSwept (ls : List Connection) (i : ℕ) (l : Connection) (new_ls : L
 
 -- one storage more is spare, that of the connection's output, if it has one of the usual size and few are
 abbrev pub IsSpared : ℕ → Connection → ℕ → Type 0
-IsSpared old l new = 0 < l.output.storage → l.output.storage ≤ 1125536 → old ≤ 16 → new ≡ old + 1
+IsSpared old l new = most_sent ≤ l.output.storage → l.output.storage ≤ 1125536 → old ≤ 16 → new ≡ old + 1
 
 -- The connection at this place became this one.
 pub record Changes (ls : List Connection) (i : ℕ) (old new : Connection) (new_ls : List Connection) : Type 0 where

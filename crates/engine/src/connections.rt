@@ -26,6 +26,7 @@ ghost use Rattle.engine.specs.declared.connection.Connection as seen;
 use crate::connection::{BOUND, Connection};
 use crate::performing::resume_if;
 use crate::places::Places;
+use crate::reserve::feed;
 use crate::turning::{Turn, has_performed};
 use broker::Broker;
 use outputs::Spares;
@@ -146,7 +147,11 @@ pub(crate) fn remove_lost(spares: &mut Spares, connections: &mut Vec<Connection>
 }
 
 /// Puts bytes behind those that the connection has still to read, unless it is over.
-pub(crate) fn feed_connection(connection: &mut Connection, bytes: &[u8]) -> Result<(), AllocError>
+pub(crate) fn feed_connection(
+    spares: &mut Spares,
+    connection: &mut Connection,
+    bytes: &[u8],
+) -> Result<(), AllocError>
     ensures ok { OnOk result (ConnectionFed connection.old bytes.now connection.new) }
     ensures over { is_ended connection.old.session.phase ≡ true → IsOk result × (connection.new ≡ connection.old) }
     ensures err { OnErr result (connection.new ≡ connection.old) }
@@ -155,5 +160,5 @@ pub(crate) fn feed_connection(connection: &mut Connection, bytes: &[u8]) -> Resu
     if connection.session.is_over() {
         return Ok(());
     }
-    connection.stream.feed(bytes)
+    feed(spares, &mut connection.stream, bytes)
 }

@@ -1,5 +1,6 @@
 //! The engine.
 
+mod obstacles;
 mod putting;
 
 ghost use Rattle.std.specs.Prelude.{◌≡◌, ◌<◌, ℕ, length, true, IfOk, IsOk, OnErr, OnOk, MatchOption, vec_len, vec_capacity};
@@ -125,7 +126,7 @@ impl Engine {
             guarantees,
             users,
             given: 0,
-            connections: Vec::new(alloc),
+            connections: Vec::with_capacity(alloc, MOST_CONNECTIONS)?,
             scratch: Scratch::new(alloc)?,
             spares: Spares::new(alloc)?,
             places: Places::new(alloc)?,
@@ -175,7 +176,9 @@ impl Engine {
         ensures broker { self.new.broker ≡ self.old.broker }
     {
         match connection_place(&self.connections, &self.places, c) {
-            Some(place) => feed_connection(&mut self.connections[place], bytes),
+            Some(place) => {
+                feed_connection(&mut self.spares, &mut self.connections[place], bytes)
+            }
             None => Ok(()),
         }
     }

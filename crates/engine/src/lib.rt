@@ -13,6 +13,7 @@ mod performing;
 mod places;
 mod pumping;
 mod reading;
+mod reserve;
 mod setups;
 mod turning;
 

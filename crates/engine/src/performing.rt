@@ -1,7 +1,7 @@
 //! One event of one connection.
 
 ghost use Rattle.std.specs.Prelude.{◌≡◌, ℕ, [], true, false, IfOk, OnErr, OnOk};
-ghost use Rattle.model.specs.Step.{Is};
+ghost use Rattle.model.specs.Step.{Acts, Is};
 ghost use Rattle.model.specs.Phases.{is_running};
 ghost use Rattle.model.specs.State.{after_move};
 ghost use Rattle.model.specs.Arrivals.{IsSaid};
@@ -9,9 +9,12 @@ ghost use Rattle.model.specs.Sending.{AreCarried, AreOwn};
 ghost use Rattle.broker.specs.Turns.{topology_kept, broker_of};
 ghost use Rattle.broker.specs.Waiting.{NobodyIsPutBack, NoneIsLater};
 ghost use Rattle.engine.specs.Performing.{IsAskedBy, session_after, rules_of, IsAnswerTo, ByPhase, DecidesByPhase, PausesOr};
+ghost use Rattle.engine.specs.Wanting.{brings_message as brings, IsFreed, IsHeld};
 
+use crate::reserve::{self, hold_for};
 use broker::{Broker, Step};
 use model::{Event, Phase, Send, User};
+use outputs::Spares;
 use session::Session;
 use std::alloc::{AllocError, Global};
 
@@ -67,7 +70,7 @@ fn open_if(c: u64, alloc: Global, broker: &mut Broker, session: &Session) -> Res
 
 /// An event of the connection `c`, which does not run. Where memory is wanting the session is as before: it moves on once the
 /// broker has the connection.
-fn by_phase(
+pub(crate) fn by_phase(
     c: u64,
     alloc: Global,
     users: &[User],
@@ -96,13 +99,15 @@ fn by_phase(
 }
 
 /// The first eight bytes of the connection `c`, a command of it, or the fault of its stream: while it runs the broker performs it,
-/// and else its phase answers.
+/// and else its phase answers. A command with a content is performed only while the reserve is whole. Any other event fails only if an
+/// allocation fails after the reserve was freed for it.
 pub(crate) fn perform(
     c: u64,
     alloc: Global,
     users: &[User],
     broker: &mut Broker,
     session: &mut Session,
+    spares: &mut Spares,
     event: &Event,
 ) -> Result<Step, AllocError>
     requires asked { IsAskedBy c event.now }
@@ -116,14 +121,17 @@ pub(crate) fn perform(
     ensures topology { topology_kept broker.new ≡ topology_kept broker.old }
     ensures turn { broker.new.turn ≡ broker.old.turn }
     ensures later { OnOk result (NobodyIsPutBack broker.old broker.new) }
+    ensures whole { OnOk result (brings event.now ≡ true → IsHeld spares.new) }
+    ensures last { OnErr result (brings event.now ≡ false → IsFreed spares.new) }
 {
+    hold_for(spares, event)?;
     match session.phase() {
         Phase::Running => {
-            let step = broker.step(alloc, event)?;
+            let step = reserve::step(alloc, broker, spares, event)?;
             learn(session, event, &step.sends);
             Ok(step)
         }
-        _ => by_phase(c, alloc, users, broker, session, event),
+        _ => reserve::by_phase(c, alloc, users, broker, session, spares, event),
     }
 }
 

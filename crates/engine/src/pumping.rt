@@ -10,6 +10,7 @@ ghost use Rattle.engine.specs.Pumping.{ConnectionPumped};
 ghost use Rattle.outputs.specs.Waiting.{HoldsNone};
 
 use crate::connection::Connection;
+use crate::reserve::pump;
 use crate::turning::{make_room, put_out};
 use broker::{Broker, Pick};
 use model::Note;
@@ -42,7 +43,7 @@ pub(crate) fn pump_connection(
 {
     make_room(spares, &mut connection.output)?;
     let max = connection.session.frame_max();
-    match broker.pump(alloc, pick) {
+    match pump(alloc, spares, broker, pick) {
         Ok(step) => {
             put_out(
                 pick.connection,

@@ -7,14 +7,17 @@ ghost use Rattle.model.specs.declared.events.Event.TheVariants as happens;
 ghost use Rattle.assembly.specs.Held.{stream_of};
 ghost use Rattle.engine.specs.Reading.{IsKeptEvent, ComesNext, HasMore, kept_of, kept_for};
 
+use crate::reserve::next;
 use assembly::{Fault, Stream};
 use model::{Command, Event, Method};
+use outputs::Spares;
 use std::alloc::AllocError;
 
 /// Reads what is next of the connection `number`, if no command is kept: the next command that its bytes spell, or the fault that they
 /// end in. It is kept from then on.
 pub(crate) fn read_next(
     number: u64,
+    spares: &mut Spares,
     stream: &mut Stream,
     kept: &mut Option<Event>,
 ) -> Result<(), AllocError>
@@ -27,7 +30,7 @@ pub(crate) fn read_next(
     if kept.is_some() {
         return Ok(());
     }
-    match stream.next() {
+    match next(spares, stream) {
         Ok(Some(command)) => {
             keep(kept, number, command);
             Ok(())

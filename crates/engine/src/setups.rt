@@ -66,6 +66,14 @@ impl Setup {
         })
     }
 
+    /// Returns the topology with its guarantees.
+    pub(crate) fn checked(&self) -> &Checked
+        ensures topology { result.now.topology ≡ self.now.topology }
+        ensures guarantees { result.now.guarantees ≡ self.now.guarantees }
+    {
+        &self.checked
+    }
+
     /// What every setup would put in force is sound.
     pub fn is_sound(&self)
         ensures { IsSound self.now }

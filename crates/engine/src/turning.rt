@@ -1,6 +1,6 @@
 //! One turn of one connection.
 
-ghost use Rattle.std.specs.Prelude.{◌≡◌, ◌≤◌, ◌<◌, ◌++◌, false, IfOk, OnOk, OnErr, IfSome, IsSome};
+ghost use Rattle.std.specs.Prelude.{◌≡◌, ◌≤◌, ◌<◌, ◌++◌, true, false, IfOk, IsOk, OnOk, OnErr, IfSome, IsSome};
 ghost use Rattle.std.specs.List.{AllByRecursion};
 ghost use Rattle.model.specs.Arrivals.{IsSaid, is_ended, is_past_bound, under_session};
 ghost use Rattle.model.specs.Phases.{is_running as runs};
@@ -12,6 +12,7 @@ ghost use Rattle.assembly.specs.Held.{stream_of};
 ghost use Rattle.engine.specs.Reading.{IsKeptEvent, HasMore, kept_of};
 ghost use Rattle.engine.specs.Performing.{IsAskedBy, PausesOr, rules_of};
 ghost use Rattle.engine.specs.Turning.{has_performed as performs, Performed, DidNext, ConnectionStays, ConnectionTook, ConnectionWaits, MayTurn, OnIdle};
+ghost use Rattle.engine.specs.Wanting.{brings_message, IsHeld};
 ghost use Rattle.engine.specs.World.{wire_in};
 ghost use Rattle.engine.specs.Waiting.{TurnLeaves};
 ghost use Rattle.outputs.specs.Waiting.{HoldsNone};
@@ -19,6 +20,7 @@ ghost use Rattle.outputs.specs.Waiting.{HoldsNone};
 use crate::connection::{BOUND, Connection};
 use crate::performing::{pause_if, perform};
 use crate::reading::{forget, forget_fault, read_next};
+use crate::reserve;
 use assembly::Stream;
 use broker::Broker;
 use model::{Event, Note, Phase, Send, User};
@@ -91,6 +93,9 @@ fn do_next(
     ensures connection_kept { OnErr result (ConnectionStays connection.old connection.new) }
     ensures topology { topology_kept broker.new ≡ topology_kept broker.old }
     ensures turn { broker.new.turn ≡ broker.old.turn }
+    // A publish leaves the reserve whole, and anything else is refused memory only after the reserve was freed for it.
+    ensures whole { OnOk result (IfSome connection.old.kept (λ e. brings_message e ≡ true → IsHeld spares.new)) }
+    ensures last { OnErr result (IfSome connection.old.kept (λ e. brings_message e ≡ false → spares.new ≤ 3)) }
 {
     let Some(event) = &connection.kept else {
         spares.take_back(&mut connection.output);
@@ -102,7 +107,15 @@ fn do_next(
     }
     let number = connection.number;
     let max = connection.session.frame_max();
-    match perform(number, alloc, users, broker, &mut connection.session, event) {
+    match perform(
+        number,
+        alloc,
+        users,
+        broker,
+        &mut connection.session,
+        spares,
+        event,
+    ) {
         Ok(step) => {
             put_out(
                 number,
@@ -144,9 +157,11 @@ pub(crate) fn make_room(spares: &mut Spares, output: &mut Output) -> Result<(), 
     ensures bytes { output.new.bytes ≡ output.old.bytes }
     ensures ok { OnOk result (most_sent ≤ output.new.room) }
     ensures full { OnErr result (output.old.room < most_sent) }
+    ensures enough { output.old.storage ≡ 0 → 0 < spares.old → IsOk result }
     ensures refused { OnErr result (HoldsNone output.new) }
+    ensures last { OnErr result (spares.new ≤ 3) }
 {
-    match spares.make_room(output) {
+    match reserve::make_room(spares, output) {
         Ok(()) => Ok(()),
         Err(error) => {
             spares.take_back(output);
@@ -188,6 +203,7 @@ pub(crate) fn turn_connection(
     }
     match read_next(
         connection.number,
+        spares,
         &mut connection.stream,
         &mut connection.kept,
     ) {

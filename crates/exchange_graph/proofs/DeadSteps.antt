@@ -1,11 +1,6 @@
 -- A queue's dead letters go on as its declaration says.
-use Rattle.std.proofs.Common.{◌≡◌, ℕ, ◌<◌, ◌∙◌, Some, None, length, get_or, sym, ap, subst}
-use Rattle.model.specs.Words.{Text}
-use Rattle.model.specs.Topology.{Topology, IsIn, IsWellFormed, queue_names}
-use Rattle.model.specs.Routing.{Dies}
-use Rattle.model.specs.declared.topologies.DeclaredQueue.{DeclaredQueue}
-use Rattle.topology_drafts.proofs.Members.{in_map, in_contains}
-use Rattle.exchange_graph.specs.Marks.{queue_name}
+use Rattle.exchange_graph.proofs.Names.{◌≡◌, ℕ, ◌<◌, ◌∙◌, length, get_or, sym, ap, subst, Text, Topology, IsIn, IsWellFormed, queue_names, Dies, DeclaredQueue, in_map, in_contains, queue_name}
+use Rattle.std.proofs.Common.{Some, None}
 use Rattle.exchange_graph.proofs.Naming.{same_queue, get_any}
 
 -- no queue of this name is there

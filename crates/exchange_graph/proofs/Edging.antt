@@ -1,24 +1,7 @@
 -- Single steps of a route, by names.
-use Rattle.std.proofs.Common.{◌≡◌, ℕ, ◌<◌, List, [], ◌∷◌, Bool, true, false, refl, sym, ap, ◌∙◌, subst, length, inl, inr, eqb, eq-eqb, arith}
-use Rattle.std.specs.Prelude.{Decides, Contains, ◌||◌}
-use Rattle.std.specs.Str.{bytes_eq}
-use Rattle.std.proofs.lemmas.Slice.Eq.{bytes_eq-Decides}
-use Rattle.std.specs.List.{list_any}
-use Rattle.std.proofs.lemmas.Bool.{eqb-true}
-use Rattle.std.proofs.lemmas.List.{length-map}
-use Rattle.model.specs.Words.{Text}
-use Rattle.model.specs.Topology.{Topology, IsIn, IsWellFormed, IsThere, exchange_names, queue_names}
-use Rattle.model.specs.Routing.{Reading, Edge, bound, alternate, default, of_key}
-use Rattle.model.specs.declared.topologies.Exchange.{Exchange}
-use Rattle.model.specs.declared.topologies.DeclaredQueue.{DeclaredQueue}
-use Rattle.model.specs.declared.topologies.Place.{Place}
+use Rattle.exchange_graph.proofs.Names.{◌≡◌, ℕ, ◌<◌, List, [], ◌∷◌, Bool, true, false, refl, sym, ap, ◌∙◌, subst, length, inl, inr, eqb, eq-eqb, arith, Decides, Contains, ◌||◌, bytes_eq, bytes_eq-Decides, list_any, eqb-true, length-map, Text, Topology, IsIn, IsWellFormed, IsThere, exchange_names, queue_names, Reading, Edge, bound, alternate, default, of_key, Exchange, DeclaredQueue, Place, End, Onward, Into, AreSteps, place_of, EndsWithin, exchange_name, queue_name, in_contains, in_map}
 use Rattle.model.specs.declared.topologies.Place.TheVariants as place
-use Rattle.exchange_graph.specs.declared.ends.End.{End}
-use Rattle.exchange_graph.specs.declared.ends.End.TheVariants.{Onward, Into}
-use Rattle.exchange_graph.specs.Fans.{AreSteps, place_of, EndsWithin}
-use Rattle.exchange_graph.specs.Marks.{exchange_name, queue_name}
 use Rattle.exchange_graph.specs.Edges.{LeadsToQueue, LeadsOn, is_into, is_onward}
-use Rattle.topology_drafts.proofs.Members.{in_contains, in_map}
 use Rattle.exchange_graph.proofs.Naming.{apart_same, one_at}
 
 -- ---- what leads on is there

@@ -1,18 +1,11 @@
 -- What can be built is well formed.
-use Rattle.std.proofs.Common.{◌≡◌, ◌≤◌, [], length, sym, subst, inl, inr, ◌⊎◌, arith}
-use Rattle.std.specs.Prelude.{Contains}
+use Rattle.exchange_graph.proofs.Names.{◌≡◌, ◌≤◌, [], length, sym, subst, inl, inr, arith, Contains, Text, Topology, IsIn, IsThere, IsWellFormed, exchange_names, queue_names, Exchange, DeclaredQueue, Binding, Place, map_in, contains_in}
+use Rattle.std.proofs.Common.{◌⊎◌}
 use Rattle.std.proofs.lemmas.List.Elements.{All-contains}
-use Rattle.model.specs.Words.{Text}
-use Rattle.model.specs.Topology.{Topology, IsIn, IsThere, IsWellFormed, exchange_names, queue_names}
-use Rattle.model.specs.declared.topologies.Exchange.{Exchange}
-use Rattle.model.specs.declared.topologies.DeclaredQueue.{DeclaredQueue}
-use Rattle.model.specs.declared.topologies.Binding.{Binding}
-use Rattle.model.specs.declared.topologies.Place.{Place}
 use Rattle.model.specs.declared.topologies.Place.TheVariants as place
 use Rattle.topology_drafts.specs.declared.bad.BadTopology.{BadTopology}
 use Rattle.topology_drafts.specs.declared.bad.BadTopology.TheVariants.{Repeated, Absent, Argument, Worded, TooMany, NoExchange, Memory}
 use Rattle.topology_drafts.specs.Causes.{IsBuildable, StandsAgainst, IsTopologyRefused, IsNamed, IsWorded, IsPlace, Joins, AlternateIsThere, DeadLettersLead}
-use Rattle.topology_drafts.proofs.Members.{map_in, contains_in}
 
 none_unnamed : (t : Topology) → IsBuildable t → IsIn [] (exchange_names t.exchanges) → ⊥
 none_unnamed t b h =

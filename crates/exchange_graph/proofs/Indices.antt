@@ -1,8 +1,7 @@
 -- The first place at which a test passes.
-use Rattle.std.proofs.Common.{◌≡◌, ℕ, zero, suc, ◌+◌, ◌<◌, ◌≤◌, List, [], ◌∷◌, Bool, true, false, cond, ltb, refl, sym, ap, ◌∙◌, subst, Option, Some, None, IfSome, length, get_or, slice_get, find, arith}
+use Rattle.exchange_graph.proofs.Names.{◌≡◌, ℕ, zero, suc, ◌+◌, ◌<◌, ◌≤◌, List, [], ◌∷◌, Bool, true, false, cond, ltb, refl, sym, ap, ◌∙◌, subst, length, get_or, slice_get, find, arith, position_or_len, prefix_len, ltb-true, ltb-false}
+use Rattle.std.proofs.Common.{Option, Some, None, IfSome}
 use Rattle.std.specs.Prelude.{position, not}
-use Rattle.std.specs.List.{position_or_len, prefix_len}
-use Rattle.std.proofs.lemmas.Bool.{ltb-true, ltb-false}
 use Rattle.std.proofs.lemmas.List.Folds.{find_at}
 
 prefix_at : (b : Bool) (n m : ℕ) → n ≤ m → cond b (1 + n) 0 ≤ 1 + m

@@ -1,17 +1,8 @@
 -- Ends are put under keys one by one.
-use Rattle.std.proofs.Common.{◌≡◌, ℕ, zero, suc, ◌+◌, ◌<◌, ◌≤◌, List, [], ◌∷◌, ◌++◌, Bool, true, false, cond, not, refl, sym, ap, ◌∙◌, subst, length, drop, get_or, set, position, Some, None, inl, inr, append_assoc, append-nil, arith}
-use Rattle.std.proofs.lemmas.List.{drop_more, at_drop_all, length-set, length-append}
-use Rattle.std.proofs.lemmas.Slice.Eq.{bytes_eq-Decides}
-use Rattle.std.specs.Str.{bytes_eq}
-use Rattle.std.specs.List.{position_or_len}
-use Rattle.model.specs.Words.{Text}
-use Rattle.model.specs.Topology.{IsIn}
+use Rattle.exchange_graph.proofs.Names.{◌≡◌, ℕ, zero, suc, ◌+◌, ◌<◌, ◌≤◌, List, [], ◌∷◌, ◌++◌, Bool, true, false, cond, refl, sym, ap, ◌∙◌, subst, length, drop, get_or, set, inl, inr, append_assoc, append-nil, arith, drop_more, at_drop_all, length-set, length-append, bytes_eq-Decides, bytes_eq, position_or_len, Text, IsIn, End, Branch, ends_by_key, ends_beside, IsEven, PutsUnder}
+use Rattle.std.proofs.Common.{not, position, Some, None}
 use Rattle.topology_drafts.specs.Naming.{EntersName}
-use Rattle.exchange_graph.specs.declared.ends.End.{End}
-use Rattle.exchange_graph.specs.declared.ends.Branch.{Branch}
-use Rattle.exchange_graph.specs.Fans.{ends_by_key}
 use Rattle.exchange_graph.specs.declared.ends.KeyedEnds.{KeyedEnds}
-use Rattle.exchange_graph.specs.Keyed.{ends_beside, IsEven, PutsUnder}
 use Rattle.exchange_graph.proofs.Indices.{place_if_some, place_if_none}
 
 -- the first place of a key, or how many keys there are

@@ -1,10 +1,7 @@
 -- Marks that are set one by one.
-use Rattle.std.proofs.Common.{◌≡◌, ℕ, zero, suc, ◌+◌, ◌<◌, List, [], ◌∷◌, ◌++◌, Bool, true, false, cond, refl, ap, ◌∙◌, length, take, set, get_or, inl, inr, arith}
-use Rattle.std.proofs.lemmas.List.{take_more}
+use Rattle.exchange_graph.proofs.Names.{◌≡◌, ℕ, zero, suc, ◌+◌, ◌<◌, List, [], ◌∷◌, ◌++◌, Bool, true, false, cond, refl, ap, ◌∙◌, length, set, get_or, inl, inr, arith, take_more, End, MarksEnds, IsSet, unset, in_append, in_left, in_right}
+use Rattle.std.proofs.Common.{take}
 use Rattle.std.specs.Prelude.{◌⊎◌}
-use Rattle.exchange_graph.specs.declared.ends.End.{End}
-use Rattle.exchange_graph.specs.Marks.{MarksEnds, IsSet, unset}
-use Rattle.topology_drafts.proofs.Members.{in_append, in_left, in_right}
 
 pub marks_then : (es fs : List End) (a b c d x y : List Bool) → MarksEnds es a b c d → MarksEnds fs c d x y → MarksEnds (es ++ fs) a b x y
 marks_then es fs a b c d x y m n = record {

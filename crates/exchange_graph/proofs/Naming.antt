@@ -1,20 +1,8 @@
 -- Names, and where they stand.
-use Rattle.std.proofs.Common.{◌≡◌, ℕ, zero, suc, ◌+◌, ◌<◌, List, [], ◌∷◌, Bool, true, false, cond, refl, sym, ap, ◌∙◌, subst, length, map, get_or, inl, inr, arith}
-use Rattle.std.specs.Prelude.{Contains, not, Option, Some, None, position, IfSome, IfNone}
+use Rattle.exchange_graph.proofs.Names.{◌≡◌, ℕ, zero, suc, ◌+◌, ◌<◌, List, [], ◌∷◌, Bool, true, false, cond, refl, sym, ap, ◌∙◌, subst, length, map, get_or, inl, inr, arith, Contains, IfNone, bytes_eq, position_or_len, bytes_eq-Decides, length-map, Text, Topology, IsIn, AreApart, IsThere, IsWellFormed, exchange_names, queue_names, Exchange, DeclaredQueue, Place, queue_name, exchange_place, queue_place, end_of, place_of, EndsWithin, in_get, in_contains, contains_in}
+use Rattle.std.specs.Prelude.{not, Option, Some, None, position, IfSome}
 use Rattle.exchange_graph.proofs.Indices.{place_if_some, place_if_none}
-use Rattle.std.specs.Str.{bytes_eq}
-use Rattle.std.specs.List.{position_or_len}
-use Rattle.std.proofs.lemmas.Slice.Eq.{bytes_eq-Decides}
-use Rattle.std.proofs.lemmas.List.{length-map}
-use Rattle.model.specs.Words.{Text}
-use Rattle.model.specs.Topology.{Topology, IsIn, AreApart, IsThere, IsWellFormed, exchange_names, queue_names}
-use Rattle.model.specs.declared.topologies.Exchange.{Exchange}
-use Rattle.model.specs.declared.topologies.DeclaredQueue.{DeclaredQueue}
-use Rattle.model.specs.declared.topologies.Place.{Place}
 use Rattle.model.specs.declared.topologies.Place.TheVariants as place
-use Rattle.exchange_graph.specs.Marks.{queue_name}
-use Rattle.exchange_graph.specs.Fans.{exchange_place, queue_place, end_of, place_of, EndsWithin}
-use Rattle.topology_drafts.proofs.Members.{in_get, in_contains, contains_in}
 
 -- names that are apart stand in different places
 pub apart_same : (names : List Text) (i j : ℕ) → AreApart names → i < length names → j < length names → get_or names i [] ≡ get_or names j [] → i ≡ j

@@ -1,18 +1,7 @@
 -- The ways that let a key pass, by the kind of their exchange.
-use Rattle.std.proofs.Common.{◌≡◌, ℕ, zero, suc, ◌<◌, List, [], ◌∷◌, Bool, true, false, cond, refl, sym, ap, ◌∙◌, subst, length, get_or, inl, inr, arith}
-use Rattle.std.specs.Str.{bytes_eq}
-use Rattle.std.proofs.lemmas.Slice.Eq.{bytes_eq-Decides}
-use Rattle.std.proofs.lemmas.List.{length-map}
+use Rattle.exchange_graph.proofs.Names.{◌≡◌, ℕ, zero, suc, ◌<◌, List, [], ◌∷◌, Bool, true, false, cond, refl, sym, ap, ◌∙◌, subst, length, get_or, inl, inr, arith, bytes_eq, bytes_eq-Decides, length-map, Text, words, tokens, Matches, IsIn, Direct, Fanout, Topic, End, Onward, Branch, ArePassing, ends_by_key, ends_of, ends_at, patterns_of, in_map, map_in, in_get}
 use Rattle.model.specs.declared.texts.Token.{Token}
-use Rattle.model.specs.Words.{Text, words, tokens, Matches}
-use Rattle.model.specs.Topology.{IsIn}
-use Rattle.model.specs.declared.topologies.ExchangeKind.TheVariants.{Direct, Fanout, Topic}
 use Rattle.topic_match.specs.Places.{AreMatches}
-use Rattle.exchange_graph.specs.declared.ends.End.{End}
-use Rattle.exchange_graph.specs.declared.ends.End.TheVariants.{Onward}
-use Rattle.exchange_graph.specs.declared.ends.Branch.{Branch}
-use Rattle.exchange_graph.specs.Fans.{ArePassing, ends_by_key, ends_of, ends_at, patterns_of}
-use Rattle.topology_drafts.proofs.Members.{in_map, map_in, in_get}
 
 -- ---- direct
 

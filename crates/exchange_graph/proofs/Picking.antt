@@ -1,15 +1,6 @@
 -- The places of marks are those of the names that are picked.
-use Rattle.std.proofs.Common.{◌≡◌, ℕ, zero, suc, ◌+◌, ◌<◌, ◌≤◌, List, [], ◌∷◌, Bool, true, false, cond, refl, sym, subst, length, drop, get_or, inl, inr, arith}
-use Rattle.std.specs.Prelude.{AllPairs}
-use Rattle.std.proofs.lemmas.List.{drop_more, length-map, at_drop_all}
-use Rattle.model.specs.Words.{Text}
-use Rattle.model.specs.Topology.{Topology, IsIn, exchange_names, queue_names}
-use Rattle.model.specs.Routing.{Picks, none, take, pass, Leads, Routes, of_key}
-use Rattle.model.specs.declared.topologies.Exchange.{Exchange}
-use Rattle.model.specs.declared.topologies.DeclaredQueue.{DeclaredQueue}
-use Rattle.exchange_graph.specs.Marks.{IsSet, AreFound, AreSeen, set_places, exchange_name, queue_name}
-use Rattle.exchange_graph.specs.Targets.{AreTargets, names_at}
-use Rattle.topology_drafts.proofs.Members.{in_get}
+use Rattle.exchange_graph.proofs.Names.{◌≡◌, ℕ, zero, suc, ◌+◌, ◌<◌, ◌≤◌, List, [], ◌∷◌, Bool, true, false, cond, refl, sym, subst, length, drop, get_or, inl, inr, arith, AllPairs, drop_more, length-map, at_drop_all, Text, Topology, IsIn, exchange_names, queue_names, Picks, none, pass, Leads, Routes, of_key, Exchange, DeclaredQueue, IsSet, AreFound, AreSeen, set_places, exchange_name, queue_name, AreTargets, names_at, in_get}
+use Rattle.model.specs.Routing.{take}
 
 -- a place of a mark
 record IsBetween (low high i : ℕ) : Type 0 where

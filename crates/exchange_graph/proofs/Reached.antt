@@ -1,17 +1,7 @@
 -- All that is marked is reached, and all that is reached is marked.
-use Rattle.std.proofs.Common.{◌≡◌, ℕ, ◌<◌, List, Bool, true, sym, ap, ◌∙◌, subst, length, inl, inr, arith, None}
-use Rattle.std.proofs.lemmas.List.{length-map, length-set}
-use Rattle.model.specs.Words.{Text}
-use Rattle.model.specs.Topology.{Topology, IsWellFormed, exchange_names, queue_names}
-use Rattle.model.specs.Routing.{Edge, Leads, here, on, Routes, of_key}
-use Rattle.model.specs.declared.topologies.Exchange.{Exchange}
-use Rattle.model.specs.declared.topologies.DeclaredQueue.{DeclaredQueue}
-use Rattle.model.specs.declared.topologies.Place.{Place}
+use Rattle.exchange_graph.proofs.Names.{◌≡◌, ℕ, ◌<◌, List, Bool, true, sym, ap, ◌∙◌, subst, length, inl, inr, arith, length-map, length-set, Text, Topology, IsWellFormed, exchange_names, queue_names, Edge, Leads, here, on, Routes, of_key, Exchange, DeclaredQueue, Place, End, Onward, Into, place_of, MarksEnds, IsMet, IsSet, MarksAreClosed, IsPending, Arrives, Reaching, Expands, AreMet, exchange_name, queue_name}
+use Rattle.std.proofs.Common.{None}
 use Rattle.model.specs.declared.topologies.Place.TheVariants as place
-use Rattle.exchange_graph.specs.declared.ends.End.{End}
-use Rattle.exchange_graph.specs.declared.ends.End.TheVariants.{Onward, Into}
-use Rattle.exchange_graph.specs.Fans.{place_of}
-use Rattle.exchange_graph.specs.Marks.{MarksEnds, IsMet, IsSet, MarksAreClosed, IsPending, Arrives, Reaching, Expands, AreMet, exchange_name, queue_name}
 use Rattle.exchange_graph.proofs.Marking.{set_only, set_within}
 use Rattle.exchange_graph.proofs.Naming.{apart_same}
 

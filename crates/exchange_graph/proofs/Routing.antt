@@ -1,11 +1,7 @@
 -- Whether clients may publish to an exchange, by its name, and slots with no route.
-use Rattle.std.proofs.Common.{◌≡◌, ◌∙◌, ℕ, zero, suc, ◌<◌, List, [], ◌∷◌, Option, None, false, refl, sym, ap, subst, length, ◌==◌, find, get_or, replicate, arith}
-use Rattle.std.specs.Str.{bytes_eq}
+use Rattle.exchange_graph.proofs.Names.{◌≡◌, ◌∙◌, ℕ, zero, suc, ◌<◌, List, [], ◌∷◌, false, refl, sym, ap, subst, length, ◌==◌, find, get_or, replicate, arith, bytes_eq, length-replicate, Text, Topology, Exchange}
+use Rattle.std.proofs.Common.{Option, None}
 use Rattle.std.specs.declared.sync.Arc.{Arc}
-use Rattle.std.proofs.lemmas.List.{length-replicate}
-use Rattle.model.specs.Words.{Text}
-use Rattle.model.specs.Topology.{Topology}
-use Rattle.model.specs.declared.topologies.Exchange.{Exchange}
 use Rattle.exchange_graph.specs.declared.routes.Route.{Route}
 use Rattle.exchange_graph.specs.Routers.{access_at, access_to, IsRight}
 

@@ -1,19 +1,6 @@
 -- Where a route begins.
-use Rattle.std.proofs.Common.{◌≡◌, ℕ, zero, suc, ◌<◌, [], ◌∷◌, Bool, true, false, refl, sym, ap, ◌∙◌, subst, length, set, replicate, eqb, inl, inr, arith}
-use Rattle.std.specs.Prelude.{Contains}
-use Rattle.std.proofs.lemmas.List.{length-map, length-set, length-replicate}
-use Rattle.model.specs.Words.{Text}
-use Rattle.model.specs.Topology.{Topology, IsIn, IsWellFormed, exchange_names, queue_names}
-use Rattle.model.specs.Routing.{Reading, Edge, bound, alternate, default, Leads, here, on, Routes, of_key}
-use Rattle.model.specs.declared.topologies.Exchange.{Exchange}
-use Rattle.model.specs.declared.topologies.DeclaredQueue.{DeclaredQueue}
-use Rattle.model.specs.declared.topologies.Place.{Place}
+use Rattle.exchange_graph.proofs.Names.{◌≡◌, ℕ, zero, suc, ◌<◌, [], ◌∷◌, Bool, true, false, refl, sym, ap, ◌∙◌, subst, length, set, replicate, eqb, inl, inr, arith, Contains, length-map, length-set, length-replicate, Text, Topology, IsIn, IsWellFormed, exchange_names, queue_names, Reading, Edge, bound, alternate, default, Leads, here, on, Routes, of_key, Exchange, DeclaredQueue, Place, End, Onward, Into, place_of, IsMet, IsSet, Arrives, Reaching, AreFound, AreSeen, exchange_name, queue_name, in_map, in_contains, in_get}
 use Rattle.model.specs.declared.topologies.Place.TheVariants as place
-use Rattle.exchange_graph.specs.declared.ends.End.{End}
-use Rattle.exchange_graph.specs.declared.ends.End.TheVariants.{Onward, Into}
-use Rattle.exchange_graph.specs.Fans.{place_of}
-use Rattle.exchange_graph.specs.Marks.{IsMet, IsSet, Arrives, Reaching, AreFound, AreSeen, exchange_name, queue_name}
-use Rattle.topology_drafts.proofs.Members.{in_map, in_contains, in_get}
 use Rattle.exchange_graph.proofs.Marking.{set_only, set_here}
 use Rattle.exchange_graph.proofs.Naming.{apart_same, one_at}
 

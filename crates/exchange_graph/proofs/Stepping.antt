@@ -1,24 +1,9 @@
 -- What leads on from an exchange are exactly the steps of a route.
-use Rattle.std.proofs.Common.{◌≡◌, ℕ, ◌<◌, List, [], ◌∷◌, Bool, true, false, cond, refl, sym, ap, ◌∙◌, subst, length, map, get_or, inl, inr, Option, Some, None}
-use Rattle.std.specs.Prelude.{Contains, option_map}
-use Rattle.std.specs.Str.{bytes_eq}
-use Rattle.std.proofs.lemmas.Slice.Eq.{bytes_eq-Decides}
-use Rattle.model.specs.Words.{Text}
-use Rattle.model.specs.Topology.{Topology, IsIn, IsThere, IsWellFormed, exchange_names}
-use Rattle.model.specs.Routing.{Passes, Binds, Edge, bound, alternate, default, of_key}
-use Rattle.model.specs.declared.topologies.Exchange.{Exchange}
-use Rattle.model.specs.declared.topologies.Binding.{Binding}
-use Rattle.model.specs.declared.topologies.Place.{Place}
+use Rattle.exchange_graph.proofs.Names.{◌≡◌, ℕ, ◌<◌, List, [], ◌∷◌, Bool, true, false, cond, refl, sym, ap, ◌∙◌, subst, length, map, get_or, inl, inr, Contains, option_map, bytes_eq, bytes_eq-Decides, Text, Topology, IsIn, IsThere, IsWellFormed, exchange_names, Passes, Binds, Edge, bound, alternate, default, of_key, Exchange, Binding, Place, Fanout, End, Onward, Branch, exchange_name, Fan, ArePassing, LeadOn, AreSteps, EndsWithin, ways_from, way_of, fan_of, end_of, place_of, or_alternate, exchange_place, in_contains, contains_in, in_map}
+use Rattle.std.proofs.Common.{Option, Some, None}
 use Rattle.model.specs.declared.topologies.Place.TheVariants as place
-use Rattle.model.specs.declared.topologies.ExchangeKind.TheVariants.{Fanout}
-use Rattle.exchange_graph.specs.declared.ends.End.{End}
-use Rattle.exchange_graph.specs.declared.ends.End.TheVariants.{Onward}
-use Rattle.exchange_graph.specs.declared.ends.Branch.{Branch}
 use Rattle.exchange_graph.specs.Built.{IsBuilt}
 use Rattle.exchange_graph.proofs.Good.{well_formed}
-use Rattle.exchange_graph.specs.Marks.{exchange_name}
-use Rattle.exchange_graph.specs.Fans.{Fan, ArePassing, LeadOn, AreSteps, EndsWithin, ways_from, way_of, fan_of, end_of, place_of, or_alternate, exchange_place}
-use Rattle.topology_drafts.proofs.Members.{in_contains, contains_in, in_map}
 use Rattle.exchange_graph.proofs.Naming.{get_any, get_map, same_exchange, place_again, ends_within, exchange_stands}
 
 -- ---- the ways of an exchange are its bindings

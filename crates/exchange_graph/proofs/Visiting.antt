@@ -1,9 +1,6 @@
 -- The default exchange leads on to none, and no exchange of the file leads on to it.
-use Rattle.std.proofs.Common.{◌≡◌, List, [], ◌∷◌, refl, subst, inl, inr}
-use Rattle.model.specs.Words.{Text}
-use Rattle.model.specs.Topology.{Topology, IsIn, IsWellFormed, exchange_names}
-use Rattle.model.specs.Routing.{Leads, Picks, here, on, none, take, pass, of_key}
-use Rattle.exchange_graph.specs.Targets.{AreVisited}
+use Rattle.exchange_graph.proofs.Names.{◌≡◌, List, [], ◌∷◌, refl, subst, inl, inr, Text, Topology, IsIn, IsWellFormed, exchange_names, Leads, Picks, here, on, none, pass, of_key, AreVisited}
+use Rattle.model.specs.Routing.{take}
 use Rattle.exchange_graph.proofs.Edging.{end_there}
 use Rattle.exchange_graph.proofs.Starting.{default_leads}
 

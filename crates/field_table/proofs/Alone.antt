@@ -1,12 +1,7 @@
 -- Values, arrays and tables are told apart by their bytes alone.
-use Rattle.std.proofs.Common.{◌≡◌, ℕ, ◌-◌, Bool, true, false, List, [], ◌∷◌, ◌++◌, length, take, drop, Some, refl, sym, ap, subst, ◌∙◌, arith}
-use Rattle.std.specs.Prelude.{◌==◌, ◌||◌, if◌then◌else◌}
-use Rattle.std.proofs.lemmas.List.{take_at, drop_at}
-use Rattle.model.specs.Grammar.{Argument, Octet, Long_text, Bits}
+use Rattle.field_table.proofs.Names.{◌≡◌, ℕ, ◌-◌, Bool, true, false, List, [], ◌∷◌, ◌++◌, length, take, drop, Some, refl, sym, ap, subst, ◌∙◌, arith, ◌==◌, ◌||◌, if◌then◌else◌, take_at, drop_at, Argument, Octet, Long_text, Bits, Value, Values, Pairs, Truth, Byte, Float, Double, Decimal, Long_string, Field_array, Timestamp, Inner_table, Byte_array, Void, no_values, value, no_pairs, pair, letter, content, values_bytes, pairs_bytes, IsValue, AreValues, ArePairs, Unread, unread, read_leaf, unread_of}
 use Rattle.model.specs.Grammar as arguments
-use Rattle.model.specs.Tables.{Value, Values, Pairs, Truth, Byte, Short, Long, Long_long, Float, Double, Decimal, Long_string, Field_array, Timestamp, Inner_table, Byte_array, Void, no_values, value, no_pairs, pair, letter, content, values_bytes, pairs_bytes, IsValue, AreValues, ArePairs}
-use Rattle.field_table.specs.Leaves.{Unread, unread, read_leaf}
-use Rattle.field_table.specs.Values.{unread_of}
+use Rattle.model.specs.Tables.{Short, Long, Long_long}
 use Rattle.field_table.proofs.Letters.{value_again}
 
 -- what is read of two values that are spelled alike, and what follows them, is the same

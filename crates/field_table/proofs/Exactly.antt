@@ -1,13 +1,9 @@
 -- Arguments that are read are spelled so, and arguments that are spelled so are read.
-use Rattle.std.proofs.Common.{◌≡◌, ℕ, zero, suc, ◌+◌, ◌*◌, ◌/◌, ◌%◌, ◌^◌, ◌<◌, ◌≤◌, Bool, true, false, cond, ltb, eqb, List, [], ◌∷◌, ◌++◌, length, map, get_or, take, drop, Option, Some, None, refl, sym, ap, subst, ◌∙◌, append_assoc, arith, inl, inr}
+use Rattle.field_table.proofs.Names.{◌≡◌, ℕ, zero, suc, ◌+◌, ◌*◌, ◌/◌, ◌%◌, ◌^◌, ◌<◌, ◌≤◌, Bool, true, false, cond, ltb, eqb, List, [], ◌∷◌, ◌++◌, length, map, get_or, take, drop, Option, Some, None, refl, sym, ap, subst, ◌∙◌, append_assoc, arith, inl, inr, AllByRecursion, flat_map, cases_lt, ltb-false, ltb-true, le-ltb, lt-ltb, ne_eqb, take_at, drop_at, take-append-drop, length-take, get_or-drop, get_or-take, get_or_past, Argument, Octet, Short_text, Long_text, Field_table, Bits, octet, argument, IsArgument, IsSized, IsArgumentWhole, Kind, an_octet, a_short, a_long, a_long_long, a_short_text, a_long_text, a_field_table, some_bits, kind_of, Front, number_at, text_at, short_text_at, long_text_at, octets, bits_of, bits_at, argument_at, arguments_at, ◌>>=◌}
 use Rattle.std.specs.Int.{Width, w16, w32, w64, byte_len, from_be_bytes, to_be_bytes}
-use Rattle.std.specs.List.{AllByRecursion, flat_map}
-use Rattle.std.proofs.lemmas.Bool.{cases_lt, ltb-false, ltb-true, le-ltb, lt-ltb, ne_eqb}
-use Rattle.std.proofs.lemmas.List.{take_at, drop_at, take-append-drop, length-append, length-take, get_or-drop, get_or-take, get_or_past}
+use Rattle.std.proofs.lemmas.List.{length-append}
 use Rattle.std.proofs.lemmas.Nat.{be_bytes_2, be_bytes_4, be_bytes_8, from_be_bytes-to_be_bytes_2, from_be_bytes-to_be_bytes_4, from_be_bytes-to_be_bytes_8}
-use Rattle.model.specs.Grammar.{Argument, Octet, Short, Long, Long_long, Short_text, Long_text, Field_table, Bits, octet, argument, IsArgument}
-use Rattle.field_table.specs.Arguments.{IsSized, IsArgumentWhole, Kind, an_octet, a_short, a_long, a_long_long, a_short_text, a_long_text, a_field_table, some_bits, kind_of, Front, number_at, text_at, short_text_at, long_text_at, octets, bits_of, bits_at, argument_at, arguments_at}
-use Rattle.model.specs.Options.{◌>>=◌}
+use Rattle.model.specs.Grammar.{Short, Long, Long_long}
 
 abbrev pub IsBytes : List ℕ → Type 0
 IsBytes bytes = (i : ℕ) → get_or bytes i 0 < 256

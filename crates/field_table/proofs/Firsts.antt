@@ -1,12 +1,6 @@
 -- Values and pairs at the front of bytes, and bytes that are nothing else.
-use Rattle.std.proofs.Common.{◌≡◌, ℕ, Bool, true, false, eqb, List, [], ◌∷◌, ◌++◌, length, Option, Some, None, refl, sym, ap, subst, ◌∙◌, arith}
-use Rattle.std.specs.Prelude.{MatchBool}
-use Rattle.std.proofs.lemmas.Bool.{eqb-true, eqb-false, false≢true}
-use Rattle.model.specs.Grammar.{Long_text}
-use Rattle.model.specs.Tables.{Value, Values, Pairs, Truth, Byte, Short, Long, Long_long, Float, Double, Decimal, Long_string, Field_array, Timestamp, Inner_table, Byte_array, Void, no_values, value, no_pairs, pair, letter, content, values_bytes, pairs_bytes, IsValue}
-use Rattle.field_table.specs.Leaves.{Unread, unread, leaf_seen, read_leaf}
-use Rattle.field_table.specs.Values.{unread_of}
-use Rattle.field_table.specs.Reading.{IsFirstValue, HasNone, IsFirstPair, HasNoPair, SpellsValues, SpellsPairs, HasValues, HasPairs, HoldsValues, Means}
+use Rattle.field_table.proofs.Names.{◌≡◌, ℕ, Bool, true, false, eqb, List, [], ◌∷◌, ◌++◌, length, Option, Some, None, refl, sym, ap, subst, ◌∙◌, arith, MatchBool, eqb-true, eqb-false, false≢true, Long_text, Value, Values, Pairs, Truth, Byte, Float, Double, Decimal, Long_string, Field_array, Timestamp, Inner_table, Byte_array, Void, no_values, value, no_pairs, pair, letter, content, values_bytes, pairs_bytes, IsValue, Unread, unread, leaf_seen, read_leaf, unread_of, IsFirstValue, HasNone, IsFirstPair, HasNoPair, SpellsValues, SpellsPairs, HasValues, HasPairs, HoldsValues, Means}
+use Rattle.model.specs.Tables.{Short, Long, Long_long}
 use Rattle.field_table.specs.declared.leaves.Leaf.{Leaf}
 use Rattle.field_table.specs.declared.leaves.Leaf.TheVariants as leaves
 use Rattle.field_table.proofs.Exactly.{IsBytes}

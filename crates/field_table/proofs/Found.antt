@@ -1,13 +1,9 @@
 -- Fields by their names, one pair after another.
-use Rattle.std.proofs.Common.{◌≡◌, ℕ, ◌<◌, ◌^◌, Bool, true, false, List, [], ◌∷◌, ◌++◌, length, refl, sym, ap, subst, ◌∙◌, inl, inr, ◌⊎◌}
-use Rattle.std.specs.Prelude.{◌||◌, MatchBool}
-use Rattle.std.proofs.lemmas.Bool.{false≢true}
+use Rattle.field_table.proofs.Names.{◌≡◌, ℕ, ◌<◌, ◌^◌, Bool, true, false, List, [], ◌∷◌, ◌++◌, length, refl, sym, ap, subst, ◌∙◌, inl, inr, ◌⊎◌, ◌||◌, MatchBool, false≢true, Value, Pairs, no_pairs, pair, letter, content, pairs_bytes, IsFirstPair, HasNoPair, SpellsPairs}
 use Rattle.std.proofs.lemmas.Slice.Eq.{bytes_eq-Decides}
 use Rattle.std.specs.Str.{bytes_eq}
 use Rattle.model.specs.Words.{Text}
-use Rattle.model.specs.Tables.{Value, Pairs, no_pairs, pair, letter, content, pairs_bytes}
 use Rattle.model.specs.Deaths.{IsFieldOf}
-use Rattle.field_table.specs.Reading.{IsFirstPair, HasNoPair, SpellsPairs}
 use Rattle.field_table.specs.Lookups.{HasField}
 use Rattle.field_table.proofs.Firsts.{pairs_behind, no_pairs_left}
 

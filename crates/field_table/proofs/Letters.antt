@@ -1,13 +1,5 @@
 -- A value is spelled as its letter and arguments are, and is read so.
-use Rattle.std.proofs.Common.{◌≡◌, ℕ, Bool, true, false, cond, ltb, eqb, List, [], ◌∷◌, ◌++◌, length, map, get_or, drop, Option, Some, None, refl, sym, ap, subst, ◌∙◌, append_assoc, append-nil, arith}
-use Rattle.std.specs.List.{AllByRecursion, flat_map}
-use Rattle.std.proofs.lemmas.Bool.{ltb-false}
-use Rattle.model.specs.Grammar.{Argument, Long_text, argument}
-use Rattle.model.specs.Tables.{Value, Truth, Decimal, Long_string, Field_array, Inner_table, Byte_array, Void, letter, content, values_bytes, pairs_bytes, IsValue}
-use Rattle.field_table.specs.Arguments.{IsSized, Kind, kind_of, argument_at}
-use Rattle.model.specs.Options.{◌>>=◌}
-use Rattle.field_table.specs.Leaves.{Unread, unread, kinds_behind, front_at, behind, read_leaf}
-use Rattle.field_table.specs.Values.{unread_of, contents_of}
+use Rattle.field_table.proofs.Names.{◌≡◌, ℕ, Bool, true, false, cond, ltb, eqb, List, [], ◌∷◌, ◌++◌, length, map, get_or, drop, Option, Some, None, refl, sym, ap, subst, ◌∙◌, append_assoc, append-nil, arith, AllByRecursion, flat_map, ltb-false, Argument, Long_text, argument, Value, Truth, Decimal, Long_string, Field_array, Inner_table, Byte_array, Void, letter, content, values_bytes, pairs_bytes, IsValue, IsSized, Kind, kind_of, argument_at, ◌>>=◌, Unread, unread, kinds_behind, front_at, behind, read_leaf, unread_of, contents_of}
 use Rattle.field_table.proofs.Exactly.{IsBytes, IsBytes-drop, IsKind, bind_some, guard_next, one_more, first_byte, argument_takes, argument_again}
 
 -- ---- several arguments

@@ -1,3 +1,4 @@
+pub mod Names
 pub mod Exactly
 pub mod Letters
 pub mod Alone

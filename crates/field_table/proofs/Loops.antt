@@ -1,5 +1,5 @@
 -- What a loop over values, or over pairs, keeps: what is done and what is left is the whole.
-use Rattle.std.proofs.Common.{◌≡◌, ℕ, ◌+◌, ◌^◌, ◌<◌, ◌≤◌, ◌++◌, List, Vec, Global, length, vec_len, vec_capacity}
+use Rattle.field_table.proofs.Names.{◌≡◌, ℕ, ◌+◌, ◌^◌, ◌<◌, ◌≤◌, ◌++◌, List, Vec, Global, length, vec_len, vec_capacity}
 
 -- what was read, before what is left, is the whole; where the whole is right, so is what is left
 pub record IsReadSoFar {X : Type 0} (Spells : List ℕ → X → Type 0) (Has : List ℕ → Type 0) (before : X → X) (rest whole : List ℕ) : Type 0 where

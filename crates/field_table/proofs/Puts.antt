@@ -1,11 +1,7 @@
 -- What is put for one value or pair more, and what is left to put.
-use Rattle.std.proofs.Common.{◌≡◌, ℕ, ◌+◌, ◌<◌, List, [], ◌∷◌, ◌++◌, length, get_or, drop, sym, ap, ◌∙◌, append_assoc, length-append}
-use Rattle.std.proofs.lemmas.List.{drop_more}
-use Rattle.model.specs.Tables.{Value, Values, Pairs, value, pair, letter, content, values_bytes, pairs_bytes}
-use Rattle.field_table.specs.View.{Named, field_view, entry_view, array_view, pairs_view}
+use Rattle.field_table.proofs.Names.{◌≡◌, ℕ, ◌+◌, ◌<◌, List, [], ◌∷◌, ◌++◌, length, get_or, drop, sym, ap, ◌∙◌, append_assoc, drop_more, Value, Values, Pairs, value, pair, letter, content, values_bytes, pairs_bytes, Named, field_view, entry_view, array_view, pairs_view, Field, TableEntry}
+use Rattle.std.proofs.Common.{length-append}
 use Rattle.field_table.specs.Writing.{entry_bytes}
-use Rattle.field_table.specs.declared.fields.Field.{Field}
-use Rattle.field_table.specs.declared.fields.TableEntry.{TableEntry}
 use Rattle.field_table.proofs.Views.{named}
 
 -- ---- what is left

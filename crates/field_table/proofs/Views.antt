@@ -1,14 +1,6 @@
 -- What was read, one more value or pair at a time; and tables with their lengths.
-use Rattle.std.proofs.Common.{◌≡◌, ℕ, ◌^◌, ◌<◌, List, [], ◌∷◌, ◌++◌, length, Option, Some, Result, Ok, Err, refl, sym, ap, subst, ◌∙◌, append-nil}
-use Rattle.model.specs.Grammar.{Argument, Long_text}
-use Rattle.model.specs.Tables.{Value, Values, Pairs, value, pair, letter, content, pairs_bytes, with_length, table_bytes}
-use Rattle.field_table.specs.Arguments.{a_long_text, argument_at}
-use Rattle.field_table.specs.Reading.{IsFirstValue, IsFirstPair, SpellsValues, SpellsPairs, HasPairs}
-use Rattle.field_table.specs.View.{Named, field_view, entry_view, table_view, fields_view, entries_view, values_then, pairs_then}
+use Rattle.field_table.proofs.Names.{◌≡◌, ℕ, ◌^◌, ◌<◌, List, [], ◌∷◌, ◌++◌, length, Option, Some, Result, Ok, Err, refl, sym, ap, subst, ◌∙◌, append-nil, Argument, Long_text, Value, Values, Pairs, value, pair, letter, content, pairs_bytes, with_length, table_bytes, a_long_text, argument_at, IsFirstValue, IsFirstPair, SpellsValues, SpellsPairs, HasPairs, Named, field_view, entry_view, table_view, fields_view, entries_view, values_then, pairs_then, Field, TableEntry, FieldTable}
 use Rattle.field_table.specs.Answers.{TableRefused, AnswersOr, SpellsTable, IsOr}
-use Rattle.field_table.specs.declared.fields.Field.{Field}
-use Rattle.field_table.specs.declared.fields.TableEntry.{TableEntry}
-use Rattle.field_table.specs.declared.fields.FieldTable.{FieldTable}
 use Rattle.field_table.specs.declared.refusals.BadTable.{BadTable}
 use Rattle.field_table.specs.declared.refusals.BadTable.TheVariants.{SyntaxError, Memory}
 use Rattle.field_table.proofs.Exactly.{IsBytes, argument_takes, argument_again}

@@ -1,14 +1,7 @@
 -- A key is covered where the pattern matches it and none takes it out.
-use Rattle.std.proofs.Common.{◌≡◌, ℕ, Bool, true, false, List, [], ◌∷◌, refl, inl, inr, subst, sym, ◌∙◌, drop}
-use Rattle.std.specs.Prelude.{Decides, not, ◌&&◌}
-use Rattle.std.specs.Str.{bytes_eq}
-use Rattle.std.proofs.lemmas.Slice.Eq.{bytes_eq-Decides}
-use Rattle.std.specs.List.{AllByRecursion}
+use Rattle.guarantees.proofs.Names.{◌≡◌, ℕ, Bool, true, false, List, [], ◌∷◌, refl, inl, inr, subst, sym, ◌∙◌, drop, Decides, not, bytes_eq, bytes_eq-Decides, AllByRecursion, Text, words, tokens, Matches, IsIn, Guarantee, Covers, KeepsIn}
+use Rattle.std.specs.Prelude.{◌&&◌}
 use Rattle.std.proofs.lemmas.Bool.{false≢true}
-use Rattle.model.specs.Words.{Text, words, tokens, Matches}
-use Rattle.model.specs.Topology.{IsIn}
-use Rattle.model.specs.Guarantee.{Guarantee, Covers}
-use Rattle.guarantees.specs.Covering.{KeepsIn}
 
 -- all keep the key in exactly where those from this place on do
 pub record AllKeepFrom (excepts : List Text) (key : Text) (i : ℕ) : Type 0 where

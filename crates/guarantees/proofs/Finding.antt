@@ -1,13 +1,7 @@
 -- What is there of a topology.
-use Rattle.std.proofs.Common.{◌≡◌, List, [], ◌∷◌, Bool, true, false, ◌&&◌, cond, Bor, Option, Some, None, inl, inr, refl, sym, ap, ◌∙◌, subst}
-use Rattle.std.specs.Prelude.{◌⊎◌, Decides, find, is_some, option_copied}
-use Rattle.std.proofs.lemmas.Slice.Eq.{bytes_eq-Decides}
-use Rattle.std.specs.Str.{bytes_eq}
-use Rattle.model.specs.Words.{Text}
-use Rattle.model.specs.Topology.{Topology, IsIn, exchange_names, queue_names}
-use Rattle.model.specs.Guarantee.{Guarantee}
+use Rattle.guarantees.proofs.Names.{◌≡◌, List, [], ◌∷◌, Bool, true, false, cond, Bor, Option, Some, None, inl, inr, refl, sym, ap, ◌∙◌, subst, ◌⊎◌, Decides, find, is_some, option_copied, bytes_eq-Decides, bytes_eq, Text, Topology, IsIn, exchange_names, queue_names, Guarantee, IsExchangeOrDefault, NamesAreThere}
+use Rattle.std.proofs.Common.{◌&&◌}
 use Rattle.model.specs.declared.topologies.Exchange.{Exchange}
-use Rattle.guarantees.specs.Causes.{IsExchangeOrDefault, NamesAreThere}
 
 find_at : (x : Exchange) (name : Text) (v : Bool) (found : Option Exchange) (P : Type 0) → Decides v (x.name ≡ name) → Decides (is_some found) P → Decides (is_some (cond v (Some x) found)) ((name ≡ x.name) ⊎ P)
 find_at x name true found P d e = (λ h. inl (sym (d.0 refl)), λ h. refl)

@@ -1,12 +1,6 @@
 -- The causes that guarantees may have, one by one.
-use Rattle.std.proofs.Common.{◌<◌, List, arith}
-use Rattle.std.specs.Prelude.{All}
-use Rattle.model.specs.Topology.{Topology}
-use Rattle.model.specs.Guarantee.{Guarantee}
-use Rattle.json_file.specs.declared.causes.FileCause.{FileCause}
-use Rattle.json_file.specs.declared.causes.FileCause.TheVariants.{Absent, Worded, TooMany}
+use Rattle.guarantees.proofs.Names.{◌<◌, List, arith, All, Topology, Guarantee, FileCause, Absent, Worded, TooMany, AreClear, AreFewEnough, IsGuaranteeWorded, NamesAreThere}
 use Rattle.json_file.specs.Causes.{cause_number}
-use Rattle.guarantees.specs.Causes.{AreClear, AreFewEnough, IsGuaranteeWorded, NamesAreThere}
 
 -- what no test looks for is clear
 pub below_names : (t : Topology) (gs : List Guarantee) (lower : FileCause) → cause_number lower < 5 → AreClear lower t gs

@@ -1,8 +1,5 @@
 -- Guarantees that are kept one by one.
-use Rattle.std.proofs.Common.{◌≡◌, ℕ, ◌++◌, zero, suc, List, [], ◌∷◌, length, refl, arith}
-use Rattle.std.specs.Prelude.{All}
-use Rattle.model.specs.Guarantee.{Guarantee}
-use Rattle.guarantees.specs.Causes.{ArePatterns, IsGuaranteeWorded}
+use Rattle.guarantees.proofs.Names.{◌≡◌, ℕ, ◌++◌, zero, suc, List, [], ◌∷◌, length, refl, arith, All, Guarantee, ArePatterns, IsGuaranteeWorded}
 
 -- these are kept, and those are left, so many; all are patterns
 pub record KeptSoFar (kept left all : List Guarantee) (count : ℕ) : Type 0 where

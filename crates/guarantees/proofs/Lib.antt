@@ -1,3 +1,4 @@
+pub mod Names
 pub mod Finding
 pub mod Whole
 pub mod Coverings

@@ -1,4 +1,4 @@
--- What a guarantees file must keep, cause by cause (own).
+-- The conditions on a guarantees file, cause by cause (own).
 use Rattle.std.specs.Prelude.{◌≡◌, ◌≤◌, List, [], length, All, Option, Some, None, Result, Ok, Err, ◌⊎◌, ⊤}
 use Rattle.model.specs.Words.{Text}
 use Rattle.model.specs.Topology.{Topology, IsIn, exchange_names, queue_names}
@@ -8,53 +8,54 @@ use Rattle.json_file.specs.declared.causes.FileCause.{FileCause}
 use Rattle.json_file.specs.declared.causes.FileCause.TheVariants.{Absent, Worded, TooMany}
 use Rattle.json_file.specs.Files.{IsCauseTold}
 
--- the exchange is the default one, or is there
+-- the exchange is the default one, or one of the topology
 abbrev pub IsExchangeOrDefault : Topology → Text → Type 0
 IsExchangeOrDefault t name = (name ≡ []) ⊎ IsIn name (exchange_names t.exchanges)
 
--- 5: a guarantee's exchange and queue are there
+-- cause 5: the exchange and the queue of a guarantee exist
 pub record NamesAreThere (t : Topology) (g : Guarantee) : Type 0 where
   pub exchange : IsExchangeOrDefault t g.exchange
   pub queue : IsIn g.queue (queue_names t.queues)
 
--- its pattern is one, and so is each that takes keys out
+-- the pattern and the `except` patterns are topic patterns
 pub record ArePatterns (g : Guarantee) : Type 0 where
   pub pattern : IsPattern g.pattern
   pub excepts : All IsPattern g.excepts
 
--- 9: a guarantee's patterns are patterns, its exchange's name has at most 255 bytes, and its queue's name is a pattern of at least one word
+-- cause 9: a guarantee's patterns are topic patterns, its exchange's name has at most 255 bytes, and its queue's name is a pattern of at least one
+-- word
 pub record IsGuaranteeWorded (g : Guarantee) : Type 0 where
   pub patterns : ArePatterns g
   pub exchange : length g.exchange ≤ 255
   pub some : g.queue ≡ [] → ⊥
   pub queue : IsPattern g.queue
 
--- at most 16 patterns take keys out
+-- a guarantee has at most 16 `except` patterns
 abbrev pub TakesOutFew : Guarantee → Type 0
 TakesOutFew g = length g.excepts ≤ 16
 
--- 10: there are at most 64 guarantees, and in each at most 16 patterns take keys out
+-- cause 10: there are at most 64 guarantees, with at most 16 `except` patterns each
 pub record AreFewEnough (gs : List Guarantee) : Type 0 where
   pub guarantees : length gs ≤ 64
   pub excepts : All TakesOutFew gs
 
--- these guarantees of a topology are clear of this cause
+-- this cause does not apply to the guarantees `gs` of topology `t`
 abbrev pub AreClear : FileCause → Topology → List Guarantee → Type 0
 AreClear Absent t gs = All (NamesAreThere t) gs
 AreClear Worded t gs = All IsGuaranteeWorded gs
 AreClear TooMany t gs = AreFewEnough gs
 AreClear _ t gs = Unit {0}
 
--- the cause that is told is the least that stands in them; want of memory owes nothing
+-- the reported cause is the lowest-numbered one that applies; a report of an allocation failure promises nothing
 abbrev pub AreTold : FileCause → Topology → List Guarantee → Type 0
 AreTold bad t gs = IsCauseTold (λ (lower : FileCause). AreClear lower t gs) bad
 
--- a guarantee is made of what is given, exactly where its patterns are patterns
+-- a guarantee is built if and only if its texts are topic patterns, and then from the given parts
 abbrev pub Makes : Option Guarantee → Guarantee → Type 0
 Makes (Some g) given = (g ≡ given) × ArePatterns given
 Makes None given = ArePatterns given → ⊥
 
--- no cause stands in them, or the least is told
+-- no cause applies, or the reported one is the lowest-numbered one that does
 abbrev pub JudgesGuarantees : Result ⊤ FileCause → Topology → List Guarantee → Type 0
 JudgesGuarantees (Ok done) t gs = (bad : FileCause) → AreClear bad t gs
 JudgesGuarantees (Err bad) t gs = AreTold bad t gs

@@ -1,6 +1,6 @@
--- Which keys patterns take out (own).
+-- Which keys the `except` patterns leave in (own).
 use Rattle.model.specs.Words.{Text, words, tokens, Matches}
 
--- the pattern does not take the key out
+-- the pattern does not match the key
 abbrev pub KeepsIn : Text → Text → Type 0
 KeepsIn key pattern = Matches (tokens (words pattern)) (words key) → ⊥

@@ -20,11 +20,11 @@ mode_at d = do
   name ← text_member (codes "mode") d
   mode_named name
 
--- the texts of an array
+-- the texts of an array, if all its elements are texts
 abbrev pub texts_of : Data → Option (List Text)
 texts_of d = option_and_then (each as_str) (as_array d)
 
--- the texts of this value; none where it is left out
+-- the texts of an array that may be left out
 abbrev pub texts_if_there : Option Data → Option (List Text)
 texts_if_there None = Some []
 texts_if_there (Some d) = texts_of d
@@ -33,7 +33,7 @@ texts_if_there (Some d) = texts_of d
 unfoldable pub excepts_at : Data → Option (List Text)
 excepts_at d = texts_if_there (get (codes "except") d)
 
--- a guarantee; its other members are ignored
+-- a guarantee; other members are ignored
 unfoldable pub guarantee_at : Data → Option Guarantee
 guarantee_at d = do
   mode ← mode_at d
@@ -43,6 +43,6 @@ guarantee_at d = do
   excepts ← excepts_at d
   Some (record { mode = mode; exchange = exchange; pattern = pattern; queue = queue; excepts = excepts })
 
--- the guarantees of a file, in its order; its other members are ignored
+-- the guarantees of a file, in its order; other members are ignored
 unfoldable pub guarantees_at : Data → Option (List Guarantee)
 guarantees_at d = option_and_then (each guarantee_at) (array_member (codes "guarantees") d)

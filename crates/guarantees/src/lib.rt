@@ -1,4 +1,6 @@
-//! Guarantees: what the owner of a topology wants of it.
+//! Guarantees: what the owner of a topology demands of it, and the files that state them.
+//!
+//! Start with [`Guarantee`] and [`read_guarantees`].
 #![tactic(auto)]
 
 mod promises;

@@ -1,4 +1,4 @@
-//! Guarantees, as plain data with a test.
+//! Guarantees whose texts are known to be topic patterns. Start with [`Guarantee`].
 
 ghost use Rattle.std.specs.Prelude.{◌≡◌, IfOk, Decides};
 ghost use Rattle.std.specs.List.{AllByRecursion};
@@ -12,7 +12,7 @@ use std::alloc::{AllocError, Global};
 use std::marker::Model;
 use topic_match::covers_key;
 
-/// A promise of one queue, for all keys that a topic pattern covers but those that others take out.
+/// A promise about one queue, for the routing keys that a topic pattern matches and no `except` pattern does.
 #[derive(Drop)]
 pub struct Guarantee {
     stated: StatedGuarantee,
@@ -29,7 +29,7 @@ impl Model for Guarantee {
     ghost invariant = { λ g. ArePatterns g.stated };
 }
 
-/// Whether none of these patterns takes the key out.
+/// Returns whether none of the patterns `excepts` matches `key`. Fails only if an allocation fails.
 fn all_keep_in(alloc: Global, excepts: &[Text], key: &[u8]) -> Result<bool, AllocError>
     ensures { IfOk result (λ yes. Decides yes (AllByRecursion (KeepsIn key.now) excepts.now)) }
 {
@@ -42,7 +42,7 @@ fn all_keep_in(alloc: Global, excepts: &[Text], key: &[u8]) -> Result<bool, Allo
 }
 
 impl Guarantee {
-    /// The guarantee of these parts, if its texts are patterns.
+    /// Builds a guarantee. Returns `None` if `pattern` or one of `excepts` is no topic pattern.
     pub fn new(
         mode: Mode,
         exchange: Text,
@@ -60,7 +60,7 @@ impl Guarantee {
         }
     }
 
-    /// The guarantee that a file states.
+    /// Builds a guarantee from a stated one, whose texts are patterns.
     pub(crate) fn of(stated: StatedGuarantee) -> Guarantee
         requires { ArePatterns stated }
         ensures { result ≡ stated }
@@ -68,49 +68,49 @@ impl Guarantee {
         Guarantee { stated }
     }
 
-    /// Its texts are patterns.
+    /// Proves that the pattern and the `except` patterns are topic patterns. Does nothing at run time.
     pub fn are_patterns(&self)
         ensures { ArePatterns self.now }
     {
         let _ = &self.stated;
     }
 
-    /// What is promised.
+    /// Returns whether the queue must be reached, or must never be.
     pub fn mode(&self) -> Mode
         ensures { result ≡ self.now.mode }
     {
         self.stated.mode()
     }
 
-    /// The exchange that covered messages are sent to.
+    /// Returns the name of the exchange to which covered messages are published.
     pub fn exchange(&self) -> &Text
         ensures { result.now ≡ self.now.exchange }
     {
         self.stated.exchange()
     }
 
-    /// The topic pattern of the keys that it covers.
+    /// Returns the topic pattern of the keys.
     pub fn pattern(&self) -> &Text
         ensures { result.now ≡ self.now.pattern }
     {
         self.stated.pattern()
     }
 
-    /// The queue that it speaks of.
+    /// Returns the name of the queue that the promise is about.
     pub fn queue(&self) -> &Text
         ensures { result.now ≡ self.now.queue }
     {
         self.stated.queue()
     }
 
-    /// The topic patterns that take keys out.
+    /// Returns the topic patterns whose keys are excepted.
     pub fn excepts(&self) -> &[Text]
         ensures { result.now ≡ self.now.excepts }
     {
         self.stated.excepts()
     }
 
-    /// Whether it speaks of what is sent to this exchange under this key.
+    /// Returns whether the guarantee covers a message published to `exchange` under `key`. Fails only if an allocation fails.
     pub fn covers(&self, alloc: Global, exchange: &[u8], key: &[u8]) -> Result<bool, AllocError>
         ensures { IfOk result (λ yes. Decides yes (Covers self.now exchange.now key.now)) }
     {

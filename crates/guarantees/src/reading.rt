@@ -1,4 +1,4 @@
-//! Guarantees files.
+//! Reads guarantees files. Start with [`read_guarantees`].
 
 ghost use Rattle.std.specs.Prelude.{◌≡◌, All, Decides, IfOk};
 ghost use Rattle.model.specs.Topology.{IsIn, exchange_names, queue_names};
@@ -17,7 +17,7 @@ use serde_json::Value;
 use std::alloc::{AllocError, Global};
 use topic_match::is_pattern;
 
-/// The mode that a value states.
+/// Parses the member `mode`: `reaches` or `never`.
 #[tactic(auto, unfolding(crate::specs::Stated::mode_at))]
 fn mode(alloc: Global, value: &Value) -> Result<Mode, FileCause>
     ensures { GivesValue result (mode_at (view value.now)) }
@@ -32,7 +32,7 @@ fn mode(alloc: Global, value: &Value) -> Result<Mode, FileCause>
     Err(FileCause::Malformed)
 }
 
-/// The patterns at the member `except`, where it is there.
+/// Parses the patterns at the member `except`, which may be left out.
 #[tactic(auto, unfolding(crate::specs::Stated::excepts_at))]
 fn excepts(alloc: Global, value: &Value) -> Result<Vec<Text>, FileCause>
     ensures { GivesItems result (excepts_at (view value.now)) }
@@ -62,21 +62,21 @@ impl FromValue for StatedGuarantee {
     }
 }
 
-/// Whether the exchange is there.
+/// Returns whether the topology has an exchange called `name`.
 fn has_exchange(topology: &Topology, name: &[u8]) -> bool
     ensures { Decides result (IsIn name.now (exchange_names topology.now.exchanges)) }
 {
     topology.exchange(name).is_some()
 }
 
-/// Whether the exchange is there, or is the default one.
+/// Returns whether `name` is the default exchange, or an exchange of the topology.
 fn is_exchange(topology: &Topology, name: &[u8]) -> bool
     ensures { Decides result (IsExchangeOrDefault topology.now name.now) }
 {
     name.is_empty() || has_exchange(topology, name)
 }
 
-/// Whether the queue is there.
+/// Returns whether the topology has a queue called `name`.
 fn is_queue(topology: &Topology, name: &[u8]) -> bool
     ensures { Decides result (IsIn name.now (queue_names topology.now.queues)) }
 {
@@ -86,7 +86,7 @@ fn is_queue(topology: &Topology, name: &[u8]) -> bool
     }
 }
 
-/// Whether what a guarantee names is there.
+/// Returns whether the exchange and the queue of `guarantee` exist.
 fn is_there(topology: &Topology, guarantee: &StatedGuarantee) -> bool
     ensures { Decides result (NamesAreThere topology.now guarantee.now) }
 {
@@ -95,7 +95,7 @@ fn is_there(topology: &Topology, guarantee: &StatedGuarantee) -> bool
     exchange & queue
 }
 
-/// Whether what the guarantees name is there.
+/// Returns whether the exchanges and the queues of all `guarantees` exist.
 fn all_there(topology: &Topology, guarantees: &[StatedGuarantee]) -> bool
     ensures { Decides result (All (NamesAreThere topology.now) guarantees.now) }
 {
@@ -104,7 +104,7 @@ fn all_there(topology: &Topology, guarantees: &[StatedGuarantee]) -> bool
         .all(|guarantee| is_there(topology, guarantee))
 }
 
-/// Whether a guarantee's pattern and names have their form.
+/// Returns whether the patterns and the names of `guarantee` are well-formed.
 fn is_worded(guarantee: &StatedGuarantee) -> bool
     ensures { Decides result (IsGuaranteeWorded guarantee.now) }
 {
@@ -114,35 +114,35 @@ fn is_worded(guarantee: &StatedGuarantee) -> bool
         && is_pattern(guarantee.queue().as_bytes())
 }
 
-/// Whether all patterns and names have their form.
+/// Returns whether the patterns and the names of all `guarantees` are well-formed.
 fn all_worded(guarantees: &[StatedGuarantee]) -> bool
     ensures { Decides result (All IsGuaranteeWorded guarantees.now) }
 {
     guarantees.iter().all(|guarantee| is_worded(guarantee))
 }
 
-/// Whether few patterns take keys out.
+/// Returns whether `guarantee` has at most 16 `except` patterns.
 fn takes_out_few(guarantee: &StatedGuarantee) -> bool
     ensures { Decides result (TakesOutFew guarantee.now) }
 {
     guarantee.excepts().len() <= 16
 }
 
-/// Whether few patterns take keys out of each.
+/// Returns whether each of `guarantees` has at most 16 `except` patterns.
 fn all_take_out_few(guarantees: &[StatedGuarantee]) -> bool
     ensures { Decides result (All TakesOutFew guarantees.now) }
 {
     guarantees.iter().all(|guarantee| takes_out_few(guarantee))
 }
 
-/// Whether there are few, and few patterns in each.
+/// Returns whether there are at most 64 guarantees, with at most 16 `except` patterns each.
 fn are_few(guarantees: &[StatedGuarantee]) -> bool
     ensures { Decides result (AreFewEnough guarantees.now) }
 {
     guarantees.len() <= 64 && all_take_out_few(guarantees)
 }
 
-/// Tells the least cause that stands in the guarantees.
+/// Checks `guarantees` against `topology`. Fails with the lowest-numbered cause that applies to any of them.
 fn check_guarantees(topology: &Topology, guarantees: &[StatedGuarantee]) -> Result<(), FileCause>
     ensures { JudgesGuarantees result topology.now guarantees.now }
 {
@@ -158,7 +158,7 @@ fn check_guarantees(topology: &Topology, guarantees: &[StatedGuarantee]) -> Resu
     Ok(())
 }
 
-/// The guarantees of a file, or why it has none.
+/// Parses the guarantees of a file, without checking them.
 fn open(alloc: Global, bytes: &[u8]) -> Result<Vec<StatedGuarantee>, FileCause>
     ensures { OpensGuarantees result bytes.now }
 {
@@ -167,7 +167,7 @@ fn open(alloc: Global, bytes: &[u8]) -> Result<Vec<StatedGuarantee>, FileCause>
     Ok(guarantees)
 }
 
-/// The guarantees that were stated, whose texts are patterns.
+/// Turns stated guarantees, whose texts are patterns, into guarantees. Fails only if an allocation fails.
 fn kept(alloc: Global, stated: Vec<StatedGuarantee>) -> Result<Vec<Guarantee>, AllocError>
     requires { All ArePatterns stated.items }
     ensures { IfOk result (λ found. found.items ≡ stated.items) }
@@ -179,11 +179,11 @@ fn kept(alloc: Global, stated: Vec<StatedGuarantee>) -> Result<Vec<Guarantee>, A
     Ok(found)
 }
 
-/// The guarantees that a file states of a topology, in the order of the file. It is refused by the least cause that
-/// stands anywhere in it.
+/// Reads the guarantees that a file states for `topology`, in the file's order.
 ///
-/// A file has at most 16,777,216 bytes and 64 guarantees, each with at most 16 patterns that take keys out. The modes
-/// are `reaches` and `never`. Other members are ignored.
+/// A file has at most 16,777,216 bytes and 64 guarantees, each with at most 16 `except` patterns. The modes are `reaches` and
+/// `never`. Other members are ignored. Fails with the lowest-numbered cause that applies anywhere in the file, or with
+/// [`FileCause::Memory`] if an allocation fails.
 pub fn read_guarantees(
     alloc: Global,
     bytes: &[u8],

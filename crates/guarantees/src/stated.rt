@@ -1,4 +1,4 @@
-//! Guarantees as a file states them.
+//! Guarantees as a file states them, before they are checked.
 
 ghost use Rattle.std.specs.Prelude.{◌≡◌, All, Decides};
 ghost use Rattle.topic_match.specs.Patterns.{IsPattern};
@@ -8,7 +8,7 @@ use model::{Mode, Text};
 use std::marker::Model;
 use topic_match::is_pattern;
 
-/// A guarantee whose texts may be no patterns.
+/// A guarantee whose texts need not be patterns.
 #[derive(Drop)]
 pub struct StatedGuarantee {
     mode: Mode,
@@ -27,7 +27,6 @@ impl Model for StatedGuarantee {
 }
 
 impl StatedGuarantee {
-    /// The guarantee of these parts.
     pub fn new(
         mode: Mode,
         exchange: Text,
@@ -46,35 +45,35 @@ impl StatedGuarantee {
         }
     }
 
-    /// What is promised.
+    /// Returns whether the queue must be reached, or must never be.
     pub fn mode(&self) -> Mode
         ensures { result ≡ self.now.mode }
     {
         self.mode
     }
 
-    /// The exchange that covered messages are sent to.
+    /// Returns the name of the exchange to which covered messages are published.
     pub fn exchange(&self) -> &Text
         ensures { result.now ≡ self.now.exchange }
     {
         &self.exchange
     }
 
-    /// The topic pattern of the keys that it covers.
+    /// Returns the topic pattern of the keys.
     pub fn pattern(&self) -> &Text
         ensures { result.now ≡ self.now.pattern }
     {
         &self.pattern
     }
 
-    /// The queue that it speaks of.
+    /// Returns the name of the queue that the promise is about.
     pub fn queue(&self) -> &Text
         ensures { result.now ≡ self.now.queue }
     {
         &self.queue
     }
 
-    /// The topic patterns that take keys out.
+    /// Returns the topic patterns whose keys are excepted.
     pub fn excepts(&self) -> &[Text]
         ensures { result.now ≡ self.now.excepts }
     {
@@ -82,14 +81,14 @@ impl StatedGuarantee {
     }
 }
 
-/// Whether each of these texts is a pattern.
+/// Returns whether each of `texts` is a topic pattern.
 fn all_patterns(texts: &[Text]) -> bool
     ensures { Decides result (All IsPattern texts.now) }
 {
     texts.iter().all(|text| is_pattern(text.as_bytes()))
 }
 
-/// Whether its pattern is one, and each that takes keys out.
+/// Returns whether the pattern and the `except` patterns of `guarantee` are topic patterns.
 pub fn has_patterns(guarantee: &StatedGuarantee) -> bool
     ensures { Decides result (ArePatterns guarantee.now) }
 {

@@ -1,15 +1,5 @@
 -- Properties that are read are flagged and spelled so, and those that are spelled so are read.
-use Rattle.std.proofs.Common.{◌≡◌, ℕ, zero, suc, ◌+◌, ◌*◌, ◌/◌, ◌%◌, ◌^◌, ◌<◌, ◌≤◌, Bool, true, false, cond, eqb, List, [], ◌∷◌, ◌++◌, length, Option, Some, None, refl, sym, ap, subst, ◌∙◌, append_assoc, arith}
-use Rattle.std.specs.Prelude.{is_some}
-use Rattle.std.specs.List.{AllByRecursion, flat_map}
-use Rattle.std.proofs.lemmas.Nat.{mod-pow-add, div-mul-add, mod-mul-add}
-use Rattle.std.proofs.Math.Nat.{pow-suc, mod-lt}
-use Rattle.model.specs.Grammar.{Argument, argument}
-use Rattle.model.specs.Headers.{flags, value_of}
-use Rattle.field_table.specs.Arguments.{Kind, kind_of, argument_at, IsSized}
-use Rattle.model.specs.Options.{◌>>=◌}
-use Rattle.field_table.proofs.Exactly.{IsBytes, IsKind, bind_some, argument_takes, argument_again}
-use Rattle.headers.specs.Properties.{Row, has_flag, option_at, options_at}
+use Rattle.headers.proofs.Names.{◌≡◌, ℕ, zero, suc, ◌+◌, ◌*◌, ◌/◌, ◌%◌, ◌^◌, ◌<◌, ◌≤◌, Bool, true, false, cond, eqb, List, [], ◌∷◌, ◌++◌, length, Option, Some, None, refl, sym, ap, subst, ◌∙◌, append_assoc, arith, is_some, AllByRecursion, flat_map, mod-pow-add, div-mul-add, mod-mul-add, pow-suc, mod-lt, Argument, argument, flags, value_of, Kind, kind_of, argument_at, IsSized, ◌>>=◌, IsBytes, IsKind, bind_some, argument_takes, argument_again, Row, has_flag, option_at, options_at}
 
 -- ---- one property
 

@@ -1,19 +1,7 @@
 -- All fourteen properties: what is read is spelled so, and what is spelled so is read.
-use Rattle.std.proofs.Common.{◌≡◌, ℕ, ◌+◌, ◌%◌, ◌^◌, ◌<◌, Bool, true, false, cond, eqb, List, [], ◌∷◌, ◌++◌, length, Option, Some, None, refl, sym, ap, subst, ◌∙◌, append-nil, arith}
-use Rattle.std.specs.Prelude.{◌==◌, if◌then◌else◌}
-use Rattle.std.specs.List.{AllByRecursion, flat_map}
-use Rattle.std.proofs.lemmas.Bool.{eqb-true, eq-eqb}
-use Rattle.std.proofs.Math.Nat.{mod-eq_of_lt}
-use Rattle.model.specs.Words.{Text}
-use Rattle.model.specs.Grammar.{Argument}
-use Rattle.model.specs.Headers.{text_of, octet_of, time_of, table_of, properties_of, flags, value_of, IsValue, AreProperties}
-use Rattle.model.specs.Properties.{text_told, octet_told, time_told, table_told, properties_told}
+use Rattle.headers.proofs.Names.{◌≡◌, ℕ, ◌+◌, ◌%◌, ◌^◌, ◌<◌, Bool, true, false, cond, eqb, List, [], ◌∷◌, ◌++◌, length, Option, Some, None, refl, sym, ap, subst, ◌∙◌, append-nil, arith, ◌==◌, if◌then◌else◌, AllByRecursion, flat_map, eqb-true, eq-eqb, mod-eq_of_lt, Text, Argument, text_of, octet_of, time_of, table_of, properties_of, flags, value_of, IsValue, AreProperties, text_told, octet_told, time_told, table_told, an_octet, a_short_text, a_long_long, a_field_table, IsArgumentWhole, ◌>>=◌, IsBytes, bind_some, whole, sized_of, Row, front_rows, back_rows, has_flag, option_at, options_at, properties_at, HeadersAreWhole, headers_in}
+use Rattle.model.specs.Properties.{properties_told}
 use Rattle.model.specs.declared.contents.Fields.{Fields as Properties}
-use Rattle.field_table.specs.Arguments.{an_octet, a_short_text, a_long_long, a_field_table, IsArgumentWhole}
-use Rattle.model.specs.Options.{◌>>=◌}
-use Rattle.field_table.proofs.Exactly.{IsBytes, bind_some, whole, sized_of}
-use Rattle.headers.specs.Properties.{Row, front_rows, back_rows, has_flag, option_at, options_at, properties_at}
-use Rattle.headers.specs.Unread.{HeadersAreWhole, headers_in}
 use Rattle.headers.proofs.Flags.{IsSizedOption, HasKind, HaveKinds, Descend, AreKinds, TakesOptions, options_take, options_again, flags-below, flags-fours}
 
 abbrev rows : List Row

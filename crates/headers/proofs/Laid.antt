@@ -1,11 +1,6 @@
 -- A header is its fixed fields, its first seven properties and the other seven.
-use Rattle.std.proofs.Common.{◌≡◌, ℕ, ◌+◌, List, [], ◌∷◌, ◌++◌, length, Option, Some, None, refl, sym, ap, ◌∙◌, append_assoc, length-append, arith}
-use Rattle.std.specs.Prelude.{is_some}
-use Rattle.model.specs.Words.{Text}
-use Rattle.model.specs.Grammar.{Argument}
-use Rattle.model.specs.Headers.{text_of, octet_of, time_of, table_of, properties_of, flags, value_of, AreProperties, header_bytes}
+use Rattle.headers.proofs.Names.{◌≡◌, ℕ, ◌+◌, List, [], ◌∷◌, ◌++◌, length, Option, Some, None, refl, sym, ap, ◌∙◌, append_assoc, length-append, arith, is_some, Text, Argument, text_of, octet_of, time_of, table_of, properties_of, flags, value_of, AreProperties, header_bytes, front_of, back_of, values, AreValues, front_flags, back_flags, fixed}
 use Rattle.model.specs.declared.contents.Fields.{Fields as Properties}
-use Rattle.headers.specs.Writing.{front_of, back_of, values, AreValues, front_flags, back_flags, fixed}
 
 -- ---- flags
 

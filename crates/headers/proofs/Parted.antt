@@ -1,17 +1,9 @@
 -- Properties that were read as bytes are those that the bytes spell.
-use Rattle.std.proofs.Common.{◌≡◌, ℕ, ◌+◌, ◌*◌, ◌^◌, ◌<◌, List, ◌++◌, take, drop, Option, Some, None, Result, Ok, Err, IfOk, option_map, refl, sym, ap, subst, ◌∙◌, arith}
-use Rattle.std.specs.Int.{w16, to_be_bytes, from_be_bytes}
-use Rattle.std.specs.List.{flat_map, slice_index}
+use Rattle.headers.proofs.Names.{◌≡◌, ℕ, ◌+◌, ◌*◌, ◌^◌, ◌<◌, List, ◌++◌, take, drop, Option, Some, None, Result, Ok, Err, IfOk, option_map, refl, sym, ap, subst, ◌∙◌, arith, w16, to_be_bytes, from_be_bytes, flat_map, slice_index, Argument, text_of, octet_of, time_of, table_of, properties_of, flags, value_of, AreProperties, properties_bytes, text_told, octet_told, time_told, table_told, IsSpelling, IsBytes, properties_at, text_in, table_in, pairs_in, parts_in, HeadersAreWhole, from_be_bytes-to_be_bytes_2}
 use Rattle.std.specs.Borrow.{Bor}
-use Rattle.model.specs.Grammar.{Argument}
-use Rattle.model.specs.Headers.{text_of, octet_of, time_of, table_of, properties_of, flags, value_of, AreProperties}
-use Rattle.model.specs.Properties.{properties_bytes, text_told, octet_told, time_told, table_told, properties_told, spelled_by, IsSpelling}
+use Rattle.model.specs.Properties.{properties_told, spelled_by}
 use Rattle.model.specs.declared.contents.Fields.{Fields as Properties}
-use Rattle.field_table.proofs.Exactly.{IsBytes}
-use Rattle.headers.specs.Properties.{properties_at}
-use Rattle.headers.specs.Unread.{text_in, table_in, pairs_in, parts_in, HeadersAreWhole}
 use Rattle.headers.specs.declared.optional.Parts.{Parts}
-use Rattle.std.proofs.lemmas.Nat.{from_be_bytes-to_be_bytes_2}
 use Rattle.headers.proofs.Flags.{flags-below}
 use Rattle.headers.proofs.Spelled.{one_spelled}
 use Rattle.headers.proofs.Kept.{properties_are, properties_again, told_same, same_properties}

@@ -1,12 +1,5 @@
 -- The fixed fields of a payload are spelled so, and what is spelled so has these fields.
-use Rattle.std.proofs.Common.{◌≡◌, ℕ, ◌+◌, ◌^◌, ◌<◌, ◌≤◌, List, ◌++◌, length, take, drop, refl, sym, ap, ◌∙◌, arith, inl, inr}
-use Rattle.std.specs.Int.{w16, w64, from_be_bytes, to_be_bytes}
-use Rattle.std.proofs.lemmas.Bool.{cases_lt}
-use Rattle.std.proofs.lemmas.List.{take-append-drop, length-take, length-drop, get_or-drop, get_or-take, get_or_past, drop-drop}
-use Rattle.std.proofs.lemmas.Nat.{be_bytes_2, be_bytes_8, from_be_bytes-to_be_bytes_2, from_be_bytes-to_be_bytes_8}
-use Rattle.model.specs.Grammar.{class_at}
-use Rattle.model.specs.Headers.{weight_at, size_at, flags_at, IsNoHeader}
-use Rattle.field_table.proofs.Exactly.{IsBytes}
+use Rattle.headers.proofs.Names.{◌≡◌, ℕ, ◌+◌, ◌^◌, ◌<◌, ◌≤◌, List, ◌++◌, length, take, drop, refl, sym, ap, ◌∙◌, arith, inl, inr, w16, w64, from_be_bytes, to_be_bytes, cases_lt, take-append-drop, length-take, length-drop, get_or-drop, get_or-take, get_or_past, drop-drop, be_bytes_2, be_bytes_8, from_be_bytes-to_be_bytes_2, from_be_bytes-to_be_bytes_8, class_at, weight_at, size_at, flags_at, IsNoHeader, IsBytes}
 use Rattle.headers.specs.Reading.{Fields}
 
 IsBytes-part : (n k : ℕ) (bytes : List ℕ) → IsBytes bytes → IsBytes (take n (drop k bytes))

@@ -1,14 +1,6 @@
 -- The bytes that spell properties tell them.
-use Rattle.std.proofs.Common.{◌≡◌, ℕ, suc, ◌+◌, ◌%◌, ◌^◌, ◌<◌, Bool, eqb, List, [], ◌∷◌, ◌++◌, length, take, drop, Option, Some, None, refl, sym, ap, subst, ◌∙◌, arith}
-use Rattle.std.specs.Prelude.{if◌then◌else◌, is_some}
-use Rattle.std.specs.List.{flat_map}
-use Rattle.std.proofs.lemmas.List.{take_at, drop_at}
-use Rattle.std.proofs.lemmas.Nat.{from_be_bytes-to_be_bytes_2, from_be_bytes-to_be_bytes_4, from_be_bytes-to_be_bytes_8}
-use Rattle.std.proofs.Math.Nat.{mod-eq_of_lt}
-use Rattle.model.specs.Words.{Text}
-use Rattle.model.specs.Grammar.{Argument, Long_long, Short_text, Field_table, argument}
-use Rattle.model.specs.Headers.{text_of, octet_of, time_of, table_of, properties_of, flags, value_of, IsValue, AreProperties}
-use Rattle.model.specs.Properties.{properties_bytes, First, first_text, first_octet, first_time, first_table, sorts, is_flagged, values_told, properties_told, spelled_by, IsSpelling}
+use Rattle.headers.proofs.Names.{◌≡◌, ℕ, suc, ◌+◌, ◌%◌, ◌^◌, ◌<◌, Bool, eqb, List, [], ◌∷◌, ◌++◌, length, take, drop, Option, Some, None, refl, sym, ap, subst, ◌∙◌, arith, if◌then◌else◌, is_some, flat_map, take_at, drop_at, from_be_bytes-to_be_bytes_2, from_be_bytes-to_be_bytes_4, from_be_bytes-to_be_bytes_8, mod-eq_of_lt, Text, Argument, Long_long, Short_text, Field_table, argument, text_of, octet_of, time_of, table_of, properties_of, flags, value_of, IsValue, AreProperties, properties_bytes, First, first_text, first_octet, first_time, first_table, sorts, is_flagged, IsSpelling}
+use Rattle.model.specs.Properties.{values_told, properties_told, spelled_by}
 use Rattle.model.specs.declared.contents.Fields.{Fields as Properties}
 use Rattle.headers.proofs.Flags.{flags-below, bit_is, first_flag}
 use Rattle.headers.proofs.Kept.{told_same}

@@ -1,16 +1,10 @@
 -- What the fields and the properties of a payload say tells what the payload says.
-use Rattle.std.proofs.Common.{◌≡◌, ◌≢◌, ℕ, ◌^◌, ◌%◌, ◌<◌, ◌≤◌, List, [], ◌++◌, length, Option, Some, None, Ok, Err, refl, sym, ap, subst, ◌∙◌, arith, inl, inr}
-use Rattle.std.specs.List.{flat_map}
+use Rattle.headers.proofs.Names.{◌≡◌, ◌≢◌, ℕ, ◌^◌, ◌%◌, ◌<◌, ◌≤◌, List, [], ◌++◌, length, Option, Some, None, Ok, Err, refl, sym, ap, subst, ◌∙◌, arith, inl, inr, flat_map, Argument, class_at, properties_of, flags, value_of, AreProperties, header_bytes, weight_at, flags_at, IsNoHeader, SaysHeader, said, no_header, bad_properties, IsBytes, properties_at, HeadersAreWhole, headers_in, GivesProperties, HeaderIsRefused, IsHeaderOr}
 use Rattle.model.specs.Tables.{IsTable}
-use Rattle.model.specs.Grammar.{Argument, class_at}
 use Rattle.model.specs.Headers
-use Rattle.model.specs.Headers.{properties_of, flags, value_of, AreProperties, header_bytes, weight_at, flags_at, IsNoHeader, SaysHeader, said, no_header, bad_properties}
 use Rattle.model.specs.declared.contents.Fields.{Fields as Properties}
-use Rattle.field_table.proofs.Exactly.{IsBytes}
-use Rattle.headers.specs.Properties.{properties_at}
-use Rattle.headers.specs.Unread.{HeadersAreWhole, headers_in, GivesProperties}
 use Rattle.headers.specs.Laws.{OneHeader}
-use Rattle.headers.specs.Reading.{Fields, HeaderIsRefused, IsHeaderOr}
+use Rattle.headers.specs.Reading.{Fields}
 use Rattle.headers.specs.declared.contents.BadHeader.{BadHeader}
 use Rattle.headers.specs.declared.contents.BadHeader.TheVariants.{FrameError, SyntaxError, Memory}
 use Rattle.headers.proofs.Flags.{flags-below, flags-fours}

@@ -1,18 +1,13 @@
 -- Members and elements, one by one.
-use Rattle.std.proofs.Common.{◌≡◌, ℕ, ◌+◌, ◌<◌, ◌≤◌, List, [], ◌∷◌, ◌++◌, not, ◌==◌, Vec, vec_len, Option, Some, None, option_map, length, map, drop, get_or, String, Global, Bor, string_bytes, refl, sym, ap, ◌∙◌, subst, arith, append_assoc, append-nil}
+use Rattle.json_file.proofs.Names.{◌≡◌, ℕ, ◌+◌, ◌<◌, ◌≤◌, List, [], ◌∷◌, ◌++◌, not, ◌==◌, Vec, vec_len, Option, Some, None, option_map, length, map, drop, get_or, String, Global, Bor, string_bytes, refl, sym, ap, ◌∙◌, subst, arith, append_assoc, append-nil, Data, null, boolean, number, string, array, object, view, items_view, members_view, FailsJson, FileCause, Malformed, fills, has_only, named_among}
 use Rattle.std.proofs.lemmas.List.{drop_more, at_drop_all}
 use Rattle.std.proofs.Math.Dec.{eqb-suc-zero}
 use Rattle.std.specs.List.{list_all, list_any}
 use Rattle.std.specs.Map.{keys_of}
 use Rattle.std.specs.Str.{bytes_eq}
-use Rattle.serde_json.specs.Data.{Data, null, boolean, number, string, array, object}
 use Rattle.serde_json.specs.Find.{as_object}
-use Rattle.serde_json.specs.View.{view, items_view, members_view}
 use Rattle.serde_json.specs.declared.value.Value.{Value}
-use Rattle.json_file.specs.Outcomes.{FailsJson}
-use Rattle.json_file.specs.declared.causes.FileCause.{FileCause}
-use Rattle.json_file.specs.declared.causes.FileCause.TheVariants.{Malformed}
-use Rattle.json_file.specs.Members.{each, fills, has_only, named_among}
+use Rattle.json_file.specs.Members.{each}
 
 -- a reason that follows from another
 pub fails_then : (e : FileCause) (P Q : Type 0) → (P → Q) → FailsJson e P → FailsJson e Q

@@ -1,12 +1,5 @@
 -- From what a file states to the whole of it, over what a value states and what each cause asks of that.
-use Rattle.std.proofs.Common.{◌≡◌, ℕ, ◌<◌, List, Option, Some, None, length, sym, ap, ◌∙◌, subst, arith}
-use Rattle.serde_json.specs.Data.{Data}
-use Rattle.json_file.specs.Members.{IsJson}
-use Rattle.json_file.specs.Outcomes.{FailsJson}
-use Rattle.json_file.specs.declared.causes.FileCause.{FileCause}
-use Rattle.json_file.specs.declared.causes.FileCause.TheVariants.{NotJson, Malformed, TooMany, Memory}
-use Rattle.json_file.specs.Causes.{cause_number}
-use Rattle.json_file.specs.Files.{IsFreeOf, IsLeastCause, IsFileOf, IsCauseTold, IsUnreadFile}
+use Rattle.json_file.proofs.Names.{◌≡◌, ℕ, ◌<◌, List, Option, Some, None, length, sym, ap, ◌∙◌, subst, arith, Data, IsJson, FailsJson, FileCause, NotJson, Malformed, TooMany, Memory, cause_number, IsFreeOf, IsLeastCause, IsFileOf, IsCauseTold, IsUnreadFile}
 
 -- a file is one value, and states one thing
 one_value : (bytes : List ℕ) (d e : Data) → IsJson bytes d → IsJson bytes e → d ≡ e

@@ -1,10 +1,10 @@
--- The causes for which a file is refused, by their numbers, in the order in which they are looked for (own).
+-- The causes for which a file is refused, by number, in the order in which they are checked (own).
 use Rattle.std.specs.Prelude.{ℕ}
 use Rattle.json_file.specs.declared.causes.FileCause.{FileCause}
 use Rattle.json_file.specs.declared.causes.FileCause.TheVariants.{NotJson, Malformed, OtherVhost, Repeated, Absent, OtherType, Unsupported}
 use Rattle.json_file.specs.declared.causes.FileCause.TheVariants.{NoOverflow, Worded, TooMany, NoExchange, OtherPermission, OtherHash, Memory}
 
--- a cause's number, as docs/FORMATS.md lists them; of several causes in a file the one of the least number is told
+-- a cause's number, as docs/FORMATS.md lists them; of several causes in a file the lowest-numbered one is reported
 abbrev pub cause_number : FileCause → ℕ
 cause_number NotJson = 1
 cause_number Malformed = 2

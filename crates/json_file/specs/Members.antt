@@ -1,4 +1,4 @@
--- What stands at the members of a JSON value (RFC 8259, as `serde_json` reads it).
+-- The members of a JSON value (RFC 8259, as `serde_json` parses it).
 use Rattle.std.specs.Prelude.{
   codes,
   ◌≡◌,
@@ -36,7 +36,7 @@ pub record IsJson (bytes : List ℕ) (d : Data) : Type 0 where
   pub text : IsUtf8 bytes
   pub value : read bytes ≡ Some d
 
--- a file of at most 16,777,216 bytes is JSON
+-- a file, if it has at most 16,777,216 bytes, is JSON
 abbrev pub IsJsonFile : List ℕ → Type 0
 IsJsonFile bytes = length bytes ≤ 16777216 → (d : Data) × IsJson bytes d
 
@@ -44,15 +44,15 @@ IsJsonFile bytes = length bytes ≤ 16777216 → (d : Data) × IsJson bytes d
 abbrev pub whole_number : Data → Option ℕ
 whole_number d = option_and_then as_u64 (as_number d)
 
--- the text at this member
+-- the text at member `name`
 unfoldable pub text_member : List ℕ → Data → Option (List ℕ)
 text_member name d = option_and_then as_str (get name d)
 
--- the truth value at this member
+-- the boolean at member `name`
 unfoldable pub truth_member : List ℕ → Data → Option Bool
 truth_member name d = option_and_then as_bool (get name d)
 
--- the array at this member
+-- the array at member `name`
 unfoldable pub array_member : List ℕ → Data → Option Items
 array_member name d = option_and_then as_array (get name d)
 
@@ -69,7 +69,7 @@ abbrev pub optional : {A : Type 0} → (Data → Option A) → Option Data → O
 optional reads None = Some None
 optional reads (Some d) = option_map (λ x. Some x) (reads d)
 
--- the text at this member, where it is there
+-- the text at member `name`, which may be left out
 unfoldable pub optional_text_member : List ℕ → Data → Option (Option (List ℕ))
 optional_text_member name d = optional as_str (get name d)
 
@@ -81,7 +81,7 @@ small n = if nat_lt n (2 ^ 32) then Some n else None
 abbrev pub small_number : Data → Option ℕ
 small_number d = option_and_then small (whole_number d)
 
--- the whole number below 2^32 at this member, where it is there
+-- the whole number below 2^32 at member `name`, which may be left out
 unfoldable pub optional_number_member : List ℕ → Data → Option (Option ℕ)
 optional_number_member name d = optional small_number (get name d)
 
@@ -90,16 +90,16 @@ abbrev pub fills : Items → Bool
 fills no_items = false
 fills (item d ds) = true
 
--- whether there is an array at this member with an element; it may be left out
+-- whether the array at member `name`, which may be left out, has an element
 unfoldable pub is_filled : List ℕ → Data → Option Bool
 is_filled name d = option_map (λ o. unwrap_or o false) (optional (λ x. option_map fills (as_array x)) (get name d))
 
--- each member has one of these names
+-- whether each member has one of these names
 abbrev pub named_among : List (List ℕ) → Members → Bool
 named_among names no_members = true
 named_among names (member k d ms) = list_any (λ n. bytes_eq n k) names && named_among names ms
 
--- the value is an object, each of whose members has one of these names
+-- whether the value is an object whose members each have one of these names
 abbrev pub has_only : List (List ℕ) → Data → Bool
 has_only names null = false
 has_only names (boolean b) = false
@@ -108,7 +108,7 @@ has_only names (string s) = false
 has_only names (array ds) = false
 has_only names (object ms) = named_among names ms
 
--- what each element states, if each states one
+-- what the elements state, if each states something
 unfoldable pub each : {A : Type 0} → (Data → Option A) → Items → Option (List A)
 each reads no_items = Some []
 each reads (item d ds) = option_and_then (λ x. option_map (λ xs. x ∷ xs) (each reads ds)) (reads d)

@@ -1,4 +1,4 @@
--- What a reader gives, and why it gives nothing. Want of memory owes nothing.
+-- What a reader returns, compared with what the JSON value says (own). A report of an allocation failure promises nothing.
 use Rattle.std.specs.Prelude.{◌≡◌, ◌≤◌, ◌<◌, ℕ, List, Option, Some, None, Result, Ok, Err, length, Vec}
 use Rattle.std.specs.declared.alloc.Global.{Global}
 use denote.Ref.{Bor}
@@ -9,28 +9,28 @@ use Rattle.json_file.specs.Members.{IsJson}
 use Rattle.json_file.specs.declared.causes.FileCause.{FileCause}
 use Rattle.json_file.specs.declared.causes.FileCause.TheVariants.{NotJson, Malformed, TooMany, Memory}
 
--- a member is not read for this reason alone
+-- a member is refused as malformed only for this reason
 abbrev pub FailsJson : FileCause → Type 0 → Type 0
 FailsJson Malformed why = why
 FailsJson Memory why = Unit {0}
 FailsJson _ why = ⊥
 
--- what stands there is given, or it is refused where nothing does
+-- the reader returns what the value states, and refuses it only if it states nothing
 abbrev pub GivesValue : {A : Type 0} → Result A FileCause → Option A → Type 0
 GivesValue (Ok x) o = o ≡ Some x
 GivesValue (Err e) o = FailsJson e (o ≡ None)
 
--- the same of a value that is lent
+-- the same, for a value that is borrowed
 abbrev pub GivesView : Result (Bor Value) FileCause → Option Data → Type 0
 GivesView (Ok v) o = o ≡ Some (view v.now)
 GivesView (Err e) o = FailsJson e (o ≡ None)
 
--- the same of a list
+-- the same, for a list
 abbrev pub GivesItems : {A : Type 0} → Result (Vec A Global) FileCause → Option (List A) → Type 0
 GivesItems (Ok v) o = o ≡ Some v.items
 GivesItems (Err e) o = FailsJson e (o ≡ None)
 
--- a file is parsed, or refused
+-- a file is parsed, or refused because it is too long or no JSON
 abbrev pub Parses : Result Value FileCause → List ℕ → Type 0
 Parses (Ok v) bytes = IsJson bytes (view v)
 Parses (Err TooMany) bytes = 16777216 < length bytes

@@ -1,4 +1,4 @@
-//! Arrays of entries of one kind.
+//! Reads arrays whose elements are all of one kind. Start with [`entries`].
 
 ghost use Rattle.std.specs.Prelude.{◌≡◌, Option, option_and_then};
 ghost use Rattle.serde_json.specs.Data.{Data};
@@ -11,12 +11,14 @@ use model::Text;
 use serde_json::Value;
 use std::alloc::Global;
 
-/// What is read from an element of an array.
+/// A type that is read from an element of a JSON array.
 pub trait FromValue: Drop {
-    /// What a value states, if it states one.
+    /// The entry that a JSON value states, if it states one.
     ghost states: { Data → Option Self };
 
-    /// The entry that the value states.
+    /// Reads the entry that `value` states.
+    ///
+    /// Fails with [`FileCause::Malformed`] if it states none, or if an allocation fails.
     fn read(alloc: Global, value: &Value) -> Result<Self, FileCause>
     where
         Self: Sized,
@@ -49,7 +51,7 @@ impl FromValue for Text {
     }
 }
 
-/// The entries that these values state.
+/// Reads the entries that `values` state, in their order. Fails if one states none, or if an allocation fails.
 pub fn elements<E: FromValue>(alloc: Global, values: &[Value]) -> Result<Vec<E>, FileCause>
     ensures { GivesItems result (each E.states (items_view values.now)) }
 {
@@ -60,7 +62,8 @@ pub fn elements<E: FromValue>(alloc: Global, values: &[Value]) -> Result<Vec<E>,
     Ok(found)
 }
 
-/// The entries of the array at this member.
+/// Reads the entries of the array at member `name`. Fails if there is no array, if an element states no entry, or if an
+/// allocation fails.
 #[tactic(auto, unfolding(crate::specs::Members::array_member))]
 pub fn entries<E: FromValue>(alloc: Global, value: &Value, name: &str) -> Result<Vec<E>, FileCause>
     ensures { GivesItems result (option_and_then (each E.states) (array_member name.now (view value.now))) }

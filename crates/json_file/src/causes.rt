@@ -1,54 +1,54 @@
-//! Why a file is refused.
+//! The causes for which a file is refused, and their numbers.
 
 ghost use Rattle.std.specs.Prelude.{◌≡◌};
 ghost use Rattle.json_file.specs.Causes.{cause_number};
 
 use std::alloc::{AllocError, AllocFailed};
 
-/// A cause for which a file of definitions, guarantees or certificates is refused. Of several the one of the least number is
-/// told. Guarantees have only the causes 1, 2, 5, 9, 10 and 14, certificates only 1, 2, 10 and 14, as every JSON file may.
+/// Why a file of definitions, guarantees or certificates is refused. Of several causes the lowest-numbered one is reported.
+/// Guarantees have only the causes 1, 2, 5, 9, 10 and 14, certificates only 1, 2, 10 and 14, as every JSON file may.
 #[derive(Clone, Copy, PartialEq, Eq, Debug, Drop)]
 pub enum FileCause {
     /// 1: the file is not JSON.
     NotJson,
-    /// 2: a required member is missing; a member, an array or an argument is of the wrong kind; or a number is out of its
-    /// range. Of guarantees: a mode is neither `reaches` nor `never`. Of certificates: the file is not an array of objects
-    /// that each have exactly the members of a certificate.
+    /// 2: a required member is missing; a member, an array or an argument is of the wrong type; or a number is out of its range.
+    /// Guarantees: a mode is neither `reaches` nor `never`. Certificates: the file is not an array of objects that each have
+    /// exactly the members of a certificate.
     Malformed,
-    /// 3: there is another vhost than `/`, or not exactly one.
+    /// 3: there is not exactly one vhost, or it is not `/`.
     OtherVhost,
-    /// 4: two users, two queues or two exchanges have one name.
+    /// 4: two users, two queues or two exchanges have the same name.
     Repeated,
-    /// 5: the source or the destination of a binding is not there. Of guarantees: an exchange or a queue is not there; the
-    /// default exchange `""` is.
+    /// 5: the source or the destination of a binding doesn't exist. Guarantees: an exchange or a queue doesn't exist; the default
+    /// exchange `""` does.
     Absent,
     /// 6: an exchange has another type than `direct`, `fanout` and `topic`.
     OtherType,
-    /// 7: something is stated that is not built: an argument or a member that is not listed, arguments of a binding,
-    /// another destination type, auto-delete, another overflow, a dead-letter key without a dead-letter exchange, or a
-    /// policy, parameter or topic permission.
+    /// 7: the file asks for something that isn't supported: an argument or a member that is not listed, arguments of a binding,
+    /// another destination type, auto-delete, another overflow, a dead-letter key without a dead-letter exchange, or a policy,
+    /// parameter or topic permission.
     Unsupported,
     /// 8: a queue has `x-max-length` or `x-max-length-bytes` without `x-overflow`.
     NoOverflow,
-    /// 9: a binding key, a dead-letter key, a pattern (of `except` too) or a queue name has an empty word, over 31 words or
-    /// over 255 bytes; an exchange or a queue has no name; or a name has over 255 bytes.
+    /// 9: a binding key, a dead-letter key, a pattern (of `except` too) or a queue name has an empty word, over 31 words or over
+    /// 255 bytes; an exchange or a queue has no name; or a name has over 255 bytes.
     Worded,
-    /// 10: there are over 256 exchanges, 256 queues, 4,096 bindings or 256 users; there are over 64 guarantees, or one takes
-    /// keys out by over 16 patterns; or the file has over 16,777,216 bytes.
+    /// 10: there are over 256 exchanges, 256 queues, 4,096 bindings or 256 users; there are over 64 guarantees, or one has over
+    /// 16 `except` patterns; or the file has over 16,777,216 bytes.
     TooMany,
-    /// 11: an alternate exchange is not there, or a dead-letter exchange is neither there nor the default one.
+    /// 11: an alternate exchange doesn't exist, or a dead-letter exchange doesn't exist and isn't the default one.
     NoExchange,
-    /// 12: a user does not have exactly one permission, a permission is of no user, or is another than to configure
-    /// nothing and to write and read all.
+    /// 12: a user doesn't have exactly one permission, a permission is of no user, or it isn't to configure nothing and to write
+    /// and read all.
     OtherPermission,
     /// 13: a password is hashed in another way, or its hash is not the Base64 of 36 bytes.
     OtherHash,
-    /// 14: a growth was refused.
+    /// 14: an allocation failed.
     Memory,
 }
 
 impl FileCause {
-    /// The number of the cause, from 1 to 14: the same one in each of the files.
+    /// Returns the number of the cause, from 1 to 14; it is the same for every kind of file.
     pub fn number(self) -> u8
         ensures { result ≡ cause_number self }
     {

@@ -1,4 +1,6 @@
-//! JSON files: parsed whole, and read member by member.
+//! Reads JSON files: parses them whole, then reads them member by member.
+//!
+//! Start with [`parse`]; [`FileCause`] has the refusals.
 #![tactic(auto)]
 
 mod arrays;

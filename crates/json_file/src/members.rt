@@ -1,4 +1,5 @@
-//! What stands at the members of a value.
+//! Parses a file, and reads the members of a JSON object. Start with [`parse`]. A member of another type is
+//! [`FileCause::Malformed`], an allocation failure [`FileCause::Memory`].
 
 ghost use Rattle.std.specs.Prelude.{◌≡◌, map, string_bytes};
 ghost use Rattle.std.specs.BTreeMap.{keys};
@@ -22,7 +23,10 @@ use model::{Text, limits};
 use serde_json::{Map, Value};
 use std::alloc::Global;
 
-/// The value that a file states, where it is JSON of at most 16,777,216 bytes and nests at most 127 deep.
+/// Parses a file: JSON of at most 16,777,216 bytes that nests at most 127 deep.
+///
+/// Fails with [`FileCause::TooMany`] if the file is longer, with [`FileCause::NotJson`] if it is no such JSON, and with
+/// [`FileCause::Memory`] if an allocation fails.
 pub fn parse(alloc: Global, bytes: &[u8]) -> Result<Value, FileCause>
     ensures { Parses result bytes.now }
 {
@@ -41,7 +45,7 @@ pub fn parse(alloc: Global, bytes: &[u8]) -> Result<Value, FileCause>
     }
 }
 
-/// The text at this member.
+/// Returns the text at member `name`. Fails if there is none, or if an allocation fails.
 #[tactic(auto, unfolding(crate::specs::Members::text_member))]
 pub fn text(alloc: Global, value: &Value, name: &str) -> Result<Text, FileCause>
     ensures { GivesValue result (text_member name.now (view value.now)) }
@@ -52,7 +56,7 @@ pub fn text(alloc: Global, value: &Value, name: &str) -> Result<Text, FileCause>
     }
 }
 
-/// The truth value at this member.
+/// Returns the boolean at member `name`. Fails if there is none.
 #[tactic(auto, unfolding(crate::specs::Members::truth_member))]
 pub fn truth(value: &Value, name: &str) -> Result<bool, FileCause>
     ensures { GivesValue result (truth_member name.now (view value.now)) }
@@ -63,7 +67,7 @@ pub fn truth(value: &Value, name: &str) -> Result<bool, FileCause>
     }
 }
 
-/// The object at the member `arguments`.
+/// Returns the object at the member `arguments`. Fails if there is none.
 #[tactic(auto, unfolding(crate::specs::Members::arguments_member))]
 pub fn arguments(value: &Value) -> Result<&Value, FileCause>
     ensures { GivesView result (arguments_member (view value.now)) }
@@ -74,7 +78,7 @@ pub fn arguments(value: &Value) -> Result<&Value, FileCause>
     }
 }
 
-/// The text at this member, where it is there.
+/// Returns the text at member `name`, which may be left out. Fails if the member is no text, or if an allocation fails.
 #[tactic(auto, unfolding(crate::specs::Members::optional_text_member))]
 pub fn optional_text(alloc: Global, value: &Value, name: &str) -> Result<Option<Text>, FileCause>
     ensures { GivesValue result (optional_text_member name.now (view value.now)) }
@@ -88,7 +92,7 @@ pub fn optional_text(alloc: Global, value: &Value, name: &str) -> Result<Option<
     }
 }
 
-/// The whole number below 2^32 at this member, where it is there.
+/// Returns the whole number at member `name`, which may be left out. Fails if the member is no whole number below 2^32.
 #[tactic(auto, unfolding(crate::specs::Members::optional_number_member))]
 pub fn optional_number(value: &Value, name: &str) -> Result<Option<u32>, FileCause>
     ensures { GivesValue result (optional_number_member name.now (view value.now)) }
@@ -102,7 +106,7 @@ pub fn optional_number(value: &Value, name: &str) -> Result<Option<u32>, FileCau
     }
 }
 
-/// Whether there is an array at this member with an element, where it is there.
+/// Returns whether the array at member `name`, which may be left out, has an element. Fails if the member is no array.
 #[tactic(auto, unfolding(crate::specs::Members::is_filled))]
 pub fn is_filled(value: &Value, name: &str) -> Result<bool, FileCause>
     ensures { GivesValue result (is_filled name.now (view value.now)) }
@@ -116,21 +120,21 @@ pub fn is_filled(value: &Value, name: &str) -> Result<bool, FileCause>
     }
 }
 
-/// Whether this is one of the names.
+/// Returns whether `name` is one of `names`.
 fn is_among(names: &[&str], name: &str) -> bool
     ensures { result ≡ list_any (λ n. bytes_eq n.now name.now) names.now }
 {
     names.iter().any(|other| *other == name)
 }
 
-/// Whether each key of the map is one of these names.
+/// Returns whether every key of `members` is one of `names`.
 fn are_among(members: &Map<String, Value>, names: &[&str]) -> bool
     ensures { result ≡ list_all (λ k. list_any (λ n. bytes_eq n.now (string_bytes k)) names.now) (keys members.now) }
 {
     members.keys().all(|key| is_among(names, key.as_str()))
 }
 
-/// Whether the value is an object all of whose members have one of these names.
+/// Returns whether `value` is an object whose members are all called by one of `names`.
 pub fn has_only(value: &Value, names: &[&str]) -> bool
     ensures { result ≡ has_only (map (λ n. n.now) names.now) (view value.now) }
 {

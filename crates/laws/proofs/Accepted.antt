@@ -1,15 +1,8 @@
 -- What a command that is not refused tells of its channel.
-use Rattle.std.proofs.Common.{◌≡◌, ℕ, Bool, true, false, refl, sym, ap, Option, Some, None}
-use Rattle.std.specs.Prelude.{is_some, nat_lt, ◌==◌, if◌then◌else◌}
-use Rattle.std.proofs.lemmas.Bool.{false≢true}
-use Rattle.model.specs.Words.{Text}
-use Rattle.model.specs.Topology.{Topology}
-use Rattle.model.specs.Broker.{Channel, Connection, Broker}
-use Rattle.model.specs.Step.{Refusal, Ignored, Of_connection, channel_or_new, is_awaiting, refusal, refusal_of_consume}
-use Rattle.model.specs.declared.methods.Consume.{Consume}
-use Rattle.model.specs.declared.methods.Get.{Get}
+use Rattle.laws.proofs.Names.{◌≡◌, ℕ, Bool, true, false, refl, sym, ap, None, is_some, nat_lt, ◌==◌, false≢true, Text, Topology, Channel, Connection, Broker, Refusal, Ignored, Of_connection, channel_or_new, is_awaiting, refusal, refusal_of_consume, Consume, Get, ChannelOpen, ChannelCloseOk, BasicConsume, BasicGet, BasicPublish}
+use Rattle.std.proofs.Common.{Option, Some}
+use Rattle.std.specs.Prelude.{if◌then◌else◌}
 use Rattle.model.specs.declared.methods.Publish.{Publish}
-use Rattle.model.specs.declared.methods.Method.TheVariants.{ChannelOpen, ChannelCloseOk, BasicConsume, BasicGet, BasicPublish}
 
 module _ (t : Topology) (old : Broker) (conn : Connection) (h : ℕ) where
   refused : {r : Refusal} → ◌≡◌ {A = Option Refusal} (Some r) None → ⊥

@@ -1,21 +1,8 @@
 -- What was outstanding before an event is so after it, or left its queue, or can be given out there again.
-use Rattle.std.proofs.Common.{◌≡◌, ℕ, List, Bool, true, false, refl, sym, ap, subst, ◌∙◌, Option}
-use Rattle.std.specs.Prelude.{◌==◌, ◌&&◌, if◌then◌else◌}
-use Rattle.std.proofs.lemmas.Bool.{eq-eqb}
-use Rattle.model.specs.Topology.{Topology, IsIn}
-use Rattle.model.specs.Agreement.{IsAgreed}
-use Rattle.model.specs.Broker.{Outstanding, Channel, Broker, with_pair}
-use Rattle.model.specs.Entries.{by_channel, by_connection}
+use Rattle.laws.proofs.Names.{◌≡◌, ℕ, List, Bool, true, false, refl, sym, ap, subst, ◌∙◌, ◌==◌, ◌&&◌, eq-eqb, Topology, IsIn, IsAgreed, Outstanding, Channel, Broker, with_pair, by_channel, by_connection, Settlement, Leaves, Rejects, Returns, tag_of, Settles, channel_or_new, is_awaiting, Step, Happening, event_connection, IsOutstandingOn, IsSettledSo, AreSettledSo, IsAccountedFor, outstanding_still, has_left, ready_again, NoneIsForgotten, Send, Rejected, Note}
+use Rattle.std.proofs.Common.{Option}
+use Rattle.std.specs.Prelude.{if◌then◌else◌}
 use Rattle.model.specs.Settling.{takes}
-use Rattle.model.specs.Deliveries.{Settlement, Leaves, Rejects, Returns}
-use Rattle.model.specs.Step.{tag_of, Settles, channel_or_new, is_awaiting}
-use Rattle.model.specs.State.{Step}
-use Rattle.model.specs.Run.{Happening}
-use Rattle.model.specs.Alone.{event_connection}
-use Rattle.model.specs.Settled.{IsOutstandingOn, IsSettledSo, AreSettledSo, IsAccountedFor, outstanding_still, has_left, ready_again, NoneIsForgotten}
-use Rattle.model.specs.declared.events.Send.{Send}
-use Rattle.model.specs.declared.notes.Cause.TheVariants.{Rejected}
-use Rattle.model.specs.declared.notes.Note.{Note}
 use Rattle.laws.proofs.Agreed.{At, own, other, pair_at}
 use Rattle.laws.proofs.Channels.{Fate, remains, is_ready_again, was_none, is_settled, Changes, unchanged, one_channel, all_channels, step_changes}
 use Rattle.laws.proofs.Returned.{freed_again, own_channel}

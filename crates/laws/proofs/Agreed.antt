@@ -1,35 +1,11 @@
 -- Every event of the broker leaves what is held and what is outstanding in agreement.
-use Rattle.std.proofs.Common.{◌≡◌, ℕ, zero, suc, ◌+◌, ◌<◌, ◌≤◌, ◌⊎◌, List, [], ◌∷◌, ◌++◌, Bool, true, false, cond, refl, sym, ap, subst, ◌∙◌, map, filter, length, get_or, not, arith, Option, Some, None, inl, inr}
-use Rattle.std.specs.Prelude.{count_by, is_some, nat_le, ◌==◌, ◌&&◌, if◌then◌else◌}
-use Rattle.std.specs.List.{AllByRecursion}
-use Rattle.std.specs.Str.{bytes_eq}
-use Rattle.std.proofs.lemmas.Bool.{eqb-true, eq-eqb, false≢true}
-use Rattle.std.proofs.lemmas.Option.{same_Some}
-use Rattle.std.proofs.lemmas.List.Kept.{AllPairs-filter}
-use Rattle.std.proofs.lemmas.List.Quantifiers.{all_pairs_push}
-use Rattle.model.specs.Words.{Text}
-use Rattle.model.specs.Topology.{Topology, IsIn}
-use Rattle.model.specs.Broker.{Outstanding, Channel, Broker, new_channel, is_full, is_ready, with_pair, with_row}
-use Rattle.model.specs.Entries.{is_under, is_held_as, by_channel, by_connection, freed, held_as, change_first}
-use Rattle.model.specs.Settling.{Rises, is_refused, settled, kept, takes}
-use Rattle.model.specs.Deliveries.{Settlement, Leaves, Rejects, Returns, AreSettled, AreRejected, first_ready, holder_of, given_in, without_given, after_delivery, after_giving, channel_after, outstanding_after}
-use Rattle.model.specs.Step.{tag_of, Settles, Is, channel_or_new, comes_to, is_awaiting}
-use Rattle.model.specs.Run.{empty_broker}
-use Rattle.model.specs.Deaths.{MayDie}
-use Rattle.model.specs.Agreement.{IsOutstanding, IsAgreed}
-use Rattle.model.specs.Message.{Message}
-use Rattle.model.specs.declared.messages.Entry.{Entry}
-use Rattle.model.specs.declared.messages.Holder.{Holder}
-use Rattle.model.specs.declared.messages.Mark.TheVariants.{Ready, Held}
-use Rattle.model.specs.declared.messages.Taker.{Taker}
-use Rattle.model.specs.declared.events.Send.{Send}
-use Rattle.model.specs.declared.events.Event.{Event}
-use Rattle.model.specs.declared.notes.Note.{Note}
-use Rattle.laws.specs.Agreeing.{BrokersStayAgreed}
-use Rattle.model.specs.Alone.{event_connection}
+use Rattle.laws.proofs.Names.{◌≡◌, ℕ, zero, suc, ◌≤◌, ◌⊎◌, List, [], ◌∷◌, ◌++◌, Bool, true, false, cond, refl, sym, ap, subst, ◌∙◌, length, get_or, arith, None, inl, inr, count_by, is_some, nat_le, ◌==◌, ◌&&◌, AllByRecursion, bytes_eq, eqb-true, eq-eqb, false≢true, same_Some, AllPairs-filter, all_pairs_push, Text, Topology, IsIn, Outstanding, Channel, Broker, new_channel, is_full, is_ready, with_pair, with_row, is_under, is_held_as, by_channel, by_connection, freed, held_as, change_first, Rises, is_refused, settled, Settlement, Leaves, Rejects, Returns, AreSettled, AreRejected, first_ready, holder_of, given_in, without_given, after_delivery, after_giving, channel_after, outstanding_after, tag_of, Settles, Is, channel_or_new, is_awaiting, empty_broker, MayDie, IsOutstanding, IsAgreed, Message, Entry, Holder, Ready, Held, Taker, Send, Event, Note, BrokersStayAgreed, event_connection, Mark}
+use Rattle.std.proofs.Common.{◌+◌, ◌<◌, map, filter, not, Option, Some}
+use Rattle.std.specs.Prelude.{if◌then◌else◌}
+use Rattle.model.specs.Settling.{kept, takes}
+use Rattle.model.specs.Step.{comes_to}
 use Rattle.laws.proofs.Deeds.{Deed, changes, enters, gives, settles, purges, nothing, alters, ends, clears, renews, AreSame, Puts, acted, channel_at}
 use Rattle.laws.proofs.Counts.{count-append, count-cons, in-append, in_front, all_in, all-append, all_each, filter_all}
-use Rattle.model.specs.declared.messages.Mark.{Mark}
 use Rattle.laws.proofs.Agreement.{Passes, number, HeldIn, Shrinks, shrinks_same, shrinks_freed, shrinks_without, shrinks_filter, left_shrinks, returned_shrinks, left_clear, returned_clear, in_freed, held_here, counted_in, find_counted, ready_not_held, same_holder, shrinks_on, AreApart, IsClear, clear_on, apart_on, count_own, at_own}
 use Rattle.laws.proofs.Given.{Keeps, Any, IsOther, keeps_same, keeps_on, keeps_arrivals, keeps_freed, keeps_purged, keeps_given, left_keeps, rejected_keeps, returned_keeps, first_is_held, in_passing}
 use Rattle.laws.proofs.Dying.{Goes, not_found, left_only, died, goes_by}

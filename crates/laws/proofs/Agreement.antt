@@ -1,21 +1,7 @@
 -- What is held in queues is outstanding on channels, whatever the broker does.
-use Rattle.std.proofs.Common.{◌≡◌, ℕ, zero, ◌≤◌, List, [], ◌∷◌, Bool, true, false, cond, refl, sym, ap, subst, ◌∙◌, map, filter, arith, inl, inr}
-use Rattle.std.specs.Prelude.{count_by, if◌then◌else◌}
-use Rattle.std.specs.Str.{bytes_eq}
-use Rattle.std.proofs.lemmas.Bool.{eq-eqb, false≢true}
-use Rattle.std.proofs.lemmas.Slice.Eq.{bytes_eq-Decides}
-use Rattle.model.specs.Words.{Text}
-use Rattle.model.specs.Topology.{IsIn}
-use Rattle.model.specs.Broker.{Outstanding}
-use Rattle.model.specs.Entries.{is_under, is_held_as, freed, without_first}
-use Rattle.model.specs.Deliveries.{with_queue, holder_of, without_given, with_returned, AreLeft, AreReturned}
-use Rattle.model.specs.Message.{Message}
-use Rattle.model.specs.declared.messages.Entry.{Entry}
-use Rattle.model.specs.declared.messages.Holder.{Holder}
-use Rattle.model.specs.declared.messages.Mark.{Mark}
-use Rattle.model.specs.declared.messages.Mark.TheVariants.{Ready, Held}
-use Rattle.model.specs.declared.notes.Cause.{Cause}
-use Rattle.model.specs.declared.notes.Note.{Note}
+use Rattle.laws.proofs.Names.{◌≡◌, ℕ, zero, ◌≤◌, List, [], ◌∷◌, Bool, true, false, cond, refl, sym, ap, subst, ◌∙◌, arith, inl, inr, count_by, bytes_eq, eq-eqb, false≢true, bytes_eq-Decides, Text, IsIn, Outstanding, is_under, is_held_as, freed, without_first, with_queue, holder_of, without_given, with_returned, AreLeft, AreReturned, Message, Entry, Holder, Mark, Ready, Held, Cause, Note}
+use Rattle.std.proofs.Common.{map, filter}
+use Rattle.std.specs.Prelude.{if◌then◌else◌}
 use Rattle.laws.proofs.Counts.{count-cons, count-cons_yes}
 use Rattle.laws.proofs.Leaving.{at_queue, in_without, in_filter}
 

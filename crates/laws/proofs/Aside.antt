@@ -1,15 +1,6 @@
 -- An event changes channels of its own connection alone.
-use Rattle.std.proofs.Common.{◌≡◌, ℕ, List, [], ◌∷◌, Bool, false, ap, ◌∙◌}
-use Rattle.std.specs.Prelude.{◌==◌, ◌&&◌, if◌then◌else◌}
-use Rattle.std.specs.List.{AllByRecursion}
-use Rattle.std.proofs.lemmas.Bool.{ne_eqb}
-use Rattle.model.specs.Topology.{Topology}
-use Rattle.model.specs.Broker.{Broker}
-use Rattle.model.specs.Run.{Happening, Run}
-use Rattle.model.specs.State.{State, Step}
-use Rattle.model.specs.Alone.{event_connection, ChangesOwnAlone}
-use Rattle.model.specs.declared.events.Send.{Send}
-use Rattle.model.specs.declared.notes.Note.{Note}
+use Rattle.laws.proofs.Names.{◌≡◌, ℕ, List, [], ◌∷◌, Bool, false, ap, ◌∙◌, ◌==◌, ◌&&◌, AllByRecursion, ne_eqb, Topology, Broker, Happening, Run, State, Step, event_connection, ChangesOwnAlone, Send, Note}
+use Rattle.std.specs.Prelude.{if◌then◌else◌}
 use Rattle.laws.proofs.Channels.{Changes, unchanged, one_channel, all_channels, step_changes}
 
 aside : (t : Topology) (old new : Broker) (sends : List Send) (notes : List Note) (c d : ℕ) → (d == c) ≡ false → Changes t old sends notes new c → (k : ℕ) → new.channel d k ≡ old.channel d k

@@ -1,22 +1,7 @@
 -- Each queue has what entered it and didn't leave it.
-use Rattle.std.proofs.Common.{◌≡◌, ◌<◌, ◌≤◌, ℕ, ◌+◌, List, [], ◌∷◌, ◌++◌, Bool, true, false, eqb, length, refl, sym, ap, subst, ◌∙◌, arith, append_assoc, Option, Some, None, inl, inr}
-use Rattle.std.specs.Prelude.{count_by, nat_le, ◌&&◌}
-use Rattle.std.specs.Str.{bytes_eq}
-use Rattle.std.specs.List.{AllByRecursion}
-use Rattle.std.proofs.lemmas.Bool.{ne_eqb, eq-eqb, leb-true, leb-false}
-use Rattle.model.specs.Words.{Text}
-use Rattle.model.specs.Topology.{Topology, IsIn}
-use Rattle.model.specs.Broker.{Broker}
-use Rattle.model.specs.Step.{content_or_none, message, comes_to, entry_notes, returned_notes, confirm_notes, is_none, is_some_full, next_of, answer_of}
-use Rattle.model.specs.State.{State, Step}
-use Rattle.model.specs.Run.{Happening, Run, Balances, Stays, AreCounted, notes_of, is_entered, is_left, has_number}
-use Rattle.model.specs.declared.messages.Entry.{Entry}
-use Rattle.model.specs.declared.contents.Content.{Content}
-use Rattle.model.specs.declared.events.Send.{Send}
-use Rattle.model.specs.declared.events.Event.{Event}
-use Rattle.model.specs.declared.notes.Note.{Note}
-use Rattle.model.specs.declared.notes.Note.TheVariants.{Published, Entered, Refused, Returned, Confirmed}
-use Rattle.model.specs.declared.notes.Answer.{Answer}
+use Rattle.laws.proofs.Names.{◌≡◌, ◌≤◌, ℕ, List, [], ◌∷◌, ◌++◌, Bool, true, false, eqb, length, refl, sym, ap, subst, ◌∙◌, arith, append_assoc, None, inl, inr, count_by, nat_le, ◌&&◌, bytes_eq, AllByRecursion, ne_eqb, eq-eqb, leb-true, leb-false, Text, Topology, IsIn, Broker, content_or_none, message, returned_notes, confirm_notes, is_none, is_some_full, next_of, answer_of, State, Step, Happening, Run, Balances, Stays, AreCounted, notes_of, is_entered, is_left, has_number, Entry, Content, Send, Event, Note, Published, Entered, Refused, Returned, Confirmed, Answer}
+use Rattle.std.proofs.Common.{◌<◌, ◌+◌, Option, Some}
+use Rattle.model.specs.Step.{comes_to, entry_notes}
 use Rattle.model.specs.declared.notes.Way.TheVariants as way
 use Rattle.laws.proofs.Deeds.{Publishes}
 use Rattle.laws.proofs.View.{Seen, seen_at, quiet_notes}

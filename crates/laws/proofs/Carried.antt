@@ -1,43 +1,11 @@
 -- Each message that stands in a queue can be given out, and what is sent carries contents that are not too large.
-use Rattle.std.proofs.Common.{◌≡◌, ◌<◌, ℕ, ◌+◌, List, [], ◌∷◌, ◌++◌, Bool, true, false, cond, refl, sym, subst, map, length, not, arith, rules, Option, Some, None}
-use Rattle.std.specs.Prelude.{filter_map, ◌&&◌, if◌then◌else◌}
-use Rattle.std.specs.List.{AllByRecursion}
-use Rattle.std.specs.Str.{bytes_eq}
-use Rattle.model.specs.Words.{Text}
-use Rattle.model.specs.Topology.{Topology, IsWellFormed}
-use Rattle.model.specs.Grammar.{IsMethod}
-use Rattle.model.specs.Headers.{no_properties}
-use Rattle.model.specs.Message.{Message}
-use Rattle.model.specs.Broker.{Outstanding, Channel, Broker, is_ready, is_full}
-use Rattle.model.specs.Entries.{is_under, is_held_as, freed, held_as, change_first, without_first}
-use Rattle.model.specs.Deliveries.{Settlement, Leaves, Rejects, Returns, AreSettled, AreLeft, AreRejected, AreReturned, given_in, with_queue, first_ready, holder_of, without_given, with_returned, after_giving}
-use Rattle.model.specs.Commands.{IsWithin, HasWithin}
-use Rattle.model.specs.Routing.{Dies, key_after}
-use Rattle.model.specs.Deaths.{AreMarked, with_headers, dead_letter}
-use Rattle.model.specs.Sending.{IsStored, HasStored, IsCarried, AreCarried}
-use Rattle.model.specs.Arrivals.{IsSaid}
-use Rattle.model.specs.State.{Config, State, Step}
-use Rattle.model.specs.Run.{Happening, Run}
-use Rattle.model.specs.Step.{Acts, IsPublish, comes_to, content_or_none, confirm_sends, returned_sends, message, next_of, answer_of, is_none, is_some_full}
-use Rattle.model.specs.declared.topologies.DeclaredQueue.{DeclaredQueue}
-use Rattle.model.specs.declared.contents.Content.{Content}
-use Rattle.model.specs.declared.messages.Entry.{Entry}
-use Rattle.model.specs.declared.messages.Holder.{Holder}
-use Rattle.model.specs.declared.messages.Mark.{Mark}
-use Rattle.model.specs.declared.messages.Mark.TheVariants.{Ready, Held}
-use Rattle.model.specs.declared.events.Send.{Send}
+use Rattle.laws.proofs.Names.{◌≡◌, ℕ, List, [], ◌∷◌, ◌++◌, Bool, true, false, cond, refl, sym, subst, length, arith, rules, None, filter_map, ◌&&◌, AllByRecursion, bytes_eq, Text, Topology, IsWellFormed, IsMethod, no_properties, Message, Outstanding, Channel, Broker, is_ready, is_full, is_under, is_held_as, freed, held_as, change_first, without_first, Settlement, Leaves, Rejects, Returns, AreSettled, AreLeft, AreRejected, AreReturned, given_in, with_queue, first_ready, holder_of, without_given, with_returned, after_giving, IsWithin, HasWithin, Dies, key_after, AreMarked, with_headers, dead_letter, IsStored, HasStored, IsCarried, AreCarried, IsSaid, Config, State, Step, Happening, Run, Acts, IsPublish, content_or_none, confirm_sends, returned_sends, message, next_of, answer_of, is_none, is_some_full, DeclaredQueue, Content, Entry, Holder, Mark, Ready, Held, Send, Event, BasicPublish, Cause, Note, Answer, event_connection, content_in, MessagesStayCarried, AreSaid, AreSound}
+use Rattle.std.proofs.Common.{◌<◌, ◌+◌, map, not, Option, Some}
+use Rattle.std.specs.Prelude.{if◌then◌else◌}
+use Rattle.model.specs.Step.{comes_to}
 use Rattle.model.specs.declared.events.Send.TheVariants as send
-use Rattle.model.specs.declared.events.Event.{Event}
 use Rattle.model.specs.declared.events.Event.TheVariants.{Command}
 use Rattle.model.specs.declared.methods.Publish.{Publish}
-use Rattle.model.specs.declared.methods.Method.TheVariants.{BasicPublish}
-use Rattle.model.specs.declared.notes.Cause.{Cause}
-use Rattle.model.specs.declared.notes.Note.{Note}
-use Rattle.model.specs.declared.notes.Answer.{Answer}
-use Rattle.model.specs.Alone.{event_connection}
-use Rattle.model.specs.Contents.{content_in}
-use Rattle.laws.specs.Carrying.{MessagesStayCarried}
-use Rattle.laws.specs.Promises.{AreSaid, AreSound}
 use Rattle.laws.proofs.Dying.{Goes, not_found, left_only, died, goes_by}
 use Rattle.laws.proofs.Marking.{within_stored, stored_marked}
 use Rattle.laws.proofs.Counts.{all-append, all_in, filter_all}

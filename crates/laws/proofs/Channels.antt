@@ -1,19 +1,6 @@
 -- What a deed does to the channels of its connection, and to what was outstanding there.
-use Rattle.std.proofs.Common.{◌≡◌, ℕ, List, Bool, true, false, refl, sym, ap, subst, map, Option, Some}
-use Rattle.std.specs.Prelude.{is_some, ◌==◌}
-use Rattle.model.specs.Words.{Text}
-use Rattle.model.specs.Topology.{Topology, IsIn}
-use Rattle.model.specs.Broker.{Outstanding, Channel, Broker, with_pair, with_row}
-use Rattle.model.specs.Entries.{freed, by_channel, by_connection}
-use Rattle.model.specs.Deliveries.{Settlement, outstanding_after, channel_after}
-use Rattle.model.specs.Step.{Settles, channel_or_new, is_awaiting}
-use Rattle.model.specs.Run.{Happening}
-use Rattle.model.specs.State.{Step}
-use Rattle.model.specs.Alone.{event_connection}
-use Rattle.model.specs.declared.messages.Taker.{Taker}
-use Rattle.model.specs.declared.events.Send.{Send}
-use Rattle.model.specs.declared.events.Event.{Event}
-use Rattle.model.specs.declared.notes.Note.{Note}
+use Rattle.laws.proofs.Names.{◌≡◌, ℕ, List, Bool, true, false, refl, sym, ap, subst, is_some, ◌==◌, Text, Topology, IsIn, Outstanding, Channel, Broker, with_pair, with_row, freed, by_channel, by_connection, Settlement, outstanding_after, channel_after, Settles, channel_or_new, is_awaiting, Happening, Step, event_connection, Taker, Send, Event, Note}
+use Rattle.std.proofs.Common.{map, Option, Some}
 use Rattle.laws.proofs.Counts.{in_front}
 use Rattle.laws.proofs.Deeds.{Deed, changes, enters, gives, settles, purges, nothing, alters, ends, clears, renews, Puts, HoldsAlike, channel_at}
 use Rattle.laws.proofs.View.{deed_at}

@@ -1,28 +1,8 @@
 -- What the promises about publishes, nacks and entries refuse.
-use Rattle.std.proofs.Common.{◌≡◌, ℕ, List, [], ◌∷◌, ◌++◌, Bool, true, false, drop, refl, sym, ap, subst, ◌∙◌, map, lit≤, Option, Some, arith, inl, inr}
-use Rattle.std.specs.Prelude.{codes}
-use Rattle.std.specs.List.{AllByRecursion}
-use Rattle.std.proofs.lemmas.Bool.{false≢true}
-use Rattle.std.proofs.lemmas.Option.{same_Some}
-use Rattle.model.specs.Topology.{IsIn}
-use Rattle.model.specs.Broker.{Channel}
-use Rattle.model.specs.Entries.{freed_now, number_of}
-use Rattle.model.specs.Frames.{IsFrame}
-use Rattle.model.specs.Order.{is_fresh}
-use Rattle.model.specs.Spelling.{method_frame}
-use Rattle.model.specs.Step.{reply, confirm_method, next_of}
-use Rattle.model.specs.Acks.{IsReading}
-use Rattle.model.specs.Nacks.{Nack, nacks_in, HasNacks}
-use Rattle.model.specs.Noted.{IsConfirmedIf, IsConfirmedUnder, TakesPublish, PublishesAreTaken}
-use Rattle.model.specs.Fresh.{EnterFresh, MarksWhatWasGiven}
-use Rattle.model.specs.declared.messages.Entry.{Entry}
-use Rattle.model.specs.declared.methods.Method.TheVariants.{ConfirmSelectOk, BasicNack}
-use Rattle.model.specs.declared.events.Send.{Send}
+use Rattle.laws.proofs.Names.{◌≡◌, ℕ, List, [], ◌∷◌, ◌++◌, Bool, true, false, refl, sym, ap, subst, ◌∙◌, lit≤, arith, inl, inr, codes, AllByRecursion, false≢true, same_Some, IsIn, Channel, freed_now, number_of, IsFrame, is_fresh, method_frame, reply, confirm_method, next_of, IsReading, Nack, nacks_in, HasNacks, IsConfirmedIf, IsConfirmedUnder, TakesPublish, PublishesAreTaken, EnterFresh, MarksWhatWasGiven, Entry, ConfirmSelectOk, BasicNack, Send, Note, Published, Entered, Confirmed, no_content, select_ok, first_entry, with_entries, event_of_notes}
+use Rattle.std.proofs.Common.{drop, map, Option, Some}
 use Rattle.model.specs.declared.notes.Way.TheVariants.{Publish}
 use Rattle.model.specs.declared.notes.Answer.TheVariants.{Ack}
-use Rattle.model.specs.declared.notes.Note.{Note}
-use Rattle.model.specs.declared.notes.Note.TheVariants.{Published, Entered, Confirmed}
-use Rattle.laws.specs.Rows.{no_content, select_ok, first_entry, with_entries, event_of_notes}
 use Rattle.laws.specs.Confirming.{to_audit, noted_under, publishing, first_nack, multiple_nack, first_nacked, ConfirmsRefuse}
 use Rattle.laws.proofs.Reading.{reading_apart}
 

@@ -1,19 +1,11 @@
 -- Whatever arrives, the world keeps what every world keeps.
-use Rattle.std.proofs.Common.{◌≡◌, ◌+◌, ℕ, List, [], refl, sym, subst}
-use Rattle.model.specs.State.{Config, State}
-use Rattle.model.specs.Run.{Happening, AreCounted}
-use Rattle.model.specs.History.{Occurrence, events_of}
-use Rattle.model.specs.Sending.{AreCarried}
-use Rattle.model.specs.Commands.{Stream}
-use Rattle.model.specs.Arrivals.{World, new_world, Same, Turns, Waits, Pumps, Takes_off, Opens, Loses, Reloads, with_heard}
-use Rattle.model.specs.Consistent.{IsConsistent}
+use Rattle.laws.proofs.Names.{◌≡◌, ℕ, List, [], refl, sym, subst, Config, State, Happening, AreCounted, Occurrence, events_of, AreCarried, Stream, World, new_world, Same, Turns, Waits, Pumps, Takes_off, Opens, Loses, Reloads, with_heard, IsConsistent, IsSound, AreKept}
+use Rattle.std.proofs.Common.{◌+◌}
 use Rattle.model.specs.declared.events.Event.TheVariants as event
 use Rattle.laws.specs.Consistency.{WorldsStayConsistent, PlaysStayConsistent}
 use Rattle.laws.proofs.Carried.{run_carries}
 use Rattle.laws.proofs.Linking.{IsLinked, linked_same, turns_linked, waits_linked, hears_linked, takes_linked, opens_linked, awaits_linked, loses_linked, same_linked, pumps_linked, new_is_linked, reloads_linked, plays_linked}
 use Rattle.laws.proofs.Histories.{ToldOver, histories_keep, sounds_over, carried_over, over_reloads, over_plays}
-use Rattle.model.specs.Headline.{IsSound}
-use Rattle.model.specs.Tracing.{AreKept}
 use Rattle.laws.proofs.Keeping.{stay_kept}
 use Rattle.laws.proofs.Never.{run_begun}
 use Rattle.laws.proofs.Plays.{Told, said_each, sound_each, sound_last, told_same, told_turns, told_waits, told_taken, told_opens, told_loses, told_pumps}

@@ -1,9 +1,7 @@
 -- Counts over lists, and facts on each element of a list.
-use Rattle.std.proofs.Common.{◌≡◌, ℕ, zero, suc, ◌+◌, ◌<◌, ◌⊎◌, List, [], ◌∷◌, ◌++◌, Bool, true, false, cond, length, get_or, refl, sym, ap, subst, ◌∙◌, arith, map, Option, None, inl, inr}
-use Rattle.std.specs.Prelude.{count_by, filter, filter_map, MatchBool}
-use Rattle.std.specs.List.{list_any, AllByRecursion}
-use Rattle.std.proofs.lemmas.List.Sums.{sum_by-append, sum_by-cons}
-use Rattle.model.specs.Topology.{IsIn}
+use Rattle.laws.proofs.Names.{◌≡◌, ℕ, zero, suc, ◌⊎◌, List, [], ◌∷◌, ◌++◌, Bool, true, false, cond, length, get_or, refl, sym, ap, subst, ◌∙◌, arith, None, inl, inr, count_by, filter_map, MatchBool, list_any, AllByRecursion, sum_by-append, sum_by-cons, IsIn}
+use Rattle.std.proofs.Common.{◌+◌, ◌<◌, map, Option}
+use Rattle.std.specs.Prelude.{filter}
 
 -- ---- counts
 

@@ -1,30 +1,12 @@
 -- The worked examples of dead letters.
-use Rattle.std.proofs.Common.{◌≡◌, ◌⊎◌, ◌≤◌, ℕ, Bool, true, false, List, [], ◌∷◌, ◌++◌, refl, sym, ap, subst, ◌∙◌, arith, lit≤, map, drop, append-nil, inl, inr, length, Option, Some, None}
-use Rattle.std.specs.Prelude.{codes, Contains}
-use Rattle.std.specs.Str.{bytes_eq}
-use Rattle.std.proofs.lemmas.Bool.{false≢true}
-use Rattle.std.proofs.lemmas.Option.{same_Some}
-use Rattle.std.proofs.lemmas.Slice.Eq.{bytes_eq-Decides}
-use Rattle.model.specs.Words.{Text, Matches, word, any_none, any_more, none as matches_none}
-use Rattle.model.specs.Tables.{no_pairs}
-use Rattle.model.specs.Topology.{Topology, IsIn}
-use Rattle.model.specs.Routing.{Reading, of_key, Edge, bound, alternate, default, Leads, here, on, RoutesBy, Routes, Comes, routed, dead, Picks, none, take, pass, key_after, reading_after}
-use Rattle.model.specs.Message.{Message}
+use Rattle.laws.proofs.Names.{◌≡◌, ◌⊎◌, ◌≤◌, ℕ, Bool, true, false, List, [], ◌∷◌, ◌++◌, refl, sym, ap, subst, ◌∙◌, arith, lit≤, append-nil, inl, inr, length, None, codes, Contains, bytes_eq, false≢true, same_Some, bytes_eq-Decides, Text, Matches, word, any_none, any_more, no_pairs, Topology, IsIn, Reading, of_key, Edge, bound, alternate, default, Leads, here, on, RoutesBy, Routes, Comes, routed, dead, Picks, pass, key_after, reading_after, Message, TellsOfDeath, AreMarked, alone, added, marked_before, first_death, without_given, AreRejected, body_bytes, Said, with_sizes, is_entry_into, note_at, DiesInto, Rejection, AreRejections, next, rejection_notes, Entry, Rejected, Note, Entered, Refused, Left, Dead, DeclaredQueue, Any}
+use Rattle.std.proofs.Common.{map, drop, Option, Some}
+use Rattle.model.specs.Words.{none as matches_none}
+use Rattle.model.specs.Routing.{none, take}
 use Rattle.model.specs.Entering.{comes_to, entry_notes}
-use Rattle.model.specs.Deaths.{TellsOfDeath, AreMarked, alone, added, marked_before, first_death}
-use Rattle.model.specs.Deliveries.{without_given, AreRejected}
-use Rattle.model.specs.Broker.{body_bytes}
-use Rattle.model.specs.Routed.{Said, with_sizes, is_entry_into, note_at}
-use Rattle.model.specs.Letters.{DiesInto, Rejection, AreRejections, none as no_rejection, next, rejection_notes}
-use Rattle.model.specs.declared.messages.Entry.{Entry}
-use Rattle.model.specs.declared.notes.Cause.TheVariants.{Rejected}
-use Rattle.model.specs.declared.notes.Note.{Note}
-use Rattle.model.specs.declared.notes.Note.TheVariants.{Entered, Refused, Left}
-use Rattle.model.specs.declared.notes.Way.TheVariants.{Dead}
+use Rattle.model.specs.Letters.{none as no_rejection}
 use Rattle.model.specs.declared.topologies.Binding.{Binding}
-use Rattle.model.specs.declared.topologies.DeclaredQueue.{DeclaredQueue}
 use Rattle.model.specs.declared.topologies.Exchange.{Exchange}
-use Rattle.model.specs.declared.texts.Token.TheVariants.{Any}
 use Rattle.model.specs.declared.topologies.ExchangeKind.TheVariants.{Fanout}
 use Rattle.model.specs.declared.topologies.Place.{Place}
 use Rattle.model.specs.declared.topologies.Place.TheVariants as place

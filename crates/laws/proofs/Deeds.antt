@@ -1,44 +1,15 @@
 -- What an event does to queues, channels and what is outstanding. Here alone all cases of `Acts` are walked over: a new command is a new line here.
-use Rattle.std.proofs.Common.{◌≡◌, ℕ, List, [], ◌∷◌, ◌++◌, Bool, true, false, cond, refl, sym, ap, subst, ◌∙◌, map, filter, Option, Some, None, ◌⊎◌, inl, inr}
-use Rattle.std.specs.Prelude.{filter_map, is_some, nat_le, ◌==◌, ◌&&◌, if◌then◌else◌}
-use Rattle.std.proofs.lemmas.Bool.{eqb-true, eq-eqb, false≢true}
-use Rattle.std.proofs.lemmas.Option.{same_Some}
-use Rattle.model.specs.Words.{Text}
-use Rattle.model.specs.Topology.{Topology, IsIn}
-use Rattle.model.specs.Broker.{Consumer, Channel, Connection, Broker, is_ready, new_channel, with_one, with_pair, with_row}
-use Rattle.model.specs.Grammar.{Ids, ids_of}
-use Rattle.model.specs.Message.{Message}
-use Rattle.model.specs.Entries.{freed, by_channel, by_connection}
-use Rattle.model.specs.Deliveries.{Settlement, Leaves, Rejects, Returns, of_rejected, first_ready, ready_in, after_delivery, delivery_notes, after_purge, purge_notes}
-use Rattle.model.specs.Consuming.{with_consumer, without_consumer}
-use Rattle.model.specs.Phases.{is_running, after_sends}
-use Rattle.model.specs.Causes.{WasGiven, IsCauseIn, IsCauseAt}
-use Rattle.model.specs.Contents.{content_in}
-use Rattle.model.specs.Alone.{event_connection}
-use Rattle.model.specs.Order.{Gives, to_get, to_consumer}
-use Rattle.model.specs.Step.{Refusal, Ignored, Of_channel, Of_connection, Acts, Does, Makes, Is, Gets, Settles, IsPublish, IsDelivery, Performs, Refuses, Decides, OnConnection, OnLarge, answer_of, channel_or_new, channels_up_to, confirm_sends, content_or_none, empty_publish, is_awaiting, is_some_full, next_of, opened, paused, purge_sends, refusal, refusal_of_consume, refusal_of_large, reply, returned_sends, with_channel, with_freed, with_gone}
-use Rattle.model.specs.declared.messages.Entry.{Entry}
-use Rattle.model.specs.declared.messages.Holder.{Holder}
-use Rattle.model.specs.declared.messages.Mark.{Mark}
-use Rattle.model.specs.declared.messages.Mark.TheVariants.{Ready, Held}
-use Rattle.model.specs.declared.messages.Taker.{Taker}
+use Rattle.laws.proofs.Names.{◌≡◌, ℕ, List, [], ◌∷◌, ◌++◌, Bool, true, false, cond, refl, sym, ap, subst, ◌∙◌, None, ◌⊎◌, inl, inr, filter_map, is_some, nat_le, ◌==◌, ◌&&◌, eqb-true, eq-eqb, false≢true, same_Some, Text, Topology, IsIn, Consumer, Channel, Connection, Broker, is_ready, new_channel, with_one, with_pair, with_row, Ids, ids_of, Message, freed, by_channel, by_connection, Settlement, Leaves, Rejects, Returns, of_rejected, first_ready, ready_in, after_delivery, delivery_notes, after_purge, purge_notes, with_consumer, without_consumer, is_running, after_sends, WasGiven, IsCauseIn, IsCauseAt, content_in, event_connection, Gives, to_get, to_consumer, Refusal, Ignored, Of_channel, Of_connection, Acts, Does, Is, Gets, Settles, IsPublish, IsDelivery, Performs, Refuses, OnConnection, OnLarge, answer_of, channel_or_new, channels_up_to, confirm_sends, content_or_none, empty_publish, is_awaiting, is_some_full, next_of, opened, paused, purge_sends, refusal, refusal_of_consume, refusal_of_large, reply, returned_sends, with_channel, with_freed, with_gone, Entry, Holder, Mark, Ready, Held, Taker, Content, Consume, Get, Method, ConnectionClose, ChannelOpen, ChannelOpenOk, ChannelFlow, ChannelFlowOk, ChannelClose, ChannelCloseOk, ExchangeDeclare, ExchangeDeclareOk, QueueDeclare, QueuePurge, QueuePurgeOk, BasicQos, BasicQosOk, BasicConsume, BasicConsumeOk, BasicCancel, BasicCancelOk, BasicPublish, BasicGet, BasicGetEmpty, BasicAck, BasicReject, BasicNack, BasicRecover, BasicRecoverOk, ConfirmSelect, ConfirmSelectOk, Send, Event, Open, First, Running, Fault, Lose, Pause, Resume, Deliver, Answer, Cause, Auto, Purged, Rejected, Note}
+use Rattle.std.proofs.Common.{map, filter, Option, Some}
+use Rattle.std.specs.Prelude.{if◌then◌else◌}
+use Rattle.model.specs.Step.{Makes, Decides}
 use Rattle.model.specs.declared.messages.Taker.TheVariants as taker
-use Rattle.model.specs.declared.contents.Content.{Content}
-use Rattle.model.specs.declared.methods.Consume.{Consume}
-use Rattle.model.specs.declared.methods.Get.{Get}
 use Rattle.model.specs.declared.methods.Publish.{Publish}
 use Rattle.model.specs.declared.methods.Purge.{Purge}
 use Rattle.model.specs.declared.methods.Qos.{Qos}
-use Rattle.model.specs.declared.methods.Method.{Method}
-use Rattle.model.specs.declared.methods.Method.TheVariants.{ConnectionClose, ChannelOpen, ChannelOpenOk, ChannelFlow, ChannelFlowOk, ChannelClose, ChannelCloseOk, ExchangeDeclare, ExchangeDeclareOk, QueueDeclare, QueuePurge, QueuePurgeOk, BasicQos, BasicQosOk, BasicConsume, BasicConsumeOk, BasicCancel, BasicCancelOk, BasicPublish, BasicGet, BasicGetEmpty, BasicAck, BasicReject, BasicNack, BasicRecover, BasicRecoverOk, ConfirmSelect, ConfirmSelectOk}
-use Rattle.model.specs.declared.events.Send.{Send}
-use Rattle.model.specs.declared.events.Event.{Event}
-use Rattle.model.specs.declared.events.Event.TheVariants.{Open, First, Running, Command, TooLarge, Fault, Lose, Pause, Resume, Deliver}
-use Rattle.model.specs.declared.notes.Answer.{Answer}
+use Rattle.model.specs.declared.events.Event.TheVariants.{Command, TooLarge}
 use Rattle.model.specs.declared.notes.Answer.TheVariants as answered
-use Rattle.model.specs.declared.notes.Cause.{Cause}
-use Rattle.model.specs.declared.notes.Cause.TheVariants.{Acked, Auto, Purged, Rejected}
-use Rattle.model.specs.declared.notes.Note.{Note}
+use Rattle.model.specs.declared.notes.Cause.TheVariants.{Acked}
 use Rattle.laws.proofs.Accepted.{awaited, consumes_on, is_open, not_awaited, not_open}
 use Rattle.laws.proofs.Leaving.{is_plain}
 use Rattle.laws.proofs.Replies.{is_reply, IsReplyAtMost}

@@ -1,26 +1,8 @@
 -- Worked examples of what is held and outstanding.
-use Rattle.std.proofs.Common.{◌≡◌, ℕ, ◌<◌, ◌≤◌, [], ◌∷◌, Bool, true, false, refl, sym, ap, subst, ◌∙◌, arith, Some, None, inl, inr}
-use Rattle.std.specs.Prelude.{codes, count_by, is_some, ◌==◌, ◌&&◌, if◌then◌else◌}
-use Rattle.std.specs.List.{AllByRecursion}
-use Rattle.std.specs.Str.{bytes_eq}
-use Rattle.std.proofs.lemmas.Bool.{eqb-true, false≢true}
-use Rattle.std.proofs.lemmas.Option.{same_Some}
-use Rattle.std.proofs.lemmas.Slice.Eq.{bytes_eq-Decides}
-use Rattle.model.specs.Words.{Text}
-use Rattle.model.specs.Topology.{IsIn}
-use Rattle.model.specs.Broker.{Outstanding, Channel, Broker}
-use Rattle.model.specs.Entries.{is_held_as}
-use Rattle.model.specs.Settling.{Rises}
-use Rattle.model.specs.Deliveries.{holder_of}
-use Rattle.model.specs.Step.{tag_of}
-use Rattle.model.specs.Agreement.{IsOutstanding, IsHeld, IsAgreed}
-use Rattle.model.specs.declared.messages.Entry.{Entry}
-use Rattle.model.specs.declared.messages.Holder.{Holder}
-use Rattle.model.specs.declared.messages.Taker.{Taker}
+use Rattle.laws.proofs.Names.{◌≡◌, ℕ, ◌≤◌, [], ◌∷◌, Bool, true, false, refl, sym, ap, subst, ◌∙◌, arith, None, inl, inr, codes, count_by, is_some, ◌==◌, ◌&&◌, AllByRecursion, bytes_eq, eqb-true, false≢true, same_Some, bytes_eq-Decides, Text, IsIn, Outstanding, Channel, Broker, is_held_as, Rises, holder_of, tag_of, IsOutstanding, IsHeld, IsAgreed, Entry, Holder, Taker, Held, first_entry, AgreementRefuses, taken, with_taken, broker_of_taken, first_held}
+use Rattle.std.proofs.Common.{◌<◌, Some}
+use Rattle.std.specs.Prelude.{if◌then◌else◌}
 use Rattle.model.specs.declared.messages.Taker.TheVariants as taker
-use Rattle.model.specs.declared.messages.Mark.TheVariants.{Held}
-use Rattle.laws.specs.Rows.{first_entry}
-use Rattle.laws.specs.Agreeing.{AgreementRefuses, taken, with_taken, broker_of_taken, first_held}
 use Rattle.laws.proofs.Agreement.{ready_not_held, same_holder, number}
 use Rattle.laws.proofs.Counts.{count-cons}
 

@@ -1,29 +1,7 @@
 -- Messages that are rejected: each leaves its queue, and its dead letter enters others.
-use Rattle.std.proofs.Common.{◌≡◌, ℕ, suc, ◌+◌, ◌⊎◌, List, [], ◌∷◌, ◌++◌, true, false, length, refl, sym, ap, subst, ◌∙◌, arith, Option, Some, None, inl, inr}
-use Rattle.std.specs.Prelude.{count_by, Contains}
-use Rattle.std.specs.Str.{bytes_eq}
-use Rattle.std.specs.List.{AllByRecursion}
-use Rattle.std.proofs.lemmas.Slice.Eq.{bytes_eq-Decides}
-use Rattle.std.proofs.lemmas.Bool.{false≢true}
-use Rattle.model.specs.Words.{Text}
-use Rattle.model.specs.Topology.{Topology, IsIn}
-use Rattle.model.specs.Routing.{Routes, Dies, key_after}
-use Rattle.model.specs.Message.{Message}
-use Rattle.model.specs.Broker.{Outstanding, is_ready, queue_named}
-use Rattle.model.specs.Entries.{is_held_as}
+use Rattle.laws.proofs.Names.{◌≡◌, ℕ, suc, ◌⊎◌, List, [], ◌∷◌, ◌++◌, true, false, length, refl, sym, ap, subst, ◌∙◌, arith, None, inl, inr, count_by, Contains, bytes_eq, AllByRecursion, bytes_eq-Decides, false≢true, Text, Topology, IsIn, Routes, Dies, key_after, Message, Outstanding, is_ready, queue_named, is_held_as, AreMarked, IsDeath, DiesBy, DiesIn, MayDie, dead_letter, with_headers, holder_of, given_in, without_given, left_note, AreRejected, has_number, is_entered, is_left, DeclaredQueue, Holder, Mark, Ready, Held, Entry, Cause, Rejected, Note, Entered, Refused, Left}
+use Rattle.std.proofs.Common.{◌+◌, Option, Some}
 use Rattle.model.specs.Entering.{entry_notes, comes_to}
-use Rattle.model.specs.Deaths.{AreMarked, IsDeath, DiesBy, DiesIn, MayDie, dead_letter, with_headers}
-use Rattle.model.specs.Deliveries.{holder_of, given_in, without_given, left_note, AreRejected}
-use Rattle.model.specs.Run.{has_number, is_entered, is_left}
-use Rattle.model.specs.declared.topologies.DeclaredQueue.{DeclaredQueue}
-use Rattle.model.specs.declared.messages.Holder.{Holder}
-use Rattle.model.specs.declared.messages.Mark.{Mark}
-use Rattle.model.specs.declared.messages.Mark.TheVariants.{Ready, Held}
-use Rattle.model.specs.declared.messages.Entry.{Entry}
-use Rattle.model.specs.declared.notes.Cause.{Cause}
-use Rattle.model.specs.declared.notes.Cause.TheVariants.{Rejected}
-use Rattle.model.specs.declared.notes.Note.{Note}
-use Rattle.model.specs.declared.notes.Note.TheVariants.{Entered, Refused, Left}
 use Rattle.model.specs.declared.notes.Way.TheVariants as way
 use Rattle.laws.proofs.Counts.{count-append, count-cons_no, count_none, all-append, in-append, in_front, in_back}
 use Rattle.laws.proofs.Leaving.{is_leaving, OfLeft, find_in, in_rest, given_balances}

@@ -1,22 +1,9 @@
 -- What enters queues, by a publish or a dead letter, and what is noted of it.
-use Rattle.std.proofs.Common.{◌≡◌, ℕ, ◌+◌, List, [], ◌∷◌, Bool, true, false, cond, eqb, length, refl, sym, ap, subst, ◌∙◌, inl, inr}
-use Rattle.std.specs.Prelude.{count_by, ◌&&◌, not, if◌then◌else◌}
-use Rattle.std.specs.Str.{bytes_eq}
-use Rattle.std.specs.List.{AllByRecursion}
-use Rattle.std.proofs.Math.Bool.{and-true, and-false}
-use Rattle.std.proofs.lemmas.Slice.Eq.{bytes_eq-Decides}
-use Rattle.model.specs.Words.{Text}
-use Rattle.model.specs.Topology.{Topology, IsIn}
-use Rattle.model.specs.Routing.{Picks, none, take, pass}
-use Rattle.model.specs.Broker.{is_full}
+use Rattle.laws.proofs.Names.{◌≡◌, ℕ, List, [], ◌∷◌, Bool, true, false, cond, eqb, length, refl, sym, ap, subst, ◌∙◌, inl, inr, count_by, ◌&&◌, bytes_eq, AllByRecursion, and-true, and-false, bytes_eq-Decides, Text, Topology, IsIn, Picks, pass, is_full, is_entered, has_number, Message, Ready, Entry, Note, Entered, Refused, Way}
+use Rattle.std.proofs.Common.{◌+◌}
+use Rattle.std.specs.Prelude.{not, if◌then◌else◌}
+use Rattle.model.specs.Routing.{none, take}
 use Rattle.model.specs.Entering.{entry_notes, comes_to}
-use Rattle.model.specs.Run.{is_entered, has_number}
-use Rattle.model.specs.Message.{Message}
-use Rattle.model.specs.declared.messages.Mark.TheVariants.{Ready}
-use Rattle.model.specs.declared.messages.Entry.{Entry}
-use Rattle.model.specs.declared.notes.Note.{Note}
-use Rattle.model.specs.declared.notes.Note.TheVariants.{Entered, Refused}
-use Rattle.model.specs.declared.notes.Way.{Way}
 use Rattle.laws.proofs.Counts.{count-cons, count-cons_no}
 
 -- a name that was picked has what it was picked for

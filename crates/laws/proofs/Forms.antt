@@ -1,13 +1,7 @@
 -- Functions that the definitions give step by step, said of the whole.
-use Rattle.std.proofs.Common.{◌≡◌, ℕ, zero, suc, ◌+◌, ◌<◌, ◌≤◌, List, [], ◌∷◌, ◌++◌, Bool, true, false, cond, length, take, drop, map, filter, refl, sym, ap, ◌∙◌, arith, Some}
-use Rattle.std.specs.Prelude.{slice_get}
-use Rattle.std.proofs.lemmas.List.{take-append-drop, length-take, length-take-le, length-drop}
-use Rattle.model.specs.Words.{Text}
-use Rattle.model.specs.Message.{Message}
-use Rattle.model.specs.Spelling.{pieces_of}
-use Rattle.model.specs.declared.messages.Entry.{Entry}
+use Rattle.laws.proofs.Names.{◌≡◌, ℕ, zero, suc, ◌≤◌, List, [], ◌∷◌, ◌++◌, Bool, true, false, cond, length, refl, sym, ap, ◌∙◌, arith, slice_get, take-append-drop, length-take, length-take-le, length-drop, Text, Message, pieces_of, Entry, ConnectionClose, ConnectionCloseOk}
+use Rattle.std.proofs.Common.{◌+◌, ◌<◌, take, drop, map, filter, Some}
 use Rattle.model.specs.declared.events.Send.TheVariants.{Greeting, Command}
-use Rattle.model.specs.declared.methods.Method.TheVariants.{ConnectionClose, ConnectionCloseOk}
 use Rattle.laws.specs.Forms.{takes_there, MessagesCome, ArePieces, BodiesAreCut, FirstTells}
 
 -- ---- what comes to a queue

@@ -1,32 +1,9 @@
 -- What enters a queue stands at its end, and is not marked as redelivered.
-use Rattle.std.proofs.Common.{◌≡◌, ℕ, List, [], ◌∷◌, ◌++◌, Bool, true, false, refl, sym, ap, subst, ◌∙◌, map, filter, length, not, append_assoc, append-nil, Option, Some, None}
-use Rattle.std.specs.Prelude.{◌&&◌, if◌then◌else◌}
-use Rattle.std.specs.Str.{bytes_eq}
-use Rattle.std.specs.List.{AllByRecursion}
-use Rattle.std.proofs.lemmas.Bool.{false≢true}
-use Rattle.std.proofs.lemmas.List.{map-append}
-use Rattle.model.specs.Words.{Text}
-use Rattle.model.specs.Topology.{Topology}
-use Rattle.model.specs.Broker.{Outstanding, Broker, is_full, is_ready}
-use Rattle.model.specs.Entries.{is_held_as, without_first, number_of}
-use Rattle.model.specs.Deliveries.{Settlement, Leaves, Rejects, Returns, AreSettled, AreLeft, AreRejected, given_in, left_note, delivery_notes, purge_notes, holder_of, without_given}
-use Rattle.model.specs.Message.{Message}
-use Rattle.model.specs.Step.{comes_to, message}
-use Rattle.model.specs.State.{State, Step}
-use Rattle.model.specs.Run.{Happening, Run}
-use Rattle.model.specs.declared.messages.Entry.{Entry}
-use Rattle.model.specs.declared.messages.Holder.{Holder}
-use Rattle.model.specs.declared.messages.Mark.{Mark}
-use Rattle.model.specs.declared.messages.Mark.TheVariants.{Ready, Held}
-use Rattle.model.specs.declared.events.Send.{Send}
-use Rattle.model.specs.declared.events.Event.{Event}
-use Rattle.model.specs.declared.notes.Cause.{Cause}
+use Rattle.laws.proofs.Names.{◌≡◌, ℕ, List, [], ◌∷◌, ◌++◌, Bool, true, false, refl, sym, ap, subst, ◌∙◌, length, append_assoc, append-nil, None, ◌&&◌, bytes_eq, AllByRecursion, false≢true, map-append, Text, Topology, Outstanding, Broker, is_full, is_ready, is_held_as, without_first, number_of, Settlement, Leaves, Rejects, Returns, AreSettled, AreLeft, AreRejected, given_in, left_note, delivery_notes, purge_notes, holder_of, without_given, Message, message, State, Step, Happening, Run, Entry, Holder, Mark, Ready, Held, Send, Event, Cause, Note, is_fresh, waiting, entered_by, entered, EndsFresh, EnterFresh, key_after, dead_letter, with_headers}
+use Rattle.std.proofs.Common.{map, filter, not, Option, Some}
+use Rattle.std.specs.Prelude.{if◌then◌else◌}
+use Rattle.model.specs.Step.{comes_to}
 use Rattle.model.specs.declared.notes.Way.TheVariants as way
-use Rattle.model.specs.declared.notes.Note.{Note}
-use Rattle.model.specs.Order.{is_fresh, waiting, entered_by, entered}
-use Rattle.model.specs.Fresh.{EndsFresh, EnterFresh}
-use Rattle.model.specs.Routing.{key_after}
-use Rattle.model.specs.Deaths.{dead_letter, with_headers}
 use Rattle.laws.proofs.Counts.{all-append}
 use Rattle.laws.proofs.Dying.{Goes, not_found, left_only, died, goes_by}
 use Rattle.laws.proofs.Leaving.{at_queue}

@@ -1,19 +1,7 @@
 -- What is held in queues is held there still, whatever becomes of other messages.
-use Rattle.std.proofs.Common.{◌≡◌, ℕ, List, [], ◌∷◌, ◌++◌, Bool, true, false, cond, refl, sym, ap, subst, ◌∙◌, map, filter, not, Option, Some, None, inl, inr}
-use Rattle.std.specs.Prelude.{is_some, if◌then◌else◌}
-use Rattle.std.proofs.lemmas.Bool.{false≢true}
-use Rattle.model.specs.Words.{Text}
-use Rattle.model.specs.Topology.{Topology, IsIn}
-use Rattle.model.specs.Broker.{Outstanding, is_ready}
-use Rattle.model.specs.Entries.{is_under, is_held_as, freed, held_as, change_first, without_first}
-use Rattle.model.specs.Deliveries.{AreLeft, AreRejected, AreReturned, holder_of, with_queue, given_in, without_given, with_returned, first_ready, after_giving}
-use Rattle.model.specs.Message.{Message}
-use Rattle.model.specs.declared.messages.Entry.{Entry}
-use Rattle.model.specs.declared.messages.Holder.{Holder}
-use Rattle.model.specs.declared.messages.Mark.{Mark}
-use Rattle.model.specs.declared.messages.Mark.TheVariants.{Ready, Held}
-use Rattle.model.specs.declared.notes.Cause.{Cause}
-use Rattle.model.specs.declared.notes.Note.{Note}
+use Rattle.laws.proofs.Names.{◌≡◌, ℕ, List, [], ◌∷◌, ◌++◌, Bool, true, false, cond, refl, sym, ap, subst, ◌∙◌, None, inl, inr, is_some, false≢true, Text, Topology, IsIn, Outstanding, is_ready, is_under, is_held_as, freed, held_as, change_first, without_first, AreLeft, AreRejected, AreReturned, holder_of, with_queue, given_in, without_given, with_returned, first_ready, after_giving, Message, Entry, Holder, Mark, Ready, Held, Cause, Note}
+use Rattle.std.proofs.Common.{map, filter, not, Option, Some}
+use Rattle.std.specs.Prelude.{if◌then◌else◌}
 use Rattle.laws.proofs.Counts.{in-map, in_front}
 use Rattle.laws.proofs.Leaving.{at_queue}
 use Rattle.laws.proofs.Dying.{Goes, not_found, left_only, died, goes_by}

@@ -1,20 +1,6 @@
 -- No message comes to be held but by being given out.
-use Rattle.std.proofs.Common.{◌≡◌, ℕ, List, [], ◌∷◌, Bool, true, false, cond, sym, ap, subst, ◌∙◌, not, Some, ◌⊎◌, inl, inr}
-use Rattle.std.specs.Prelude.{is_some}
-use Rattle.std.proofs.lemmas.Bool.{false≢true}
-use Rattle.std.proofs.lemmas.Option.{same_Some}
-use Rattle.model.specs.Words.{Text}
-use Rattle.model.specs.Topology.{IsIn}
-use Rattle.model.specs.Broker.{Outstanding, Broker, is_ready}
-use Rattle.model.specs.Entries.{held_as, change_first, without_first}
-use Rattle.model.specs.Deliveries.{Settlement, Leaves, Rejects, Returns, AreSettled, with_queue, first_ready, after_giving}
-use Rattle.model.specs.Run.{Happening}
-use Rattle.model.specs.declared.messages.Entry.{Entry}
-use Rattle.model.specs.declared.messages.Holder.{Holder}
-use Rattle.model.specs.declared.messages.Mark.TheVariants.{Held}
-use Rattle.model.specs.Alone.{event_connection}
-use Rattle.model.specs.Order.{GivesOut, IsHeldSince, before, by_it}
-use Rattle.laws.specs.Order.{HeldAreGiven}
+use Rattle.laws.proofs.Names.{◌≡◌, ℕ, List, [], ◌∷◌, Bool, true, false, cond, sym, ap, subst, ◌∙◌, ◌⊎◌, inl, inr, is_some, false≢true, same_Some, Text, IsIn, Outstanding, Broker, is_ready, held_as, change_first, without_first, Settlement, Leaves, Rejects, Returns, AreSettled, with_queue, first_ready, after_giving, Happening, Entry, Holder, Held, event_connection, GivesOut, IsHeldSince, before, by_it, HeldAreGiven}
+use Rattle.std.proofs.Common.{not, Some}
 use Rattle.laws.proofs.Agreement.{Shrinks, shrinks_same, shrinks_freed, shrinks_filter, shrinks_on, left_shrinks, returned_shrinks, same_holder}
 use Rattle.laws.proofs.Agreed.{shrinks_arrivals, rejected_shrinks}
 use Rattle.laws.proofs.Leaving.{at_queue}

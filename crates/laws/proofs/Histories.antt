@@ -1,33 +1,8 @@
 -- Histories keep the promises: events, and reloads between them.
-use Rattle.std.proofs.Common.{◌≡◌, ℕ, ◌<◌, ◌≤◌, List, [], ◌∷◌, ◌++◌, refl, sym, ap, subst, ◌∙◌, map, append_assoc, append-nil, arith, inl, inr}
-use Rattle.std.specs.Prelude.{filter_map, is_some}
-use Rattle.std.specs.List.{AllByRecursion}
-use Rattle.std.proofs.lemmas.List.Elements.{filter_map-append}
-use Rattle.std.proofs.lemmas.Bool.{false≢true}
-use Rattle.model.specs.Words.{Text}
-use Rattle.model.specs.State.{Config, State, Step}
-use Rattle.model.specs.Run.{Happening, Run, notes_of, sends_of, empty_state}
-use Rattle.model.specs.History.{Occurrence, Of_event, Of_reload, Reload, History, IsDecided, StaysOver, LeavesQueues, state_after, events_of, reloads_of, notes_over}
-use Rattle.model.specs.Acks.{acked, acked_at, EnteredOnce, ack_for}
-use Rattle.model.specs.Nacks.{nacks_of}
-use Rattle.model.specs.Arrivals.{World, Reloads, Answers, Plays, with_heard, is_over, is_gone, can_open}
-use Rattle.model.specs.Sending.{AreCarried}
-use Rattle.model.specs.Agreement.{IsAgreed}
-use Rattle.model.specs.Alone.{ArePresent}
-use Rattle.model.specs.Allowed.{IsNoted, AreAllowed, AreAllowedIn}
-use Rattle.model.specs.Contents.{AreSourced}
-use Rattle.model.specs.Order.{FirstGiven, ended, given, passed, IsPart, waiting, entered, GivesInOrder}
-use Rattle.model.specs.Routed.{number_in, CountUp}
-use Rattle.model.specs.Spelling.{sends_to}
-use Rattle.model.specs.Letters.{DieAsRouted}
-use Rattle.model.specs.Headline.{IsSound}
+use Rattle.laws.proofs.Names.{◌≡◌, ℕ, ◌≤◌, List, [], ◌∷◌, ◌++◌, refl, sym, ap, subst, ◌∙◌, append_assoc, append-nil, arith, inl, inr, filter_map, is_some, AllByRecursion, filter_map-append, false≢true, Text, Config, State, Step, Happening, Run, notes_of, sends_of, empty_state, Occurrence, Of_event, Of_reload, Reload, History, IsDecided, StaysOver, LeavesQueues, state_after, events_of, reloads_of, notes_over, acked, acked_at, EnteredOnce, ack_for, nacks_of, World, Reloads, Answers, Plays, with_heard, is_over, is_gone, can_open, AreCarried, IsAgreed, ArePresent, IsNoted, AreAllowed, AreAllowedIn, AreSourced, FirstGiven, ended, given, passed, IsPart, waiting, entered, GivesInOrder, number_in, CountUp, sends_to, DieAsRouted, IsSound, Arrival, Note, Lasts, AreSaid, AreSound, InForce, IsBegun, ack_sent, nack_sent, OfferSound, IsOffered, AreOffered, HistoriesKeep}
+use Rattle.std.proofs.Common.{◌<◌, map}
 use Rattle.model.specs.declared.events.Event.TheVariants as event
-use Rattle.model.specs.declared.events.Arrival.{Arrival}
 use Rattle.model.specs.declared.events.Arrival.TheVariants as arrival
-use Rattle.model.specs.declared.notes.Note.{Note}
-use Rattle.laws.specs.Accounts.{Lasts}
-use Rattle.laws.specs.Promises.{AreSaid, AreSound, InForce, IsBegun, ack_sent, nack_sent}
-use Rattle.laws.specs.Reloading.{OfferSound, IsOffered, AreOffered, HistoriesKeep}
 use Rattle.laws.proofs.Counts.{all-append, from_either}
 use Rattle.laws.proofs.Acks.{SendsItsAcks, event_acks, all_acks}
 use Rattle.laws.proofs.Agreed.{stay_agreed}

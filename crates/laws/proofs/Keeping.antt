@@ -1,27 +1,6 @@
 -- Each message stands in a queue of the topology in force, and no guarantee forbids it a queue to which it may come from there by deaths.
-use Rattle.std.proofs.Common.{◌≡◌, ◌≤◌, List, [], ◌∷◌, Bool, true, false, map, length, refl, sym, ap, subst, ◌∙◌, ◌⊎◌, inl, inr}
-use Rattle.std.specs.Str.{bytes_eq}
-use Rattle.std.proofs.lemmas.Slice.Eq.{bytes_eq-Decides}
-use Rattle.std.proofs.lemmas.Bool.{false≢true}
-use Rattle.model.specs.Words.{Text}
-use Rattle.model.specs.Topology.{Topology, IsIn, IsWellFormed, queue_names}
-use Rattle.model.specs.Arrivals.{IsSaid}
-use Rattle.model.specs.Broker.{Broker}
-use Rattle.model.specs.Routing.{Routes, Dies, Later, key_after, routed, dead}
-use Rattle.model.specs.Guarantee.{Covers}
-use Rattle.model.specs.Headline.{IsSound}
-use Rattle.model.specs.Message.{Message}
-use Rattle.model.specs.Reloading.{NothingStands, by_entry, stood_now}
-use Rattle.model.specs.History.{Occurrence, Of_event, Of_reload, History, reloads_of}
-use Rattle.model.specs.Run.{AreCounted, empty_state}
-use Rattle.model.specs.State.{Config, State, Step}
-use Rattle.model.specs.Tracing.{by_publish, MayStand, AreKept, AreSafe, NoneStood}
-use Rattle.model.specs.declared.topologies.DeclaredQueue.{DeclaredQueue}
-use Rattle.model.specs.declared.messages.Entry.{Entry}
-use Rattle.model.specs.declared.events.Send.{Send}
-use Rattle.model.specs.declared.events.Event.{Event}
-use Rattle.model.specs.declared.notes.Note.{Note}
-use Rattle.laws.specs.Tracing.{KeptAreSafe, MessagesStayKept, NoEventMarks, ReloadsKeep}
+use Rattle.laws.proofs.Names.{◌≡◌, ◌≤◌, List, [], ◌∷◌, Bool, true, false, length, refl, sym, ap, subst, ◌∙◌, ◌⊎◌, inl, inr, bytes_eq, bytes_eq-Decides, false≢true, Text, Topology, IsIn, IsWellFormed, queue_names, IsSaid, Broker, Routes, Dies, Later, key_after, routed, dead, Covers, IsSound, Message, NothingStands, by_entry, stood_now, Occurrence, Of_event, Of_reload, History, NoneDone, in_force_after, AreCounted, empty_state, Config, State, Step, by_publish, MayStand, AreKept, AreSafe, NoneStood, DeclaredQueue, Entry, Send, Event, Note, KeptAreSafe, MessagesStayKept, NoEventMarks, ReloadsKeep}
+use Rattle.std.proofs.Common.{map}
 use Rattle.laws.proofs.Dying.{IsLetter}
 use Rattle.laws.proofs.Entering.{picked}
 use Rattle.laws.proofs.Once.{key_is_short, routed_is_there}
@@ -118,25 +97,34 @@ no_event_marks = record {
 step_unmarked : (f : Config) (old new : State) (e : Event) (sends : List Send) (notes : List Note) → NoneStood old.broker → Step f old e sends notes new → NoneStood new.broker
 step_unmarked f old new e sends notes none s q x i = unmarked f.topology old.broker new.broker e sends notes q x none (step_came f old new e sends notes s q x i)
 
--- and nothing that happens without a reload, under what was in force at first
+-- and nothing that happens while no reload is done, under what was in force at first
 record Unmarked (f last : Config) (new : State) : Type 0 where
   none : NoneStood new.broker
   same : last ≡ f
 
-unmarked_over : (f last : Config) (os : List Occurrence) (old new : State) → reloads_of os ≡ [] → NoneStood old.broker → History f old os last new → Unmarked f last new
+unmarked_over : (f last : Config) (os : List Occurrence) (old new : State) → NoneDone os → NoneStood old.broker → History f old os last new → Unmarked f last new
 unmarked_over f last [] old new without none (is, s) = record { none = subst (λ (z : State). NoneStood z.broker) (sym s) none; same = is }
 unmarked_over f last (Of_event h ∷ os) old new without none (is, s, step, rest) =
     let before : NoneStood h.before.broker = subst (λ (z : State). NoneStood z.broker) (sym s) none in
     let u = unmarked_over h.config last os h.after new without (step_unmarked h.config h.before h.after h.event h.sends h.notes before step) rest in
     record { none = u.none; same = u.same ∙ is }
-unmarked_over f last (Of_reload r ∷ os) old new without none h = absurd (cc)
+unmarked_over f last (Of_reload r ∷ os) old new (refused, without) none (is, s, decided, rest) =
+    let after : NoneStood r.after.broker = subst (λ (z : State). NoneStood z.broker) (sym (refused.after ∙ s)) none in
+    let u = unmarked_over r.in_force last os r.after new without after rest in
+    record { none = u.none; same = u.same ∙ refused.in_force ∙ is }
+
+-- what is last in force is what the reloads left so
+pub last_in_force : (f last : Config) (os : List Occurrence) (old new : State) → History f old os last new → last ≡ in_force_after f os
+last_in_force f last [] old new (is, s) = is
+last_in_force f last (Of_event h ∷ os) old new (is, s, step, rest) = last_in_force h.config last os h.after new rest ∙ ap (λ (z : Config). in_force_after z os) is
+last_in_force f last (Of_reload r ∷ os) old new (is, s, decided, rest) = last_in_force r.in_force last os r.after new rest
 
 pub kept_are_safe : KeptAreSafe
 kept_are_safe f b kept none q e i g is_in never covers =
     let at = (kept.each q e i).safe g is_in never covers in
     (at.1 (none q e i), at.0)
 
-pub safe_over : (f last : Config) (os : List Occurrence) (new : State) → History f empty_state os last new → AreKept last new.broker → reloads_of os ≡ [] → AreSafe f.topology f.guarantees new.broker
+pub safe_over : (f last : Config) (os : List Occurrence) (new : State) → History f empty_state os last new → AreKept last new.broker → NoneDone os → AreSafe f.topology f.guarantees new.broker
 safe_over f last os new history kept without =
     let u = unmarked_over f last os empty_state new without no_event_marks.empty history in
     kept_are_safe f new.broker (subst (λ (g : Config). AreKept g new.broker) u.same kept) u.none

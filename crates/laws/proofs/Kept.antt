@@ -1,13 +1,5 @@
 -- What every run from the empty broker keeps of what is held, outstanding and settled, event by event.
-use Rattle.std.proofs.Common.{List, [], ◌∷◌, refl, sym, ap, subst}
-use Rattle.std.specs.Prelude.{is_some}
-use Rattle.std.specs.List.{AllByRecursion}
-use Rattle.std.proofs.lemmas.Bool.{false≢true}
-use Rattle.model.specs.Agreement.{IsAgreed}
-use Rattle.model.specs.State.{State, Step}
-use Rattle.model.specs.Run.{Happening, Run, empty_state}
-use Rattle.model.specs.Alone.{event_connection, ArePresent}
-use Rattle.laws.specs.Accounts.{Lasts, DeliveriesAreAccountedFor}
+use Rattle.laws.proofs.Names.{List, [], ◌∷◌, refl, sym, ap, subst, is_some, AllByRecursion, false≢true, IsAgreed, State, Step, Happening, Run, empty_state, event_connection, ArePresent, Lasts, DeliveriesAreAccountedFor}
 use Rattle.laws.proofs.Accounted.{step_accounts}
 use Rattle.laws.proofs.Agreed.{agreed_on, stay_agreed}
 use Rattle.laws.proofs.Present.{step_present}

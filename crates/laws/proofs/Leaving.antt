@@ -1,27 +1,8 @@
 -- What leaves a queue by its notes, and what stays: for messages given out, settled and purged.
-use Rattle.std.proofs.Common.{◌≡◌, ℕ, ◌+◌, List, [], ◌∷◌, Bool, true, false, cond, eqb, refl, sym, ap, subst, ◌∙◌, filter, not, arith, Option, Some, None, inl, inr}
-use Rattle.std.specs.Prelude.{count_by, find, ◌==◌, ◌&&◌, if◌then◌else◌}
-use Rattle.std.specs.List.{AllByRecursion}
-use Rattle.std.specs.Str.{bytes_eq}
-use Rattle.std.proofs.lemmas.Slice.Eq.{bytes_eq-Decides}
-use Rattle.std.proofs.lemmas.Option.{same_Some}
-use Rattle.std.proofs.lemmas.Bool.{false≢true}
-use Rattle.model.specs.Words.{Text}
-use Rattle.model.specs.Topology.{IsIn}
-use Rattle.model.specs.Broker.{Outstanding, is_ready}
-use Rattle.model.specs.Entries.{is_under, is_held_as, freed, change_first, without_first}
-use Rattle.model.specs.Settling.{is_refused, settled, takes}
-use Rattle.model.specs.Deliveries.{with_queue, holder_of, given_in, without_given, left_note, AreLeft, AreReturned, purge_notes}
-use Rattle.model.specs.Run.{has_number, is_left}
-use Rattle.model.specs.Message.{Message}
-use Rattle.model.specs.declared.messages.Holder.{Holder}
-use Rattle.model.specs.declared.messages.Mark.{Mark}
-use Rattle.model.specs.declared.messages.Mark.TheVariants.{Ready, Held}
-use Rattle.model.specs.declared.messages.Entry.{Entry}
-use Rattle.model.specs.declared.notes.Cause.{Cause}
-use Rattle.model.specs.declared.notes.Cause.TheVariants.{Rejected, Purged}
-use Rattle.model.specs.declared.notes.Note.{Note}
-use Rattle.model.specs.declared.notes.Note.TheVariants.{Left}
+use Rattle.laws.proofs.Names.{◌≡◌, ℕ, List, [], ◌∷◌, Bool, true, false, cond, eqb, refl, sym, ap, subst, ◌∙◌, arith, None, inl, inr, count_by, find, ◌==◌, ◌&&◌, AllByRecursion, bytes_eq, bytes_eq-Decides, same_Some, false≢true, Text, IsIn, Outstanding, is_ready, is_under, is_held_as, freed, change_first, without_first, is_refused, settled, with_queue, holder_of, given_in, without_given, left_note, AreLeft, AreReturned, purge_notes, has_number, is_left, Message, Holder, Mark, Ready, Held, Entry, Cause, Rejected, Purged, Note, Left}
+use Rattle.std.proofs.Common.{◌+◌, filter, not, Option, Some}
+use Rattle.std.specs.Prelude.{if◌then◌else◌}
+use Rattle.model.specs.Settling.{takes}
 use Rattle.laws.proofs.Counts.{count-append, count-cons, count-map, all-append}
 
 -- ---- notes of leavings

@@ -1,32 +1,11 @@
 -- What becomes of each message that is rejected: it leaves, and its dead letter comes to each queue to which it goes on, once, or that queue is full.
-use Rattle.std.proofs.Common.{◌≡◌, ℕ, ◌+◌, ◌≤◌, List, [], ◌∷◌, ◌++◌, Bool, true, false, cond, eqb, length, refl, sym, ap, subst, ◌∙◌, arith, ◌⊎◌, map, Option, Some, None, inl, inr}
-use Rattle.std.specs.Prelude.{count_by, filter, find, is_some, not, ◌&&◌, if◌then◌else◌}
-use Rattle.std.specs.Str.{bytes_eq}
-use Rattle.std.specs.List.{AllByRecursion, sum_by}
-use Rattle.std.proofs.Math.Bool.{and-false}
-use Rattle.std.proofs.lemmas.Bool.{false≢true}
-use Rattle.std.proofs.lemmas.List.Elements.{filter-append}
-use Rattle.std.proofs.lemmas.List.Sums.{length-filter, sum_by-append, sum_by-cons}
-use Rattle.std.proofs.lemmas.Option.{same_Some}
-use Rattle.std.proofs.lemmas.Slice.Eq.{bytes_eq-Decides}
-use Rattle.model.specs.Words.{Text}
-use Rattle.model.specs.Topology.{Topology, IsIn, AreApart, queue_names}
-use Rattle.model.specs.Routing.{Routes, Picks, none, take, pass, Dies, key_after}
-use Rattle.model.specs.Message.{Message}
-use Rattle.model.specs.Broker.{Outstanding, is_ready, is_full, body_bytes, ready_bytes, refuses, queue_named}
-use Rattle.model.specs.Entries.{is_held_as, without_first}
+use Rattle.laws.proofs.Names.{◌≡◌, ℕ, ◌≤◌, List, [], ◌∷◌, ◌++◌, Bool, true, false, cond, eqb, length, refl, sym, ap, subst, ◌∙◌, arith, ◌⊎◌, None, inl, inr, count_by, find, is_some, ◌&&◌, bytes_eq, AllByRecursion, sum_by, and-false, false≢true, filter-append, length-filter, sum_by-append, sum_by-cons, same_Some, bytes_eq-Decides, Text, Topology, IsIn, AreApart, queue_names, Routes, Picks, pass, Dies, key_after, Message, Outstanding, is_ready, is_full, body_bytes, ready_bytes, refuses, queue_named, is_held_as, without_first, IsDeath, DiesBy, DiesIn, MayDie, dead_letter, with_headers, holder_of, given_in, without_given, ready_in, AreRejected, Said, with_size, with_sizes, is_said_into, bytes_into, is_full_after, note_at, DiesInto, Rejection, AreRejections, next, rejection_notes, IsOfNoRejection, is_dead_into, is_rejected, DeclaredQueue, Ready, Entry, Auto, Rejected, Purged, Note, Entered, Refused, Left, Way}
+use Rattle.std.proofs.Common.{◌+◌, map, Option, Some}
+use Rattle.std.specs.Prelude.{filter, not, if◌then◌else◌}
+use Rattle.model.specs.Routing.{none, take}
 use Rattle.model.specs.Entering.{entry_notes, comes_to}
-use Rattle.model.specs.Deaths.{IsDeath, DiesBy, DiesIn, MayDie, dead_letter, with_headers}
-use Rattle.model.specs.Deliveries.{holder_of, given_in, without_given, ready_in, AreRejected}
-use Rattle.model.specs.Routed.{Said, with_size, with_sizes, is_said_into, bytes_into, is_full_after, note_at}
-use Rattle.model.specs.Letters.{DiesInto, Rejection, AreRejections, none as no_rejection, next, rejection_notes, IsOfNoRejection, is_dead_into, is_rejected}
-use Rattle.model.specs.declared.topologies.DeclaredQueue.{DeclaredQueue}
-use Rattle.model.specs.declared.messages.Mark.TheVariants.{Ready}
-use Rattle.model.specs.declared.messages.Entry.{Entry}
-use Rattle.model.specs.declared.notes.Cause.TheVariants.{Acked, Auto, Rejected, Purged}
-use Rattle.model.specs.declared.notes.Note.{Note}
-use Rattle.model.specs.declared.notes.Note.TheVariants.{Entered, Refused, Left}
-use Rattle.model.specs.declared.notes.Way.{Way}
+use Rattle.model.specs.Letters.{none as no_rejection}
+use Rattle.model.specs.declared.notes.Cause.TheVariants.{Acked}
 use Rattle.model.specs.declared.notes.Way.TheVariants as way
 use Rattle.laws.proofs.Counts.{count-append, count-cons, count-cons_no, count-cons_yes, count_none, all_each, in-append, in_from_contains}
 use Rattle.laws.proofs.Leaving.{is_leaving, at_queue, find_in, none_without, in_rest}

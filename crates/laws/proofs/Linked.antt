@@ -1,22 +1,10 @@
 -- Which connections the broker has, which of them are paused, and how many channels each may have: after each event as the sessions and the outputs say.
-use Rattle.std.proofs.Common.{◌≡◌, ◌≢◌, ℕ, List, Bool, true, false, cond, Option, Some, None, refl, sym, ap, subst, ◌∙◌, if◌then◌else◌, inl, inr}
-use Rattle.std.specs.Prelude.{is_some, ◌==◌}
-use Rattle.std.proofs.lemmas.Bool.{eqb-true, eqb-false, false≢true}
-use Rattle.model.specs.Broker.{Broker, Connection, with_one}
-use Rattle.model.specs.Phases.{Session, is_running, after_sends, to_phase}
-use Rattle.model.specs.State.{Config, State, Step}
-use Rattle.model.specs.Step.{paused, opened}
-use Rattle.model.specs.Arrivals.{Pauses, Reads, again, fresh, fault, event_of}
-use Rattle.model.specs.Commands.{Stream}
-use Rattle.model.specs.declared.notes.Note.{Note}
-use Rattle.model.specs.declared.events.Send.{Send}
-use Rattle.model.specs.declared.events.Phase.{Phase}
+use Rattle.laws.proofs.Names.{◌≡◌, ◌≢◌, ℕ, List, Bool, true, false, cond, None, refl, sym, ap, subst, ◌∙◌, inl, inr, is_some, ◌==◌, eqb-true, eqb-false, false≢true, Broker, Connection, with_one, Session, is_running, after_sends, to_phase, Config, State, Step, paused, opened, Pauses, Reads, again, fresh, fault, event_of, Stream, Note, Send, Phase, Head, Plain, Full, Event, event_connection}
+use Rattle.std.proofs.Common.{Option, Some, if◌then◌else◌}
 use Rattle.model.specs.declared.events.Phase.TheVariants as phase
 use Rattle.model.specs.declared.events.Command.{Command}
-use Rattle.model.specs.declared.events.Command.TheVariants.{Head, Plain, Full, TooLarge}
-use Rattle.model.specs.declared.events.Event.{Event}
+use Rattle.model.specs.declared.events.Command.TheVariants.{TooLarge}
 use Rattle.model.specs.declared.events.Event.TheVariants as event
-use Rattle.model.specs.Alone.{event_connection}
 use Rattle.laws.proofs.Deeds.{connection_after, with_same, acted}
 use Rattle.laws.proofs.View.{session_after, is_read, is_opening, Performed, Answered, goes}
 

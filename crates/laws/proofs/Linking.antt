@@ -1,16 +1,8 @@
 -- Whatever arrives, the broker has the connections that run, knows which of them are paused, and has the channel-max of each.
-use Rattle.std.proofs.Common.{◌≡◌, ◌≢◌, ◌+◌, ℕ, List, [], ◌∷◌, Bool, true, false, cond, refl, sym, ap, subst, ◌∙◌, inl, inr}
-use Rattle.std.specs.Prelude.{◌&&◌, ◌==◌, not}
-use Rattle.std.proofs.lemmas.Bool.{ne_eqb, eqb-true, eqb-false, false≢true}
-use Rattle.model.specs.Broker.{with_one}
-use Rattle.model.specs.State.{Config, State}
-use Rattle.model.specs.Run.{Happening}
-use Rattle.model.specs.History.{Occurrence}
-use Rattle.model.specs.Commands.{Stream}
-use Rattle.model.specs.Arrivals.{IsSaid, World, Wire, new_world, is_over, is_paused, is_past_bound, is_gone, can_open, Same, Turns, Waits, Works, none_more, one_more, WorksOff, Puts, Delivers, Pumps, delivers, idles, Takes_off, Opens, Loses, Reloads, Answers, Plays, with_heard}
-use Rattle.model.specs.declared.events.Arrival.{Arrival}
+use Rattle.laws.proofs.Names.{◌≡◌, ◌≢◌, ℕ, List, [], ◌∷◌, Bool, true, false, cond, refl, sym, ap, subst, ◌∙◌, inl, inr, ◌&&◌, ◌==◌, ne_eqb, eqb-true, eqb-false, false≢true, with_one, Config, State, Happening, Occurrence, Stream, IsSaid, World, Wire, new_world, is_over, is_paused, is_past_bound, is_gone, can_open, Same, Turns, Waits, Works, none_more, one_more, WorksOff, Puts, Delivers, Pumps, delivers, idles, Takes_off, Opens, Loses, Reloads, Answers, Plays, with_heard, Arrival, Event}
+use Rattle.std.proofs.Common.{◌+◌}
+use Rattle.std.specs.Prelude.{not}
 use Rattle.model.specs.declared.events.Arrival.TheVariants as arrival
-use Rattle.model.specs.declared.events.Event.{Event}
 use Rattle.model.specs.declared.events.Event.TheVariants as event
 use Rattle.laws.proofs.Counts.{from_either}
 use Rattle.laws.proofs.Reloading.{all_marked, state_left, linked_marked}

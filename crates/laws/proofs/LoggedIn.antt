@@ -1,28 +1,11 @@
 -- A connection comes past its login only by one.
-use Rattle.std.proofs.Common.{◌≡◌, ℕ, List, [], ◌∷◌, Bool, true, false, cond, refl, sym, ap, subst, ◌∙◌, Option}
-use Rattle.std.specs.Prelude.{◌==◌, if◌then◌else◌, MatchBool}
-use Rattle.std.specs.Str.{bytes_eq}
-use Rattle.std.proofs.lemmas.Bool.{eqb-true, false≢true}
-use Rattle.model.specs.Words.{Text}
-use Rattle.model.specs.Broker.{with_one}
-use Rattle.model.specs.Phases.{Session, Move, while_closing, faulted, after_sends, to_phase}
-use Rattle.model.specs.Opening.{LogsIn, MovesInOpening, IsAnswered, at_start, or_closed, on_zero, closes_with, answers_with, opening_move, start}
+use Rattle.laws.proofs.Names.{◌≡◌, ℕ, List, [], ◌∷◌, Bool, true, false, cond, refl, sym, ap, subst, ◌∙◌, ◌==◌, MatchBool, bytes_eq, eqb-true, false≢true, Text, with_one, Session, Move, while_closing, faulted, after_sends, to_phase, LogsIn, MovesInOpening, IsAnswered, at_start, or_closed, on_zero, closes_with, answers_with, opening_move, start, eight_bytes, empty_publish, Config, State, Step, OfFirst, OfCommand, OfLarge, OfFault, is_past_login, ComesIn, User, Content, Method, ConnectionStartOk, ConnectionClose, ConnectionCloseOk, Event, Open, First, Running, Fault, Lose, Pause, Resume, Deliver, Phase, Send, Note}
+use Rattle.std.proofs.Common.{Option}
+use Rattle.std.specs.Prelude.{if◌then◌else◌}
 use Rattle.model.specs.Login.{IsLogin}
-use Rattle.model.specs.Spelling.{eight_bytes}
-use Rattle.model.specs.Step.{empty_publish}
-use Rattle.model.specs.State.{Config, State, Step, OfFirst, OfCommand, OfLarge, OfFault}
-use Rattle.model.specs.LoggedIn.{is_past_login, ComesIn}
-use Rattle.model.specs.declared.messages.User.{User}
-use Rattle.model.specs.declared.contents.Content.{Content}
-use Rattle.model.specs.declared.methods.Method.{Method}
-use Rattle.model.specs.declared.methods.Method.TheVariants.{ConnectionStartOk, ConnectionClose, ConnectionCloseOk}
-use Rattle.model.specs.declared.events.Event.{Event}
-use Rattle.model.specs.declared.events.Event.TheVariants.{Open, First, Running, Command, TooLarge, Fault, Lose, Pause, Resume, Deliver}
-use Rattle.model.specs.declared.events.Phase.{Phase}
+use Rattle.model.specs.declared.events.Event.TheVariants.{Command, TooLarge}
 use Rattle.model.specs.declared.events.Phase.TheVariants as phase
-use Rattle.model.specs.declared.events.Send.{Send}
 use Rattle.model.specs.declared.events.Send.TheVariants as send
-use Rattle.model.specs.declared.notes.Note.{Note}
 
 -- ---- one move
 

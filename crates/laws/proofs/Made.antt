@@ -1,21 +1,8 @@
 -- No consumer comes but by a consume.
-use Rattle.std.proofs.Common.{◌≡◌, ℕ, List, [], ◌∷◌, Bool, true, false, cond, eqb→eq, T, refl, sym, ap, subst, ◌∙◌, filter, not, Option, Some, None, ◌⊎◌, inl, inr}
-use Rattle.std.specs.Prelude.{is_some, ◌==◌, ◌&&◌, if◌then◌else◌, nat_le}
-use Rattle.std.proofs.lemmas.Bool.{false≢true}
-use Rattle.std.proofs.lemmas.Option.{same_Some}
-use Rattle.model.specs.Topology.{Topology, IsIn}
-use Rattle.model.specs.Alone.{event_connection}
-use Rattle.model.specs.Broker.{Consumer, Channel, Broker, new_channel, with_pair, with_row}
-use Rattle.model.specs.Consuming.{is_tagged, consumer_of}
-use Rattle.model.specs.Step.{channel_or_new, channels_up_to}
-use Rattle.model.specs.declared.contents.Content.{Content}
-use Rattle.model.specs.declared.events.Send.{Send}
-use Rattle.model.specs.declared.events.Event.{Event}
+use Rattle.laws.proofs.Names.{◌≡◌, ℕ, List, [], ◌∷◌, Bool, true, false, cond, eqb→eq, T, refl, sym, ap, subst, ◌∙◌, None, ◌⊎◌, inl, inr, is_some, ◌==◌, ◌&&◌, nat_le, false≢true, same_Some, Topology, IsIn, event_connection, Consumer, Channel, Broker, new_channel, with_pair, with_row, is_tagged, consumer_of, channel_or_new, channels_up_to, Content, Send, Event, Consume, BasicConsume, Note, WasConsumer, IsMadeBy, ConsumersAreMade}
+use Rattle.std.proofs.Common.{filter, not, Option, Some}
+use Rattle.std.specs.Prelude.{if◌then◌else◌}
 use Rattle.model.specs.declared.events.Event.TheVariants.{Command}
-use Rattle.model.specs.declared.methods.Consume.{Consume}
-use Rattle.model.specs.declared.methods.Method.TheVariants.{BasicConsume}
-use Rattle.model.specs.declared.notes.Note.{Note}
-use Rattle.laws.specs.Consumers.{WasConsumer, IsMadeBy, ConsumersAreMade}
 use Rattle.laws.proofs.Counts.{in-append}
 use Rattle.laws.proofs.Deeds.{Deed, changes, enters, gives, settles, purges, nothing, alters, ends, clears, renews, Serves, as_before, one_more, fewer, acted}
 

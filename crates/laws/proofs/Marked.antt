@@ -1,13 +1,5 @@
 -- No message comes to be marked as redelivered that was not given out.
-use Rattle.std.proofs.Common.{◌≡◌, List, [], ◌∷◌, false, refl, sym, ap, ◌∙◌}
-use Rattle.std.specs.List.{AllByRecursion}
-use Rattle.std.proofs.lemmas.Bool.{false≢true}
-use Rattle.model.specs.Entries.{number_of}
-use Rattle.model.specs.State.{State}
-use Rattle.model.specs.Run.{Happening, Run}
-use Rattle.model.specs.Fresh.{WasGivenOut, MarksWhatWasGiven}
-use Rattle.model.specs.declared.messages.Entry.{Entry}
-use Rattle.laws.specs.Order.{MarksAreGiven}
+use Rattle.laws.proofs.Names.{◌≡◌, List, [], ◌∷◌, false, refl, sym, ap, ◌∙◌, AllByRecursion, false≢true, number_of, State, Happening, Run, WasGivenOut, MarksWhatWasGiven, Entry, MarksAreGiven}
 use Rattle.laws.proofs.Traced.{Came, stood, by_letter, published, step_came}
 
 pub step_marks : MarksAreGiven

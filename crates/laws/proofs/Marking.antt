@@ -1,14 +1,6 @@
 -- The header of a dead letter: it has a spelling, and is longer by little, and only once.
-use Rattle.std.proofs.Common.{◌≡◌, ◌<◌, ◌≤◌, ◌+◌, ℕ, List, ◌∷◌, ◌++◌, length, refl, sym, ap, subst, ◌∙◌, arith, append_assoc, length-append, Option, Some, None, inl, inr}
-use Rattle.std.specs.Prelude.{codes}
-use Rattle.std.proofs.lemmas.Grind.{common_steps}
-use Rattle.model.specs.Words.{Text}
-use Rattle.model.specs.Tables.{Pairs, no_pairs, pair, Long_string, letter, content, pairs_bytes, ArePairs, HavePairsSpelling, IsTable}
-use Rattle.model.specs.Headers.{table_of, value_of, IsValue, AreProperties, header_bytes}
-use Rattle.model.specs.Commands.{IsWithin}
-use Rattle.model.specs.Deaths.{death_queue, death_reason, death_exchange, first_death, IsFieldOf, TellsOfDeath, IsUnmarked, AreMarked, alone, added, marked_before, with_headers}
-use Rattle.model.specs.Sending.{IsStored}
-use Rattle.model.specs.declared.contents.Content.{Content}
+use Rattle.laws.proofs.Names.{◌≡◌, ◌≤◌, ℕ, List, ◌∷◌, ◌++◌, length, refl, sym, ap, subst, ◌∙◌, arith, append_assoc, length-append, None, inl, inr, codes, common_steps, Text, Pairs, no_pairs, pair, Long_string, letter, content, pairs_bytes, ArePairs, HavePairsSpelling, IsTable, table_of, value_of, IsValue, AreProperties, header_bytes, IsWithin, death_queue, death_reason, death_exchange, first_death, IsFieldOf, TellsOfDeath, IsUnmarked, AreMarked, alone, added, marked_before, with_headers, IsStored, Content}
+use Rattle.std.proofs.Common.{◌<◌, ◌+◌, Option, Some}
 use Rattle.model.specs.declared.contents.Fields.{Fields as Properties}
 
 -- ---- tables

@@ -1,26 +1,8 @@
 -- The nacks that a client reads in an output are those that are noted, one by one.
-use Rattle.std.proofs.Common.{◌≡◌, ℕ, ◌%◌, List, [], ◌∷◌, Bool, true, false, refl, sym, ap, ◌∙◌, Option, Some, None, inl, inr}
-use Rattle.std.specs.Prelude.{◌==◌, ◌&&◌, ◌||◌, if◌then◌else◌, filter_map}
-use Rattle.std.specs.List.{list_any, AllByRecursion, cons_option}
-use Rattle.std.proofs.lemmas.Bool.{eq-eqb, false≢true}
-use Rattle.std.proofs.lemmas.Nat.{from_be_bytes-to_be_bytes_8}
-use Rattle.model.specs.Topology.{Topology}
-use Rattle.model.specs.Grammar.{IsMethod, method_bytes, octet}
-use Rattle.model.specs.Broker.{Broker}
-use Rattle.model.specs.Step.{answer_of, confirm_method, confirm_notes, confirm_sends, reply}
-use Rattle.model.specs.State.{State, Step}
-use Rattle.model.specs.Spelling.{method_frame, sends_to}
-use Rattle.model.specs.Run.{Happening, Run, sends_of}
-use Rattle.model.specs.Acks.{first_bit}
-use Rattle.model.specs.Nacks.{Nack, nack_in, is_nack_of, nack_as, nacks_at, nacks_of}
-use Rattle.model.specs.declared.methods.Method.{Method}
-use Rattle.model.specs.declared.methods.Method.TheVariants.{BasicNack}
-use Rattle.model.specs.declared.events.Event.{Event}
-use Rattle.model.specs.declared.events.Send.{Send}
-use Rattle.model.specs.declared.notes.Note.{Note}
-use Rattle.model.specs.declared.notes.Note.TheVariants.{Published, Confirmed}
+use Rattle.laws.proofs.Names.{◌≡◌, ℕ, ◌%◌, List, [], ◌∷◌, Bool, true, false, refl, sym, ap, ◌∙◌, None, inl, inr, ◌==◌, ◌&&◌, ◌||◌, filter_map, list_any, AllByRecursion, cons_option, eq-eqb, false≢true, from_be_bytes-to_be_bytes_8, Topology, IsMethod, method_bytes, octet, Broker, answer_of, confirm_method, confirm_notes, confirm_sends, reply, State, Step, method_frame, sends_to, Happening, Run, sends_of, first_bit, Nack, nack_in, is_nack_of, nack_as, nacks_at, nacks_of, Method, BasicNack, Event, Send, Note, Published, Confirmed, nack_of, nack_sent}
+use Rattle.std.proofs.Common.{Option, Some}
+use Rattle.std.specs.Prelude.{if◌then◌else◌}
 use Rattle.model.specs.declared.notes.Answer.TheVariants as answer
-use Rattle.laws.specs.Promises.{nack_of, nack_sent}
 use Rattle.laws.proofs.Telling.{IsRead, TellPublishes, each_of_run, is_confirmed, nothing_told, one_told, publish_sends, publish_told, told_by_answer, told_over, told_to, told_to_none}
 use Rattle.laws.proofs.Deeds.{Publishes}
 use Rattle.laws.proofs.Replies.{is_answer, answer_all}

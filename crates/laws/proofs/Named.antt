@@ -1,34 +1,10 @@
 -- The consumers of each channel stay named, whatever the broker does, and what is delivered to them can be addressed.
-use Rattle.std.proofs.Common.{◌≡◌, ℕ, zero, suc, ◌+◌, ◌<◌, ◌≤◌, List, [], ◌∷◌, Bool, true, false, cond, refl, sym, ap, subst, ◌∙◌, filter, length, length-append, get_or, not, arith, Option, Some, None, inl, inr}
-use Rattle.std.specs.Prelude.{is_some, nat_le, codes, decimal, ◌==◌, ◌&&◌, ◌||◌, if◌then◌else◌}
-use Rattle.std.specs.List.{AllByRecursion, AllPairs, list_any}
-use Rattle.std.specs.Str.{bytes_eq}
-use Rattle.std.proofs.lemmas.Bool.{leb-true, leb-false, ne_eqb, false≢true}
-use Rattle.std.proofs.lemmas.Option.{same_Some}
-use Rattle.std.proofs.lemmas.Fmt.{length-decimal-le}
-use Rattle.std.proofs.lemmas.List.Kept.{AllPairs-filter}
-use Rattle.std.proofs.lemmas.List.Quantifiers.{all_pairs_push}
-use Rattle.model.specs.Words.{Text}
-use Rattle.model.specs.Topology.{Topology, IsIn}
-use Rattle.model.specs.Broker.{Consumer, Outstanding, Channel, Broker, new_channel, queue_named, is_ready, with_pair, with_row}
-use Rattle.model.specs.Settling.{is_refused, kept, takes}
+use Rattle.laws.proofs.Names.{◌≡◌, ℕ, zero, suc, ◌≤◌, List, [], ◌∷◌, Bool, true, false, cond, refl, sym, ap, subst, ◌∙◌, length, length-append, get_or, arith, None, inl, inr, is_some, nat_le, codes, decimal, ◌==◌, ◌&&◌, ◌||◌, AllByRecursion, AllPairs, list_any, bytes_eq, leb-true, leb-false, ne_eqb, false≢true, same_Some, length-decimal-le, AllPairs-filter, all_pairs_push, Text, Topology, IsIn, Consumer, Outstanding, Channel, Broker, new_channel, queue_named, is_ready, with_pair, with_row, is_refused, outstanding_after, is_tagged, is_in_use, server_tag, next_free, tag_for, is_tag_taken, is_tag_wanting, consumer_of, with_consumer, without_consumer, tag_of, greatest, Refusal, Of_channel, channel_or_new, or_else, refusal_in, refusal_of_asking, refusal_of_tag, refusal_of_many, refusal_of_consume, event_connection, IsSaid, IsGivenBelow, AreNamedOn, AreNamed, IsCarried, IsAddressed, Entry, Taker, Send, Event, Consume, Get, Note, ConsumersStayNamed, DeliveriesAreAddressed}
+use Rattle.std.proofs.Common.{◌+◌, ◌<◌, filter, not, Option, Some}
+use Rattle.std.specs.Prelude.{if◌then◌else◌}
+use Rattle.model.specs.Settling.{kept, takes}
 use Rattle.model.specs.Prefetch.{is_to, has_tag_left}
-use Rattle.model.specs.Deliveries.{outstanding_after}
-use Rattle.model.specs.Consuming.{is_tagged, is_in_use, server_tag, next_free, tag_for, is_tag_taken, is_tag_wanting, consumer_of, with_consumer, without_consumer}
-use Rattle.model.specs.Step.{tag_of, greatest, Refusal, Of_channel, channel_or_new, or_else, refusal_in, refusal_of_asking, refusal_of_tag, refusal_of_many, refusal_of_consume}
-use Rattle.model.specs.Alone.{event_connection}
-use Rattle.model.specs.Arrivals.{IsSaid}
-use Rattle.model.specs.Naming.{IsGivenBelow, AreNamedOn, AreNamed}
-use Rattle.model.specs.Sending.{IsCarried, IsAddressed}
-use Rattle.model.specs.declared.messages.Entry.{Entry}
-use Rattle.model.specs.declared.messages.Taker.{Taker}
 use Rattle.model.specs.declared.messages.Taker.TheVariants as taker
-use Rattle.model.specs.declared.events.Send.{Send}
-use Rattle.model.specs.declared.events.Event.{Event}
-use Rattle.model.specs.declared.methods.Consume.{Consume}
-use Rattle.model.specs.declared.methods.Get.{Get}
-use Rattle.model.specs.declared.notes.Note.{Note}
-use Rattle.laws.specs.Consumers.{ConsumersStayNamed, DeliveriesAreAddressed}
 use Rattle.laws.proofs.Counts.{count_none, all-append, all_each, all_in, filter_all}
 use Rattle.laws.proofs.Leaving.{find_in}
 use Rattle.laws.proofs.Deeds.{Deed, changes, enters, gives, settles, purges, nothing, alters, ends, clears, renews, Serves, as_before, one_more, fewer, HoldsAlike, IsTakerOf, acted}

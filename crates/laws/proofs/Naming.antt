@@ -1,17 +1,7 @@
 -- In every world that a run reaches consumers are named as they should be.
-use Rattle.std.proofs.Common.{ℕ, List, [], ◌∷◌, refl, sym, subst}
-use Rattle.std.specs.List.{AllByRecursion}
-use Rattle.model.specs.State.{Config, State, Step}
-use Rattle.model.specs.Run.{Happening, Run}
-use Rattle.model.specs.Naming.{AreNamed}
-use Rattle.model.specs.History.{Occurrence}
-use Rattle.model.specs.Arrivals.{World, Waits, IsSaid, Reloads, Answers, can_open, is_over, is_gone, with_heard}
+use Rattle.laws.proofs.Names.{ℕ, List, [], ◌∷◌, refl, sym, subst, AllByRecursion, Config, State, Step, Happening, Run, AreNamed, Occurrence, World, Waits, IsSaid, Reloads, Answers, can_open, is_over, is_gone, with_heard, Arrival, event_connection, IsWorldNamed, WorldsStayNamed, PlaysStayNamed, InForce, config_after}
 use Rattle.model.specs.declared.events.Event.TheVariants as event
-use Rattle.model.specs.declared.events.Arrival.{Arrival}
 use Rattle.model.specs.declared.events.Arrival.TheVariants as arrival
-use Rattle.model.specs.Alone.{event_connection}
-use Rattle.laws.specs.Consumers.{IsWorldNamed, WorldsStayNamed, PlaysStayNamed}
-use Rattle.laws.specs.Promises.{InForce, config_after}
 use Rattle.laws.proofs.View.{deed_at}
 use Rattle.laws.proofs.Counts.{from_either}
 use Rattle.laws.proofs.Plays.{IsTold, Told, told_same, told_turns, told_taken, told_opens, told_heard, told_works_off, told_taken_and_works, told_loses, told_pumps}

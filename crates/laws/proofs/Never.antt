@@ -1,29 +1,7 @@
 -- No message, of a publish or a dead letter, enters a queue that is forbidden to its publish; what leaves a queue has a cause, and what enters one an origin. And so a run keeps the promises.
-use Rattle.std.proofs.Common.{◌≡◌, ℕ, ◌+◌, ◌⊎◌, Bool, true, false, eqb, List, [], ◌∷◌, ◌++◌, refl, sym, ap, subst, ◌∙◌, inl, inr, arith, Option}
-use Rattle.std.specs.Prelude.{count_by}
-use Rattle.std.specs.List.{AllByRecursion}
-use Rattle.std.proofs.lemmas.Bool.{eq-eqb, false≢true}
-use Rattle.model.specs.Words.{Text}
-use Rattle.model.specs.Topology.{Topology, IsIn}
-use Rattle.model.specs.Message.{Message}
-use Rattle.model.specs.Broker.{Broker}
-use Rattle.model.specs.Tracing.{by_publish, AreKept}
-use Rattle.model.specs.Guarantee.{Covers}
-use Rattle.model.specs.Routing.{Later}
-use Rattle.model.specs.State.{Config, State, Step}
-use Rattle.model.specs.Arrivals.{IsSaid}
-use Rattle.model.specs.Run.{Happening, Run, AreCounted, has_number, notes_of}
-use Rattle.model.specs.Allowed.{IsNoted, WasSentTo, IsAllowed, AreAllowed, AreAllowedIn}
-use Rattle.model.specs.Causes.{IsCauseAt, HasCause, HaveCauses, IsPublishedAt, HasOrigin, HaveOrigins}
-use Rattle.model.specs.Letters.{IsOfNoRejection, DieAsRouted, DieOnce}
-use Rattle.model.specs.Headline.{IsSound, KeepsEvents}
-use Rattle.model.specs.declared.messages.Entry.{Entry}
-use Rattle.model.specs.declared.notes.Note.{Note}
-use Rattle.model.specs.declared.notes.Note.TheVariants.{Published, Entered, Left}
+use Rattle.laws.proofs.Names.{◌≡◌, ℕ, ◌⊎◌, Bool, true, false, eqb, List, [], ◌∷◌, ◌++◌, refl, sym, ap, subst, ◌∙◌, inl, inr, arith, count_by, AllByRecursion, eq-eqb, false≢true, Text, Topology, IsIn, Message, Broker, by_publish, AreKept, Covers, Later, Config, State, Step, IsSaid, Happening, Run, AreCounted, has_number, notes_of, IsNoted, WasSentTo, IsAllowed, AreAllowed, AreAllowedIn, IsCauseAt, HasCause, HaveCauses, IsPublishedAt, HasOrigin, HaveOrigins, IsOfNoRejection, DieAsRouted, DieOnce, IsSound, KeepsEvents, Entry, Note, Published, Entered, Left, Send, Event, AreSound, AreSaid, InForce, IsBegun, config_after}
+use Rattle.std.proofs.Common.{◌+◌, Option}
 use Rattle.model.specs.declared.notes.Way.TheVariants as way
-use Rattle.model.specs.declared.events.Send.{Send}
-use Rattle.model.specs.declared.events.Event.{Event}
-use Rattle.laws.specs.Promises.{AreSound, AreSaid, InForce, IsBegun, config_after}
 use Rattle.laws.proofs.Dying.{HasDied}
 use Rattle.laws.proofs.Entering.{picked}
 use Rattle.laws.proofs.Safe.{come_here}

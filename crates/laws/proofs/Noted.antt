@@ -1,17 +1,8 @@
 -- A publish against which nothing stands is noted, and in confirm mode confirmed.
-use Rattle.std.proofs.Common.{◌≡◌, ◌+◌, ℕ, List, [], ◌∷◌, ◌++◌, Bool, length, refl, sym, ap, subst, ◌∙◌, Option, Some, None, inl}
-use Rattle.std.specs.Prelude.{◌==◌, ◌&&◌, if◌then◌else◌}
-use Rattle.std.proofs.lemmas.Bool.{eq-eqb}
-use Rattle.model.specs.Topology.{IsIn}
-use Rattle.model.specs.Broker.{with_pair}
-use Rattle.model.specs.Step.{IsPublish, channel_or_new, next_of, reply, answer_of, confirm_method, confirm_notes, confirm_sends, content_or_none, entry_notes, is_none, is_some_full, returned_notes, returned_sends}
-use Rattle.model.specs.State.{Step}
-use Rattle.model.specs.Run.{Happening}
-use Rattle.model.specs.Noted.{IsConfirmedIf, PublishesAreTaken}
-use Rattle.model.specs.declared.events.Send.{Send}
-use Rattle.model.specs.declared.methods.Method.TheVariants.{BasicPublish}
-use Rattle.model.specs.declared.notes.Note.{Note}
-use Rattle.model.specs.declared.notes.Note.TheVariants.{Published, Confirmed}
+use Rattle.laws.proofs.Names.{◌≡◌, ℕ, List, [], ◌∷◌, ◌++◌, Bool, length, refl, sym, ap, subst, ◌∙◌, None, inl, ◌==◌, ◌&&◌, eq-eqb, IsIn, with_pair, IsPublish, channel_or_new, next_of, reply, answer_of, confirm_method, confirm_notes, confirm_sends, content_or_none, is_none, is_some_full, returned_notes, returned_sends, Step, Happening, IsConfirmedIf, PublishesAreTaken, Send, BasicPublish, Note, Published, Confirmed}
+use Rattle.std.proofs.Common.{◌+◌, Option, Some}
+use Rattle.std.specs.Prelude.{if◌then◌else◌}
+use Rattle.model.specs.Step.{entry_notes}
 use Rattle.model.specs.declared.notes.Way.TheVariants as way
 use Rattle.laws.proofs.Accepted.{is_open_for}
 use Rattle.laws.proofs.Counts.{in_back}

@@ -1,32 +1,11 @@
 -- A publish that was confirmed by ack entered each queue of its route exactly once.
-use Rattle.std.proofs.Common.{◌≡◌, ℕ, ◌+◌, ◌<◌, ◌≤◌, ◌⊎◌, List, [], ◌∷◌, ◌++◌, Bool, true, false, cond, eqb, length, refl, sym, ap, ◌∙◌, subst, arith, append_assoc, Option, Some, None, inl, inr}
-use Rattle.std.specs.Prelude.{◌==◌, count_by, ◌&&◌, if◌then◌else◌, filter_map}
-use Rattle.std.specs.List.{list_any, AllByRecursion, cons_option}
-use Rattle.std.proofs.lemmas.Bool.{eq-eqb, ne_eqb, or_parts}
-use Rattle.model.specs.Words.{Text}
-use Rattle.model.specs.Topology.{Topology, queue_names, IsIn, IsThere, IsWellFormed}
-use Rattle.model.specs.Routing.{of_key, Routes, Edge, bound, default}
-use Rattle.model.specs.Guarantee.{Guarantee, Covers, Keeps, Holds}
-use Rattle.model.specs.Grammar.{IsMethod}
-use Rattle.model.specs.Broker.{Broker, is_full}
-use Rattle.model.specs.Step.{entry_note, entry_notes, confirm_notes, answer_of}
-use Rattle.model.specs.State.{State}
-use Rattle.model.specs.Arrivals.{IsSaid}
-use Rattle.model.specs.Run.{Happening, Run, notes_of}
-use Rattle.model.specs.Acks.{Acked, EnteredOnce, is_ack_of, is_publish_into, acked_as, acked_at, acked}
-use Rattle.model.specs.Headline.{IsSound}
-use Rattle.model.specs.declared.topologies.DeclaredQueue.{DeclaredQueue}
+use Rattle.laws.proofs.Names.{◌≡◌, ℕ, ◌≤◌, ◌⊎◌, List, [], ◌∷◌, ◌++◌, Bool, true, false, cond, eqb, length, refl, sym, ap, ◌∙◌, subst, arith, append_assoc, None, inl, inr, ◌==◌, count_by, ◌&&◌, filter_map, list_any, AllByRecursion, cons_option, eq-eqb, ne_eqb, or_parts, Text, Topology, queue_names, IsIn, IsThere, IsWellFormed, of_key, Routes, Edge, bound, default, Guarantee, Covers, Keeps, Holds, IsMethod, Broker, is_full, entry_note, confirm_notes, answer_of, State, IsSaid, Happening, Run, notes_of, EnteredOnce, is_ack_of, is_publish_into, acked_as, acked_at, acked, IsSound, DeclaredQueue, Mode, Reaches, Entry, Send, Event, BasicPublish, Note, Published, Entered, Confirmed, AreSound, AreSaid}
+use Rattle.std.proofs.Common.{◌+◌, ◌<◌, Option, Some}
+use Rattle.std.specs.Prelude.{if◌then◌else◌}
+use Rattle.model.specs.Step.{entry_notes}
+use Rattle.model.specs.Acks.{Acked}
 use Rattle.model.specs.declared.topologies.Place.TheVariants as place
-use Rattle.model.specs.declared.topologies.Mode.{Mode}
-use Rattle.model.specs.declared.topologies.Mode.TheVariants.{Reaches}
-use Rattle.model.specs.declared.messages.Entry.{Entry}
-use Rattle.model.specs.declared.events.Send.{Send}
-use Rattle.model.specs.declared.events.Event.{Event}
-use Rattle.model.specs.declared.methods.Method.TheVariants.{BasicPublish}
-use Rattle.model.specs.declared.notes.Note.{Note}
-use Rattle.model.specs.declared.notes.Note.TheVariants.{Published, Entered, Confirmed}
 use Rattle.model.specs.declared.notes.Way.TheVariants as way
-use Rattle.laws.specs.Promises.{AreSound, AreSaid}
 use Rattle.laws.proofs.Counts.{count-append, count-cons, count-cons_no, count_none, all-append, all_each, in_from_contains, in-map}
 use Rattle.laws.proofs.Targets.{same_as, count_target}
 use Rattle.laws.proofs.Deeds.{Publishes}

@@ -1,25 +1,12 @@
 -- Whatever arrives, a connection is in Header exactly while its first eight bytes are not performed.
-use Rattle.std.proofs.Common.{◌≡◌, ◌≢◌, ◌+◌, ℕ, List, [], ◌∷◌, Bool, true, false, cond, refl, sym, ap, subst, ◌∙◌, inl, inr, Option, Some, None}
-use Rattle.std.specs.Prelude.{◌==◌, if◌then◌else◌}
-use Rattle.std.proofs.lemmas.Bool.{eqb-true, eqb-false, false≢true}
-use Rattle.model.specs.Broker.{with_one}
-use Rattle.model.specs.Commands.{Stream, Yields, GoesOn, stays, goes as read_on, Ends, heard, opened_stream, running_stream}
-use Rattle.model.specs.Opening.{new_session}
-use Rattle.model.specs.Phases.{Session, running_session, no_session}
-use Rattle.model.specs.State.{Config, State, Step}
-use Rattle.model.specs.Run.{Happening}
-use Rattle.model.specs.History.{Occurrence}
-use Rattle.model.specs.Arrivals.{World, Wire, new_world, new_wire, wire_after, under_session, is_ended, is_over, is_gone, can_open, event_of, Reads, again, fresh, fault, SameToCome, still, waits, kept, Turns, Waits, Works, none_more, one_more, WorksOff, Takes_off, Delivers, Pumps, delivers, idles, Reloads, Answers, Plays, with_heard}
+use Rattle.laws.proofs.Names.{◌≡◌, ◌≢◌, ℕ, List, [], ◌∷◌, Bool, true, false, cond, refl, sym, ap, subst, ◌∙◌, inl, inr, None, ◌==◌, eqb-true, eqb-false, false≢true, with_one, Stream, Yields, GoesOn, stays, Ends, heard, opened_stream, running_stream, new_session, Session, running_session, no_session, Config, State, Step, Happening, Occurrence, World, Wire, new_world, new_wire, wire_after, under_session, is_ended, is_over, is_gone, can_open, event_of, Reads, again, fresh, fault, SameToCome, still, waits, Turns, Waits, Works, none_more, one_more, WorksOff, Takes_off, Delivers, Pumps, delivers, idles, Reloads, Answers, Plays, with_heard, Head, Plain, Full, Send, Event, Arrival, Note, event_connection, is_head, is_header, is_first, AreToCome, ReadsByPhase, OpeningsReadByPhase}
+use Rattle.std.proofs.Common.{◌+◌, Option, Some}
+use Rattle.std.specs.Prelude.{if◌then◌else◌}
+use Rattle.model.specs.Commands.{goes as read_on}
+use Rattle.model.specs.Arrivals.{kept}
 use Rattle.model.specs.declared.events.Command.{Command}
-use Rattle.model.specs.declared.events.Command.TheVariants.{Head, Plain, Full, TooLarge}
-use Rattle.model.specs.declared.events.Send.{Send}
-use Rattle.model.specs.declared.events.Event.{Event}
-use Rattle.model.specs.declared.events.Arrival.{Arrival}
+use Rattle.model.specs.declared.events.Command.TheVariants.{TooLarge}
 use Rattle.model.specs.declared.events.Arrival.TheVariants as arrival
-use Rattle.model.specs.declared.notes.Note.{Note}
-use Rattle.model.specs.Alone.{event_connection}
-use Rattle.laws.specs.Streams.{is_head}
-use Rattle.laws.specs.Openings.{is_header, is_first, AreToCome, ReadsByPhase, OpeningsReadByPhase}
 use Rattle.laws.proofs.Counts.{from_either}
 use Rattle.laws.proofs.Streams.{head_read, head_awaited, frames_read}
 use Rattle.laws.proofs.View.{is_read, goes, Performed, Answered}

@@ -1,37 +1,11 @@
 -- The messages of a queue are first given out in the order in which they entered it.
-use Rattle.std.proofs.Common.{◌≡◌, ℕ, List, [], ◌∷◌, ◌++◌, Bool, true, false, cond, refl, sym, ap, subst, ◌∙◌, map, filter, length, not, append_assoc, append-nil, Option, Some, None}
-use Rattle.std.specs.Prelude.{is_some, ◌&&◌, if◌then◌else◌}
-use Rattle.std.specs.Str.{bytes_eq}
-use Rattle.std.specs.List.{AllByRecursion}
-use Rattle.std.proofs.lemmas.Bool.{false≢true}
-use Rattle.std.proofs.lemmas.Option.{same_Some}
-use Rattle.model.specs.Words.{Text}
-use Rattle.model.specs.Topology.{Topology}
-use Rattle.model.specs.Broker.{Outstanding, Channel, Broker, is_ready, is_full}
-use Rattle.model.specs.Entries.{is_under, is_held_as, freed, held_as, change_first, without_first}
-use Rattle.model.specs.Deliveries.{Settlement, Leaves, Rejects, Returns, AreSettled, AreLeft, AreRejected, AreReturned, given_in, with_queue, first_ready, holder_of, without_given, with_returned, after_giving, after_delivery}
-use Rattle.model.specs.Message.{Message}
-use Rattle.model.specs.Step.{Is, comes_to, entry_notes, message}
-use Rattle.model.specs.State.{State, Step}
-use Rattle.model.specs.Run.{Happening, Run, notes_of}
-use Rattle.model.specs.declared.messages.Entry.{Entry}
-use Rattle.model.specs.declared.messages.Holder.{Holder}
-use Rattle.model.specs.declared.messages.Taker.{Taker}
+use Rattle.laws.proofs.Names.{◌≡◌, ℕ, List, [], ◌∷◌, ◌++◌, Bool, true, false, cond, refl, sym, ap, subst, ◌∙◌, length, append_assoc, append-nil, None, is_some, ◌&&◌, bytes_eq, AllByRecursion, false≢true, same_Some, Text, Topology, Outstanding, Channel, Broker, is_ready, is_full, is_under, is_held_as, freed, held_as, change_first, without_first, Settlement, Leaves, Rejects, Returns, AreSettled, AreLeft, AreRejected, AreReturned, given_in, with_queue, first_ready, holder_of, without_given, with_returned, after_giving, after_delivery, Message, Is, message, State, Step, Happening, Run, notes_of, Entry, Holder, Taker, Mark, Ready, Held, Get, Send, Event, Cause, Way, Note, Entered, Refused, GivesOut, to_get, to_consumer, FirstGiven, ended, given, passed, IsPart, empty, skips, is_fresh, waiting, entered_by, entered, IsNext, GivenInOrder, GivenAfterThoseAhead, key_after, dead_letter, with_headers}
+use Rattle.std.proofs.Common.{map, filter, not, Option, Some}
+use Rattle.std.specs.Prelude.{if◌then◌else◌}
+use Rattle.model.specs.Step.{comes_to, entry_notes}
 use Rattle.model.specs.declared.messages.Taker.TheVariants as taker
-use Rattle.model.specs.declared.messages.Mark.{Mark}
-use Rattle.model.specs.declared.messages.Mark.TheVariants.{Ready, Held}
-use Rattle.model.specs.declared.methods.Get.{Get}
-use Rattle.model.specs.declared.events.Send.{Send}
-use Rattle.model.specs.declared.events.Event.{Event}
-use Rattle.model.specs.declared.notes.Cause.{Cause}
-use Rattle.model.specs.declared.notes.Way.{Way}
 use Rattle.model.specs.declared.notes.Way.TheVariants as way
-use Rattle.model.specs.declared.notes.Note.{Note}
-use Rattle.model.specs.declared.notes.Note.TheVariants.{Entered, Refused}
-use Rattle.model.specs.Order.{GivesOut, to_get, to_consumer, FirstGiven, ended, given, passed, IsPart, empty, skips, takes, is_fresh, waiting, entered_by, entered, IsNext}
-use Rattle.laws.specs.Order.{GivenInOrder, GivenAfterThoseAhead}
-use Rattle.model.specs.Routing.{key_after}
-use Rattle.model.specs.Deaths.{dead_letter, with_headers}
+use Rattle.model.specs.Order.{takes}
 use Rattle.laws.proofs.Dying.{Goes, not_found, left_only, died, goes_by}
 use Rattle.laws.proofs.Agreement.{at_own}
 use Rattle.laws.proofs.Leaving.{at_queue}

@@ -1,6 +1,6 @@
 -- Parts of lists in order.
-use Rattle.std.proofs.Common.{◌≡◌, ℕ, List, [], ◌∷◌, ◌++◌, sym, subst, append_assoc, append-nil}
-use Rattle.model.specs.Order.{IsPart, empty, skips, takes}
+use Rattle.laws.proofs.Names.{◌≡◌, ℕ, List, [], ◌∷◌, ◌++◌, sym, subst, append_assoc, append-nil, IsPart, empty, skips}
+use Rattle.model.specs.Order.{takes}
 
 pub itself : (xs : List ℕ) → IsPart xs xs
 itself [] = empty

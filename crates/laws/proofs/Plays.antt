@@ -1,16 +1,6 @@
 -- Whatever is done, what happens is a run, under what is in force, of commands that were said and sends that were put out.
-use Rattle.std.proofs.Common.{◌≡◌, ◌≤◌, ℕ, List, [], ◌∷◌, ◌++◌, Bool, true, false, refl, sym, subst, ◌⊎◌, inl, inr}
-use Rattle.std.specs.List.{AllByRecursion}
-use Rattle.model.specs.State.{Config, State, Step}
-use Rattle.model.specs.Run.{Happening, Run}
-use Rattle.model.specs.Spelling.{IsSpelled}
-use Rattle.model.specs.Commands.{Stream}
-use Rattle.model.specs.Arrivals.{World, Turns, Works, none_more, one_more, Waits, WorksOff, Same, with_heard, Opens, Loses, Pumps, delivers, idles, Takes_off, TakesAndWorks, Puts, Pauses, Happens, IsSaid}
-use Rattle.model.specs.declared.events.Send.{Send}
-use Rattle.model.specs.declared.events.Event.{Event}
+use Rattle.laws.proofs.Names.{◌≡◌, ◌≤◌, ℕ, List, [], ◌∷◌, ◌++◌, Bool, true, false, refl, sym, subst, ◌⊎◌, inl, inr, AllByRecursion, Config, State, Step, Happening, Run, IsSpelled, Stream, World, Turns, Works, none_more, one_more, Waits, WorksOff, Same, with_heard, Opens, Loses, Pumps, delivers, idles, Takes_off, TakesAndWorks, Puts, Pauses, Happens, IsSaid, Send, Event, IsSound, AreSaid, AreSound, InForce, config_after}
 use Rattle.model.specs.declared.events.Event.TheVariants as event
-use Rattle.model.specs.Headline.{IsSound}
-use Rattle.laws.specs.Promises.{AreSaid, AreSound, InForce, config_after}
 use Rattle.laws.proofs.Counts.{all-append}
 
 -- ---- what is told of the happenings of a run

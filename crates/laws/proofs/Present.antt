@@ -1,14 +1,7 @@
 -- A connection is there exactly while it runs, and has channels only while it is there.
-use Rattle.std.proofs.Common.{◌≡◌, ℕ, List, Bool, true, false, refl, sym, ap, ◌∙◌, Option, Some}
-use Rattle.std.specs.Prelude.{is_some, ◌==◌, if◌then◌else◌}
-use Rattle.std.proofs.lemmas.Bool.{eqb-true}
-use Rattle.model.specs.Topology.{Topology}
-use Rattle.model.specs.Broker.{Channel, Broker}
-use Rattle.model.specs.State.{Step}
-use Rattle.model.specs.Run.{Happening}
-use Rattle.model.specs.Alone.{event_connection, ArePresent}
-use Rattle.model.specs.declared.events.Send.{Send}
-use Rattle.model.specs.declared.notes.Note.{Note}
+use Rattle.laws.proofs.Names.{◌≡◌, ℕ, List, Bool, true, false, refl, sym, ap, ◌∙◌, is_some, ◌==◌, eqb-true, Topology, Channel, Broker, Step, Happening, event_connection, ArePresent, Send, Note}
+use Rattle.std.proofs.Common.{Option, Some}
+use Rattle.std.specs.Prelude.{if◌then◌else◌}
 use Rattle.laws.proofs.Agreed.{At, own, other, pair_at}
 use Rattle.laws.proofs.Channels.{Changes, unchanged, one_channel, all_channels, step_changes}
 use Rattle.laws.proofs.Linked.{step_running}

@@ -1,14 +1,7 @@
 -- An output is read back as the frames that it was made of.
-use Rattle.std.proofs.Common.{◌≡◌, ℕ, ◌<◌, ◌≤◌, ◌^◌, List, [], ◌∷◌, ◌++◌, length, get_or, take, drop, refl, sym, ap, ◌∙◌, arith, append_assoc, lit≤, ◌⊎◌, inl, inr}
-use Rattle.std.specs.Prelude.{flat_map}
-use Rattle.std.specs.List.{AllByRecursion}
+use Rattle.laws.proofs.Names.{◌≡◌, ℕ, ◌≤◌, ◌^◌, List, [], ◌∷◌, ◌++◌, length, get_or, refl, sym, ap, ◌∙◌, arith, append_assoc, lit≤, ◌⊎◌, inl, inr, flat_map, AllByRecursion, take_at, drop_at, from_be_bytes-to_be_bytes_2, from_be_bytes-to_be_bytes_4, Frame, frame_bytes, IsFrame, frames_of, IsSpelled, eight_bytes, IsReading, Send}
+use Rattle.std.proofs.Common.{◌<◌, take, drop}
 use Rattle.std.specs.Int.{w16, w32, from_be_bytes}
-use Rattle.std.proofs.lemmas.List.{take_at, drop_at}
-use Rattle.std.proofs.lemmas.Nat.{from_be_bytes-to_be_bytes_2, from_be_bytes-to_be_bytes_4}
-use Rattle.model.specs.Frames.{Frame, frame_bytes, IsFrame}
-use Rattle.model.specs.Spelling.{frames_of, IsSpelled, eight_bytes}
-use Rattle.model.specs.Acks.{IsReading}
-use Rattle.model.specs.declared.events.Send.{Send}
 use Rattle.laws.proofs.Counts.{all-append}
 
 channel_at : List ℕ → ℕ

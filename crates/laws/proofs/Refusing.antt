@@ -1,26 +1,9 @@
 -- What the promises about deliveries refuse.
-use Rattle.std.proofs.Common.{◌≡◌, ℕ, zero, suc, List, [], ◌∷◌, true, false, refl, sym, ap, ◌∙◌, Option, Some, None, inl, arith}
-use Rattle.std.specs.Prelude.{slice_get, is_some, codes}
-use Rattle.std.proofs.lemmas.Bool.{false≢true}
-use Rattle.std.proofs.lemmas.Option.{same_Some}
-use Rattle.model.specs.Broker.{Outstanding, is_ready, new_channel}
-use Rattle.model.specs.Entries.{freed_now}
-use Rattle.model.specs.Deliveries.{Leaves, Returns}
-use Rattle.model.specs.Phases.{no_session}
-use Rattle.model.specs.Settled.{AreSettledSo, SettlesAsAsked, IsAccountedFor, outstanding_still, has_left, ready_again, NoneIsForgotten}
-use Rattle.model.specs.Alone.{ArePresent}
-use Rattle.model.specs.declared.messages.Entry.{Entry}
-use Rattle.model.specs.Words.{Text}
-use Rattle.model.specs.Order.{GivesOut, to_get, to_consumer}
-use Rattle.model.specs.Unrefused.{GetsAreAnswered, PurgesLeaveNone}
-use Rattle.model.specs.LoggedIn.{EntersByLogin}
+use Rattle.laws.proofs.Names.{◌≡◌, ℕ, zero, suc, List, [], ◌∷◌, true, false, refl, sym, ap, ◌∙◌, None, inl, arith, slice_get, is_some, codes, false≢true, same_Some, Outstanding, is_ready, new_channel, freed_now, Leaves, Returns, no_session, AreSettledSo, SettlesAsAsked, IsAccountedFor, outstanding_still, has_left, ready_again, NoneIsForgotten, ArePresent, Entry, Text, GivesOut, to_get, to_consumer, GetsAreAnswered, PurgesLeaveNone, EntersByLogin, ConnectionStartOk, ConnectionTuneOk, BasicAck, BasicReject, Lose, first_entry, second_entry, taken, with_taken, taken_entry, holding, left_behind, quiet_event, acknowledging, requeueing, gets_one, purges_all, over_audit, AccountsRefuse}
+use Rattle.std.proofs.Common.{Option, Some}
 use Rattle.model.specs.declared.methods.StartOk.{StartOk}
-use Rattle.model.specs.declared.methods.Method.TheVariants.{ConnectionStartOk, ConnectionTuneOk, BasicAck, BasicReject}
-use Rattle.model.specs.declared.events.Event.TheVariants.{Command, Lose}
+use Rattle.model.specs.declared.events.Event.TheVariants.{Command}
 use Rattle.model.specs.declared.notes.Cause.TheVariants.{Acked}
-use Rattle.laws.specs.Rows.{first_entry, second_entry}
-use Rattle.laws.specs.Agreeing.{taken, with_taken}
-use Rattle.laws.specs.Accounts.{taken_entry, holding, left_behind, quiet_event, acknowledging, requeueing, gets_one, purges_all, over_audit, AccountsRefuse}
 
 no_ack : SettlesAsAsked (quiet_event acknowledging (holding (taken ∷ []) (taken_entry ∷ [])) (holding [] (taken_entry ∷ []))) → ⊥
 no_ack settles =

@@ -1,32 +1,7 @@
 -- What a reload leaves: all that was kept before it is kept after it, under what it put in force.
-use Rattle.std.proofs.Common.{◌≡◌, ℕ, ◌≤◌, List, [], ◌∷◌, Bool, true, false, refl, sym, ap, subst, ◌∙◌, map, ◌⊎◌, inl, inr, Some}
-use Rattle.std.specs.Prelude.{is_some, if◌then◌else◌}
-use Rattle.std.specs.Str.{bytes_eq}
-use Rattle.std.specs.List.{AllByRecursion}
-use Rattle.std.proofs.lemmas.Bool.{false≢true}
-use Rattle.std.proofs.lemmas.Slice.Eq.{bytes_eq-Decides}
-use Rattle.model.specs.Words.{Text}
-use Rattle.model.specs.Topology.{IsIn, queue_names}
-use Rattle.model.specs.Broker.{Broker, Channel, Consumer, queue_named}
-use Rattle.model.specs.Entries.{is_held_as}
-use Rattle.model.specs.Agreement.{IsAgreed, IsOutstanding}
-use Rattle.model.specs.Alone.{ArePresent}
-use Rattle.model.specs.Allowed.{IsNoted}
-use Rattle.model.specs.Step.{Is}
-use Rattle.model.specs.State.{Config, State}
-use Rattle.model.specs.Run.{Happening, has_number, AreCounted}
-use Rattle.model.specs.Order.{is_fresh, waiting}
-use Rattle.model.specs.Contents.{IsOfPublish}
-use Rattle.model.specs.Headline.{IsSound}
-use Rattle.model.specs.Naming.{AreNamedOn, AreNamed}
-use Rattle.model.specs.Sending.{IsCarried, AreCarried}
-use Rattle.model.specs.Reloading.{NothingStands, by_consumer, stood_now, with_all_stood}
-use Rattle.model.specs.History.{Reload, IsDecided}
-use Rattle.model.specs.declared.topologies.DeclaredQueue.{DeclaredQueue}
-use Rattle.model.specs.declared.messages.Entry.{Entry}
-use Rattle.model.specs.declared.messages.Holder.{Holder}
-use Rattle.model.specs.declared.notes.Note.{Note}
-use Rattle.laws.specs.Promises.{IsBegun}
+use Rattle.laws.proofs.Names.{◌≡◌, ℕ, ◌≤◌, List, [], ◌∷◌, Bool, true, false, refl, sym, ap, subst, ◌∙◌, ◌⊎◌, inl, inr, is_some, bytes_eq, AllByRecursion, false≢true, bytes_eq-Decides, Text, IsIn, queue_names, Broker, Channel, Consumer, queue_named, is_held_as, IsAgreed, IsOutstanding, ArePresent, IsNoted, Is, Config, State, Happening, has_number, AreCounted, is_fresh, waiting, IsOfPublish, IsSound, AreNamedOn, AreNamed, IsCarried, AreCarried, NothingStands, by_consumer, stood_now, with_all_stood, Reload, IsDecided, DeclaredQueue, Entry, Holder, Note, IsBegun}
+use Rattle.std.proofs.Common.{map, Some}
+use Rattle.std.specs.Prelude.{if◌then◌else◌}
 use Rattle.laws.proofs.Counts.{count-map}
 use Rattle.laws.proofs.Keeping.{in_or_not, all_stood, reload_kept}
 use Rattle.laws.proofs.Linked as linked

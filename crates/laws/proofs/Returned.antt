@@ -1,21 +1,7 @@
 -- Messages that can be given out again: each in its place, and marked as redelivered.
-use Rattle.std.proofs.Common.{◌≡◌, ◌<◌, ℕ, zero, suc, List, [], ◌∷◌, Bool, true, false, refl, sym, ap, subst, ◌∙◌, arith, map, Some, inl, inr}
-use Rattle.std.specs.Prelude.{slice_get, ◌==◌, ◌&&◌, if◌then◌else◌}
-use Rattle.std.specs.List.{AllPairs}
-use Rattle.std.proofs.lemmas.Bool.{ne_eqb, eq-eqb}
-use Rattle.std.proofs.lemmas.Option.{same_Some}
-use Rattle.model.specs.Words.{Text}
-use Rattle.model.specs.Topology.{IsIn}
-use Rattle.model.specs.Agreement.{IsAgreed}
-use Rattle.model.specs.Message.{Message}
-use Rattle.model.specs.Broker.{Outstanding, Broker}
-use Rattle.model.specs.Entries.{is_under, by_channel, freed, freed_now}
-use Rattle.model.specs.Deliveries.{holder_of, with_returned, AreReturned}
-use Rattle.model.specs.Settled.{IsReadyAgain, IsOutstandingOn}
-use Rattle.model.specs.declared.messages.Entry.{Entry}
-use Rattle.model.specs.declared.messages.Holder.{Holder}
-use Rattle.model.specs.declared.messages.Mark.{Mark}
-use Rattle.model.specs.declared.messages.Mark.TheVariants.{Ready, Held}
+use Rattle.laws.proofs.Names.{◌≡◌, ℕ, zero, suc, List, [], ◌∷◌, Bool, true, false, refl, sym, ap, subst, ◌∙◌, arith, inl, inr, slice_get, ◌==◌, ◌&&◌, AllPairs, ne_eqb, eq-eqb, same_Some, Text, IsIn, IsAgreed, Message, Outstanding, Broker, is_under, by_channel, freed, freed_now, holder_of, with_returned, AreReturned, IsReadyAgain, IsOutstandingOn, Entry, Holder, Mark, Ready, Held}
+use Rattle.std.proofs.Common.{◌<◌, map, Some}
+use Rattle.std.specs.Prelude.{if◌then◌else◌}
 use Rattle.laws.proofs.Agreement.{at_own, held_here, ready_not_held, same_holder, self_under}
 use Rattle.laws.proofs.Given.{freed_other}
 use Rattle.laws.proofs.Dying.{contains_in}

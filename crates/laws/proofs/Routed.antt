@@ -1,18 +1,6 @@
 -- What a publish enters: each queue to which it is routed, or that is full.
-use Rattle.std.proofs.lemmas.List.Elements.{filter_map-append}
-use Rattle.std.proofs.Common.{◌≡◌, ℕ, List, [], ◌∷◌, ◌++◌, Bool, true, false, refl, sym, ap, subst, ◌∙◌, None, length, inl, inr}
-use Rattle.std.specs.Prelude.{◌||◌, filter_map}
-use Rattle.std.specs.List.{list_any, AllByRecursion}
-use Rattle.model.specs.Words.{Text}
-use Rattle.model.specs.Topology.{IsIn}
-use Rattle.model.specs.Broker.{is_full}
-use Rattle.model.specs.Step.{answer_of}
-use Rattle.model.specs.State.{State}
-use Rattle.model.specs.Run.{Happening, Run, notes_of}
-use Rattle.model.specs.Routed.{is_full_after, EntersAsRouted, EnterAsRouted, number_in, CountUp}
+use Rattle.laws.proofs.Names.{filter_map-append, ◌≡◌, ℕ, List, [], ◌∷◌, ◌++◌, Bool, true, false, refl, sym, ap, subst, ◌∙◌, None, length, inl, inr, ◌||◌, filter_map, list_any, AllByRecursion, Text, IsIn, is_full, answer_of, State, Happening, Run, notes_of, is_full_after, EntersAsRouted, EnterAsRouted, number_in, CountUp, Note, Published}
 use Rattle.model.specs.declared.notes.Answer.TheVariants as answered
-use Rattle.model.specs.declared.notes.Note.{Note}
-use Rattle.model.specs.declared.notes.Note.TheVariants.{Published}
 use Rattle.model.specs.declared.notes.Way.TheVariants as way
 use Rattle.laws.proofs.Counts.{all_each, all_in, filter_map_none}
 use Rattle.laws.proofs.Letters.{full_same, same_notes, follows_itself}

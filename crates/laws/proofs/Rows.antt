@@ -1,39 +1,15 @@
 -- The worked examples.
-use Rattle.std.proofs.Common.{◌≡◌, ◌≤◌, ℕ, suc, ◌+◌, ◌-◌, Bool, true, false, List, [], ◌∷◌, ◌++◌, refl, sym, ap, subst, ◌∙◌, arith, get_or, drop, lit≤, inl, inr, length, map, None}
-use Rattle.std.specs.Prelude.{codes, decimal, filter_map, if◌then◌else◌}
-use Rattle.std.specs.Str.{bytes_eq}
-use Rattle.std.proofs.lemmas.Bool.{false≢true}
-use Rattle.std.proofs.lemmas.Fmt.{decimal_digit}
-use Rattle.model.specs.Words.{Text, none, word}
-use Rattle.model.specs.Tracing.{AreSafe}
-use Rattle.model.specs.Topology.{IsIn}
-use Rattle.model.specs.Frames.{Frame, frame_bytes, IsFrame, Begins}
-use Rattle.model.specs.Guarantee.{CoversKey}
-use Rattle.model.specs.Spelling.{method_frame, spelling}
-use Rattle.model.specs.Step.{consume_sends, content_or_none, return_of, returned_notes}
-use Rattle.model.specs.Routing.{Routes, Picks, none as none_picked, default, here, routed, Later}
-use Rattle.model.specs.Topology.{Topology}
-use Rattle.model.specs.Consuming.{is_in_use, server_tag, first_free}
-use Rattle.model.specs.Broker.{Consumer, Broker}
-use Rattle.model.specs.State.{Config, State}
-use Rattle.model.specs.Run.{Stays}
-use Rattle.model.specs.Reloading.{IsObstacle, by_entry, stood_now}
-use Rattle.model.specs.History.{Of_reload, IsDecided, IsRefused, StaysOver}
-use Rattle.model.specs.Acks.{Ack, acks_in, HasAcksOf, IsReading, EnteredOnce, ack_for}
-use Rattle.model.specs.Allowed.{AreAllowed}
-use Rattle.model.specs.Causes.{HaveOrigins, DiesAt}
-use Rattle.model.specs.Routed.{EnterAsRouted, note_at, number_in, CountUp}
-use Rattle.model.specs.Letters.{DieOnce}
-use Rattle.model.specs.Contents.{HasSource, given_out, sent_back, HaveSources}
-use Rattle.model.specs.declared.notes.Note.{Note}
-use Rattle.model.specs.declared.notes.Note.TheVariants.{Entered, Left, Reloaded, ReloadRefused}
-use Rattle.model.specs.declared.messages.Entry.{Entry}
+use Rattle.laws.proofs.Names.{◌≡◌, ◌≤◌, ℕ, suc, ◌-◌, Bool, true, false, List, [], ◌∷◌, ◌++◌, refl, sym, ap, subst, ◌∙◌, arith, get_or, lit≤, inl, inr, length, None, codes, decimal, filter_map, bytes_eq, false≢true, decimal_digit, Text, word, AreKept, AreSafe, IsIn, Frame, frame_bytes, IsFrame, Begins, CoversKey, method_frame, spelling, consume_sends, content_or_none, return_of, returned_notes, Routes, Picks, default, here, routed, Later, Topology, is_in_use, server_tag, Consumer, Broker, Config, State, Stays, IsObstacle, by_entry, stood_now, Of_reload, IsDecided, IsRefused, StaysOver, acks_in, HasAcksOf, IsReading, EnteredOnce, ack_for, AreAllowed, HaveOrigins, DiesAt, EnterAsRouted, note_at, number_in, CountUp, DieOnce, HasSource, given_out, sent_back, HaveSources, Note, Entered, Left, Reloaded, ReloadRefused, Entry, Dead, Rejected, ConfirmSelectOk, BasicAck, first_published, first_sent, no_content, WordsOfKeys, FirstConsumer, RefusedConsumes, FullQueues, FirstInput, FirstOutput, BadEnd, TooLargeContent, HeadlineRefuses, select_ok, first_ack, multiple_ack, first_entry, with_entries, forbids, event_of_notes, one_event, reload_of_none, refused_reload, with_audit, under, audit_to_bin, bin, into_bin, reload_into_bin, somebody, vanishing, bad_end, wanted, first_acked, notes_without_entry, consumer_under, consuming_under}
+use Rattle.std.proofs.Common.{◌+◌, drop, map}
+use Rattle.std.specs.Prelude.{if◌then◌else◌}
+use Rattle.model.specs.Words.{none}
+use Rattle.model.specs.Routing.{none as none_picked}
+use Rattle.model.specs.Consuming.{first_free}
+use Rattle.model.specs.Acks.{Ack}
 use Rattle.model.specs.declared.obstacles.Obstacle.{Obstacle}
 use Rattle.model.specs.declared.obstacles.Obstacle.TheVariants.{InUse, Breaks}
-use Rattle.model.specs.declared.notes.Way.TheVariants.{Publish, Dead}
-use Rattle.model.specs.declared.notes.Cause.TheVariants.{Acked, Rejected}
-use Rattle.model.specs.declared.methods.Method.TheVariants.{ConfirmSelectOk, BasicAck}
-use Rattle.laws.specs.Rows.{first_published, first_sent, no_content, WordsOfKeys, FirstConsumer, RefusedConsumes, FullQueues, FirstInput, FirstOutput, BadEnd, TooLargeContent, HeadlineRefuses, select_ok, first_ack, multiple_ack, first_entry, with_entries, forbids, event_of_notes, one_event, reload_of_none, refused_reload, with_audit, under, audit_to_bin, bin, into_bin, reload_into_bin, somebody, vanishing, bad_end, wanted, first_acked, notes_without_entry, consumer_under, consuming_under}
+use Rattle.model.specs.declared.notes.Way.TheVariants.{Publish}
+use Rattle.model.specs.declared.notes.Cause.TheVariants.{Acked}
 use Rattle.laws.proofs.Reading.{reading_apart, size_at, size_is, rest_is}
 
 pub words_of_keys : WordsOfKeys
@@ -239,6 +215,10 @@ stays_forbidden safe =
 dies_forbidden : AreSafe into_bin.topology into_bin.guarantees (with_entries (first_entry ∷ [])).broker → ⊥
 dies_forbidden safe = (safe (codes "audit") first_entry (inl refl) forbids (0, lit≤ tt, refl) refl (refl, covers_first)).1 comes_to_bin
 
+-- also from where it stood at a reload
+dies_forbidden_later : AreKept into_bin (with_entries (stood_now first_entry ∷ [])).broker → ⊥
+dies_forbidden_later kept = ((kept.each (codes "audit") (stood_now first_entry) (inl refl)).safe forbids (0, lit≤ tt, refl) refl (refl, covers_first)).0 comes_to_bin
+
 done_beside_a_danger : IsDecided reload_into_bin → ⊥
 done_beside_a_danger (inl done) =
     done.nothing.none_endangered forbids (codes "audit") first_entry (0, lit≤ tt, refl) (inl refl) (inl refl) (record {
@@ -273,6 +253,7 @@ headline_refuses = record {
   reload_beside_a_danger = done_beside_a_danger;
   forbidden_stay = stays_forbidden;
   forbidden_death = dies_forbidden;
+  forbidden_death_after_a_reload = dies_forbidden_later;
   two_letters_of_one = two_of_one;
 }
 

@@ -1,13 +1,6 @@
 -- Where a message came by a route and by deaths, no guarantee forbids it to be, nor to come by further deaths.
-use Rattle.std.proofs.Common.{◌≡◌, ◌≤◌, length, refl, sym, subst, Option, Some, None}
-use Rattle.model.specs.Words.{Text}
-use Rattle.model.specs.Topology.{Topology}
-use Rattle.model.specs.Routing.{Reading, of_key, RoutesBy, Routes, reading_after, fixed_after, key_after, Comes, routed, dead, Later}
-use Rattle.model.specs.Guarantee.{Guarantee, Covers, Keeps, Holds}
-use Rattle.model.specs.Tracing.{HasCome, by_publish, by_death}
-use Rattle.model.specs.declared.topologies.Mode.{Mode}
-use Rattle.model.specs.declared.topologies.Mode.TheVariants.{Never}
-use Rattle.laws.specs.Tracing.{TracedAreSafe}
+use Rattle.laws.proofs.Names.{◌≡◌, ◌≤◌, length, refl, sym, subst, None, Text, Topology, Reading, of_key, RoutesBy, Routes, reading_after, fixed_after, key_after, Comes, routed, dead, Later, Guarantee, Covers, Keeps, Holds, HasCome, by_publish, by_death, Mode, Never, TracedAreSafe}
+use Rattle.std.proofs.Common.{Option, Some}
 
 -- a key that was fixed is read as it is
 pub same_reading : (h f : Option Text) (key : Text) → reading_after h (of_key (key_after f key)) ≡ reading_after (fixed_after h f) (of_key key)

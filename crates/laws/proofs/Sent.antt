@@ -1,22 +1,10 @@
 -- What the broker sends at one event can be put out, and is not too much.
-use Rattle.std.proofs.Common.{◌≡◌, ◌≤◌, ℕ, List, [], ◌∷◌, ◌++◌, length, Bool, true, false, Option, Some, None, sym, ap, subst, arith, length-append, inl, inr}
-use Rattle.std.specs.List.{AllByRecursion}
-use Rattle.std.proofs.lemmas.Bool.{false≢true}
-use Rattle.std.proofs.lemmas.Grind.{common_steps}
+use Rattle.laws.proofs.Names.{◌≡◌, ◌≤◌, ℕ, List, [], ◌∷◌, ◌++◌, length, Bool, true, false, None, sym, ap, subst, arith, length-append, inl, inr, AllByRecursion, false≢true, common_steps, IsMethod, method_bytes, spelling, send_bytes, IsAddressed, IsOwn, AreOwn, most_sent, returned_sends, confirm_sends, confirm_method, Content, Method, ConnectionTune, ConnectionOpenOk, ConnectionClose, ConnectionCloseOk, ChannelOpenOk, ChannelFlowOk, ChannelClose, ChannelCloseOk, ExchangeDeclareOk, QueueDeclareOk, QueuePurgeOk, BasicQosOk, BasicReturn, BasicGetOk, BasicGetEmpty, BasicRecoverOk, ConfirmSelectOk, BasicConsumeOk, BasicCancelOk, BasicDeliver, Answer, Send, SendsAreOwn}
+use Rattle.std.proofs.Common.{Option, Some}
 use Rattle.model.specs.Codes.{code_text}
-use Rattle.model.specs.Grammar.{IsMethod, method_bytes}
-use Rattle.model.specs.Spelling.{spelling, send_bytes}
-use Rattle.model.specs.Sending.{IsAddressed, IsOwn, AreOwn, most_sent}
-use Rattle.model.specs.Step.{returned_sends, confirm_sends, confirm_method}
-use Rattle.model.specs.declared.contents.Content.{Content}
 use Rattle.model.specs.declared.methods.Publish.{Publish}
-use Rattle.model.specs.declared.methods.Method.{Method}
-use Rattle.model.specs.declared.methods.Method.TheVariants.{ConnectionTune, ConnectionOpenOk, ConnectionClose, ConnectionCloseOk, ChannelOpenOk, ChannelFlowOk, ChannelClose, ChannelCloseOk, ExchangeDeclareOk, QueueDeclareOk, QueuePurgeOk, BasicQosOk, BasicReturn, BasicGetOk, BasicGetEmpty, BasicRecoverOk, ConfirmSelectOk, BasicConsumeOk, BasicCancelOk, BasicDeliver}
-use Rattle.model.specs.declared.notes.Answer.{Answer}
 use Rattle.model.specs.declared.notes.Answer.TheVariants as answer
-use Rattle.model.specs.declared.events.Send.{Send}
 use Rattle.model.specs.declared.events.Send.TheVariants as send
-use Rattle.laws.specs.Carrying.{SendsAreOwn}
 use Rattle.laws.proofs.Carried.{AreLight, carries}
 use Rattle.laws.proofs.Sizes.{method_length, send_length}
 use Rattle.laws.proofs.Deeds.{acted}

@@ -1,29 +1,8 @@
 -- What a command settles leaves its queue or can be given out there again, as it asks.
-use Rattle.std.proofs.Common.{◌≡◌, ◌<◌, ℕ, List, [], ◌∷◌, ◌++◌, Bool, true, false, refl, sym, ap, subst, ◌∙◌, filter, not, Option, Some, None, inl, inr}
-use Rattle.std.specs.Prelude.{find, is_some, ◌==◌, ◌&&◌, if◌then◌else◌}
-use Rattle.std.proofs.lemmas.Bool.{false≢true, eq-eqb}
-use Rattle.std.proofs.lemmas.List.Kept.{AllPairs-filter}
-use Rattle.std.proofs.lemmas.Option.{same_Some}
-use Rattle.model.specs.Words.{Text}
-use Rattle.model.specs.Topology.{Topology, IsIn}
-use Rattle.model.specs.Agreement.{IsAgreed}
-use Rattle.model.specs.Broker.{Outstanding, Channel, Broker}
-use Rattle.model.specs.Entries.{is_under, is_held_as}
-use Rattle.model.specs.Settling.{is_refused, kept, takes}
-use Rattle.model.specs.Deliveries.{Settlement, Leaves, Rejects, Returns, AreSettled, AreLeft, AreRejected, holder_of, given_in, without_given, left_note}
-use Rattle.model.specs.Step.{tag_of, Settles, Performs, channel_or_new}
-use Rattle.model.specs.State.{Step}
-use Rattle.model.specs.Run.{Happening}
-use Rattle.model.specs.Settled.{Settling, settling_of, HasLeft, IsOutstandingOn, IsSettledSo, AreSettledSo, SettlesAsAsked}
-use Rattle.model.specs.declared.contents.Content.{Content}
-use Rattle.model.specs.declared.messages.Entry.{Entry}
-use Rattle.model.specs.declared.methods.Method.{Method}
-use Rattle.model.specs.declared.methods.Method.TheVariants.{BasicAck, BasicReject, BasicNack, BasicRecover}
-use Rattle.model.specs.declared.events.Send.{Send}
-use Rattle.model.specs.declared.notes.Cause.{Cause}
-use Rattle.model.specs.declared.notes.Cause.TheVariants.{Rejected}
-use Rattle.model.specs.declared.notes.Note.{Note}
-use Rattle.model.specs.declared.notes.Note.TheVariants.{Left}
+use Rattle.laws.proofs.Names.{◌≡◌, ℕ, List, [], ◌∷◌, ◌++◌, Bool, true, false, refl, sym, ap, subst, ◌∙◌, None, inl, inr, find, is_some, ◌==◌, ◌&&◌, false≢true, eq-eqb, AllPairs-filter, same_Some, Text, Topology, IsIn, IsAgreed, Outstanding, Channel, Broker, is_under, is_held_as, is_refused, Settlement, Leaves, Rejects, Returns, AreSettled, AreLeft, AreRejected, holder_of, given_in, without_given, left_note, tag_of, Settles, Performs, channel_or_new, Step, Happening, Settling, settling_of, HasLeft, IsOutstandingOn, IsSettledSo, AreSettledSo, SettlesAsAsked, Content, Entry, Method, BasicAck, BasicReject, BasicNack, BasicRecover, Send, Cause, Rejected, Note, Left}
+use Rattle.std.proofs.Common.{◌<◌, filter, not, Option, Some}
+use Rattle.std.specs.Prelude.{if◌then◌else◌}
+use Rattle.model.specs.Settling.{kept, takes}
 use Rattle.laws.proofs.Counts.{in_front, in_back}
 use Rattle.laws.proofs.Leaving.{find_in, in_rest, in_filter}
 use Rattle.laws.proofs.Dying.{Goes, not_found, left_only, died, goes_by, HeldStay, idle_if_held, one_held}

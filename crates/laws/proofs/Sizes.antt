@@ -1,15 +1,6 @@
 -- How many bytes spell what is sent: a method and a content that are no longer than what is stored.
-use Rattle.std.proofs.Common.{◌≡◌, ◌+◌, ◌*◌, ◌-◌, ◌≤◌, ℕ, zero, suc, List, [], ◌∷◌, ◌++◌, length, take, drop, map, Bool, true, false, Option, Some, None, refl, sym, ap, subst, arith, length-append}
-use Rattle.std.specs.Prelude.{flat_map, nat_le}
-use Rattle.std.proofs.lemmas.Bool.{leb-true, leb-false}
-use Rattle.std.proofs.lemmas.List.{length-drop, length-take-le, take_all, drop_all}
-use Rattle.model.specs.Frames.{Frame, frame_bytes}
-use Rattle.model.specs.Grammar.{method_bytes}
-use Rattle.model.specs.Headers.{header_bytes}
-use Rattle.model.specs.Sending.{IsStored, HasStored}
-use Rattle.model.specs.Spelling.{method_frame, body_frame, pieces_of, send_bytes}
-use Rattle.model.specs.declared.contents.Content.{Content}
-use Rattle.model.specs.declared.methods.Method.{Method}
+use Rattle.laws.proofs.Names.{◌≡◌, ◌*◌, ◌-◌, ◌≤◌, ℕ, zero, suc, List, [], ◌∷◌, ◌++◌, length, Bool, true, false, None, refl, sym, ap, subst, arith, length-append, flat_map, nat_le, leb-true, leb-false, length-drop, length-take-le, take_all, drop_all, Frame, frame_bytes, method_bytes, header_bytes, IsStored, HasStored, method_frame, body_frame, pieces_of, send_bytes, Content, Method}
+use Rattle.std.proofs.Common.{◌+◌, take, drop, map, Option, Some}
 use Rattle.model.specs.declared.events.Send.TheVariants as send
 
 -- a frame has eight bytes beside its payload

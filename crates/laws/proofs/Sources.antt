@@ -1,22 +1,7 @@
 -- What is given out is what was published: by every event each message keeps the content of its publish, but for headers that tell of its deaths.
-use Rattle.std.proofs.Common.{◌≡◌, ℕ, List, [], ◌∷◌, ◌++◌, Bool, true, false, refl, sym, ap, subst, Option, Some, None, inl, inr}
-use Rattle.std.specs.Prelude.{filter_map, ◌&&◌}
-use Rattle.std.specs.List.{AllByRecursion}
-use Rattle.model.specs.Words.{Text}
-use Rattle.model.specs.Topology.{IsIn}
-use Rattle.model.specs.Broker.{is_ready}
-use Rattle.model.specs.Message.{Message}
-use Rattle.model.specs.Deaths.{AreMarked, with_headers}
-use Rattle.model.specs.Step.{returned_sends, confirm_sends, next_of, answer_of, is_none, is_some_full}
-use Rattle.model.specs.State.{State, Step}
-use Rattle.model.specs.Run.{Happening, Run}
-use Rattle.model.specs.Order.{GivesOut, to_get, to_consumer}
-use Rattle.model.specs.Contents.{IsContentOf, as_published, after_death, WasPublished, IsOfPublish, content_in, HasSource, given_out, sent_back, HaveSources, AreSourced}
-use Rattle.model.specs.declared.contents.Content.{Content}
-use Rattle.model.specs.declared.messages.Entry.{Entry}
+use Rattle.laws.proofs.Names.{◌≡◌, ℕ, List, [], ◌∷◌, ◌++◌, Bool, true, false, refl, sym, ap, subst, None, inl, inr, filter_map, ◌&&◌, AllByRecursion, Text, IsIn, is_ready, Message, AreMarked, with_headers, returned_sends, confirm_sends, next_of, answer_of, is_none, is_some_full, State, Step, Happening, Run, GivesOut, to_get, to_consumer, IsContentOf, as_published, after_death, WasPublished, IsOfPublish, content_in, HasSource, given_out, sent_back, HaveSources, AreSourced, Content, Entry, Send, Answer}
+use Rattle.std.proofs.Common.{Option, Some}
 use Rattle.model.specs.declared.methods.Publish.{Publish}
-use Rattle.model.specs.declared.events.Send.{Send}
-use Rattle.model.specs.declared.notes.Answer.{Answer}
 use Rattle.model.specs.declared.notes.Answer.TheVariants as answered
 use Rattle.laws.proofs.Counts.{all_each, in_front, in_back}
 use Rattle.laws.proofs.Leaving.{find_in}

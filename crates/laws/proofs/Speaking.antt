@@ -1,12 +1,6 @@
 -- What was sent to a connection so far, by its phase: commands, or the protocol header alone.
-use Rattle.std.proofs.Common.{◌≡◌, ℕ, List, [], ◌∷◌, ◌++◌, true, false, ◌⊎◌, inl, sym, ap, subst, ◌∙◌, append-nil}
-use Rattle.std.specs.List.{AllByRecursion}
-use Rattle.std.proofs.lemmas.Bool.{false≢true}
-use Rattle.model.specs.Arrivals.{is_ended}
-use Rattle.laws.specs.Openings.{is_header}
-use Rattle.model.specs.declared.events.Send.{Send}
+use Rattle.laws.proofs.Names.{◌≡◌, ℕ, List, [], ◌∷◌, ◌++◌, true, false, ◌⊎◌, inl, sym, ap, subst, ◌∙◌, append-nil, AllByRecursion, false≢true, is_ended, is_header, Send, Phase}
 use Rattle.model.specs.declared.events.Send.TheVariants as send
-use Rattle.model.specs.declared.events.Phase.{Phase}
 use Rattle.model.specs.declared.events.Phase.TheVariants as phase
 
 -- it is not the protocol header

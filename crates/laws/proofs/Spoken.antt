@@ -1,35 +1,14 @@
 -- Whatever arrives, what a connection was sent so far is as its phase says: commands, or the protocol header alone.
-use Rattle.std.proofs.Common.{◌≡◌, ◌≢◌, ◌<◌, ◌+◌, ℕ, List, [], ◌∷◌, ◌++◌, Bool, true, false, cond, refl, sym, ap, subst, ◌∙◌, map, ◌⊎◌, inl, inr, append-nil, append_assoc, arith, Option}
-use Rattle.std.specs.Prelude.{◌==◌, ◌&&◌, filter, not, is_some}
-use Rattle.std.specs.List.{AllByRecursion}
-use Rattle.std.proofs.lemmas.Grind.{flat_map-append}
-use Rattle.std.proofs.lemmas.List.Elements.{filter-append}
-use Rattle.std.proofs.lemmas.Bool.{eq-eqb, eqb-true, eqb-false, ne_eqb, false≢true}
-use Rattle.model.specs.Broker.{with_one}
-use Rattle.model.specs.Commands.{Stream}
-use Rattle.model.specs.Opening.{new_session}
-use Rattle.model.specs.Phases.{Session, running_session, no_session, is_running, after_method, after_sends, to_phase}
-use Rattle.model.specs.State.{Config, State, Step}
-use Rattle.model.specs.Run.{Happening, sends_of}
-use Rattle.model.specs.History.{Occurrence, Of_event, events_of}
-use Rattle.model.specs.Spelling.{receiver, sends_to}
-use Rattle.model.specs.Arrivals.{World, new_world, is_ended, is_over, is_paused, is_gone, can_open, event_of, Reads, again, fresh, fault, Pauses, Puts, Turns, Waits, Works, none_more, one_more, WorksOff, Same, Takes_off, Opens, Loses, Reloads, Answers, Plays, with_heard, Delivers, Pumps, delivers, idles}
-use Rattle.model.specs.declared.methods.Method.{Method}
-use Rattle.model.specs.declared.methods.Method.TheVariants.{ConnectionClose, ConnectionCloseOk}
+use Rattle.laws.proofs.Names.{◌≡◌, ◌≢◌, ℕ, List, [], ◌∷◌, ◌++◌, Bool, true, false, cond, refl, sym, ap, subst, ◌∙◌, ◌⊎◌, inl, inr, append-nil, append_assoc, arith, ◌==◌, ◌&&◌, is_some, AllByRecursion, flat_map-append, filter-append, eq-eqb, eqb-true, eqb-false, ne_eqb, false≢true, with_one, Stream, new_session, Session, running_session, no_session, is_running, after_method, after_sends, to_phase, Config, State, Step, Happening, sends_of, Occurrence, Of_event, events_of, receiver, sends_to, World, new_world, is_ended, is_over, is_paused, is_gone, can_open, event_of, Reads, again, fresh, fault, Pauses, Puts, Turns, Waits, Works, none_more, one_more, WorksOff, Same, Takes_off, Opens, Loses, Reloads, Answers, Plays, with_heard, Delivers, Pumps, delivers, idles, Method, ConnectionClose, ConnectionCloseOk, Head, Plain, Full, Send, Phase, Event, Arrival, Note, event_connection, is_header}
+use Rattle.std.proofs.Common.{◌<◌, ◌+◌, map, Option}
+use Rattle.std.specs.Prelude.{filter, not}
 use Rattle.model.specs.declared.events.Command.{Command}
-use Rattle.model.specs.declared.events.Command.TheVariants.{Head, Plain, Full, TooLarge}
-use Rattle.model.specs.declared.events.Send.{Send}
+use Rattle.model.specs.declared.events.Command.TheVariants.{TooLarge}
 use Rattle.model.specs.declared.events.Send.TheVariants as send
-use Rattle.model.specs.declared.events.Phase.{Phase}
 use Rattle.model.specs.declared.events.Phase.TheVariants as phase
-use Rattle.model.specs.declared.events.Event.{Event}
 use Rattle.model.specs.declared.events.Event.TheVariants as event
-use Rattle.model.specs.declared.events.Arrival.{Arrival}
 use Rattle.model.specs.declared.events.Arrival.TheVariants as arrival
-use Rattle.model.specs.declared.notes.Note.{Note}
-use Rattle.model.specs.Alone.{event_connection}
 use Rattle.laws.proofs.Counts.{all-append, from_either}
-use Rattle.laws.specs.Openings.{is_header}
 use Rattle.laws.proofs.Speaking.{IsCommandSend, AreCommandSends, Spoken, spoken_commands, spoken_over, spoken_on}
 use Rattle.laws.proofs.Deeds.{acted}
 use Rattle.laws.proofs.View.{session_after, is_read, goes, acted_commands, Performed, Answered}

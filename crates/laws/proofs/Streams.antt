@@ -1,18 +1,12 @@
 -- What a stream has yielded doesn't change when more bytes come, and its first eight bytes come first.
-use Rattle.std.proofs.Common.{◌≡◌, ℕ, List, [], ◌∷◌, ◌++◌, length, Bool, true, false, refl, sym, ap, subst, ◌∙◌, append_assoc, length-append, arith, Option, Some, None, Result, Ok, Err}
-use Rattle.std.specs.Prelude.{nat_lt, ◌<◌, ◌+◌, ◌==◌, ◌&&◌, if◌then◌else◌}
-use Rattle.std.proofs.lemmas.Bool.{false≢true}
-use Rattle.model.specs.Words.{Text}
-use Rattle.model.specs.Frames.{Frame, frame_bytes, Begins, IsBroken}
-use Rattle.model.specs.Headers.{Header}
-use Rattle.model.specs.Commands.{Pending, Nothing, Wants_header, Wants_body, Drops, Taken, Goes_on, Makes, Breaks, Stream, TakesFirst, Takes, TakesOn, TakesPayload, TakesSized, Yields, first, now, later, Ends, early, short, broken, faulty, beyond, Commands, heard, with_max, keeping, awaited, is_on_wrong_channel, is_too_large, begun_body, taken_body, taken_dropped, taken_header, taken_heartbeat, taken_method, taken_piece, GoesOn, stays, goes}
+use Rattle.laws.proofs.Names.{◌≡◌, ℕ, List, [], ◌∷◌, ◌++◌, length, Bool, true, false, refl, sym, ap, subst, ◌∙◌, append_assoc, length-append, arith, None, Result, Ok, Err, nat_lt, ◌==◌, ◌&&◌, false≢true, Text, Frame, frame_bytes, Begins, IsBroken, Header, Pending, Nothing, Wants_header, Wants_body, Drops, Taken, Goes_on, Stream, TakesFirst, Takes, TakesOn, TakesPayload, TakesSized, Yields, first, now, later, Ends, early, short, broken, faulty, beyond, Commands, heard, with_max, keeping, awaited, is_on_wrong_channel, is_too_large, begun_body, taken_body, taken_dropped, taken_header, taken_heartbeat, taken_method, taken_piece, GoesOn, stays, goes, Method, BasicPublish, Full, YieldsAll, CommandUnder, YieldsTuned, is_head, ReadsHead, ReadsFrames, FirstBytesComeFirst}
+use Rattle.std.proofs.Common.{Option, Some}
+use Rattle.std.specs.Prelude.{◌<◌, ◌+◌, if◌then◌else◌}
+use Rattle.model.specs.Commands.{Makes, Breaks}
 use Rattle.model.specs.declared.contents.Fields.{Fields as Properties}
 use Rattle.model.specs.declared.methods.Publish.{Publish}
-use Rattle.model.specs.declared.methods.Method.{Method}
-use Rattle.model.specs.declared.methods.Method.TheVariants.{BasicPublish}
-use Rattle.model.specs.declared.events.Command.TheVariants.{Full, TooLarge}
+use Rattle.model.specs.declared.events.Command.TheVariants.{TooLarge}
 use Rattle.model.specs.declared.events.Command.{Command}
-use Rattle.laws.specs.Streams.{YieldsAll, CommandUnder, YieldsTuned, is_head, ReadsHead, ReadsFrames, FirstBytesComeFirst}
 use Rattle.laws.proofs.Counts.{from_either}
 
 begins_more : (max : ℕ) (bytes rest more : List ℕ) (f : Frame) → Begins max bytes f rest → Begins max (bytes ++ more) f (rest ++ more)

@@ -1,10 +1,8 @@
 -- The tag that the server makes next is the first that is free.
-use Rattle.std.proofs.Common.{◌≡◌, ℕ, zero, suc, ◌+◌, ◌-◌, ◌<◌, ◌≤◌, List, Bool, true, false, refl, sym, ap, ◌∙◌, arith}
-use Rattle.std.specs.Prelude.{nat_lt, ◌==◌, if◌then◌else◌}
-use Rattle.std.proofs.lemmas.Bool.{eqb-true, eqb-false, leb-true, leb-false, false≢true}
-use Rattle.model.specs.Broker.{Consumer, Channel}
-use Rattle.model.specs.Consuming.{is_in_use, server_tag, first_free, next_free}
-use Rattle.laws.specs.Consumers.{NextTagsAreFound}
+use Rattle.laws.proofs.Names.{◌≡◌, ℕ, zero, suc, ◌-◌, ◌≤◌, List, Bool, true, false, refl, sym, ap, ◌∙◌, arith, nat_lt, ◌==◌, eqb-true, eqb-false, leb-true, leb-false, false≢true, Consumer, Channel, is_in_use, server_tag, next_free, NextTagsAreFound}
+use Rattle.std.proofs.Common.{◌+◌, ◌<◌}
+use Rattle.std.specs.Prelude.{if◌then◌else◌}
+use Rattle.model.specs.Consuming.{first_free}
 
 -- ---- tags that are free
 

@@ -1,11 +1,7 @@
 -- Names that are picked: of names that are apart, each once.
-use Rattle.std.proofs.Common.{◌≡◌, ◌+◌, ◌≤◌, List, ◌∷◌, Bool, true, false, refl, sym, ap, subst, ◌∙◌, inl, inr, arith}
-use Rattle.std.specs.Prelude.{count_by}
-use Rattle.std.specs.Str.{bytes_eq}
-use Rattle.std.proofs.lemmas.Slice.Eq.{bytes_eq-Decides}
-use Rattle.model.specs.Words.{Text}
-use Rattle.model.specs.Topology.{IsIn, AreApart}
-use Rattle.model.specs.Routing.{Picks, none, take, pass}
+use Rattle.laws.proofs.Names.{◌≡◌, ◌≤◌, List, ◌∷◌, Bool, true, false, refl, sym, ap, subst, ◌∙◌, inl, inr, arith, count_by, bytes_eq, bytes_eq-Decides, Text, IsIn, AreApart, Picks, pass}
+use Rattle.std.proofs.Common.{◌+◌}
+use Rattle.model.specs.Routing.{none, take}
 use Rattle.laws.proofs.Counts.{count-cons_no, count-cons_yes}
 
 -- the queue r is q

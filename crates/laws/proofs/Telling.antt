@@ -1,24 +1,9 @@
 -- What is noted, sent and read of one kind: acks are such a kind, and nacks.
-use Rattle.std.proofs.Common.{◌≡◌, ℕ, ◌-◌, List, [], ◌∷◌, ◌++◌, Bool, true, false, cond, length, refl, sym, ap, ◌∙◌, map, Option, Some, None}
-use Rattle.std.specs.Prelude.{◌==◌, ◌&&◌, ◌||◌, if◌then◌else◌, filter_map, flat_map}
-use Rattle.std.specs.List.{list_any, AllByRecursion, cons_option}
-use Rattle.std.proofs.lemmas.List.Elements.{filter-append, filter_map-append}
+use Rattle.laws.proofs.Names.{◌≡◌, ℕ, ◌-◌, List, [], ◌∷◌, ◌++◌, Bool, true, false, cond, length, refl, sym, ap, ◌∙◌, None, ◌==◌, ◌&&◌, ◌||◌, filter_map, flat_map, list_any, AllByRecursion, cons_option, filter-append, filter_map-append, Topology, Frame, IsMethod, Broker, answer_of, confirm_notes, confirm_sends, return_of, returned_notes, returned_sends, State, Step, pieces_of, content_frames, frames_of, method_frame, body_frame, IsSpelled, receiver, sends_to, Happening, Run, sends_of, Content, Method, Event, Send, Note, Published, Confirmed}
+use Rattle.std.proofs.Common.{map, Option, Some}
+use Rattle.std.specs.Prelude.{if◌then◌else◌}
 use Rattle.std.proofs.lemmas.List.Folds.{list_any-append}
-use Rattle.model.specs.Topology.{Topology}
-use Rattle.model.specs.Frames.{Frame}
-use Rattle.model.specs.Grammar.{IsMethod}
-use Rattle.model.specs.Broker.{Broker}
-use Rattle.model.specs.Step.{answer_of, confirm_notes, confirm_sends, return_of, returned_notes, returned_sends}
-use Rattle.model.specs.State.{State, Step}
-use Rattle.model.specs.Spelling.{pieces_of, content_frames, frames_of, method_frame, body_frame, IsSpelled, receiver, sends_to}
-use Rattle.model.specs.Run.{Happening, Run, sends_of}
-use Rattle.model.specs.declared.contents.Content.{Content}
-use Rattle.model.specs.declared.methods.Method.{Method}
-use Rattle.model.specs.declared.events.Event.{Event}
-use Rattle.model.specs.declared.events.Send.{Send}
 use Rattle.model.specs.declared.events.Send.TheVariants as send
-use Rattle.model.specs.declared.notes.Note.{Note}
-use Rattle.model.specs.declared.notes.Note.TheVariants.{Published, Confirmed}
 use Rattle.laws.proofs.Counts.{any_none, filter_all, filter_map_none}
 use Rattle.laws.proofs.Deeds.{Publishes}
 use Rattle.laws.proofs.View.{CountsNone, quiet_notes}

@@ -1,30 +1,8 @@
 -- Where each message that stands in a queue came from, and so by which routes and deaths.
-use Rattle.std.proofs.Common.{◌≡◌, ◌≤◌, ◌+◌, arith, ℕ, List, [], ◌∷◌, Bool, true, false, refl, sym, ap, subst, ◌∙◌, map, length, not, Some, inl, inr}
-use Rattle.std.specs.Prelude.{◌&&◌, if◌then◌else◌}
-use Rattle.model.specs.Words.{Text}
-use Rattle.model.specs.Topology.{Topology, IsIn}
-use Rattle.model.specs.Arrivals.{IsSaid}
-use Rattle.model.specs.Tracing.{HasCome, by_publish, by_death, HasComeTo, AreSentAlike, AreTraced}
-use Rattle.model.specs.Broker.{Outstanding, Broker, is_ready}
-use Rattle.model.specs.Entries.{is_under, freed}
-use Rattle.model.specs.Deliveries.{Settlement, Leaves, Rejects, Returns, AreSettled, AreLeft, AreReturned, with_queue, first_ready, holder_of, after_giving}
-use Rattle.model.specs.Message.{Message}
-use Rattle.model.specs.Order.{is_fresh}
-use Rattle.model.specs.Step.{Acts, message}
-use Rattle.model.specs.State.{Config, State, Step}
-use Rattle.model.specs.Run.{AreCounted}
-use Rattle.model.specs.declared.messages.Entry.{Entry}
-use Rattle.model.specs.declared.messages.Holder.{Holder}
-use Rattle.model.specs.declared.messages.Mark.{Mark}
-use Rattle.model.specs.declared.messages.Mark.TheVariants.{Ready, Held}
-use Rattle.model.specs.declared.methods.Method.TheVariants.{BasicPublish}
-use Rattle.model.specs.declared.events.Send.{Send}
-use Rattle.model.specs.declared.events.Event.{Event}
+use Rattle.laws.proofs.Names.{◌≡◌, ◌≤◌, arith, ℕ, List, [], ◌∷◌, Bool, true, false, refl, sym, ap, subst, ◌∙◌, length, inl, inr, ◌&&◌, Text, Topology, IsIn, IsSaid, HasCome, by_publish, by_death, HasComeTo, AreSentAlike, AreTraced, Outstanding, Broker, is_ready, is_under, freed, Settlement, Leaves, Rejects, Returns, AreSettled, AreLeft, AreReturned, with_queue, first_ready, holder_of, after_giving, Message, is_fresh, Acts, message, Config, State, Step, AreCounted, Entry, Holder, Mark, Ready, Held, BasicPublish, Send, Event, Cause, Note, event_connection, MessagesStayTraced}
+use Rattle.std.proofs.Common.{◌+◌, map, not, Some}
+use Rattle.std.specs.Prelude.{if◌then◌else◌}
 use Rattle.model.specs.declared.events.Event.TheVariants.{Command}
-use Rattle.model.specs.declared.notes.Cause.{Cause}
-use Rattle.model.specs.declared.notes.Note.{Note}
-use Rattle.model.specs.Alone.{event_connection}
-use Rattle.laws.specs.Tracing.{MessagesStayTraced}
 use Rattle.laws.proofs.Dying.{IsLetter, rejected_stood}
 use Rattle.laws.proofs.Leaving.{at_queue, find_in, in_filter, in_rest}
 use Rattle.laws.proofs.Deeds.{Deed, changes, enters, gives, settles, purges, Publishes, acted, freed_by}

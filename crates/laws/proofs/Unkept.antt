@@ -1,21 +1,9 @@
 -- Outside Running, and on a channel that is not open, a publish and one whose content is too large have the same answer: no phase looks at what is published.
-use Rattle.std.proofs.Common.{◌≡◌, ◌⊎◌, ℕ, List, Bool, true, false, refl, ◌∙◌, sym, subst, inl, inr, Option, Some, None}
-use Rattle.std.specs.Prelude.{MatchBool, ◌==◌, nat_lt, if◌then◌else◌}
-use Rattle.std.proofs.lemmas.Bool.{false≢true}
-use Rattle.model.specs.Phases.{Session, Move, is_running}
-use Rattle.model.specs.Opening.{LogsIn, MovesInOpening, IsAnswered, opening_move}
-use Rattle.model.specs.State.{Config, State, AnswersBy, OfCommand, OfLarge}
-use Rattle.model.specs.Topology.{Topology}
-use Rattle.model.specs.Broker.{Broker, Channel, Connection}
-use Rattle.model.specs.Step.{Refusal, Of_connection, Decides, OnConnection, OnLarge, refusal, refusal_of_large}
-use Rattle.model.specs.declared.contents.Content.{Content}
-use Rattle.model.specs.declared.events.Send.{Send}
-use Rattle.model.specs.declared.notes.Note.{Note}
-use Rattle.model.specs.Commands.{no_publish}
-use Rattle.model.specs.declared.messages.User.{User}
+use Rattle.laws.proofs.Names.{◌≡◌, ◌⊎◌, ℕ, List, Bool, true, false, refl, ◌∙◌, sym, subst, inl, inr, None, MatchBool, ◌==◌, nat_lt, false≢true, Session, Move, is_running, LogsIn, MovesInOpening, IsAnswered, opening_move, Config, State, AnswersBy, OfCommand, OfLarge, Topology, Broker, Channel, Connection, Refusal, Of_connection, OnConnection, OnLarge, refusal, refusal_of_large, Content, Send, Note, no_publish, User, BasicPublish, Phase}
+use Rattle.std.proofs.Common.{Option, Some}
+use Rattle.std.specs.Prelude.{if◌then◌else◌}
+use Rattle.model.specs.Step.{Decides}
 use Rattle.model.specs.declared.methods.Publish.{Publish}
-use Rattle.model.specs.declared.methods.Method.TheVariants.{BasicPublish}
-use Rattle.model.specs.declared.events.Phase.{Phase}
 use Rattle.model.specs.declared.events.Phase.TheVariants as phase
 use Rattle.laws.specs.Unkept.{UnkeptIsUnseen}
 

@@ -1,20 +1,8 @@
 -- What is done for a command against which nothing stands.
-use Rattle.std.proofs.Common.{◌≡◌, ℕ, List, [], ◌∷◌, Bool, true, false, refl, sym, ap, subst, ◌∙◌, filter, not, Option, Some, None, inl, inr}
-use Rattle.std.specs.Prelude.{find, if◌then◌else◌}
-use Rattle.std.proofs.lemmas.Bool.{false≢true}
-use Rattle.model.specs.Broker.{is_ready}
-use Rattle.model.specs.Deliveries.{first_ready}
-use Rattle.model.specs.Phases.{is_running}
-use Rattle.model.specs.Step.{Refusal, Acts, Gets, Performs, Decides, OnConnection, channel_or_new, refusal}
-use Rattle.model.specs.State.{Step}
-use Rattle.model.specs.Run.{Happening}
-use Rattle.model.specs.Alone.{event_connection}
-use Rattle.model.specs.Order.{to_get}
-use Rattle.model.specs.Unrefused.{IsUnrefused, GivesOrTells, GetsAreAnswered, PurgesLeaveNone}
-use Rattle.model.specs.declared.messages.Entry.{Entry}
-use Rattle.model.specs.declared.methods.Method.{Method}
-use Rattle.model.specs.declared.methods.Method.TheVariants.{BasicGet, QueuePurge}
-use Rattle.model.specs.declared.events.Event.{Event}
+use Rattle.laws.proofs.Names.{◌≡◌, ℕ, List, [], ◌∷◌, Bool, true, false, refl, sym, ap, subst, ◌∙◌, None, inl, inr, find, false≢true, is_ready, first_ready, is_running, Refusal, Acts, Gets, Performs, OnConnection, channel_or_new, refusal, Step, Happening, event_connection, to_get, IsUnrefused, GivesOrTells, GetsAreAnswered, PurgesLeaveNone, Entry, Method, BasicGet, QueuePurge, Event}
+use Rattle.std.proofs.Common.{filter, not, Option, Some}
+use Rattle.std.specs.Prelude.{if◌then◌else◌}
+use Rattle.model.specs.Step.{Decides}
 use Rattle.laws.proofs.Accepted.{is_open}
 use Rattle.laws.proofs.Agreement.{at_own}
 use Rattle.laws.proofs.View.{goes}

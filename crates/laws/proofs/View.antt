@@ -1,47 +1,13 @@
 -- The ways in which a step can go, and the deed that it does. Here alone all cases of `Step` are walked over, and all answers of the phases.
-use Rattle.std.proofs.Common.{◌≡◌, ℕ, ◌+◌, append-nil, filter, arith, ◌⊎◌, List, [], ◌∷◌, ◌++◌, Bool, true, false, refl, sym, ap, subst, ◌∙◌, map, Option, Some, None, inl, inr}
-use Rattle.std.specs.Prelude.{codes, count_by, filter_map, ◌==◌, if◌then◌else◌}
-use Rattle.std.specs.Str.{bytes_eq}
-use Rattle.std.specs.List.{AllByRecursion}
-use Rattle.std.proofs.lemmas.Bool.{false≢true}
-use Rattle.model.specs.Words.{Text}
-use Rattle.model.specs.Topology.{Topology, IsIn, AreApart, queue_names}
-use Rattle.model.specs.Broker.{Outstanding, Channel, Broker, is_ready, with_one}
-use Rattle.model.specs.Step.{tag_of, Acts, empty_publish, reply, returned_sends, confirm_sends, next_of, channel_or_new}
-use Rattle.model.specs.Entries.{freed, is_held_as}
-use Rattle.model.specs.Phases.{Session, Move, running_session, no_session, is_running, after_sends, stays_in, to_phase, while_closing, faulted}
-use Rattle.model.specs.Opening.{IsAnswered, MovesInOpening, new_session, first_move, start, opening_move, on_zero, or_closed, at_start, at_tune, at_open, answers_with, closes_with, is_taken, tuned, tune, open_ok}
-use Rattle.model.specs.State.{Config, State, Moves, OfFirst, OfCommand, OfLarge, OfFault, Step}
-use Rattle.model.specs.declared.messages.User.{User}
-use Rattle.model.specs.Run.{Happening, Balances, has_number, is_entered, is_left}
-use Rattle.model.specs.Causes.{IsCauseAt}
-use Rattle.model.specs.Letters.{AreRejections, IsOfNoRejection}
-use Rattle.model.specs.Contents.{content_in}
-use Rattle.model.specs.Alone.{event_connection}
-use Rattle.model.specs.Order.{Gives}
-use Rattle.model.specs.Deliveries.{Settlement, Leaves, Rejects, Returns, AreSettled, with_queue, after_giving, holder_of, delivery_notes, purge_notes}
-use Rattle.model.specs.declared.messages.Holder.{Holder}
-use Rattle.model.specs.declared.messages.Entry.{Entry}
-use Rattle.model.specs.declared.contents.Content.{Content}
-use Rattle.model.specs.declared.events.Send.{Send}
+use Rattle.laws.proofs.Names.{◌≡◌, ℕ, append-nil, arith, ◌⊎◌, List, [], ◌∷◌, ◌++◌, Bool, true, false, refl, sym, ap, subst, ◌∙◌, None, inl, inr, codes, count_by, filter_map, ◌==◌, bytes_eq, AllByRecursion, false≢true, Text, Topology, IsIn, AreApart, queue_names, Outstanding, Channel, Broker, is_ready, with_one, tag_of, Acts, empty_publish, reply, returned_sends, confirm_sends, next_of, channel_or_new, freed, is_held_as, Session, Move, running_session, no_session, is_running, after_sends, stays_in, to_phase, while_closing, faulted, IsAnswered, MovesInOpening, new_session, first_move, start, opening_move, on_zero, or_closed, at_start, at_tune, at_open, answers_with, closes_with, is_taken, tuned, tune, open_ok, Config, State, Moves, OfFirst, OfCommand, OfLarge, OfFault, Step, User, Happening, Balances, has_number, is_entered, is_left, IsCauseAt, AreRejections, IsOfNoRejection, content_in, event_connection, Gives, Settlement, Leaves, Rejects, Returns, AreSettled, with_queue, after_giving, holder_of, delivery_notes, purge_notes, Holder, Entry, Content, Send, Phase, Event, Open, First, Running, Fault, Lose, Pause, Resume, Deliver, Method, ConnectionStartOk, ConnectionTuneOk, ConnectionOpen, ConnectionClose, ConnectionCloseOk, Cause, Auto, Rejected, Note, Entered, Refused, Left, Answer, eight_bytes, is_ended, is_header, is_first}
+use Rattle.std.proofs.Common.{◌+◌, filter, map, Option, Some}
+use Rattle.std.specs.Prelude.{if◌then◌else◌}
 use Rattle.model.specs.declared.events.Send.TheVariants as send
-use Rattle.model.specs.declared.events.Phase.{Phase}
 use Rattle.model.specs.declared.events.Phase.TheVariants as phase
-use Rattle.model.specs.declared.events.Event.{Event}
-use Rattle.model.specs.declared.events.Event.TheVariants.{Open, First, Running, Command, TooLarge, Fault, Lose, Pause, Resume, Deliver}
+use Rattle.model.specs.declared.events.Event.TheVariants.{Command, TooLarge}
 use Rattle.model.specs.declared.methods.Publish.{Publish}
-use Rattle.model.specs.declared.methods.Method.{Method}
-use Rattle.model.specs.declared.methods.Method.TheVariants.{ConnectionStartOk, ConnectionTuneOk, ConnectionOpen, ConnectionClose, ConnectionCloseOk}
-use Rattle.model.specs.declared.notes.Cause.{Cause}
-use Rattle.model.specs.declared.notes.Cause.TheVariants.{Auto, Rejected}
-use Rattle.model.specs.declared.notes.Note.{Note}
-use Rattle.model.specs.declared.notes.Note.TheVariants.{Entered, Refused, Left}
 use Rattle.model.specs.declared.notes.Way.TheVariants as way
-use Rattle.model.specs.declared.notes.Answer.{Answer}
-use Rattle.model.specs.Spelling.{eight_bytes}
-use Rattle.model.specs.Arrivals.{is_ended}
 use Rattle.laws.proofs.Counts.{count-map, count_none, all_each, all-append}
-use Rattle.laws.specs.Openings.{is_header, is_first}
 use Rattle.laws.proofs.Deeds.{Deed, changes, enters, gives, settles, purges, IsStill, Publishes, GivesFirst, SettlesGiven, PurgesReady, IsBy, IsPlain, AreFreed, Acted, acted, channel_at, freed_by, moved, with_same}
 use Rattle.laws.proofs.Replies.{IsReplyAtMost, IsAnswerAtMost, reply_all, reply_answers}
 use Rattle.laws.proofs.Speaking.{IsCommandSend, AreCommandSends, Spoken, spoken_commands, spoken_on, spoken_still}

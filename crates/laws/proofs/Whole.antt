@@ -1,28 +1,9 @@
 -- Certified delivery: whatever arrives, the headline holds of what is seen.
-use Rattle.std.proofs.Common.{◌≡◌, ◌<◌, ◌≤◌, ◌+◌, ℕ, List, [], ◌∷◌, ◌++◌, refl, sym, ap, subst, ◌∙◌, ◌⊎◌, inl, inr, append-nil, arith}
-use Rattle.std.specs.Prelude.{filter_map, flat_map, map, ◌==◌, drop, slice_get, slice_index_or, Option, Some}
-use Rattle.std.specs.List.{AllByRecursion, cons_option}
-use Rattle.std.proofs.lemmas.Grind.{flat_map-append}
-use Rattle.std.proofs.lemmas.List.Elements.{filter-append, filter_map-append}
-use Rattle.std.proofs.lemmas.Option.{same_Some, slice_get_within}
-use Rattle.model.specs.Frames.{Frame, frame_bytes, IsFrame}
-use Rattle.model.specs.Consistent.{IsConsistent}
-use Rattle.model.specs.State.{Config, State, Step}
-use Rattle.model.specs.Run.{Happening, sends_of, put_out, empty_state}
-use Rattle.model.specs.History.{Occurrence, events_of}
-use Rattle.model.specs.Spelling.{frames_of, send_bytes, spelling, receiver, sends_to, eight_bytes}
-use Rattle.model.specs.Arrivals.{World, new_world, Turns, Pumps, Shows, Shown, Seen, shown}
-use Rattle.model.specs.Acks.{ack_in, IsReading, HasAcksOf, acked, ack_for}
-use Rattle.model.specs.Nacks.{nack_in, nacks_of, HasNacks}
-use Rattle.model.specs.Headline.{IsSound, KeepsEvents, KeepsPromises}
-use Rattle.model.specs.declared.events.Send.{Send}
+use Rattle.laws.proofs.Names.{◌≡◌, ◌≤◌, ℕ, List, [], ◌∷◌, ◌++◌, refl, sym, ap, subst, ◌∙◌, ◌⊎◌, inl, inr, append-nil, arith, filter_map, flat_map, ◌==◌, slice_get, slice_index_or, AllByRecursion, cons_option, flat_map-append, filter-append, filter_map-append, same_Some, slice_get_within, Frame, frame_bytes, IsFrame, IsConsistent, Config, State, Step, Happening, sends_of, put_out, empty_state, Occurrence, events_of, AreKept, frames_of, send_bytes, spelling, receiver, sends_to, eight_bytes, World, new_world, Turns, Pumps, Shows, Shown, Seen, shown, ack_in, IsReading, HasAcksOf, acked, ack_for, nack_in, nacks_of, HasNacks, IsSound, KeepsEvents, KeepsPromises, Send, Event, Note, ack_sent, nack_sent, Lasts, KeepsOn}
+use Rattle.std.proofs.Common.{◌<◌, ◌+◌}
+use Rattle.std.specs.Prelude.{map, drop, Option, Some}
 use Rattle.model.specs.declared.events.Send.TheVariants as send
-use Rattle.model.specs.declared.events.Event.{Event}
-use Rattle.model.specs.declared.notes.Note.{Note}
-use Rattle.laws.specs.Promises.{ack_sent, nack_sent}
-use Rattle.laws.specs.Accounts.{Lasts}
 use Rattle.laws.specs.Delivery.{TurnsConfirm, HeadlineHolds}
-use Rattle.laws.specs.Reloading.{KeepsOn}
 use Rattle.laws.proofs.Histories.{ToldOver, Lasting, histories_keep, lasting, decided_each, sourced_over, gives_in_order, acks_over, nacks_over, over_plays}
 use Rattle.laws.proofs.Counts.{all-append, all_each, filter_all}
 use Rattle.laws.proofs.Reading.{frames_each}
@@ -33,7 +14,7 @@ use Rattle.laws.proofs.Spoken.{sent_to, is_spoken, own_sends, puts_sends, settle
 use Rattle.laws.proofs.Deeds.{acted}
 use Rattle.laws.proofs.Replies.{IsAnswerAtMost}
 use Rattle.laws.proofs.View.{goes, acted_commands}
-use Rattle.laws.proofs.Keeping.{stay_kept, safe_over}
+use Rattle.laws.proofs.Keeping.{stay_kept, safe_over, last_in_force}
 use Rattle.laws.proofs.Never.{run_keeps}
 use Rattle.laws.proofs.Acks.{run_acks, acks_are_read}
 use Rattle.laws.proofs.Nacks.{run_nacks, nacks_are_read}
@@ -197,6 +178,7 @@ promises_hold f os w seen sound told spoken shows =
       events = keeps_on.kept;
       reloads = decided_each f w.config os empty_state w.state told.history;
       safe = safe_over f w.config os w.state told.history keeps_on.begun.kept;
+      kept = subst (λ (g : Config). AreKept g w.state.broker) (last_in_force f w.config os empty_state w.state told.history) keeps_on.begun.kept;
       agreed = lasts.agreed;
       present = lasts.present;
       logged_in = all_each Lasts _ (λ h l. l.logged_in) hs lasts.events;

@@ -36,7 +36,7 @@ use Rattle.model.specs.Causes.{HaveCauses, HaveOrigins}
 use Rattle.model.specs.Routed.{EnterAsRouted, number_in, CountUp}
 use Rattle.model.specs.Letters.{DieOnce}
 use Rattle.model.specs.Contents.{HaveSources}
-use Rattle.model.specs.Tracing.{AreSafe}
+use Rattle.model.specs.Tracing.{AreKept, AreSafe}
 use Rattle.model.specs.declared.contents.Content.{Content}
 use Rattle.model.specs.declared.messages.Entry.{Entry}
 use Rattle.model.specs.declared.messages.Taker.TheVariants as taker
@@ -317,6 +317,8 @@ pub record HeadlineRefuses : Type 0 where
   pub forbidden_stay : AreSafe with_audit.topology (record forbids { queue = codes "audit" } ∷ []) (with_entries (first_entry ∷ [])).broker → ⊥
   -- and one that may come there by its death
   pub forbidden_death : AreSafe into_bin.topology into_bin.guarantees (with_entries (first_entry ∷ [])).broker → ⊥
+  -- also if it stood when the last reload was done
+  pub forbidden_death_after_a_reload : AreKept into_bin (with_entries (stood_now first_entry ∷ [])).broker → ⊥
   -- two dead letters of one message, in one queue
   pub two_letters_of_one : DieOnce (event_of_notes [] (with_entries (first_entry ∷ []))
       (Left 1 (codes "audit") Rejected ∷ Entered 1 (codes "bin") Dead ∷ Entered 1 (codes "bin") Dead ∷ []) (with_entries [])) → ⊥

@@ -1,4 +1,4 @@
-//! Answers: a text that is written piece by piece, or why there is none.
+//! The answer to a line: a text that is written piece by piece, or why there is none. Start with [`LineAnswer`].
 
 ghost use Rattle.std.specs.Prelude.{◌≡◌, [], length, codes, decimal, Some, None, string_bytes, if◌then◌else◌};
 ghost use Rattle.hex.specs.Hex.{encode_lower};
@@ -8,21 +8,20 @@ use model::Text;
 use std::alloc::Global;
 use std::marker::Model;
 
-/// Why a line has no answer. Such a line differs, whatever it wants.
+/// Why a line has no answer. Such a line is reported as different, whatever it expects.
 #[derive(Clone, Copy, Drop)]
 pub enum Unanswered {
-    /// No line is of this kind, or what it asks is not of its form.
+    /// The line is of no known kind, or is malformed.
     Form,
-    /// A file that it names is not there, or is not what it has to be.
+    /// A file that the line names doesn't exist, or has the wrong content.
     File,
-    /// Memory was refused.
+    /// An allocation failed.
     Memory,
 }
 
 /// An answer that is written piece by piece, or the first reason why there is none.
 ///
-/// Once there is such a reason nothing more is appended. So no piece says whether it was appended, and what could not be
-/// made for it is empty.
+/// Once there is a reason nothing more is appended. So a `put` call needs no result, and a part that could not be made is empty.
 #[derive(Drop)]
 pub struct LineAnswer {
     alloc: Global,
@@ -40,7 +39,7 @@ impl Model for LineAnswer {
 }
 
 impl LineAnswer {
-    /// An answer without a piece.
+    /// Returns an empty answer.
     pub fn new(alloc: Global) -> LineAnswer
         ensures { result ≡ record { text = []; lack = None } }
     {
@@ -55,7 +54,7 @@ impl LineAnswer {
         self.alloc
     }
 
-    /// There is no answer, for this reason if it is the first.
+    /// Records that there is no answer, and `why`, unless a reason is recorded already.
     pub fn fail(&mut self, why: Unanswered)
         ensures { self.new ≡ failed why self.old }
     {
@@ -64,21 +63,21 @@ impl LineAnswer {
         }
     }
 
-    /// Why there is no answer, if there is none.
+    /// Returns the recorded reason, if there is no answer.
     pub fn lack(&self) -> Option<Unanswered>
         ensures { result ≡ self.now.lack }
     {
         self.lack
     }
 
-    /// What was appended.
+    /// Returns the text appended so far.
     pub fn text(&self) -> &str
         ensures { result.now ≡ self.now.text }
     {
         self.text.as_str()
     }
 
-    /// How many bytes were appended.
+    /// Returns the number of bytes appended so far.
     pub fn len(&self) -> usize
         ensures { result ≡ length self.now.text }
     {
@@ -94,7 +93,7 @@ impl LineAnswer {
         }
     }
 
-    /// Appends a number.
+    /// Appends a number in decimal.
     pub fn put_number(&mut self, number: u64)
         ensures { PutsPiece (decimal number) self.old self.new }
     {
@@ -104,7 +103,7 @@ impl LineAnswer {
         }
     }
 
-    /// Appends bytes in hex.
+    /// Appends bytes in lower-case hex.
     pub fn put_hex(&mut self, bytes: &[u8])
         ensures { PutsPiece (encode_lower bytes.now) self.old self.new }
     {
@@ -114,7 +113,7 @@ impl LineAnswer {
         }
     }
 
-    /// Appends the characters that bytes spell.
+    /// Appends bytes as UTF-8; each invalid sequence becomes U+FFFD.
     pub fn put_bytes(&mut self, bytes: &[u8]) {
         match String::from_utf8_lossy(self.alloc, bytes) {
             Ok(text) => self.put(text.as_str()),
@@ -122,21 +121,21 @@ impl LineAnswer {
         }
     }
 
-    /// Appends the characters of a text in quotes.
+    /// Appends a text in quotes.
     pub fn put_quoted(&mut self, text: &Text) {
         self.put("\"");
         self.put_bytes(text.as_bytes());
         self.put("\"");
     }
 
-    /// Appends a space, unless nothing stands before it.
+    /// Appends a space, unless the answer is empty.
     pub fn put_space(&mut self) {
         if !self.text.is_empty() {
             self.put(" ");
         }
     }
 
-    /// Appends the characters of a name, behind a space if it is not the first.
+    /// Appends a name, after a space unless the answer is empty.
     pub fn put_name(&mut self, name: &Text) {
         self.put_space();
         self.put_bytes(name.as_bytes());
@@ -149,14 +148,14 @@ impl LineAnswer {
         self.put(if is { "yes" } else { "no" });
     }
 
-    /// Appends `none` where nothing stands before it.
+    /// Appends `none` if the answer is empty.
     pub fn put_none_if_empty(&mut self) {
         if self.text.is_empty() {
             self.put("none");
         }
     }
 
-    /// The text, as a part of another answer: that has none where this has none.
+    /// Returns the text as a part of another answer. If this answer has a reason, `whole` gets it.
     pub fn into_part_of(self, whole: &mut LineAnswer) -> String
         ensures part { string_bytes result ≡ self.text }
         ensures lack { (why : Unanswered) → self.lack ≡ Some why → whole.new ≡ failed why whole.old }

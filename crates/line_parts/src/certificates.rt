@@ -1,12 +1,12 @@
-//! Lines about certificates: what is admitted, checked, found and disproved, and certificates files.
+//! Answers the lines about certificates: what is admitted, checked, found and disproved, and certificates files.
 //!
-//! | kinds | asked of |
+//! | kinds | subject |
 //! |---|---|
-//! | `admit`, `admitted` | `certificate`: what is admitted of a file of guarantees by one of certificates, and where it leads a key |
+//! | `admit`, `admitted` | `certificate`: what is admitted of a guarantees file by a certificates file, and where it routes a key |
 //! | `check` | `certificate`: whether the certificate of a file is accepted, or its fault |
-//! | `search`, `certificate` | `guarantee_search`: the verdict, which a check or `disprove` then takes; the file of the certificate that was found |
+//! | `search`, `certificate` | `guarantee_search`: the verdict, which a check or `disprove` confirms; the file of the certificate found |
 //! | `disprove` | `certificate`: whether a key, with a path, breaks a guarantee |
-//! | `certificates`, `certificates-hex`, `rewritten` | `certificate`: whether a file is read, or why it is refused; whether it is written as it was |
+//! | `certificates`, `certificates-hex`, `rewritten` | `certificate`: whether a file is read, or why it is refused; whether it is written unchanged |
 
 mod admission;
 mod faults;
@@ -21,7 +21,7 @@ const OF_ONE: [&str; 4] = ["check", "search", "certificate", "disprove"];
 /// The kinds of lines about certificates files.
 const OF_FILES: [&str; 3] = ["certificates", "certificates-hex", "rewritten"];
 
-/// Answers a line about certificates. Tells whether its kind is one of these.
+/// Answers a line about certificates. Returns whether `kind` is one of these.
 pub fn answer(out: &mut LineAnswer, rt: &HostRuntime, kind: &str, asked: &str) -> bool {
     if OF_ONE.contains(&kind) {
         verdicts::answer(out, rt, kind, asked);

@@ -1,13 +1,13 @@
-//! The files that lines name, and edits of them.
+//! Reads the files that lines name, and edits them. Start with [`source_of`].
 //!
-//! A line `repeat FROM TO TEXT` of a file stands for TEXT once for each number from FROM up to TO, which is not among them,
-//! with commas between and the number in place of the first `%`, if it has one.
+//! In such a file a line `repeat FROM TO TEXT` stands for TEXT, once for each number in `FROM..TO`, separated by commas, with the
+//! number in place of TEXT's first `%`, if it has one.
 
 use crate::answers::{LineAnswer, Unanswered};
 use crate::words::{cut, number_of};
 use std::fs;
 
-/// Appends a text with a number in it, if it has a place for one.
+/// Appends `text`, with `number` in place of its first `%`, if it has one.
 fn put_numbered(file: &mut LineAnswer, text: &str, number: u32) {
     match text.split_once('%') {
         Some((before, after)) => {
@@ -32,7 +32,7 @@ fn put_repeated(file: &mut LineAnswer, repeat: &str) {
     }
 }
 
-/// Appends a line, written out if it is a repeat.
+/// Appends a line, expanded if it is a repeat.
 fn put_line(file: &mut LineAnswer, line: &str) {
     match line.strip_prefix("repeat ") {
         Some(repeat) => put_repeated(file, repeat),
@@ -41,7 +41,7 @@ fn put_line(file: &mut LineAnswer, line: &str) {
     file.put("\n");
 }
 
-/// The text with its repeats written out.
+/// Returns `text` with its repeats expanded.
 fn written_out(out: &mut LineAnswer, text: &str) -> String {
     let mut file = LineAnswer::new(out.alloc());
     for line in text.lines() {
@@ -50,7 +50,7 @@ fn written_out(out: &mut LineAnswer, text: &str) -> String {
     file.into_part_of(out)
 }
 
-/// The file of this name, its repeats written out. `File` says that it is not there.
+/// Reads the file `name` and expands its repeats. Fails with [`Unanswered::File`] if it can't be read.
 pub fn file_of(out: &mut LineAnswer, rt: &HostRuntime, name: &str) -> String {
     match fs::read_to_string(rt, name) {
         Ok(text) => written_out(out, text.as_str()),
@@ -61,7 +61,7 @@ pub fn file_of(out: &mut LineAnswer, rt: &HostRuntime, name: &str) -> String {
     }
 }
 
-/// What an edit takes out, and what it puts in its place.
+/// Splits an edit into the text that it replaces, and the replacement.
 fn old_and_new<'a>(out: &mut LineAnswer, edit: &'a str) -> (&'a str, &'a str) {
     match edit.split_once(" =>") {
         Some((old, new)) => (old, new.strip_prefix(' ').unwrap_or(new)),
@@ -72,7 +72,7 @@ fn old_and_new<'a>(out: &mut LineAnswer, edit: &'a str) -> (&'a str, &'a str) {
     }
 }
 
-/// Appends the text with `new` at the first place where `old` stands. `File` says that it stands nowhere.
+/// Appends `text` with its first `old` replaced by `new`. Fails with [`Unanswered::File`] if there is none.
 fn put_edited(file: &mut LineAnswer, text: &str, old: &str, new: &str) {
     match text.split_once(old) {
         Some((before, after)) => {
@@ -84,7 +84,7 @@ fn put_edited(file: &mut LineAnswer, text: &str, old: &str, new: &str) {
     }
 }
 
-/// The text with `OLD => NEW` done at the first place where OLD stands.
+/// Returns `text` with the edit `OLD => NEW`, which replaces the first OLD.
 fn edited_once(out: &mut LineAnswer, text: &str, edit: &str) -> String {
     let (old, new) = old_and_new(out, edit);
     let mut file = LineAnswer::new(out.alloc());
@@ -92,7 +92,7 @@ fn edited_once(out: &mut LineAnswer, text: &str, edit: &str) -> String {
     file.into_part_of(out)
 }
 
-/// The text with these edits, one after another.
+/// Returns `text` with these edits, one after another.
 fn edited(out: &mut LineAnswer, text: String, edits: &str) -> String {
     let mut text = text;
     for edit in edits.split(" | ") {
@@ -101,8 +101,8 @@ fn edited(out: &mut LineAnswer, text: String, edits: &str) -> String {
     text
 }
 
-/// The file that `FILE | OLD => NEW | OLD => NEW` names, with its edits. `File` says that it is not there, or has no place
-/// where an edit's OLD stands.
+/// Reads the file that `FILE | OLD => NEW | OLD => NEW` names, and edits it. Fails with [`Unanswered::File`] if it can't be read,
+/// or doesn't contain an edit's OLD.
 pub fn source_of(out: &mut LineAnswer, rt: &HostRuntime, asked: &str) -> String {
     match asked.split_once(" | ") {
         None => file_of(out, rt, asked),
@@ -113,7 +113,7 @@ pub fn source_of(out: &mut LineAnswer, rt: &HostRuntime, asked: &str) -> String 
     }
 }
 
-/// Does an edit in the last text in which its OLD stands.
+/// Edits the last of `texts` that contains the edit's OLD.
 fn edit_last(out: &mut LineAnswer, texts: &mut [String], edit: &str) {
     let (old, _) = old_and_new(out, edit);
     for text in texts.iter_mut().rev() {
@@ -125,7 +125,7 @@ fn edit_last(out: &mut LineAnswer, texts: &mut [String], edit: &str) {
     out.fail(Unanswered::File);
 }
 
-/// Appends the file of this name.
+/// Reads the file `name`, and appends it to `files`.
 fn put_file(out: &mut LineAnswer, rt: &HostRuntime, files: &mut Vec<String>, name: &str) {
     let file = file_of(out, rt, name);
     if files.push(file).is_err() {
@@ -133,7 +133,7 @@ fn put_file(out: &mut LineAnswer, rt: &HostRuntime, files: &mut Vec<String>, nam
     }
 }
 
-/// The files of these names, with edits if there are some, each of the last file in which its OLD stands.
+/// Reads the files `names`. Each of the edits, if there are some, applies to the last file that contains its OLD.
 pub fn sources_of(
     out: &mut LineAnswer,
     rt: &HostRuntime,
@@ -150,14 +150,14 @@ pub fn sources_of(
     files
 }
 
-/// Does edits one after another.
+/// Applies edits to `texts`, one after another.
 fn edit_all(out: &mut LineAnswer, texts: &mut [String], edits: &str) {
     for edit in edits.split(" | ") {
         edit_last(out, texts, edit);
     }
 }
 
-/// What a line names, and its edits if it has some.
+/// Splits a line into what it names, and its edits if it has some.
 pub fn named_and_edits(asked: &str) -> (&str, Option<&str>) {
     match asked.split_once(" | ") {
         Some((named, edits)) => (named, Some(edits)),

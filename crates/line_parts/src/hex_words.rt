@@ -1,9 +1,9 @@
-//! Bytes that are spelled in hex.
+//! Decodes bytes that a line writes in hex.
 
 use crate::answers::{LineAnswer, Unanswered};
 use crate::words::number_of;
 
-/// Appends these bytes so many times.
+/// Appends `part` to `bytes`, `count` times.
 fn put_times(out: &mut LineAnswer, bytes: &mut Vec<u8>, part: &[u8], count: u32) {
     for _ in 0..count {
         if bytes.extend_from_slice(part).is_err() {
@@ -12,7 +12,7 @@ fn put_times(out: &mut LineAnswer, bytes: &mut Vec<u8>, part: &[u8], count: u32)
     }
 }
 
-/// Appends the bytes of one word, as often as they stand there.
+/// Appends the bytes of one word, as often as it says.
 fn put_word(out: &mut LineAnswer, bytes: &mut Vec<u8>, word: &str) {
     let (digits, count) = word.split_once('*').unwrap_or((word, "1"));
     let count = number_of(out, count);
@@ -22,8 +22,8 @@ fn put_word(out: &mut LineAnswer, bytes: &mut Vec<u8>, word: &str) {
     }
 }
 
-/// The bytes that words of hex digits spell, one after another. A word `HEX*COUNT` stands for its bytes so many times.
-/// `Form` says that a word is none of these.
+/// Decodes words of hex digits into bytes. A word `HEX*COUNT` stands for its bytes COUNT times. Fails with [`Unanswered::Form`]
+/// if a word is of neither form.
 pub fn bytes_of(out: &mut LineAnswer, text: &str) -> Vec<u8> {
     let mut bytes = Vec::new(out.alloc());
     for word in text.split(' ') {

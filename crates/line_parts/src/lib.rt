@@ -1,5 +1,6 @@
-//! What the lines of cases are made of: their words and the files that they name, the answers that are put together, and the
-//! kinds of lines about routing, about certificates and about queues.
+//! Parses and answers the lines of cases: their words, files and answers, and the lines about routing, certificates and queues.
+//!
+//! Start with [`LineAnswer`], and the `answer` of `routing`, `certificates` and `stores`.
 #![tactic(auto)]
 
 mod answers;

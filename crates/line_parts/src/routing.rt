@@ -1,12 +1,11 @@
-//! Lines about routing: patterns and keys, definitions files and what they set up, guarantees files and what they cover.
+//! Answers the lines about routing: patterns and keys, definitions and their topologies, guarantees and what they cover.
 //!
-//! | kinds | asked of |
-//! |---|---|
-//! | `pattern`, `match`, `places`, `counted`, `numbered`, `words` | `topic_match`: what is a pattern, and which keys it matches, by both matchers |
-//! | `definitions`, `definitions-hex` | `definitions`: whether a file is read, or why it is refused |
-//! | `counts`, `queue`, `exchange`, `user` | `definitions`: what a file sets up |
-//! | `route`, `visited`, `dead-route` | `exchange_graph`: the queues to which a key leads; the exchanges that it passes; the queues to which one death leads |
-//! | `guarantees`, `guarantees-hex`, `guarantee`, `covers` | `guarantees`: whether a file is read, or why it is refused; what a guarantee says and covers |
+//! | kinds | subject | |---|---| | `pattern`, `match`, `places`, `counted`, `numbered`, `words` | `topic_match`: patterns, and
+//! which keys they match, by both matchers | | `definitions`, `definitions-hex` | `definitions`: whether a file is read, or why
+//! it is refused | | `counts`, `queue`, `exchange`, `user` | `definitions`: what a file defines | | `route`, `visited`,
+//! `dead-route` | `exchange_graph`: the queues that a key reaches; the exchanges that it passes; one dead-letter step | |
+//! `guarantees`, `guarantees-hex`, `guarantee`, `covers` | `guarantees`: whether a file is read, or why not; what a guarantee
+//! says and covers |
 
 mod guarantee_files;
 mod keys;
@@ -35,7 +34,7 @@ const OF_DEFINITIONS: [&str; 9] = [
     "dead-route",
 ];
 
-/// Answers a line about routing. Tells whether its kind is one of these.
+/// Answers a line about routing. Returns whether `kind` is one of these.
 pub fn answer(out: &mut LineAnswer, rt: &HostRuntime, kind: &str, asked: &str) -> bool {
     if OF_PATTERNS.contains(&kind) {
         keys::answer(out, kind, asked);

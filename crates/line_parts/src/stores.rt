@@ -1,6 +1,6 @@
-//! Lines about queues: the same calls of both bodies of a queue, and what they answer.
+//! Answers the lines about queues: makes the same calls of both implementations of a queue.
 //!
-//! | kind | asked of |
+//! | kind | subject |
 //! |---|---|
 //! | `store` | `queue`: calls one after another, of a queue over a list and of one with indexes |
 
@@ -11,7 +11,7 @@ mod tags;
 
 use crate::LineAnswer;
 
-/// Answers a line about queues. Tells whether its kind is one of these.
+/// Answers a line about queues. Returns whether `kind` is one of these.
 pub fn answer(out: &mut LineAnswer, kind: &str, asked: &str) -> bool {
     if kind == "store" {
         runs::answer(out, asked);

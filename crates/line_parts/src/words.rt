@@ -1,8 +1,8 @@
-//! The words and numbers of a line.
+//! Splits a line into words and numbers. Start with [`words_of`].
 
 use crate::answers::{LineAnswer, Unanswered};
 
-/// The number that a word spells. `Form` says that it spells none.
+/// Parses a number. Fails with [`Unanswered::Form`] if `word` is none.
 pub fn number_of(out: &mut LineAnswer, word: &str) -> u32 {
     match word.parse::<u32>() {
         Ok(number) => number,
@@ -13,7 +13,7 @@ pub fn number_of(out: &mut LineAnswer, word: &str) -> u32 {
     }
 }
 
-/// What stands before the first space and behind it. `Form` says that there is none.
+/// Splits `text` at its first space. Fails with [`Unanswered::Form`] if it has none.
 pub fn cut<'a>(out: &mut LineAnswer, text: &'a str) -> (&'a str, &'a str) {
     match text.split_once(' ') {
         Some(parts) => parts,
@@ -24,7 +24,7 @@ pub fn cut<'a>(out: &mut LineAnswer, text: &'a str) -> (&'a str, &'a str) {
     }
 }
 
-/// The first word and what follows it. A word in quotes may be empty or have spaces.
+/// Returns the first word and what follows it. A word in quotes may be empty or contain spaces.
 fn first_word(text: &str) -> Option<(&str, &str)> {
     match text.strip_prefix('"') {
         Some(quoted) => quoted.split_once('"'),
@@ -32,7 +32,7 @@ fn first_word(text: &str) -> Option<(&str, &str)> {
     }
 }
 
-/// Takes the first word of a text, unless there is none: what follows it.
+/// Appends the first word of `text`, if it has one, to `words`, and returns what follows it.
 fn take_word<'a>(out: &mut LineAnswer, words: &mut Vec<&'a str>, text: &'a str) -> &'a str {
     if text.is_empty() {
         return text;
@@ -47,7 +47,7 @@ fn take_word<'a>(out: &mut LineAnswer, words: &mut Vec<&'a str>, text: &'a str) 
     after
 }
 
-/// The words of a line, with spaces between them. `Form` says that a word has only one quote.
+/// Splits `text` at spaces into words. Fails with [`Unanswered::Form`] if a quote is not closed.
 pub fn words_of<'a>(out: &mut LineAnswer, text: &'a str) -> Vec<&'a str> {
     let mut words = Vec::new(out.alloc());
     let mut rest = text;

@@ -1,4 +1,4 @@
-//! Single calls, each made once more where memory was wanting.
+//! Single calls, each of which is retried once if an allocation fails.
 
 use crate::counts::{Counts, count};
 use certificate::{CertFault, Certificate, Checked, Refutation, admit, check, disprove};
@@ -10,7 +10,7 @@ use model::User;
 use std::alloc::{AllocError, Global};
 use std::io::{self, ErrorKind};
 
-/// The files over which calls are made.
+/// The files that calls use.
 #[derive(Clone, Copy, Drop)]
 pub struct Setting<'a> {
     pub definitions: &'a str,
@@ -18,12 +18,12 @@ pub struct Setting<'a> {
     pub certificates: &'a str,
 }
 
-/// That a file of the input is refused.
+/// Returns the error for a file of the input that is refused.
 fn malformed() -> io::Error {
     io::Error::from(ErrorKind::InvalidData)
 }
 
-/// What a definitions file sets up.
+/// Reads the definitions file.
 fn definitions_of(
     alloc: Global,
     setting: Setting<'_>,
@@ -44,7 +44,7 @@ fn definitions_of(
     }
 }
 
-/// The guarantees of a file.
+/// Reads the guarantees file.
 fn guarantees_of(
     alloc: Global,
     setting: Setting<'_>,
@@ -66,7 +66,7 @@ fn guarantees_of(
     }
 }
 
-/// The topology of the definitions file, and the guarantees over it.
+/// Reads the topology of the definitions file, and the guarantees for it.
 pub fn stated(
     alloc: Global,
     setting: Setting<'_>,
@@ -77,7 +77,7 @@ pub fn stated(
     Ok((topology, guarantees))
 }
 
-/// The certificates of a file.
+/// Reads the certificates file.
 pub fn certificates_of(alloc: Global, setting: Setting<'_>) -> io::Result<Vec<Certificate>> {
     match Certificate::read(alloc, setting.certificates.as_bytes()) {
         Ok(certificates) => Ok(certificates),
@@ -86,7 +86,7 @@ pub fn certificates_of(alloc: Global, setting: Setting<'_>) -> io::Result<Vec<Ce
     }
 }
 
-/// Whether a certificate is accepted, or its first fault.
+/// Checks a certificate. Fails with its first fault.
 pub fn checked(
     alloc: Global,
     topology: &Topology,
@@ -103,7 +103,7 @@ pub fn checked(
     }
 }
 
-/// What is admitted of the files, which are read anew where memory was wanting: the call takes what they state.
+/// Admits what the files state. Reads them again for a retry, since `admit` takes the topology and the guarantees.
 pub fn admitted(
     alloc: Global,
     setting: Setting<'_>,
@@ -121,7 +121,7 @@ pub fn admitted(
     }
 }
 
-/// What is in force by the files, and who may log in.
+/// Returns what the files put in force, and the users.
 pub fn set_up(
     alloc: Global,
     setting: Setting<'_>,
@@ -135,7 +135,7 @@ pub fn set_up(
     }
 }
 
-/// The verdict on a guarantee.
+/// Searches a guarantee, and returns the verdict.
 pub fn searched(
     alloc: Global,
     topology: &Topology,
@@ -151,7 +151,7 @@ pub fn searched(
     }
 }
 
-/// Whether it is seen that the refutation shows that the guarantee fails: where memory is wanting the answer is no.
+/// Returns whether the refutation disproves the guarantee. `disprove` returns `false` if an allocation fails, so it is retried.
 pub fn disproved(
     alloc: Global,
     topology: &Topology,

@@ -1,8 +1,8 @@
-//! Which calls were made again.
+//! Counts the calls that were retried. Start with [`Counts`].
 
 use std::io::{self, Write};
 
-/// How often each kind of call was made again, because memory was wanting.
+/// How often each kind of call was retried because an allocation failed.
 #[derive(Clone, Copy, Drop)]
 pub struct Counts {
     pub opens: u64,
@@ -16,14 +16,14 @@ pub struct Counts {
     pub admits: u64,
     pub searches: u64,
     pub disproves: u64,
-    /// How often an output stood otherwise after a call that was refused.
+    /// The number of failed calls after which an output differed.
     pub differing: u64,
-    /// Whether all of it was made again.
+    /// The number of times that all sections were run again: 0 or 1.
     pub wholes: u64,
 }
 
 impl Counts {
-    /// None.
+    /// Returns counts of 0.
     pub fn new() -> Counts {
         Counts {
             opens: 0,
@@ -42,12 +42,12 @@ impl Counts {
         }
     }
 
-    /// Whether each output stood as before wherever a call was refused.
+    /// Returns whether every output was the same after each failed call.
     pub fn is_sound(&self) -> bool {
         self.differing == 0
     }
 
-    /// Prints them as one line.
+    /// Prints the counts as one line.
     pub fn put<W: Write>(&self, out: &mut W) -> io::Result<()> {
         write!(
             out,
@@ -67,7 +67,7 @@ impl Counts {
     }
 }
 
-/// One more.
+/// Adds one to `sum`.
 pub fn count(sum: &mut u64) {
     *sum = sum.saturating_add(1);
 }

@@ -1,8 +1,7 @@
-//! Calls that may want memory, each of which is made once more where it was refused, and nothing else is different.
+//! Tests that a call that fails for memory changes nothing: makes each such call again, and prints the results.
 //!
-//! Standard input has sections (`sections`): files, scripts over them, and single calls. What is printed says what each
-//! came to, so it is the same whichever growth was refused, but for the last line, which counts the calls that were made
-//! again.
+//! Standard input has sections (`sections`): files, scripts that run over them, and single calls. What is printed are their
+//! results. So it is the same whichever allocation failed, except for the last line, which counts the retried calls.
 #![tactic(auto)]
 
 mod asking;
@@ -20,7 +19,7 @@ use std::alloc::Global;
 use std::io::{self, ErrorKind, Read as _, Write as _};
 use std::process::ExitCode;
 
-/// Standard input.
+/// Reads standard input.
 fn input(rt: &HostRuntime) -> io::Result<String> {
     let mut text = String::new(rt.alloc());
     rt.reader()
@@ -29,7 +28,7 @@ fn input(rt: &HostRuntime) -> io::Result<String> {
     Ok(text)
 }
 
-/// What the sections come to; where something else than one of their calls was refused, once more, which is counted too.
+/// Runs the sections. If an allocation fails outside of their calls, runs them all again, which is counted, too.
 fn tried(alloc: Global, input: &str) -> io::Result<(String, Counts)> {
     let mut counts = Counts::new();
     match answered(alloc, input, &mut counts) {

@@ -1,10 +1,10 @@
-//! Outputs and notes, as `replay` prints them.
+//! Writes outputs and notes as `replay` prints them.
 
 use model::{Answer, Cause, Note, Text, Way};
 use scripts::{name_word, obstacle_line};
 use std::alloc::{AllocError, Global};
 
-/// Bytes in hex, or `-` for none.
+/// Returns `bytes` in lower-case hex, or `-` if there are none.
 pub fn hex_word(alloc: Global, bytes: &[u8]) -> Result<String, AllocError> {
     if bytes.is_empty() {
         return String::from_str(alloc, "-");
@@ -12,7 +12,7 @@ pub fn hex_word(alloc: Global, bytes: &[u8]) -> Result<String, AllocError> {
     hex::encode(alloc, bytes)
 }
 
-/// A publish.
+/// Returns the line of a publish; `place` is its number, connection and channel.
 fn published_line(
     alloc: Global,
     place: (u64, u64, u16),
@@ -35,7 +35,7 @@ fn published_line(
     }
 }
 
-/// What a message did at a queue: a word before, its number, the queue, and a word behind it.
+/// Returns the line of what a message did at a queue: `what`, its number, the queue, and `rest`.
 fn queue_line(
     alloc: Global,
     what: &str,
@@ -47,7 +47,7 @@ fn queue_line(
     format!(in alloc; "{what} {number} {queue}{rest}\n")
 }
 
-/// How a message came to a queue.
+/// Returns the word for how a message entered a queue.
 fn way_word(way: Way) -> &'static str {
     match way {
         Way::Publish => " publish",
@@ -55,7 +55,7 @@ fn way_word(way: Way) -> &'static str {
     }
 }
 
-/// Why it left one.
+/// Returns the word for why a message left a queue.
 fn cause_word(cause: Cause) -> &'static str {
     match cause {
         Cause::Acked => " acked",
@@ -65,7 +65,7 @@ fn cause_word(cause: Cause) -> &'static str {
     }
 }
 
-/// How a publish was confirmed.
+/// Returns the word for how a publish was confirmed.
 fn answer_word(answer: Answer) -> &'static str {
     match answer {
         Answer::Ack => "ack",
@@ -73,7 +73,7 @@ fn answer_word(answer: Answer) -> &'static str {
     }
 }
 
-/// The line of a note.
+/// Returns the line of a note.
 pub fn note_line(alloc: Global, note: &Note) -> Result<String, AllocError> {
     match note {
         Note::Published {

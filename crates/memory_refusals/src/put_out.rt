@@ -1,16 +1,16 @@
-//! What connections have put out.
+//! Remembers the outputs of connections, to compare them. Start with [`Outputs`].
 
 use engine::Engine;
 use std::alloc::{AllocError, Global};
 
-/// What waits in the outputs of the connections 1, 2, .., and which of them are over.
+/// A copy of the outputs of the connections 1, 2, .., and which of them are over.
 #[derive(Drop)]
 pub struct Outputs {
     bytes: Vec<u8>,
     connections: Vec<Standing>,
 }
 
-/// One connection: where its bytes end, and whether it is over.
+/// A connection: the end index of its bytes, and whether it is over.
 #[derive(Clone, Copy, Drop)]
 struct Standing {
     end: usize,
@@ -18,7 +18,7 @@ struct Standing {
 }
 
 impl Outputs {
-    /// Of no connection. It takes no memory.
+    /// Returns a copy of no outputs. Never allocates.
     pub fn new(alloc: Global) -> Outputs {
         Outputs {
             bytes: Vec::new(alloc),
@@ -26,7 +26,7 @@ impl Outputs {
         }
     }
 
-    /// Those of the engine's connections, of which so many were opened.
+    /// Copies the outputs of the engine's first `opened` connections. Fails only if an allocation fails.
     fn read(&mut self, engine: &Engine, opened: u64) -> Result<(), AllocError> {
         self.bytes.clear();
         self.connections.clear();
@@ -41,7 +41,7 @@ impl Outputs {
         Ok(())
     }
 
-    /// The same; where memory is wanting, once more.
+    /// Copies them as [`Outputs::read`] does, with one retry.
     pub fn look(&mut self, engine: &Engine, opened: u64) -> Result<(), AllocError> {
         match self.read(engine, opened) {
             Ok(()) => Ok(()),
@@ -49,7 +49,7 @@ impl Outputs {
         }
     }
 
-    /// Whether they are still those of the engine's connections, byte for byte.
+    /// Returns whether the engine's outputs are still the same, byte for byte.
     pub fn still_stand(&self, engine: &Engine) -> bool {
         let mut start = 0;
         let mut c = 0u64;

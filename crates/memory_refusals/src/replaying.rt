@@ -1,4 +1,4 @@
-//! A replay of which each call is made once more that met want of memory.
+//! Replays a script, and retries each call that fails for memory. Start with [`Replay`].
 
 use crate::asking::{Setting, set_up};
 use crate::counts::{Counts, count};
@@ -12,21 +12,21 @@ use scripts::{ReloadFiles, put_line};
 use std::alloc::{AllocError, Global};
 use std::io;
 
-/// The most commands that one arrival brings.
+/// The number of commands that one event brings at most.
 const MOST_COMMANDS: u64 = 1 << 32;
 
-/// An engine, with what it has put out and noted.
+/// An engine, with what it has sent and noted.
 #[derive(Drop)]
 pub struct Replay {
     engine: Engine,
-    /// What stood in the outputs before the last call.
+    /// The outputs before the last call.
     outputs: Outputs,
-    /// What was taken of the output of each connection that was opened.
+    /// What was taken of each connection's output.
     taken: Vec<Vec<u8>>,
     notes: Vec<Note>,
 }
 
-/// The number of a connection that was opened; none where no more can be opened.
+/// Returns the number of the opened connection, or `None` if no further one can be opened. Fails only if an allocation failed.
 fn number_of(opened: Result<u64, Refused>) -> Result<Option<u64>, AllocError> {
     match opened {
         Ok(number) => Ok(Some(number)),
@@ -35,7 +35,7 @@ fn number_of(opened: Result<u64, Refused>) -> Result<Option<u64>, AllocError> {
     }
 }
 
-/// The notes of the command that a turn performed, if it performed one.
+/// Returns the notes of the command that `turn` performed, if it performed one.
 fn notes_of(turn: Turn) -> Option<Vec<Note>> {
     match turn {
         Turn::Did(notes) => Some(notes),
@@ -43,7 +43,7 @@ fn notes_of(turn: Turn) -> Option<Vec<Note>> {
     }
 }
 
-/// The files of these names.
+/// Returns the files of these names.
 fn setting_of<'a>(names: &ReloadFiles, files: &[Section<'a>]) -> io::Result<Setting<'a>> {
     Ok(Setting {
         definitions: text_of(files, names.definitions())?,
@@ -53,7 +53,7 @@ fn setting_of<'a>(names: &ReloadFiles, files: &[Section<'a>]) -> io::Result<Sett
 }
 
 impl Replay {
-    /// Of this engine, on which no connection was opened yet. It takes no memory.
+    /// Starts a replay on `engine`, on which no connection was opened. Never allocates.
     pub fn new(alloc: Global, engine: Engine) -> Replay {
         Replay {
             engine,
@@ -63,19 +63,19 @@ impl Replay {
         }
     }
 
-    /// Looks at the outputs before a call.
+    /// Copies the outputs before a call.
     fn look(&mut self) -> Result<(), AllocError> {
         self.outputs.look(&self.engine, self.taken.len() as u64)
     }
 
-    /// Counts where a refused call has left another output than before.
+    /// Counts if the outputs differ after a failed call.
     fn compare(&self, counts: &mut Counts) {
         if !self.outputs.still_stand(&self.engine) {
             count(&mut counts.differing);
         }
     }
 
-    /// Writes down that a connection was opened, if one was.
+    /// Records that a connection was opened, if one was.
     fn add(&mut self, alloc: Global, number: Option<u64>) -> Result<(), AllocError> {
         if number.is_some() {
             self.taken.push(Vec::new(alloc))?;
@@ -83,7 +83,7 @@ impl Replay {
         Ok(())
     }
 
-    /// A connection of which no byte has come.
+    /// Opens a connection from which no byte has come.
     fn open(&mut self, alloc: Global, counts: &mut Counts) -> Result<(), AllocError> {
         self.look()?;
         let number = match number_of(self.engine.open(alloc)) {
@@ -97,7 +97,7 @@ impl Replay {
         self.add(alloc, number)
     }
 
-    /// A connection that runs at once.
+    /// Opens a connection that is running with channels 1 to `k`.
     fn open_ready(&mut self, alloc: Global, k: u8, counts: &mut Counts) -> Result<(), AllocError> {
         self.look()?;
         let number = match number_of(self.engine.open_ready(alloc, k)) {
@@ -111,7 +111,7 @@ impl Replay {
         self.add(alloc, number)
     }
 
-    /// Bytes of a connection.
+    /// Feeds `bytes` to connection `c`.
     fn feed(&mut self, c: u64, bytes: &[u8], counts: &mut Counts) -> Result<(), AllocError> {
         self.look()?;
         if self.engine.feed(c, bytes).is_ok() {
@@ -122,7 +122,7 @@ impl Replay {
         self.engine.feed(c, bytes)
     }
 
-    /// The next command of a connection.
+    /// Performs the next command of connection `c`.
     fn turn(&mut self, alloc: Global, c: u64, counts: &mut Counts) -> Result<Turn, AllocError> {
         self.look()?;
         match self.engine.turn(alloc, c) {
@@ -135,7 +135,7 @@ impl Replay {
         }
     }
 
-    /// One delivery, if any can be made.
+    /// Makes a delivery, if one can be made.
     fn pump(&mut self, alloc: Global, counts: &mut Counts) -> Result<(), AllocError> {
         self.look()?;
         let delivered = match self.engine.pump(alloc) {
@@ -157,7 +157,7 @@ impl Replay {
         }
     }
 
-    /// What these files state is in force, unless something stands against that.
+    /// Loads what these files state, and notes whether it is in force.
     fn reload(
         &mut self,
         alloc: Global,
@@ -185,7 +185,7 @@ impl Replay {
         Ok(self.notes.push(note)?)
     }
 
-    /// Commands of a connection, until it is idle, paused or over.
+    /// Performs commands of connection `c` until it is idle, paused or over.
     fn work(&mut self, alloc: Global, c: u64, counts: &mut Counts) -> Result<(), AllocError> {
         for _ in 0..MOST_COMMANDS {
             match notes_of(self.turn(alloc, c, counts)?) {
@@ -196,7 +196,7 @@ impl Replay {
         Ok(())
     }
 
-    /// So many bytes of a connection's output are written down as taken.
+    /// Records the first `most` bytes of connection `c`'s output as taken.
     fn gather(&mut self, c: u64, most: u64) -> Result<(), AllocError> {
         let output = self.engine.output(c);
         let front = if most < output.len() as u64 {
@@ -210,7 +210,7 @@ impl Replay {
         }
     }
 
-    /// One arrival, and all that it brings. A reload names some of these files.
+    /// Performs an event and everything that it brings. A reload names some of `files`.
     pub fn arrive(
         &mut self,
         alloc: Global,
@@ -243,7 +243,7 @@ impl Replay {
         Ok(())
     }
 
-    /// What was put out for each connection and noted, as `replay` prints it.
+    /// Returns the transcript, as `replay` prints it.
     pub fn text(mut self, alloc: Global) -> Result<Vec<u8>, AllocError> {
         let mut text = Vec::new(alloc);
         for place in 0..self.taken.len() as u64 {
@@ -257,7 +257,7 @@ impl Replay {
         Ok(text)
     }
 
-    /// The lines of one connection.
+    /// Appends the lines of connection `c`.
     fn put_connection(&self, alloc: Global, c: u64, text: &mut Vec<u8>) -> Result<(), AllocError> {
         let taken: &[u8] = match self.taken.get(c.saturating_sub(1) as usize) {
             Some(taken) => taken.as_slice(),

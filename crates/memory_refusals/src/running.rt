@@ -1,4 +1,4 @@
-//! What the sections come to, in their order.
+//! Runs the sections in their order. Start with [`answered`].
 
 use crate::asking::{
     Setting, admitted, certificates_of, checked, disproved, searched, set_up, stated,
@@ -13,7 +13,7 @@ use scripts::{BadScript, read_script};
 use std::alloc::{AllocError, Global};
 use std::io::{self, ErrorKind};
 
-/// The files that are in force where none was named.
+/// The files that are in force if none are named.
 const NO_GUARANTEES: &str = "{\"guarantees\":[]}";
 
 const NO_CERTIFICATES: &str = "[]";
@@ -25,7 +25,7 @@ fn put(out: &mut String, line: &str) -> io::Result<()> {
     Ok(())
 }
 
-/// The word for what a check told.
+/// Returns the word for the outcome of a check.
 fn outcome_word(outcome: &Result<(), CertFault>) -> &'static str {
     match outcome {
         Ok(()) => "ok",
@@ -38,7 +38,7 @@ fn outcome_word(outcome: &Result<(), CertFault>) -> &'static str {
     }
 }
 
-/// The certificate of each guarantee is checked.
+/// Checks the certificate of each guarantee, and appends the outcomes.
 fn put_checks(
     alloc: Global,
     setting: Setting<'_>,
@@ -54,7 +54,7 @@ fn put_checks(
     Ok(())
 }
 
-/// All of it is admitted.
+/// Admits what the files state, and appends the outcome.
 fn put_admission(
     alloc: Global,
     setting: Setting<'_>,
@@ -73,7 +73,7 @@ fn put_admission(
     }
 }
 
-/// The verdict on each guarantee, and whether a refutation is seen to show what it is to show.
+/// Searches each guarantee, and appends the verdict, and whether a refutation disproves the guarantee.
 fn put_verdicts(
     alloc: Global,
     setting: Setting<'_>,
@@ -98,7 +98,7 @@ fn put_verdicts(
     Ok(())
 }
 
-/// A script is run over what is in force; a reload in it names files.
+/// Runs a script over what is in force, and appends the transcript. A reload in it names some of `files`.
 fn put_run(
     alloc: Global,
     setting: Setting<'_>,
@@ -127,7 +127,7 @@ fn put_run(
     }
 }
 
-/// One section: a file is in force from now on, or may be named, or a call is made over those that are in force.
+/// Runs one section: puts a file in force, keeps a file that may be named, or makes a call over the files in force.
 fn put_section<'a>(
     alloc: Global,
     section: Section<'a>,
@@ -167,8 +167,8 @@ fn put_section<'a>(
     }
 }
 
-/// What is printed of the sections. A section of another name than those of files and calls is a script, and `file NAME` is a
-/// file that a script may name.
+/// Runs all sections, and returns what they print. A section called `file NAME` is a file that a script may name; one with
+/// another name than those of files and calls is a script.
 pub fn answered(alloc: Global, input: &str, counts: &mut Counts) -> io::Result<String> {
     let mut setting = Setting {
         definitions: "",

@@ -1,23 +1,22 @@
-//! Sections of the input.
+//! Splits the input into sections. Start with [`sections_of`].
 //!
-//! A line `==== NAME` begins a section, whose text is what stands up to the next such line. What stands before the first
-//! says nothing.
+//! A line `==== NAME` begins a section, whose text goes up to the next such line. What precedes the first is ignored.
 
 use std::alloc::Global;
 use std::io;
 use std::io::ErrorKind;
 
-/// What stands before the name of a section.
+/// The mark before the name of a section.
 const MARK: &str = "==== ";
 
-/// A text under its name.
+/// A text with its name.
 #[derive(Clone, Copy, Drop)]
 pub struct Section<'a> {
     pub name: &'a str,
     pub text: &'a str,
 }
 
-/// The sections of a text, in their order.
+/// Returns the sections of `text`, in their order.
 pub fn sections_of(alloc: Global, text: &str) -> io::Result<Vec<Section<'_>>> {
     let mut sections = Vec::new(alloc);
     for part in text.split(MARK).skip(1) {
@@ -32,7 +31,7 @@ pub fn sections_of(alloc: Global, text: &str) -> io::Result<Vec<Section<'_>>> {
     Ok(sections)
 }
 
-/// The text of the section of this name.
+/// Returns the text of the section called `name`.
 pub fn text_of<'a>(sections: &[Section<'a>], name: &str) -> io::Result<&'a str> {
     match sections.iter().find(|section| section.name == name) {
         Some(section) => Ok(section.text),

@@ -1,25 +1,19 @@
 -- What is told by a log, call by call, and where it is whole.
-use Rattle.std.proofs.Common.{◌≡◌, ◌+◌, ◌≤◌, ◌<◌, ℕ, zero, suc, List, [], ◌∷◌, ◌++◌, map, drop, length, Option, Some, None, Bool, true, false, slice_get, sym, ap, append_assoc, append-nil, ◌∙◌, subst, inl, inr, arith, flat_map, count_by, if◌then◌else◌}
+use Rattle.memory_wire.proofs.Names.{◌≡◌, ◌+◌, ◌≤◌, ◌<◌, ℕ, zero, suc, List, [], ◌∷◌, ◌++◌, map, drop, length, Option, Some, None, Bool, true, false, slice_get, sym, ap, append_assoc, append-nil, ◌∙◌, subst, inl, inr, arith, flat_map, count_by, if◌then◌else◌, Call, Accepted, Told, Tells, Follows, is_failed, accept_call, read_call, write_call, Served, calls, written_to, call_of, told_by, told_with, Log}
 use Rattle.std.specs.Prelude.{nat_lt}
 use Rattle.std.proofs.lemmas.Bool.{ltb-true, lt-ltb}
 use Rattle.std.proofs.lemmas.Option.{none-some}
 use Rattle.model.specs.Topology.{IsIn}
 use Rattle.model.specs.State.{Config}
 use Rattle.runs.specs.Wants.{Lacks}
-use Rattle.serving.specs.Wire.{Call, Accepted, Told, Tells, Follows, is_failed}
-use Rattle.serving.specs.Answered.{accept_call, read_call, write_call}
 use Rattle.serving.specs.declared.wire.Accept.{Accept}
 use Rattle.serving.specs.declared.wire.Accept.TheVariants as accept
 use Rattle.serving.specs.declared.wire.Read.{Read}
 use Rattle.serving.specs.declared.wire.Read.TheVariants as read
 use Rattle.serving.specs.declared.wire.Write.{Write}
 use Rattle.serving.specs.declared.wire.Write.TheVariants as write
-use Rattle.serving.specs.Story.{Served, calls}
 use Rattle.serving.specs.Whole.{IsServed}
-use Rattle.serving.specs.Joined.{written_to}
-use Rattle.memory_wire.specs.Logs.{call_of, told_by, told_with}
 use Rattle.memory_wire.specs.Served.{TellsBytes}
-use Rattle.memory_wire.specs.declared.logs.Log.{Log}
 use Rattle.memory_wire.specs.declared.logs.Logged.{Logged}
 
 -- a call that didn't fail adds no failure

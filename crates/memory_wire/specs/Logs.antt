@@ -1,7 +1,7 @@
 -- What a log says (own).
 use Rattle.std.specs.Prelude.{ℕ, List, nat_lt, map, take, Option, Some, None, if◌then◌else◌}
 use Rattle.serving.specs.Wire.{Call, Told, Accepted, Not_accepted, Accept_failed, Got, Nothing_got, Read_ended}
-use Rattle.serving.specs.Wire.{Read_failed, Took, Nothing_taken, Write_failed, Closed, Welcomed, Rested}
+use Rattle.serving.specs.Wire.{Read_failed, Took, Nothing_taken, Write_failed, Closed, Welcomed, Parted, Rested}
 use Rattle.memory_wire.specs.declared.logs.Log.{Log}
 use Rattle.memory_wire.specs.declared.logs.Logged.{Logged}
 use Rattle.memory_wire.specs.declared.logs.Logged.TheVariants as logged
@@ -20,6 +20,7 @@ call_of (logged.NothingTaken s offered) = Nothing_taken s offered.items
 call_of (logged.WriteFailed s offered) = Write_failed s offered.items
 call_of (logged.Closed s) = Closed s
 call_of (logged.Welcomed s) = Welcomed s
+call_of (logged.Parted s) = Parted s
 call_of logged.Rested = Rested
 
 -- what a wire tells by such calls, where as many sockets came, named by their places

@@ -108,6 +108,10 @@ impl<W: Wire> Wire for Failing<W> {
         self.wire.welcome(socket);
     }
 
+    fn farewell(&mut self, socket: u64) {
+        self.wire.farewell(socket);
+    }
+
     fn rest(&mut self) {
         self.wire.rest();
     }

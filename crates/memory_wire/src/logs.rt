@@ -27,6 +27,7 @@ pub enum Logged {
     WriteFailed(u64, Vec<u8>),
     Closed(u64),
     Welcomed(u64),
+    Parted(u64),
     Rested,
 }
 

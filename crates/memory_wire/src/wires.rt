@@ -119,6 +119,10 @@ impl Wire for MemoryWire {
         self.log.add(Ok(Logged::Welcomed(socket)));
     }
 
+    fn farewell(&mut self, socket: u64) {
+        self.log.add(Ok(Logged::Parted(socket)));
+    }
+
     fn rest(&mut self) {
         self.log.add(Ok(Logged::Rested));
     }

@@ -1,3 +1,4 @@
+pub mod Names
 pub mod Rebuilt
 pub mod Whole
 pub mod Rows

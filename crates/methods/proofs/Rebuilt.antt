@@ -1,9 +1,5 @@
 -- A method is what its ids and its arguments say.
-use Rattle.std.proofs.Common.{◌≡◌, ℕ, Bool, false, List, [], ◌∷◌, refl, sym, ap, ◌∙◌}
-use Rattle.std.specs.Prelude.{◌==◌, if◌then◌else◌}
-use Rattle.model.specs.Grammar.{Argument, Octet, Short, Long, Long_long, Short_text, Long_text, Field_table, Bits, Ids, ids_of, arguments}
-use Rattle.model.specs.declared.methods.Method.{Method}
-use Rattle.model.specs.declared.methods.Method.TheVariants.{ConnectionStart, ConnectionStartOk, ConnectionTune, ConnectionTuneOk, ConnectionOpen, ConnectionOpenOk, ConnectionClose, ConnectionCloseOk, ChannelOpen, ChannelOpenOk, ChannelFlow, ChannelFlowOk, ChannelClose, ChannelCloseOk, ExchangeDeclare, ExchangeDeclareOk, ExchangeDelete, ExchangeBind, ExchangeUnbind, QueueDeclare, QueueDeclareOk, QueueBind, QueuePurge, QueuePurgeOk, QueueDelete, QueueUnbind, BasicQos, BasicQosOk, BasicConsume, BasicConsumeOk, BasicCancel, BasicCancelOk, BasicPublish, BasicReturn, BasicDeliver, BasicGet, BasicGetOk, BasicGetEmpty, BasicAck, BasicReject, BasicRecover, BasicRecoverOk, BasicNack, ConfirmSelect, ConfirmSelectOk}
+use Rattle.methods.proofs.Names.{◌≡◌, ℕ, Bool, false, List, [], ◌∷◌, refl, sym, ap, ◌∙◌, ◌==◌, if◌then◌else◌, Argument, Octet, Short, Long, Long_long, Short_text, Long_text, Field_table, Bits, Ids, ids_of, arguments, Method, ConnectionStart, ConnectionStartOk, ConnectionTune, ConnectionTuneOk, ConnectionOpen, ConnectionOpenOk, ConnectionClose, ConnectionCloseOk, ChannelOpen, ChannelOpenOk, ChannelFlow, ChannelFlowOk, ChannelClose, ChannelCloseOk, ExchangeDeclare, ExchangeDeclareOk, ExchangeDelete, ExchangeBind, ExchangeUnbind, QueueDeclare, QueueDeclareOk, QueueBind, QueuePurge, QueuePurgeOk, QueueDelete, QueueUnbind, BasicQos, BasicQosOk, BasicConsume, BasicConsumeOk, BasicCancel, BasicCancelOk, BasicPublish, BasicReturn, BasicDeliver, BasicGet, BasicGetOk, BasicGetEmpty, BasicAck, BasicReject, BasicRecover, BasicRecoverOk, BasicNack, ConfirmSelect, ConfirmSelectOk}
 
 -- ---- from several arguments
 

@@ -1,13 +1,7 @@
 -- Arguments that are a method's are spelled as the method is.
-use Rattle.std.proofs.Common.{◌≡◌, ℕ, List, [], ◌++◌, refl, sym, ap, subst, ◌∙◌, append-nil}
-use Rattle.std.specs.Prelude.{Option, Some, None}
-use Rattle.std.specs.Int.{w16, to_be_bytes}
-use Rattle.std.specs.List.{AllByRecursion, flat_map}
-use Rattle.model.specs.Grammar.{Argument, argument, IsArgument, ids_of, arguments, method_bytes, IsMethod}
+use Rattle.methods.proofs.Names.{◌≡◌, ℕ, List, [], ◌++◌, refl, sym, ap, subst, ◌∙◌, append-nil, None, w16, to_be_bytes, AllByRecursion, flat_map, Argument, argument, IsArgument, ids_of, arguments, method_bytes, IsMethod, Method, Pieces, piece_seen, onto_arguments, given}
+use Rattle.std.specs.Prelude.{Option, Some}
 use Rattle.model.specs.Headers.{value_of, IsValue}
-use Rattle.model.specs.declared.methods.Method.{Method}
-use Rattle.methods.specs.declared.pieces.Pieces.{Pieces}
-use Rattle.methods.specs.Pieces.{piece_seen, onto_arguments, given}
 use Rattle.methods.specs.Putting.{pieces_bytes, AreSpelled}
 
 abbrev Fit : List Argument → Type 0

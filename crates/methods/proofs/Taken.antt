@@ -1,11 +1,7 @@
 -- Five arguments that are taken one after another are all that is there.
-use Rattle.std.proofs.Common.{◌≡◌, ◌≤◌, ℕ, List, [], ◌∷◌, length, Bool, true, false, refl, sym, ap, ◌∙◌, arith}
-use Rattle.std.specs.Prelude.{◌==◌, if◌then◌else◌, Option, Some, None, option_map}
-use Rattle.model.specs.Grammar.{Argument}
-use Rattle.field_table.specs.Arguments.{arguments_at}
+use Rattle.methods.proofs.Names.{◌≡◌, ◌≤◌, ℕ, List, [], ◌∷◌, length, Bool, true, false, refl, sym, ap, ◌∙◌, arith, ◌==◌, if◌then◌else◌, None, option_map, Argument, arguments_at, Pieces, piece_seen, onto_arguments, first_kind, others_of, AreOf, kinds_in}
+use Rattle.std.specs.Prelude.{Option, Some}
 use Rattle.methods.specs.declared.pieces.Kind.{Kind}
-use Rattle.methods.specs.declared.pieces.Pieces.{Pieces}
-use Rattle.methods.specs.Pieces.{piece_seen, onto_arguments, first_kind, others_of, AreOf, kinds_in}
 use Rattle.methods.specs.Taking.{IsTaken, AreRead}
 
 none_left : (ks : List Kind) → length ks ≤ 5 → others_of (others_of (others_of (others_of (others_of ks)))) ≡ []

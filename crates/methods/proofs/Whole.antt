@@ -1,15 +1,10 @@
 -- What was read of the arguments tells what the payload says.
-use Rattle.std.proofs.Common.{◌≡◌, ℕ, ◌^◌, ◌<◌, ◌≤◌, Bool, true, false, cond, List, [], ◌++◌, map, length, drop, Option, Some, Result, Ok, Err, ◌⊎◌, inl, inr, append_assoc, refl, sym, ap, subst, ◌∙◌, append-nil, arith}
-use Rattle.std.specs.Prelude.{◌==◌, ◌||◌, ◌&&◌}
+use Rattle.methods.proofs.Names.{◌≡◌, ℕ, ◌^◌, ◌<◌, ◌≤◌, Bool, true, false, cond, List, [], ◌++◌, map, length, drop, Result, Ok, Err, ◌⊎◌, inl, inr, append_assoc, refl, sym, ap, subst, ◌∙◌, append-nil, arith, ◌==◌, ◌||◌, ◌&&◌, w16, to_be_bytes, AllByRecursion, flat_map, Argument, argument, IsArgument, Ids, ids, ids_of, arguments, method_bytes, IsMethod, class_at, method_at, is_known, is_left_out, is_unread, Spells, exact, any_rest, SaysMethod, said, too_short, unknown, left_out, bad_arguments, Method, ConnectionCloseOk, ExchangeDelete, ExchangeBind, ExchangeUnbind, QueueBind, QueueDelete, QueueUnbind, kind_of, arguments_at}
+use Rattle.std.proofs.Common.{Option, Some}
 use Rattle.std.proofs.lemmas.Bool.{eqb-true}
 use Rattle.methods.specs.Laws.{OneMethod}
-use Rattle.std.specs.Int.{w16, to_be_bytes}
-use Rattle.std.specs.List.{AllByRecursion, flat_map}
 use Rattle.std.proofs.lemmas.Nat.{from_be_bytes-to_be_bytes_2}
-use Rattle.model.specs.Grammar.{Argument, argument, IsArgument, Ids, ids, ids_of, arguments, method_bytes, IsMethod, class_at, method_at, is_known, is_left_out, is_unread, Spells, exact, any_rest, SaysMethod, said, too_short, unknown, left_out, bad_arguments}
-use Rattle.model.specs.declared.methods.Method.{Method}
-use Rattle.model.specs.declared.methods.Method.TheVariants.{ConnectionCloseOk, ExchangeDelete, ExchangeBind, ExchangeUnbind, QueueBind, QueueDelete, QueueUnbind}
-use Rattle.field_table.specs.Arguments.{Kind, kind_of, arguments_at}
+use Rattle.field_table.specs.Arguments.{Kind}
 use Rattle.field_table.proofs.Exactly.{IsBytes, IsBytes-drop, IsKind, arguments_take, arguments_again, all_fit, all_sized, all_whole}
 use Rattle.methods.specs.declared.refusals.BadMethod.{BadMethod}
 use Rattle.methods.specs.declared.refusals.BadMethod.TheVariants.{FrameError, SyntaxError, CommandInvalid, NotImplemented, Memory}

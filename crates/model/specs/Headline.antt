@@ -8,7 +8,7 @@ use Rattle.model.specs.Broker.{Broker}
 use Rattle.model.specs.Agreement.{IsAgreed}
 use Rattle.model.specs.State.{Config}
 use Rattle.model.specs.Run.{Happening, notes_of, Stays, empty_broker}
-use Rattle.model.specs.History.{Occurrence, IsDecided, StaysOver, state_after, events_of, reloads_of, notes_over}
+use Rattle.model.specs.History.{Occurrence, IsDecided, NoneDone, StaysOver, state_after, in_force_after, events_of, reloads_of, notes_over}
 use Rattle.model.specs.Arrivals.{World, new_world, Plays, Shows, Seen, Shown}
 use Rattle.model.specs.Acks.{acked, HasAcksOf, EnteredOnce}
 use Rattle.model.specs.Nacks.{nacks_of, HasNacks}
@@ -24,7 +24,7 @@ use Rattle.model.specs.Noted.{PublishesAreTaken}
 use Rattle.model.specs.Settled.{SettlesAsAsked, NoneIsForgotten}
 use Rattle.model.specs.Alone.{ChangesOwnAlone, ArePresent}
 use Rattle.model.specs.LoggedIn.{EntersByLogin}
-use Rattle.model.specs.Tracing.{AreSafe}
+use Rattle.model.specs.Tracing.{AreKept, AreSafe}
 use Rattle.model.specs.declared.notes.Note.{Note}
 use Rattle.model.specs.declared.events.Arrival.{Arrival}
 
@@ -74,8 +74,11 @@ pub record KeepsPromises (f : Config) (os : List Occurrence) (last : Broker) (co
   pub events : KeepsOccurrences empty_broker os last
   -- each reload was done where nothing stood against it, or refused for the first thing that did, and then changed nothing
   pub reloads : AllByRecursion IsDecided (reloads_of os)
-  -- where nothing was reloaded, no guarantee forbids a message the queue where it stands at the end, nor one to which it may come from there by deaths
-  pub safe : reloads_of os ≡ [] → AreSafe f.topology f.guarantees last
+  -- where no reload was done, no guarantee forbids a message the queue where it stands at the end, nor one to which it may come from there by deaths
+  pub safe : NoneDone os → AreSafe f.topology f.guarantees last
+  -- whatever was reloaded, no guarantee then in force forbids a message a queue to which it may come by deaths from where it stands at the end, nor,
+  -- unless it stood when the last reload was done, the queue where it stands; and that queue is one of the topology in force
+  pub kept : AreKept (in_force_after f os) last
   -- after each event and each reload each message that is held is outstanding under its tag on the channel that holds it, and each that is
   -- outstanding there is held: so none is held by a channel that is not open
   pub agreed : AllByRecursion (λ (o : Occurrence). IsAgreed (state_after o).broker) os

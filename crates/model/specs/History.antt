@@ -1,5 +1,6 @@
 -- What happens in order where what is in force changes: events, and reloads between them (own).
 use Rattle.std.specs.Prelude.{◌≡◌, ℕ, List, [], ◌∷◌, ◌++◌, ◌⊎◌}
+use Rattle.std.specs.List.{AllByRecursion}
 use Rattle.model.specs.Broker.{Broker}
 use Rattle.model.specs.Step.{Is}
 use Rattle.model.specs.State.{Config, State, Step}
@@ -71,6 +72,16 @@ abbrev pub reloads_of : List Occurrence → List Reload
 reloads_of [] = []
 reloads_of (Of_event h ∷ os) = reloads_of os
 reloads_of (Of_reload r ∷ os) = r ∷ reloads_of os
+
+-- no reload was done: each was refused
+abbrev pub NoneDone : List Occurrence → Type 0
+NoneDone os = AllByRecursion IsRefused (reloads_of os)
+
+-- what is in force after them, where this was at first: what the last reload left in force
+abbrev pub in_force_after : Config → List Occurrence → Config
+in_force_after f [] = f
+in_force_after f (Of_event h ∷ os) = in_force_after f os
+in_force_after f (Of_reload r ∷ os) = in_force_after r.in_force os
 
 -- all that is noted at them, in order
 abbrev pub notes_over : List Occurrence → List Note

@@ -6,6 +6,7 @@
 
 mod scratch;
 mod sending;
+mod spare;
 mod spares;
 
 pub use frame::Buffer as Output;

@@ -1,11 +1,11 @@
 //! Storages that no output holds: those of outputs that were wholly taken, for outputs in which something is to wait next.
 
-ghost use Rattle.std.specs.Prelude.{◌≡◌, ◌≢◌, ◌≤◌, ◌<◌, ◌+◌, [], drop, slice_get, vec_capacity, vec_len, IfOk, OnOk, OnErr, Some};
+ghost use Rattle.std.specs.Prelude.{◌≡◌, ◌≢◌, ◌≤◌, ◌<◌, ◌+◌, ℕ, [], drop, slice_get, vec_capacity, vec_len, IfOk, IsOk, OnOk, OnErr, Some};
 ghost use Rattle.model.specs.Sending.{most_sent};
 ghost use Rattle.outputs.specs.Waiting.{HoldsNone};
-ghost use Rattle.outputs.specs.declared.spares.Spare.{Spare};
 
 use crate::Output;
+use crate::spare::Spare;
 use std::alloc::{AllocError, Global};
 use std::marker::Model;
 
@@ -25,13 +25,11 @@ const AT_HAND: usize = 16;
 /// Past those, one is freed that nobody took while so many came back.
 const LONG: u64 = 1024;
 
-/// A storage that no output holds.
-#[derive(Drop)]
-struct Spare {
-    storage: Vec<u8>,
-    /// How many had come back when it did.
-    since: u64,
-}
+/// How many storages the reserve has. They are allocated at the start, and again by [`Spares::hold`].
+const RESERVE: usize = 8;
+
+/// How many storages [`Spares::release`] keeps.
+const STAY: usize = 2;
 
 /// Storages for outputs. The one that came last is given first.
 #[derive(Drop)]
@@ -55,53 +53,102 @@ impl Model for Spares {
 /// Frees the first of all, if more than 16 are there and it has not been taken for long: 1,024 came back after it, of `count`.
 fn free_unused(all: &mut Vec<Spare>, count: u64)
     ensures few { vec_len all.old ≤ 16 → all.new ≡ all.old }
-    ensures unused { (s : Spare) → slice_get all.old.items 0 ≡ Some s → 16 < vec_len all.old → s.since + 1024 < count → all.new.items ≡ drop 1 all.old.items }
-    ensures used { (s : Spare) → slice_get all.old.items 0 ≡ Some s → count ≤ s.since + 1024 → all.new ≡ all.old }
+    ensures unused { (since : ℕ) → slice_get all.old.items 0 ≡ Some since → 16 < vec_len all.old → since + 1024 < count → all.new.items ≡ drop 1 all.old.items }
+    ensures used { (since : ℕ) → slice_get all.old.items 0 ≡ Some since → count ≤ since + 1024 → all.new ≡ all.old }
     ensures least { 16 ≤ vec_len all.old → 16 ≤ vec_len all.new }
     ensures most { vec_len all.new ≤ vec_len all.old }
     ensures capacity { vec_capacity all.new ≡ vec_capacity all.old }
 {
-    if all.len() <= AT_HAND || count <= all[0].since.saturating_add(LONG) {
+    if all.len() <= AT_HAND || count <= all[0].since().saturating_add(LONG) {
         return;
     }
     drop(all.remove(0));
 }
 
+/// Allocates a storage that came when `since` had come back.
+fn new_spare(alloc: Global, since: u64) -> Result<Spare, AllocError> {
+    let storage = Vec::with_capacity(alloc, FIRST)?;
+    Ok(Spare::new(storage, since))
+}
+
+/// Allocates storages until `all` has 8. If an allocation fails, those that were allocated stay in `all`.
+fn fill_up(alloc: Global, all: &mut Vec<Spare>, since: u64) -> Result<(), AllocError>
+    requires { 256 ≤ vec_capacity all.old }
+    ensures whole { OnOk result (8 ≤ vec_len all.new) }
+    ensures few { vec_len all.old ≤ 8 → vec_len all.new ≤ 8 }
+    ensures many { 8 ≤ vec_len all.old → vec_len all.new ≡ vec_len all.old }
+    ensures full { OnErr result (vec_len all.old < 8) }
+    ensures least { vec_len all.old ≤ vec_len all.new }
+    ensures capacity { vec_capacity all.new ≡ vec_capacity all.old }
+{
+    'filling: while all.len() < RESERVE {
+        let spare = new_spare(alloc, since)?;
+        all.push_reserved(spare);
+    }
+    Ok(())
+}
+
 impl Spares {
-    /// None yet, with room for as many as are kept, so that keeping one wants no memory.
+    /// Allocates the reserve, 8 storages of 1,125,536 bytes, and the list of spare ones, so that keeping one never allocates.
     pub fn new(alloc: Global) -> Result<Spares, AllocError>
-        ensures { IfOk result (λ s. s ≡ 0) }
+        ensures { IfOk result (λ s. s ≡ 8) }
     {
-        Ok(Spares {
+        let mut spares = Spares {
             alloc,
             spares: Vec::with_capacity(alloc, MOST_SPARE)?,
             returned: 0,
-        })
+        };
+        spares.hold()?;
+        Ok(spares)
     }
 
-    /// Makes room in an output for all that one event sends. One without storage gets a spare one, or a new one where none is
-    /// spare, with room for 65,536 bytes beside. Where memory is refused there was less room than one event wants.
+    /// Allocates storages until 8 are spare. Fails only if fewer than 8 were and an allocation fails. Those that were allocated are
+    /// spare then.
+    pub fn hold(&mut self) -> Result<(), AllocError>
+        ensures whole { OnOk result (8 ≤ self.new) }
+        ensures few { self.old ≤ 8 → self.new ≤ 8 }
+        ensures many { 8 ≤ self.old → self.new ≡ self.old }
+        ensures full { OnErr result (self.old < 8) }
+        ensures least { self.old ≤ self.new }
+    {
+        fill_up(self.alloc, &mut self.spares, self.returned)
+    }
+
+    /// Frees all spare storages but 2, so that other allocations have their memory.
+    pub fn release(&mut self)
+        ensures left { self.new ≤ 2 }
+        ensures few { self.old ≤ 2 → self.new ≡ self.old }
+    {
+        self.spares.truncate(STAY);
+    }
+
+    /// Makes room in an output for all that one event sends. One without storage gets a spare one, or if none is spare a new one, with room
+    /// for 65,536 bytes beside. Fails only if an allocation fails: there was less room than one event wants, and no spare storage for an output
+    /// without one.
     pub fn make_room(&mut self, output: &mut Output) -> Result<(), AllocError>
         ensures bytes { output.new.bytes ≡ output.old.bytes }
         ensures ok { OnOk result (most_sent ≤ output.new.room) }
         ensures first { output.old.storage ≡ 0 → self.old ≡ 0 → OnOk result (most_sent + 65536 ≤ output.new.room) }
         ensures kept { output.old.room ≤ output.new.room }
         ensures full { OnErr result (output.old.room < most_sent) }
-        // a spare one is used before a new one is made
+        // a spare one has room, and is used before a new one is made
+        ensures enough { output.old.storage ≡ 0 → 0 < self.old → IsOk result }
         ensures spent { output.old.storage ≡ 0 → 0 < self.old → self.old ≡ self.new + 1 }
         ensures rest { 0 < output.old.storage → self.new ≡ self.old }
+        ensures most { self.new ≤ self.old }
     {
         self.furnish(output);
         let wanted = if output.has_none() { FIRST } else { MOST_SENT };
         output.reserve(wanted)
     }
 
-    /// Takes the storage of an output in which nothing waits. It is spare from now on, or freed where 256 are, or where it has grown past
-    /// 1,125,536 bytes; of one in which something waits nothing is taken. Of more than 16 one is freed that nobody took for long.
+    /// Takes the storage of an output in which nothing waits. It is spare from now on; or freed if 256 are, if it has grown past 1,125,536
+    /// bytes, or if it has no room for what one event sends. If something waits, nothing is taken. Of more than 16 one is freed that nobody
+    /// took for long.
     pub fn take_back(&mut self, output: &mut Output)
         ensures bytes { output.new.bytes ≡ output.old.bytes }
         ensures none { HoldsNone output.new }
-        ensures kept { output.old.bytes ≡ [] → 0 < output.old.storage → output.old.storage ≤ 1125536 → self.old ≤ 16 → self.new ≡ self.old + 1 }
+        ensures kept { output.old.bytes ≡ [] → most_sent ≤ output.old.storage → output.old.storage ≤ 1125536 → self.old ≤ 16 → self.new ≡ self.old + 1 }
         ensures large { 1125536 < output.old.storage → self.new ≤ self.old }
         ensures freed { 256 ≤ self.old → self.new ≤ self.old }
         ensures most { self.new ≤ self.old + 1 }
@@ -123,7 +170,7 @@ impl Spares {
     pub fn take_lost(&mut self, output: &mut Output)
         ensures bytes { output.new.bytes ≡ [] }
         ensures none { output.new.storage ≡ 0 }
-        ensures kept { 0 < output.old.storage → output.old.storage ≤ 1125536 → self.old ≤ 16 → self.new ≡ self.old + 1 }
+        ensures kept { most_sent ≤ output.old.storage → output.old.storage ≤ 1125536 → self.old ≤ 16 → self.new ≡ self.old + 1 }
         ensures freed { 256 ≤ self.old → self.new ≤ self.old }
         ensures least { 16 ≤ self.old → 16 ≤ self.new }
     {
@@ -138,19 +185,21 @@ impl Spares {
         ensures room { output.old.room ≤ output.new.room }
         ensures spent { output.old.storage ≡ 0 → 0 < self.old → self.old ≡ self.new + 1 }
         ensures none { output.old.storage ≡ 0 → self.old ≡ 0 → output.new.storage ≡ 0 }
+        ensures enough { output.old.storage ≡ 0 → 0 < self.old → most_sent ≤ output.new.room }
         ensures rest { 0 < output.old.storage → self.new ≡ self.old }
+        ensures most { self.new ≤ self.old }
     {
         if !output.has_none() {
             return;
         }
         if let Some(spare) = self.spares.pop() {
-            drop(output.move_into(spare.storage));
+            drop(output.move_into(spare.into_storage()));
         }
     }
 
-    /// Keeps a storage that came back, unless it is large or as many as can be are kept. One is freed that nobody took for long.
+    /// Keeps a storage that came back, unless it is large or small, or as many as can be are kept. One is freed that nobody took for long.
     fn keep(&mut self, storage: Vec<u8>)
-        ensures kept { vec_capacity storage ≤ 1125536 → self.old ≤ 16 → self.new ≡ self.old + 1 }
+        ensures kept { most_sent ≤ vec_capacity storage → vec_capacity storage ≤ 1125536 → self.old ≤ 16 → self.new ≡ self.old + 1 }
         ensures large { 1125536 < vec_capacity storage → self.new ≤ self.old }
         ensures freed { 256 ≤ self.old → self.new ≤ self.old }
         ensures most { self.new ≤ self.old + 1 }
@@ -158,10 +207,11 @@ impl Spares {
     {
         self.returned = self.returned.saturating_add(1);
         free_unused(&mut self.spares, self.returned);
-        if storage.capacity() > FIRST || self.spares.len() >= MOST_SPARE {
+        let size = storage.capacity();
+        if size < MOST_SENT || size > FIRST || self.spares.len() >= MOST_SPARE {
             return;
         }
-        let since = self.returned;
-        self.spares.push_reserved(Spare { storage, since });
+        self.spares
+            .push_reserved(Spare::new(storage, self.returned));
     }
 }

@@ -1,12 +1,7 @@
 -- What chains of links lead to, and marks.
-use Rattle.std.proofs.Common.{◌∙◌, ◌≡◌, ◌⊎◌, ℕ, zero, suc, ◌+◌, ◌<◌, ◌≤◌, Bool, true, false, List, [], ◌∷◌, length, refl, sym, ap, subst, inl, inr, Some, None, arith, get_or, set}
-use Rattle.std.specs.Prelude.{slice_index_or, slice_get, ◌&&◌, not, replicate}
-use Rattle.std.proofs.lemmas.List.{length-replicate}
-use Rattle.std.proofs.lemmas.Bool.{false≢true}
-use Rattle.model.specs.Topology.{IsIn}
-use Rattle.exchange_graph.specs.Marks.{IsSet}
-use Rattle.paths.specs.declared.reach.Hop.{Hop}
-use Rattle.paths.specs.Reach.{LinksAreWithin, Chain, still, along, IsLinkPending, MarksBegin}
+use Rattle.paths.proofs.Names.{◌∙◌, ◌≡◌, ℕ, zero, suc, ◌+◌, ◌<◌, ◌≤◌, Bool, true, List, [], ◌∷◌, length, refl, sym, ap, subst, inl, inr, Some, None, arith, get_or, set, slice_index_or, slice_get, ◌&&◌, not, length-replicate, false≢true, IsIn, IsSet, Hop, LinksAreWithin, Chain, still, along, IsLinkPending, MarksBegin}
+use Rattle.std.proofs.Common.{◌⊎◌, false}
+use Rattle.std.specs.Prelude.{replicate}
 
 pub chain_on : (links : List Hop) {a b : ℕ} → Chain links a b → (l : Hop) (c : ℕ) → IsIn l links → l.from ≡ b → l.to ≡ c → Chain links a c
 chain_on links still l c i f t = along l i f t still

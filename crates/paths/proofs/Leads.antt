@@ -1,25 +1,10 @@
 -- What leads to a queue is what chains of links lead to from it.
-use Rattle.std.proofs.Common.{◌≡◌, ℕ, zero, suc, ◌+◌, ◌<◌, ◌≤◌, List, [], ◌∷◌, ◌++◌, Bool, true, false, refl, sym, ap, ◌∙◌, subst, length, take, get_or, inl, inr, Option, Some, None, arith}
-use Rattle.std.specs.Prelude.{◌⊎◌, Decides, slice_get}
-use Rattle.std.proofs.lemmas.Bool.{false≢true}
-use Rattle.std.proofs.lemmas.List.{take_all, take_more}
-use Rattle.model.specs.Words.{Text}
-use Rattle.model.specs.Topology.{Topology, IsIn}
-use Rattle.model.specs.Routing.{of_key, Comes}
-use Rattle.model.specs.declared.topologies.Place.{Place}
+use Rattle.paths.proofs.Names.{◌≡◌, ℕ, zero, suc, ◌+◌, ◌<◌, ◌≤◌, List, [], ◌∷◌, ◌++◌, Bool, true, refl, sym, ap, ◌∙◌, subst, length, take, get_or, inl, inr, Option, Some, None, arith, Decides, slice_get, false≢true, take_all, take_more, Text, Topology, IsIn, of_key, Comes, Place, comes_fixed, IsSet, Hop, Stand, Visit, AreReached, Chain, LinksAreWithin, still, along, fixed_of, spot_place, IsRefixed, Refixes, AreExplored, Onto, there, comes, AddsFront, AddsLink, AreLeading, AreLinked, ComesAfter, IsFront, IsLeading, IsSource, LinkHolds, LinksAll, SomeLeads, links_from, in_get}
+use Rattle.std.proofs.Common.{false}
+use Rattle.std.specs.Prelude.{◌⊎◌}
 use Rattle.model.specs.declared.topologies.Place.TheVariants as place
-use Rattle.laws.proofs.Safe.{comes_fixed}
 use Rattle.laws.proofs.Counts.{in_front, in_back, in-append}
-use Rattle.exchange_graph.specs.Marks.{IsSet}
-use Rattle.paths.specs.declared.reach.Hop.{Hop}
-use Rattle.paths.specs.declared.stands.Stand.{Stand}
-use Rattle.paths.specs.declared.visits.Visit.{Visit}
-use Rattle.paths.specs.Reach.{AreReached, Chain, LinksAreWithin, still, along}
-use Rattle.paths.specs.Stands.{fixed_of, spot_place}
-use Rattle.paths.specs.Onward.{IsRefixed, Refixes}
-use Rattle.paths.specs.Exploring.{AreExplored, Onto, there, comes}
-use Rattle.paths.specs.Leading.{AddsFront, AddsLink, AreLeading, AreLinked, ComesAfter, IsFront, IsLeading, IsSource, Leads as Stands, LinkHolds, LinksAll, SomeLeads, links_from}
-use Rattle.topology_drafts.proofs.Members.{in_get}
+use Rattle.paths.specs.Leading.{Leads as Stands}
 use Rattle.paths.proofs.Traced.{below_or, in_at}
 use Rattle.paths.proofs.Chains.{chain_on}
 use Rattle.paths.proofs.Explored.{Trail, refixed_key, refixed_once, refixed_within, trail_comes, trail_of, walk}

@@ -1,3 +1,4 @@
+pub mod Names
 pub mod Marked
 pub mod Stepped
 pub mod Visited

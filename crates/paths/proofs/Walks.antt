@@ -1,17 +1,10 @@
 -- How a message goes along a path of names.
-use Rattle.std.proofs.Common.{◌≡◌, ℕ, ◌+◌, ◌<◌, List, [], ◌∷◌, Bool, true, false, refl, sym, ap, ◌∙◌, subst, length, drop, get_or, inl, inr, Option, Some, None}
-use Rattle.std.specs.Prelude.{◌↔◌, Decides, ◌||◌, ◌&&◌}
-use Rattle.std.specs.List.{list_any}
-use Rattle.std.proofs.lemmas.List.{drop_more}
-use Rattle.model.specs.Words.{Text}
-use Rattle.model.specs.Topology.{Topology, IsIn}
-use Rattle.model.specs.Routing.{of_key, Edge, reading_after, fixed_after, key_after}
-use Rattle.model.specs.Refutations.{Walk, ends, edge, dies, name_of}
-use Rattle.model.specs.declared.topologies.Place.{Place}
+use Rattle.paths.proofs.Names.{◌≡◌, ℕ, ◌+◌, ◌<◌, List, [], ◌∷◌, Bool, true, refl, sym, ap, ◌∙◌, subst, length, drop, get_or, inl, inr, Option, Some, None, ◌↔◌, Decides, ◌||◌, ◌&&◌, list_any, drop_more, Text, Topology, IsIn, of_key, Edge, reading_after, fixed_after, key_after, Walk, ends, name_of, Place, KeyedPlace, Queue, WalksOn, SomeGoesOn, NextStand, into, AreOneOn, is_queue}
+use Rattle.std.proofs.Common.{false}
+use Rattle.model.specs.Refutations.{edge, dies}
 use Rattle.model.specs.declared.topologies.Place.TheVariants as place
-use Rattle.paths.specs.declared.keyed.KeyedPlace.{KeyedPlace}
-use Rattle.paths.specs.declared.keyed.KeyedPlace.TheVariants.{Exchange, Queue}
-use Rattle.paths.specs.Keyed.{WalksOn, SomeGoesOn, NextStand, on, into, dies as dead, AreOneOn, is_queue}
+use Rattle.paths.specs.declared.keyed.KeyedPlace.TheVariants.{Exchange}
+use Rattle.paths.specs.Keyed.{on, dies as dead}
 
 -- ---- a walk goes by the key alone
 

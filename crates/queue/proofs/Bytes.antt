@@ -1,11 +1,6 @@
 -- The bytes of the ready bodies, added up.
-use Rattle.std.proofs.Common.{◌≡◌, ℕ, ◌+◌, ◌<◌, List, [], ◌∷◌, length, get_or, drop, filter, refl, sym, ap, ◌∙◌, arith, Bool, true, false, cond}
-use Rattle.std.specs.List.{sum_by}
+use Rattle.queue.proofs.Names.{◌≡◌, ℕ, ◌+◌, ◌<◌, List, [], ◌∷◌, length, get_or, drop, filter, refl, sym, ap, ◌∙◌, arith, Bool, true, false, cond, sum_by, drop_more, is_ready, body_bytes, ready_bytes, Entry, total, ready_size}
 use Rattle.std.proofs.lemmas.List.Sums.{sum_by-cons}
-use Rattle.std.proofs.lemmas.List.{drop_more}
-use Rattle.model.specs.Broker.{is_ready, body_bytes, ready_bytes}
-use Rattle.model.specs.declared.messages.Entry.{Entry}
-use Rattle.queue.specs.Blocks.{total, ready_size}
 
 -- the ready ones count for their bodies
 pub total-ready : (es : List Entry) → total ready_size es ≡ ready_bytes es

@@ -1,13 +1,7 @@
 -- The calls of a queue in blocks.
-use Rattle.std.proofs.Common.{◌≡◌, ℕ, ◌+◌, ◌-◌, ◌<◌, ◌≤◌, List, [], get_or, map, filter, sym, ap, ◌∙◌, subst, arith, Bool, true, not, Option, Some, None, find, is_some}
-use Rattle.std.proofs.lemmas.Bool.{false≢true}
+use Rattle.queue.proofs.Names.{◌≡◌, ℕ, ◌+◌, ◌-◌, ◌<◌, ◌≤◌, List, [], get_or, map, filter, sym, ap, ◌∙◌, subst, arith, Bool, true, Option, Some, None, find, is_some, false≢true, is_ready, body_bytes, freed, is_under, is_held_as, held_as, freed_now, change_first, without_first, Entry, Holder, requeued, joined, some_pass, size_of, IsCounted}
+use Rattle.std.proofs.Common.{not}
 use Rattle.std.proofs.Math.ListN.{set}
-use Rattle.model.specs.Broker.{is_ready, body_bytes}
-use Rattle.model.specs.Entries.{freed, is_under, is_held_as, held_as, freed_now, change_first, without_first}
-use Rattle.model.specs.declared.messages.Entry.{Entry}
-use Rattle.model.specs.declared.messages.Holder.{Holder}
-use Rattle.queue.specs.Line.{requeued}
-use Rattle.queue.specs.Blocks.{joined, some_pass, size_of, IsCounted}
 use Rattle.queue.proofs.Joined.{FirstIn, joined_found, joined_changed, joined_without, joined_none, nowhere_in, only_in, part_once, once_left_out, none_changed_in, none_without_in}
 use Rattle.queue.proofs.Slotted.{not_found}
 use Rattle.queue.proofs.Counts.{hold_counted, take_counted, remove_counted, release_counted, ready_least, held_least, freed_once}

@@ -1,14 +1,6 @@
 -- What is kept beside the entries of a queue, at each change.
-use Rattle.std.proofs.Common.{◌≡◌, ℕ, suc, ◌+◌, ◌*◌, ◌<◌, ◌≤◌, List, [], ◌∷◌, ◌++◌, length, map, filter, refl, sym, ap, ◌∙◌, subst, arith, Bool, true, false, cond, not, Option, Some, None, find, is_some}
-use Rattle.std.proofs.lemmas.Bool.{false≢true, le-ltb, ltb-false}
-use Rattle.model.specs.Broker.{is_ready, body_bytes}
-use Rattle.model.specs.Entries.{freed, is_under, is_held_as, held_as, freed_now, change_first, without_first}
-use Rattle.model.specs.declared.messages.Entry.{Entry}
-use Rattle.model.specs.Message.{Message}
-use Rattle.model.specs.declared.messages.Holder.{Holder}
-use Rattle.model.specs.declared.messages.Mark.TheVariants.{Ready}
-use Rattle.queue.specs.Slots.{num, tally}
-use Rattle.queue.specs.Blocks.{some_pass, total, ready_size, is_long, IsCounted}
+use Rattle.queue.proofs.Names.{◌≡◌, ℕ, suc, ◌+◌, ◌*◌, ◌<◌, ◌≤◌, List, [], ◌∷◌, ◌++◌, length, map, filter, refl, sym, ap, ◌∙◌, subst, arith, Bool, true, false, cond, Option, Some, None, find, is_some, false≢true, le-ltb, ltb-false, is_ready, body_bytes, freed, is_under, is_held_as, held_as, freed_now, change_first, without_first, Entry, Message, Holder, Ready, num, tally, some_pass, total, ready_size, is_long, IsCounted}
+use Rattle.std.proofs.Common.{not}
 use Rattle.queue.proofs.Places.{tally-most}
 use Rattle.queue.proofs.Joined.{once_mapped, once_left_out}
 use Rattle.queue.proofs.Slotted.{held_not_ready, freed_there, freed_same, same_held, same_count, not_found}

@@ -1,13 +1,6 @@
 -- Blocks that need the slots they keep.
-use Rattle.std.proofs.Common.{◌≡◌, ℕ, zero, suc, ◌+◌, ◌-◌, ◌*◌, ◌<◌, ◌≤◌, List, [], ◌∷◌, ◌++◌, length, get_or, map, filter, refl, sym, ap, ◌∙◌, subst, arith, Bool, true, false, cond, inl, inr}
-use Rattle.std.specs.Prelude.{nat_lt, ◌||◌, ◌⊎◌}
-use Rattle.std.proofs.lemmas.Bool.{ltb-false}
-use Rattle.std.proofs.lemmas.Bool.Decides.{eqb_tells, leb_tells}
+use Rattle.queue.proofs.Names.{◌≡◌, ℕ, zero, suc, ◌+◌, ◌-◌, ◌*◌, ◌<◌, ◌≤◌, List, [], ◌∷◌, ◌++◌, length, get_or, map, filter, refl, sym, ap, ◌∙◌, subst, arith, Bool, true, false, cond, inl, inr, nat_lt, ◌||◌, ◌⊎◌, ltb-false, eqb_tells, leb_tells, get_or-set_same, get_or-set_other, length-set, length-append, stood_now, Stretch, parts, joined, is_in_use, stood_block, no_stretch, block_at, slots_of, AreFilled, AreFilledBut, IsFilled, IsHeld, IsBounded, NeedBoth, NeedBothAt, IsSpent, IsNotSpent, AreNeeded, AreJoined}
 use Rattle.std.proofs.Math.ListN.{set}
-use Rattle.std.proofs.lemmas.List.{get_or-set_same, get_or-set_other, length-set, length-append}
-use Rattle.model.specs.Reloading.{stood_now}
-use Rattle.queue.specs.Blocks.{Stretch, parts, joined, is_in_use, stood_block, no_stretch, block_at, slots_of, AreFilled, AreFilledBut, IsFilled, IsHeld, IsBounded}
-use Rattle.queue.specs.Blocks.{NeedBoth, NeedBothAt, IsSpent, IsNotSpent, AreNeeded, AreJoined}
 use Rattle.queue.proofs.Signed.{at_default}
 use Rattle.queue.proofs.Stood.{length-mapped}
 

@@ -1,8 +1,7 @@
 -- The first of a list that passes, by its place.
-use Rattle.std.proofs.Common.{◌≡◌, ℕ, suc, ◌+◌, ◌<◌, List, [], ◌∷◌, ◌++◌, length, get_or, set, take, drop, find, filter, refl, sym, ap, subst, arith, Bool, true, false, cond, Option, Some, None}
+use Rattle.queue.proofs.Names.{◌≡◌, ℕ, suc, ◌+◌, ◌<◌, List, [], ◌∷◌, ◌++◌, length, get_or, take, drop, find, filter, refl, sym, ap, subst, arith, Bool, true, false, cond, Option, Some, None, position_from, change_first, without_first}
+use Rattle.std.proofs.Common.{set}
 use Rattle.std.specs.Prelude.{not}
-use Rattle.std.specs.List.{position_from}
-use Rattle.model.specs.Entries.{change_first, without_first}
 
 -- It stands at this place.
 pub record IsFirstAt {X : Type 0} (p : X → Bool) (xs : List X) (i : ℕ) : Type 0 where

@@ -1,10 +1,7 @@
 -- What stands in blocks, one after another.
-use Rattle.std.proofs.Common.{◌≡◌, ℕ, zero, suc, ◌+◌, ◌<◌, ◌≤◌, List, [], ◌∷◌, ◌++◌, length, get_or, map, filter, refl, sym, ap, ◌∙◌, arith, Bool, true, false, cond, not, Option, Some, None, find, is_some, append_assoc, append-nil}
-use Rattle.std.proofs.lemmas.Bool.{false≢true}
+use Rattle.queue.proofs.Names.{◌≡◌, ℕ, zero, suc, ◌+◌, ◌<◌, ◌≤◌, List, [], ◌∷◌, ◌++◌, length, get_or, map, filter, refl, sym, ap, ◌∙◌, arith, Bool, true, false, cond, Option, Some, None, find, is_some, append_assoc, append-nil, false≢true, change_first, without_first, num, tally, joined, some_pass}
+use Rattle.std.proofs.Common.{not}
 use Rattle.std.proofs.Math.ListN.{set}
-use Rattle.model.specs.Entries.{change_first, without_first}
-use Rattle.queue.specs.Slots.{num, tally}
-use Rattle.queue.specs.Blocks.{joined, some_pass}
 
 -- ---- two lists, one behind the other
 

@@ -1,9 +1,7 @@
 -- Entries by their slots.
-use Rattle.std.proofs.Common.{◌≡◌, ℕ, zero, suc, ◌+◌, ◌<◌, ◌≤◌, List, [], ◌∷◌, ◌++◌, length, get_or, map, filter, refl, ap, ◌∙◌, arith, Bool, true, false, cond, not, Option, Some, None, find, is_some}
-use Rattle.std.proofs.lemmas.Bool.{false≢true}
+use Rattle.queue.proofs.Names.{◌≡◌, ℕ, zero, suc, ◌+◌, ◌<◌, ◌≤◌, List, [], ◌∷◌, ◌++◌, length, get_or, map, filter, refl, ap, ◌∙◌, arith, Bool, true, false, cond, Option, Some, None, find, is_some, false≢true, change_first, without_first, somes, slot_has, changed, num, tally}
+use Rattle.std.proofs.Common.{not}
 use Rattle.std.proofs.Math.ListN.{set}
-use Rattle.model.specs.Entries.{change_first, without_first}
-use Rattle.queue.specs.Slots.{somes, slot_has, changed, num, tally}
 
 pub num-some : (b : Bool) → num b ≡ 1 → b ≡ true
 num-some true e = refl

@@ -1,10 +1,5 @@
 -- Ready entries that are taken out, and their publish numbers.
-use Rattle.std.proofs.Common.{◌≡◌, ◌∙◌, ◌+◌, ◌<◌, ◌≤◌, ◌++◌, ◌∷◌, [], ℕ, Bool, true, false, cond, List, length, get_or, drop, map, filter, sym, ap, append-nil, arith, None, find}
-use Rattle.std.proofs.lemmas.List.{drop_more, length-append, length-map}
-use Rattle.model.specs.Broker.{is_ready}
-use Rattle.model.specs.declared.messages.Entry.{Entry}
-use Rattle.model.specs.Entries.{number_of}
-use Rattle.queue.specs.Line.{ready_count}
+use Rattle.queue.proofs.Names.{◌≡◌, ◌∙◌, ◌+◌, ◌<◌, ◌≤◌, ◌++◌, ◌∷◌, [], ℕ, Bool, true, false, cond, List, length, get_or, drop, map, filter, sym, ap, append-nil, arith, None, find, drop_more, length-append, length-map, is_ready, Entry, number_of, ready_count}
 use Rattle.queue.proofs.Slotted.{none_filtered}
 
 -- the numbers are all there

@@ -1,14 +1,7 @@
 -- A block goes, and what stood in it stands in the one before it.
-use Rattle.std.proofs.Common.{◌≡◌, ℕ, zero, suc, ◌+◌, ◌<◌, ◌≤◌, List, [], ◌∷◌, ◌++◌, length, get_or, refl, sym, ap, ◌∙◌, subst, arith, append_assoc, Bool}
-use Rattle.std.specs.List.{remove}
+use Rattle.queue.proofs.Names.{◌≡◌, ℕ, zero, suc, ◌+◌, ◌<◌, ◌≤◌, List, [], ◌∷◌, ◌++◌, length, get_or, refl, sym, ap, ◌∙◌, subst, arith, append_assoc, Bool, remove, length-set, is_held_as, Entry, Holder, tally, Stretch, parts, joined, no_stretch, block_at, room_after, last_room, AreJoined, AreApart}
 use Rattle.std.proofs.Math.ListN.{set}
-use Rattle.std.proofs.lemmas.List.{length-set}
 use Rattle.std.proofs.lemmas.List.Edits.{length-remove, get_or-remove_below, get_or-remove_above}
-use Rattle.model.specs.Entries.{is_held_as}
-use Rattle.model.specs.declared.messages.Entry.{Entry}
-use Rattle.model.specs.declared.messages.Holder.{Holder}
-use Rattle.queue.specs.Slots.{tally}
-use Rattle.queue.specs.Blocks.{Stretch, parts, joined, no_stretch, block_at, room_after, last_room, AreJoined, AreApart}
 use Rattle.queue.proofs.Joined.{tally-both}
 use Rattle.queue.proofs.Signed.{parts-at}
 use Rattle.queue.proofs.Filled.{at_block, there, elsewhere}

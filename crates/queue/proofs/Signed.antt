@@ -1,18 +1,6 @@
 -- Blocks, the bits that say which of them have a ready message, and the room of the last.
-use Rattle.std.proofs.Common.{◌≡◌, ℕ, zero, suc, ◌+◌, ◌-◌, ◌<◌, ◌≤◌, List, [], ◌∷◌, ◌++◌, length, get_or, map, filter, refl, sym, ap, ◌∙◌, subst, arith, Bool, true, false, cond, Some, find, is_some, inl, inr}
-use Rattle.std.specs.Prelude.{nat_lt, ◌==◌, ◌||◌}
-use Rattle.std.proofs.lemmas.Bool.{false≢true, ltb-false}
-use Rattle.std.proofs.lemmas.Bool.Decides.{eqb_tells, leb_tells}
+use Rattle.queue.proofs.Names.{◌≡◌, ℕ, zero, suc, ◌+◌, ◌-◌, ◌<◌, ◌≤◌, List, [], ◌∷◌, ◌++◌, length, get_or, map, filter, refl, sym, ap, ◌∙◌, subst, arith, Bool, true, false, cond, Some, find, is_some, inl, inr, nat_lt, ◌==◌, ◌||◌, false≢true, ltb-false, eqb_tells, leb_tells, get_or-set_same, get_or-set_other, map-set, is_ready, stood_now, Entry, Message, Ready, IsNextMark, bit_of, num, SlotBits, BitTurned, Stretch, parts, joined, room_after, last_room, some_pass, is_in_use, stood_block, AreBlocksSigned}
 use Rattle.std.proofs.Math.ListN.{set}
-use Rattle.std.proofs.lemmas.List.{get_or-set_same, get_or-set_other, map-set}
-use Rattle.model.specs.Broker.{is_ready}
-use Rattle.model.specs.Reloading.{stood_now}
-use Rattle.model.specs.declared.messages.Entry.{Entry}
-use Rattle.model.specs.Message.{Message}
-use Rattle.model.specs.declared.messages.Mark.TheVariants.{Ready}
-use Rattle.marks.specs.Places.{IsNextMark, bit_of}
-use Rattle.queue.specs.Slots.{num, SlotBits, BitTurned}
-use Rattle.queue.specs.Blocks.{Stretch, parts, joined, room_after, last_room, some_pass, is_in_use, stood_block, AreBlocksSigned}
 use Rattle.queue.proofs.Places.{num-some, num-none}
 use Rattle.queue.proofs.Joined.{FirstIn, joined_mapped}
 

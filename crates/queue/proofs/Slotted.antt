@@ -1,21 +1,8 @@
 -- What is kept beside the slots of a queue, at each change.
-use Rattle.std.proofs.Common.{◌≡◌, ℕ, zero, suc, ◌+◌, ◌<◌, ◌≤◌, List, [], ◌∷◌, ◌++◌, length, get_or, map, filter, refl, sym, ap, ◌∙◌, subst, arith, Bool, true, false, cond, not, Option, Some, None, find, is_some, inl, inr, eqb, append_assoc}
-use Rattle.std.specs.Prelude.{◌&&◌, ◌==◌, IfSome, IfNone}
-use Rattle.std.proofs.lemmas.Bool.{false≢true}
-use Rattle.std.proofs.lemmas.Bool.Decides.{eqb_tells, leb_tells}
+use Rattle.queue.proofs.Names.{◌≡◌, ℕ, zero, suc, ◌+◌, ◌<◌, ◌≤◌, List, [], ◌∷◌, ◌++◌, length, get_or, map, filter, refl, sym, ap, ◌∙◌, subst, arith, Bool, true, false, cond, Option, Some, None, find, is_some, inl, inr, eqb, append_assoc, ◌&&◌, ◌==◌, IfSome, IfNone, false≢true, eqb_tells, leb_tells, get_or-set_same, get_or-set_other, map-set, is_ready, freed, is_under, is_held_by, is_held_as, held_as, freed_now, without_first, number_of, Entry, Message, Holder, Ready, Held, IsNextMark, Differs, bit_of, ready_count, Slot, somes, slot_has, changed, num, tally, SlotBits, BitTurned, SlotsAreMarked, AreSigned, BitsShow, HasPlaces, contents}
+use Rattle.std.proofs.Common.{not}
 use Rattle.std.proofs.Math.ListN.{set}
-use Rattle.std.proofs.lemmas.List.{get_or-set_same, get_or-set_other, map-set}
-use Rattle.model.specs.Broker.{is_ready}
-use Rattle.model.specs.Entries.{freed, is_under, is_held_by, is_held_as, held_as, freed_now, without_first, number_of}
-use Rattle.model.specs.declared.messages.Entry.{Entry}
-use Rattle.model.specs.Message.{Message}
-use Rattle.model.specs.declared.messages.Holder.{Holder}
 use Rattle.model.specs.declared.messages.Mark.{Mark}
-use Rattle.model.specs.declared.messages.Mark.TheVariants.{Ready, Held}
-use Rattle.marks.specs.Places.{IsNextMark, Differs, bit_of}
-use Rattle.queue.specs.Line.{ready_count}
-use Rattle.queue.specs.declared.slots.Slot.{Slot}
-use Rattle.queue.specs.Slots.{somes, slot_has, changed, num, tally, SlotBits, BitTurned, SlotsAreMarked, AreSigned, BitsShow, HasPlaces, contents}
 use Rattle.queue.proofs.Places.{num-some, num-none, within, FirstAt, NonePasses, counted, tally-most, somes-most, count-set, length-set, OnlyAt, only_first, some_at, none_found}
 
 -- ---- one entry

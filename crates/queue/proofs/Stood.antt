@@ -1,12 +1,6 @@
 -- What is kept beside the slots stays as it is where each message is marked as one that stood.
-use Rattle.std.proofs.Common.{◌≡◌, ℕ, zero, suc, ◌<◌, ◌≤◌, List, [], ◌∷◌, ◌++◌, length, get_or, set, take, drop, map, refl, sym, ap, ◌∙◌, subst, arith, Bool, Option, Some, None}
-use Rattle.model.specs.Reloading.{stood_now}
-use Rattle.model.specs.Broker.{is_ready}
-use Rattle.model.specs.Entries.{is_held_as}
-use Rattle.model.specs.declared.messages.Entry.{Entry}
-use Rattle.queue.specs.declared.slots.Slot.{Slot}
-use Rattle.queue.specs.Slots.{contents, somes, slot_has, changed, num, tally, SlotBits, BitsShow}
-use Rattle.queue.specs.Blocks.{total, ready_size, is_long, IsCounted}
+use Rattle.queue.proofs.Names.{◌≡◌, ℕ, zero, suc, ◌<◌, ◌≤◌, List, [], ◌∷◌, ◌++◌, length, get_or, take, drop, map, refl, sym, ap, ◌∙◌, subst, arith, Bool, Option, Some, None, stood_now, is_ready, is_held_as, Entry, Slot, contents, somes, slot_has, changed, num, tally, SlotBits, BitsShow, total, ready_size, is_long, IsCounted}
+use Rattle.std.proofs.Common.{set}
 use Rattle.queue.proofs.Slotted.{contents-length, contents-written}
 use Rattle.queue.proofs.Changing.{changed_next}
 

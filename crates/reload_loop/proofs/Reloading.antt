@@ -1,21 +1,9 @@
 -- What comes of serving with looks at the files.
-use Rattle.std.proofs.Common.{◌≡◌, ℕ, Bool, true, List, [], Option, Some, ap, subst}
+use Rattle.reload_loop.proofs.Imports.{◌≡◌, ℕ, Bool, List, [], Option, Some, ap, subst, asked_once, Text, Config, new_world, engine_lacks, Known, AreKept, FileNames, Served, IsServed, OutputStream, change, Snap, IsReadFrom, known_in, ServesOn, Standing, standing, AsksToServe, IsEvery, IsNotServe, ServesReloading}
+use Rattle.std.proofs.Common.{true}
 use Rattle.command_line.specs.CommandLine.{Wanted, Serve, AsksFor}
-use Rattle.server.proofs.Beginning.{asked_once}
-use Rattle.model.specs.Words.{Text}
-use Rattle.model.specs.State.{Config}
-use Rattle.model.specs.Arrivals.{new_world}
-use Rattle.engine.specs.Wanting.{engine_lacks}
-use Rattle.server.specs.Files.{Known, AreKept}
-use Rattle.scripts.specs.FileNames.{FileNames}
 use Rattle.serving.specs.Wire.{Told}
-use Rattle.serving.specs.Story.{Served}
-use Rattle.serving.specs.Whole.{IsServed}
-use Rattle.server.specs.Streams.{OutputStream, change}
 use Rattle.server.specs.Clients.{Begins, IsTurns, Openings}
-use Rattle.reload_loop.specs.Snapshots.{Snap, IsReadFrom, known_in}
-use Rattle.reload_loop.specs.ServesOn.{ServesOn, Standing, standing}
-use Rattle.reload_loop.specs.Program.{AsksToServe, IsEvery, IsNotServe, ServesReloading}
 use Rattle.reload_loop.proofs.Outcomes.{same_holds}
 
 -- a broker that was just started by what was read, and then so many turns

@@ -1,12 +1,14 @@
 -- One look at files between turns: what they state is put in force, or one line tells why not (own).
-use Rattle.std.specs.Prelude.{◌≡◌, ◌++◌, Bool, true, Option, Some, None, codes, ⊤}
+use Rattle.std.specs.Prelude.{◌≡◌, ◌++◌, Bool, true, Option, Some, None, Result, Ok, Err, codes, ⊤}
 use Rattle.model.specs.Words.{Text}
 use Rattle.model.specs.State.{Config}
 use Rattle.model.specs.Arrivals.{World, Same}
-use Rattle.model.specs.Reloading.{IsObstacle}
+use Rattle.model.specs.Reloading.{IsObstacle, NothingStands}
 use Rattle.model.specs.declared.obstacles.Obstacle.{Obstacle}
 use Rattle.runs.specs.Reloaded.{IsPutInForce}
 use Rattle.runs.specs.Faults.{obstacle_in}
+use Rattle.runs.specs.Wants.{To_reload}
+use Rattle.engine.specs.Wanting.{engine_lacks}
 use Rattle.runs.specs.declared.faults.ReloadFault.{ReloadFault}
 use Rattle.server.specs.Files.{Known}
 use Rattle.scripts.specs.FileNames.{FileNames}
@@ -76,6 +78,18 @@ IsFound holds names kept Nothing = AreHeld holds names kept
 IsFound holds names kept (Refused read told) = IsReadFrom holds names read × IsRefusal names kept read told.file.now told.why
 IsFound holds names kept (Admitted read force) = IsReadFrom holds names read × IsOffered names kept read force
 
+-- ---- what is offered
+
+-- why it is not put in force: this stands against it first, or memory was wanting where it may be
+abbrev pub IsWhyNotPut : World → Config → Option Obstacle → Type 0
+IsWhyNotPut old offered (Some o) = IsObstacle old.config.topology offered old.state.broker o
+IsWhyNotPut old offered None = engine_lacks old (To_reload offered)
+
+-- nothing stands against what is offered, or it is told why it is not put in force
+abbrev pub JudgesOffer : World → Config → Result Unit ReloadFault → Type 0
+JudgesOffer old offered (Ok x) = NothingStands old.config.topology offered old.state.broker
+JudgesOffer old offered (Err fault) = IsWhyNotPut old offered (obstacle_in fault)
+
 -- ---- a look
 
 -- What a look comes to: the texts by which what is in force was judged, and the world, before it and after it,
@@ -94,7 +108,8 @@ pub data Looks (holds : Text → Known) (names : FileNames) (err : OutputStream)
       → IsReadFrom holds names read → IsOther read kept → IsStated names read force
       → IsObstacle old.config.topology force old.state.broker o → Same old new
       → TellsLine err (obstacle_told o) whole → Looks holds names err kept old kept new whole
-  -- memory was wanting for it
+  -- memory was wanting for it, where it may be: no queue in use is gone, or the first that is has a long name
   wanting : {new : World} {whole : Bool} (read : Snap) (force : Config)
-      → IsReadFrom holds names read → IsOther read kept → IsStated names read force → Same old new
+      → IsReadFrom holds names read → IsOther read kept → IsStated names read force
+      → engine_lacks old (To_reload force) → Same old new
       → PutsOut err out_of_memory whole → Looks holds names err kept old kept new whole

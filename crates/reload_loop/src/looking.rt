@@ -11,9 +11,8 @@ ghost use Rattle.serving.specs.Wire as wire;
 ghost use Rattle.serving.specs.Story.{served};
 ghost use Rattle.serving.specs.Whole.{IsServed};
 ghost use Rattle.server.specs.Streams.{change};
-ghost use Rattle.reload_loop.specs.Snapshots.{names_of};
-ghost use Rattle.runs.specs.Reloaded.{TellsReload};
-ghost use Rattle.reload_loop.specs.Looks.{IsFound, IsFoundAgain, IsStated, IsWhyRefused, Looks, WasFound};
+ghost use Rattle.reload_loop.specs.Snapshots.{IsReadFrom, names_of};
+ghost use Rattle.reload_loop.specs.Looks.{IsFound, IsFoundAgain, IsOffered, IsStated, IsWhyRefused, JudgesOffer, Looks, WasFound};
 
 use crate::found::Found;
 use crate::snapshots::{Names, Reading, Snapshot};
@@ -79,7 +78,8 @@ fn find<'a, F: Files>(alloc: Global, names: Names<'a>, kept: &Snapshot, files: &
     }
 }
 
-/// What was found in files that are as they were is found in them still; in others it is what they state now.
+/// Finds what the files state now. What was found before stays if they are as they were read then; nothing is kept if they have the bytes
+/// by which what is in force was judged.
 fn find_again<'a, F: Files>(
     alloc: Global,
     names: Names<'a>,
@@ -94,18 +94,48 @@ fn find_again<'a, F: Files>(
     if is_found_again(alloc, names, &*found, files) {
         return;
     }
+    if kept.is_held(alloc, names, files) {
+        *found = Found::Nothing;
+        return;
+    }
     *found = find(alloc, names, kept, files);
 }
 
-/// What was admitted is offered to the server, and is still there to be offered again. Memory is wanted for a copy of it too.
-fn offer(alloc: Global, server: &mut Server<Engine>, setup: &Setup) -> Result<(), ReloadFault>
-    ensures told { TellsReload (world_of server.old.machine) setup.now result (world_of server.new.machine) }
+/// Judges whether `setup` may be put in force now. Fails with the first thing that stands against it, or if an allocation fails. Copies
+/// nothing of it.
+fn judge(alloc: Global, engine: &Engine, setup: &Setup) -> Result<(), ReloadFault>
+    ensures { JudgesOffer (world_of engine.now) setup.now result }
+{
+    if let Some(obstacle) = engine.obstacle(alloc, setup)? {
+        return Err(ReloadFault::of(obstacle));
+    }
+    Ok(())
+}
+
+/// Puts `setup` in force, and keeps `read`, by which it was judged. If it can't, puts one line on `err` and changes nothing else.
+fn put_in_force<E: Write>(
+    alloc: Global,
+    server: &mut Server<Engine>,
+    kept: &mut Snapshot,
+    read: Snapshot,
+    setup: Setup,
+    err: &mut E,
+) -> io::Result<()>
+    ensures looks { (holds : Text → Known) (names : FileNames) → IsReadFrom holds names read → IsOffered names kept.old read setup
+        → Looks holds names (change (E.contents err.old) (E.contents err.new)) kept.old
+        (world_of server.old.machine) kept.new (world_of server.new.machine) (is_ok result) }
     ensures peers { server.new.peers ≡ server.old.peers }
     ensures served { (f : Config) (told now : wire.Told)
         → IsServed engine_lacks f told (served (world_of server.old.machine) server.old.peers now)
         → IsServed engine_lacks f told (served (world_of server.new.machine) server.new.peers now) }
 {
-    server.reload(alloc, setup.clone(alloc)?)
+    match server.reload(alloc, setup) {
+        Ok(()) => {
+            *kept = read;
+            Ok(())
+        }
+        Err(fault) => put_fault(alloc, err, fault),
+    }
 }
 
 /// What was found is put in force if it was admitted and nothing stands against it; else it is told why not, and it is found still.
@@ -131,11 +161,8 @@ fn act<'a, E: Write>(
             *found = Found::Refused { read, told };
             put_refusal(alloc, err, told)
         }
-        Found::Admitted { read, setup } => match offer(alloc, server, &setup) {
-            Ok(()) => {
-                *kept = read;
-                Ok(())
-            }
+        Found::Admitted { read, setup } => match judge(alloc, server.machine(), &setup) {
+            Ok(()) => put_in_force(alloc, server, kept, read, setup, err),
             Err(fault) => {
                 *found = Found::Admitted { read, setup };
                 put_fault(alloc, err, fault)
@@ -144,12 +171,11 @@ fn act<'a, E: Write>(
     }
 }
 
-/// What the files state is put in force, where they have other bytes than those by which what is in force was judged. What
-/// stands against that, or why they are refused, is told, and nothing is different then; an error says that the stream did
-/// not take it whole.
+/// Puts in force what the files state, if they have other bytes than those by which what is in force was judged. If they are refused, or
+/// something stands against them, puts one line on `err` and changes nothing else. Fails if `err` doesn't take the line whole.
 ///
 /// What was found and is not in force is kept, as it was read: while the files are found so they are not judged again. A refusal is
-/// told again, and what was admitted is offered again.
+/// told again; of what was admitted the broker is asked again what stands against it.
 pub(crate) fn look<'a, F: Files, E: Write>(
     alloc: Global,
     server: &mut Server<Engine>,
@@ -170,10 +196,6 @@ pub(crate) fn look<'a, F: Files, E: Write>(
         → IsServed engine_lacks f told (served (world_of server.new.machine) server.new.peers now) }
     ensures files { AreKept (F.holds files.old) (F.holds files.new) }
 {
-    if kept.is_held(alloc, names, files) {
-        *found = Found::Nothing;
-        return Ok(());
-    }
     find_again(alloc, names, &*kept, found, files);
     act(alloc, server, kept, found, err)
 }

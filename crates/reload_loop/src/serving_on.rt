@@ -25,7 +25,7 @@ use std::io::Write;
 /// Where the files have other bytes than those that are kept, by which what is in force was judged, what they state is put
 /// in force. Where they are refused, or something stands against it, one line is put on `err`, what stands stays in force,
 /// and the next look tries again: files are judged again once they have other bytes, until then a refusal is told at each look, and
-/// what was admitted is offered at each. The result says whether `err` took each such line whole.
+/// what was admitted is put in force at the first at which nothing stands against it. The result says whether `err` took each such line whole.
 pub fn serve_and_reload<W: Wire, F: Files, E: Write>(
     alloc: Global,
     server: &mut Server<Engine>,

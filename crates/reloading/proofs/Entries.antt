@@ -1,15 +1,5 @@
 -- The entries of a queue, gone over from slot to slot.
-use Rattle.std.proofs.Common.{◌≡◌, ℕ, List, [], ◌∷◌, length}
-use Rattle.model.specs.Words.{Text}
-use Rattle.model.specs.Topology.{Topology}
-use Rattle.model.specs.Guarantee.{Guarantee}
-use Rattle.model.specs.Reloading.{Endangers}
-use Rattle.model.specs.declared.messages.Entry.{Entry}
-use Rattle.model.specs.declared.obstacles.Obstacle.{Obstacle}
-use Rattle.model.specs.declared.obstacles.Obstacle.TheVariants.{Breaks}
-use Rattle.std.proofs.Common.{Some, None}
-use Rattle.reloading.specs.First.{TellsFirst}
-use Rattle.reloading.specs.Obstacles.{TellsEntry}
+use Rattle.reloading.proofs.Names.{◌≡◌, ℕ, List, [], ◌∷◌, length, Text, Topology, Guarantee, Endangers, Entry, Obstacle, Breaks, Some, None, TellsFirst, TellsEntry}
 use Rattle.reloading.proofs.First.{Passed, passed_front, passed_before, passed_all}
 
 -- the entry is endangered

@@ -1,12 +1,7 @@
 -- The first of a list of which something is told, as it is found.
-use Rattle.std.proofs.Common.{◌≡◌, ℕ, zero, suc, ◌+◌, ◌<◌, ◌≤◌, List, [], ◌∷◌, ◌++◌, length, get_or, Option, Some, None, ◌⊎◌, inl, inr, refl, sym, ap, subst, ◌∙◌, append_assoc, arith}
-use Rattle.std.specs.Prelude.{slice_get}
+use Rattle.reloading.proofs.Names.{◌≡◌, ℕ, zero, suc, ◌+◌, ◌<◌, ◌≤◌, List, [], ◌∷◌, ◌++◌, length, get_or, Option, Some, None, ◌⊎◌, inl, inr, refl, sym, ap, subst, ◌∙◌, append_assoc, arith, slice_get, Text, Topology, IsIn, queue_names, DeclaredQueue, TellsFirst, TellsNoneBelow}
 use Rattle.std.proofs.lemmas.Option.{slice_get_within}
 use Rattle.std.proofs.lemmas.List.{length-map}
-use Rattle.model.specs.Words.{Text}
-use Rattle.model.specs.Topology.{Topology, IsIn, queue_names}
-use Rattle.model.specs.declared.topologies.DeclaredQueue.{DeclaredQueue}
-use Rattle.reloading.specs.First.{TellsFirst, TellsNoneBelow}
 
 below_or : (i n : ℕ) → (i < n) ⊎ (n ≤ i)
 below_or i zero = inr (omega arith)

@@ -1,19 +1,8 @@
 -- From what is told place by place to what stands against a reload.
-use Rattle.std.proofs.Common.{◌≡◌, ℕ, zero, suc, ◌+◌, List, [], ◌∷◌, Bool, Option, Some, None, refl, sym, subst, ◌∙◌, inl, inr}
-use Rattle.std.specs.Prelude.{slice_get}
-use Rattle.model.specs.Words.{Text}
-use Rattle.model.specs.Topology.{Topology, IsIn, queue_names}
-use Rattle.model.specs.Guarantee.{Guarantee}
+use Rattle.reloading.proofs.Names.{◌≡◌, ℕ, zero, suc, ◌+◌, List, [], ◌∷◌, Bool, Option, Some, None, refl, sym, subst, ◌∙◌, inl, inr, slice_get, Text, Topology, IsIn, queue_names, Guarantee, Config, IsInUse, by_entry, by_consumer, Endangers, Spot, IsBefore, IsDanger, NoneIsStranded, IsObstacle, NothingStands, Entry, Obstacle, in_from_contains, IsToldFirst, TellsFirst, IsUsed, TellsUse, TellsQueue, TellsEntry, TellsEntries, TellsQueues, Judges}
 use Rattle.model.specs.Broker.{Broker}
-use Rattle.model.specs.State.{Config}
-use Rattle.model.specs.Reloading.{IsInUse, by_entry, by_consumer, Endangers, Spot, IsBefore, IsDanger, NoneIsStranded, IsObstacle, NothingStands}
-use Rattle.model.specs.declared.messages.Entry.{Entry}
-use Rattle.model.specs.declared.obstacles.Obstacle.{Obstacle}
-use Rattle.laws.proofs.Counts.{in_from_contains}
 use Rattle.laws.proofs.Returned.{place_of}
-use Rattle.reloading.specs.First.{IsToldFirst, TellsFirst}
 use Rattle.reloading.specs.LiveQueues.{ShowsQueues}
-use Rattle.reloading.specs.Obstacles.{IsUsed, TellsUse, TellsQueue, TellsEntry, TellsEntries, TellsQueues, Judges}
 
 in_at : {A : Type 0} (xs : List A) (i : ℕ) (x : A) → slice_get xs i ≡ Some x → IsIn x xs
 in_at [] i x e = absurd (cc)

@@ -1,9 +1,6 @@
 -- Messages that are kept in slots.
-use Rattle.std.proofs.Common.{◌≡◌, ℕ, zero, suc, ◌<◌, List, [], ◌∷◌, length, get_or, set, Option, Some, None, ◌⊎◌, inl, inr, sym, ap, arith}
+use Rattle.reloading.proofs.Names.{◌≡◌, ℕ, zero, suc, ◌<◌, List, [], ◌∷◌, length, get_or, set, Option, Some, None, ◌⊎◌, inl, inr, sym, ap, arith, Message, IsIn, kept}
 use Rattle.std.specs.Borrow.{Bor}
-use Rattle.model.specs.Message.{Message}
-use Rattle.model.specs.Topology.{IsIn}
-use Rattle.reloading.specs.Passed.{kept}
 
 -- what stands in a slot is kept
 pub found_kept : (slots : List (Option (Bor Message))) (i : ℕ) (d : Option (Bor Message)) (m : Bor Message) → i < length slots → get_or slots i d ≡ Some m → IsIn m.now (kept slots)

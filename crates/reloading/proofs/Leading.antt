@@ -1,17 +1,9 @@
 -- Where deaths lead a message: by the dead-letter exchange of its queue, under the key that the queue fixes or else its own.
-use Rattle.std.proofs.Common.{◌≡◌, ℕ, zero, suc, ◌<◌, Bool, false, true, Option, Some, None, List, [], ◌∷◌, length, get_or, refl, sym, ap, subst, ◌∙◌, inl, inr, arith}
-use Rattle.std.specs.Prelude.{Decides, is_some}
-use Rattle.std.proofs.lemmas.Bool.{false≢true}
-use Rattle.model.specs.Words.{Text}
-use Rattle.model.specs.Topology.{Topology, IsIn, IsWellFormed, AreApart, queue_names}
-use Rattle.model.specs.Routing.{Reading, of_key, RoutesBy, reading_after, fixed_after, key_after, Comes, routed, dead, Dies, Later}
-use Rattle.model.specs.declared.topologies.DeclaredQueue.{DeclaredQueue}
-use Rattle.laws.proofs.Counts.{in_from_contains}
+use Rattle.reloading.proofs.Names.{◌≡◌, ℕ, zero, suc, ◌<◌, Bool, false, true, Option, Some, None, List, [], ◌∷◌, length, get_or, refl, sym, ap, subst, ◌∙◌, inl, inr, arith, Decides, is_some, false≢true, Text, Topology, IsIn, IsWellFormed, AreApart, queue_names, Reading, of_key, RoutesBy, reading_after, fixed_after, key_after, Comes, routed, dead, Dies, Later, DeclaredQueue, in_from_contains, FixesKey, LeadsNowhere}
 use Rattle.laws.proofs.Safe.{comes_fixed, refixed, same_reading}
 use Rattle.exchange_graph.specs.Marks.{queue_name}
 use Rattle.exchange_graph.specs.Dying.{IsDeadLetter, LeavesFor}
 use Rattle.exchange_graph.specs.declared.dying.DeadLetter.{DeadLetter}
-use Rattle.reloading.specs.Obstacles.{FixesKey, LeadsNowhere}
 use Rattle.reloading.proofs.First.{in_get}
 
 -- ---- the key

@@ -1,3 +1,4 @@
+pub mod Names
 pub mod First
 pub mod Leading
 pub mod Entries

@@ -1,6 +1,5 @@
 -- What holds where memory was wanting.
-use Rattle.std.proofs.Common.{Result, Ok, Err}
-use Rattle.std.specs.Prelude.{OnErr}
+use Rattle.reloading.proofs.Names.{Result, Ok, Err, OnErr}
 
 pub on_err : {T E : Type 0} (r : Result T E) (P : Type 0) → P → OnErr r P
 on_err (Ok x) P p = tt

@@ -1,14 +1,7 @@
 -- What is written down at the end is what was seen.
-use Rattle.std.proofs.Common.{◌≡◌, ℕ, ◌+◌, ◌<◌, zero, suc, List, [], ◌∷◌, ◌++◌, Some, length, slice_get, refl, sym, ap, subst, ◌∙◌, arith}
-use Rattle.model.specs.State.{Config}
-use Rattle.model.specs.History.{Occurrence}
-use Rattle.model.specs.Arrivals.{World, Seen, Shown, Shows, Plays, new_world, is_over}
-use Rattle.model.specs.Headline.{IsSound}
-use Rattle.model.specs.declared.events.Arrival.{Arrival}
-use Rattle.laws.proofs.Consistency.{new_is_consistent}
+use Rattle.runs.proofs.Names.{◌≡◌, ℕ, ◌+◌, ◌<◌, zero, suc, List, [], ◌∷◌, ◌++◌, length, slice_get, refl, sym, ap, subst, ◌∙◌, arith, Config, Occurrence, World, Seen, Shown, Shows, Plays, new_world, is_over, IsSound, Arrival, new_is_consistent, taken_at, AreFinished, Records, TellsEvents, PlaysAndTells, IsRunOf}
+use Rattle.std.proofs.Common.{Some}
 use Rattle.laws.proofs.Whole.{headline_holds}
-use Rattle.runs.specs.Told.{taken_at, AreFinished, Records, TellsEvents}
-use Rattle.runs.specs.Runs.{PlaysAndTells, IsRunOf}
 
 -- a world with no connection
 no_records : (f : Config) → IsSound f → Records [] (new_world f) (record { connections = []; notes = [] })

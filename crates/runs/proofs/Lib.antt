@@ -1,3 +1,4 @@
+pub mod Names
 pub mod Worlds
 pub mod Places
 pub mod Steps

@@ -1,27 +1,10 @@
 -- Turns, arrivals and lists of them, one after another.
-use Rattle.std.proofs.Common.{◌≡◌, ℕ, List, [], ◌∷◌, ◌++◌, Bool, true, false, map, take, refl, sym, ap, subst, ◌∙◌, append_assoc, append-nil}
-use Rattle.std.specs.Prelude.{MatchBool, Some, None, Result, Ok, Err, OnOk}
-use Rattle.std.proofs.lemmas.List.{map-append}
+use Rattle.runs.proofs.Names.{◌≡◌, ℕ, List, [], ◌∷◌, ◌++◌, Bool, true, false, map, take, refl, sym, ap, subst, ◌∙◌, append_assoc, append-nil, MatchBool, Result, Ok, Err, OnOk, map-append, running_session, Happening, Config, IsSound, IsObstacle, Occurrence, Of_event, Of_reload, World, Seen, Turns, Works, none_more, one_more, Same, with_heard, is_over, is_gone, can_open, Loses, Takes_off, delivers, idles, Plays, Note, Reloaded, ReloadRefused, Obstacle, Arrival, opens_consistent, awaits_consistent, TellsEvents, gathered, with_opened, OpensNew, OpensReady, Hears, Did, DidNothing, Idles, Pumped, TakesAway, IsLost, IsPutInForce, WorksAndTells, AnswersAndTells, PlaysAndTells}
+use Rattle.std.specs.Prelude.{Some, None}
 use Rattle.model.specs.Opening.{new_session}
-use Rattle.model.specs.Phases.{running_session}
-use Rattle.model.specs.Run.{Happening}
-use Rattle.model.specs.State.{Config}
-use Rattle.model.specs.Headline.{IsSound}
-use Rattle.model.specs.Reloading.{IsObstacle}
-use Rattle.model.specs.History.{Occurrence, Of_event, Of_reload}
-use Rattle.model.specs.Arrivals.{World, Seen, Turns, Works, none_more, one_more, Same, with_heard, is_over, is_gone, can_open, Loses, Takes_off, delivers, idles, Plays}
-use Rattle.model.specs.declared.notes.Note.{Note}
-use Rattle.model.specs.declared.notes.Note.TheVariants.{Reloaded, ReloadRefused}
-use Rattle.model.specs.declared.obstacles.Obstacle.{Obstacle}
-use Rattle.model.specs.declared.events.Arrival.{Arrival}
 use Rattle.model.specs.declared.events.Arrival.TheVariants as arrival
 use Rattle.laws.specs.Reloading.{IsOffered}
 use Rattle.laws.proofs.Counts.{all-append}
-use Rattle.laws.proofs.Consistency.{opens_consistent, awaits_consistent}
-use Rattle.runs.specs.Told.{TellsEvents, gathered, with_opened}
-use Rattle.runs.specs.Opened.{OpensNew, OpensReady, Hears, Did, DidNothing, Idles, Pumped, TakesAway, IsLost}
-use Rattle.runs.specs.Reloaded.{IsPutInForce}
-use Rattle.runs.specs.Runs.{WorksAndTells, AnswersAndTells, PlaysAndTells}
 use Rattle.runs.proofs.Worlds.{world_same}
 use Rattle.runs.proofs.Reloads.{reload_of, put_reloads, refused_reloads}
 use Rattle.runs.proofs.Steps.{tells_then, tells_same, tells_turns, tells_delivers, tells_waits, tells_heard, tells_takes, tells_loses, tells_opens, tells_reloads, tells_not}

@@ -1,9 +1,5 @@
 -- Connections by place and by number.
-use Rattle.std.proofs.Common.{◌≡◌, ◌≢◌, ℕ, zero, suc, ◌+◌, ◌-◌, ◌<◌, ◌≤◌, List, [], ◌∷◌, ◌++◌, Bool, true, false, cond, eqb, length, take, drop, slice_set, refl, sym, ap, ◌∙◌, arith, eq-eqb, ne_eqb, get_or}
-use Rattle.std.specs.Prelude.{◌==◌}
-use Rattle.model.specs.Broker.{with_one}
-use Rattle.model.specs.Arrivals.{Shown}
-use Rattle.runs.specs.Told.{taken_at, gathered_at, gathered, with_opened}
+use Rattle.runs.proofs.Names.{◌≡◌, ◌≢◌, ℕ, zero, suc, ◌+◌, ◌-◌, ◌<◌, ◌≤◌, List, [], ◌∷◌, ◌++◌, Bool, true, false, cond, eqb, length, take, drop, slice_set, refl, sym, ap, ◌∙◌, arith, eq-eqb, ne_eqb, get_or, ◌==◌, with_one, Shown, taken_at, gathered_at, gathered, with_opened}
 
 -- ---- one value changed
 

@@ -1,13 +1,5 @@
 -- What was offered, as a reload between two worlds: it was put in force, or something stood against it.
-use Rattle.std.proofs.Common.{◌≡◌, ℕ, List, [], ◌∷◌, refl, inl, inr}
-use Rattle.model.specs.State.{Config}
-use Rattle.model.specs.History.{Of_reload, Reload, IsDecided}
-use Rattle.model.specs.Reloading.{IsObstacle}
-use Rattle.model.specs.Arrivals.{World, Same, Reloads}
-use Rattle.model.specs.declared.notes.Note.{Note}
-use Rattle.model.specs.declared.notes.Note.TheVariants.{Reloaded, ReloadRefused}
-use Rattle.model.specs.declared.obstacles.Obstacle.{Obstacle}
-use Rattle.runs.specs.Reloaded.{IsPutInForce}
+use Rattle.runs.proofs.Names.{◌≡◌, ℕ, List, [], ◌∷◌, refl, inl, inr, Config, Of_reload, Reload, IsDecided, IsObstacle, World, Same, Reloads, Note, Reloaded, ReloadRefused, Obstacle, IsPutInForce}
 
 -- a reload between these worlds, of which this is noted
 abbrev pub reload_of : World → Config → World → List Note → Reload

@@ -1,29 +1,17 @@
 -- What each happening adds to what is written down.
-use Rattle.std.proofs.Common.{◌≡◌, ◌≢◌, ℕ, ◌+◌, ◌-◌, ◌≤◌, List, [], ◌∷◌, ◌++◌, Bool, true, false, cond, not, eqb, length, map, take, drop, refl, sym, ap, subst, ◌∙◌, arith, append-nil, append_assoc, eq-eqb, ne_eqb, inl, inr}
-use Rattle.std.specs.Prelude.{◌&&◌, is_some}
+use Rattle.runs.proofs.Names.{◌≡◌, ◌≢◌, ℕ, ◌+◌, ◌-◌, ◌≤◌, List, [], ◌∷◌, ◌++◌, Bool, true, false, cond, not, eqb, length, map, take, drop, refl, sym, ap, subst, ◌∙◌, arith, append-nil, append_assoc, eq-eqb, ne_eqb, inl, inr, ◌&&◌, is_some, Config, State, Session, no_session, is_running, with_one, Happening, notes_of, put_out, Occurrence, Of_event, events_of, noted_at, notes_over, Stream, World, Wire, Shown, Seen, is_over, is_paused, is_ended, Pauses, Happens, Puts, Turns, Waits, Same, with_heard, Takes_off, Opens, Delivers, delivers, Loses, Reloads, IsSound, consistent_same, turns_consistent, takes_consistent, pumps_consistent, loses_consistent, reloads_consistent, Note, taken_at, gathered, with_opened, AreUnopened, Records, TellsEvents}
 use Rattle.std.specs.List.{AllByRecursion}
 use Rattle.std.proofs.lemmas.Bool.{eqb-true, eqb-false, false≢true}
 use Rattle.std.proofs.lemmas.List.Concat.{flat_map-append}
-use Rattle.model.specs.State.{Config, State}
-use Rattle.model.specs.Phases.{Session, no_session, is_running}
-use Rattle.model.specs.Broker.{with_one}
-use Rattle.model.specs.Run.{Happening, notes_of, put_out}
-use Rattle.model.specs.History.{Occurrence, Of_event, events_of, noted_at, notes_over}
 use Rattle.model.specs.Spelling.{receiver, sends_to, spelling}
-use Rattle.model.specs.Commands.{Stream}
-use Rattle.model.specs.Arrivals.{World, Wire, Shown, Seen, is_over, is_paused, is_ended, Pauses, Happens, Puts, Turns, Waits, Same, with_heard, Takes_off, Opens, Delivers, delivers, Loses, Reloads}
 use Rattle.model.specs.Consistent.{IsConsistent}
-use Rattle.model.specs.Headline.{IsSound}
-use Rattle.laws.proofs.Consistency.{consistent_same, turns_consistent, takes_consistent, pumps_consistent, loses_consistent, reloads_consistent}
 use Rattle.laws.proofs.Histories.{events-append, events-mapped}
 use Rattle.laws.proofs.Reloading.{all_marked, state_left}
-use Rattle.model.specs.declared.notes.Note.{Note}
 use Rattle.model.specs.declared.events.Phase.{Phase}
 use Rattle.model.specs.declared.events.Phase.TheVariants as phase
 use Rattle.model.specs.declared.events.Send.{Send}
 use Rattle.model.specs.declared.events.Event.{Event}
 use Rattle.model.specs.declared.events.Event.TheVariants as event
-use Rattle.runs.specs.Told.{taken_at, gathered, with_opened, AreUnopened, Records, TellsEvents}
 use Rattle.runs.proofs.Worlds.{world_same}
 use Rattle.runs.proofs.Places.{with_here, with_other, length-gathered, taken_here, taken_other, taken_opened, take_nothing, drop_nothing, take_and_drop}
 

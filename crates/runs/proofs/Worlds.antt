@@ -1,7 +1,6 @@
 -- Worlds that agree at each connection are the same, and one where nothing was done waits as before.
-use Rattle.std.proofs.Common.{◌≡◌, ℕ, Option, Some, None, refl}
-use Rattle.model.specs.Commands.{Stream, stays}
-use Rattle.model.specs.Arrivals.{World, Same, Waits, SameToCome, still, waits}
+use Rattle.runs.proofs.Names.{◌≡◌, ℕ, Option, refl, Stream, stays, World, Same, Waits, SameToCome, still, waits}
+use Rattle.std.proofs.Common.{Some, None}
 use Rattle.model.specs.declared.events.Command.{Command}
 
 pub world_same : (a b : World) → Same a b → b ≡ a

@@ -1,42 +1,42 @@
-//! What a client of these scenarios writes and is to be answered, written by hand from the tables of AMQP 0-9-1.
+//! What a client of these scenarios writes, and the replies that it should get, written by hand from the tables of AMQP 0-9-1.
 
 ghost use Rattle.std.specs.Prelude.{◌≡◌, ◌++◌, IfOk};
 
-use crate::expectations::{Unmet, expect_bytes, value_of};
+use scenario_outcomes::{Unmet, expect_bytes, value_of};
 use std::alloc::Global;
 
-/// The protocol header, start-ok of bob by PLAIN, tune-ok, open of `/`, and channel.open of channel 1.
+/// A client's opening: the protocol header, start-ok of bob by PLAIN, tune-ok, open of `/`, and channel.open of channel 1.
 pub const OPENING: &[u8] =
     b"AMQP\x00\x00\x09\x01\x01\x00\x00\x00\x00\x00\x23\x00\x0a\x00\x0b\x00\x00\x00\x00\x05PLAIN\x00\x00\x00\x0b\x00bob\x00wonder\x05en_US\xce\x01\x00\x00\x00\x00\x00\x0c\x00\x0a\x00\x1f\x00\x00\x00\x00\x00\x00\x00\x00\xce\x01\x00\x00\x00\x00\x00\x08\x00\x0a\x00\x28\x01/\x00\x00\xce\x01\x00\x01\x00\x00\x00\x05\x00\x14\x00\x0a\x00\xce";
 
-/// start, tune, open-ok and channel.open-ok.
+/// The replies to [`OPENING`]: start, tune, open-ok and channel.open-ok.
 pub const OPENED: &[u8] =
     b"\x01\x00\x00\x00\x00\x00\x80\x00\x0a\x00\x0a\x00\x09\x00\x00\x00\x64\x0ccapabilitiesF\x00\x00\x00\x3f\x12publisher_confirmst\x01\x1aexchange_exchange_bindingst\x01\x0abasic.nackt\x01\x07productS\x00\x00\x00\x06warren\x00\x00\x00\x05PLAIN\x00\x00\x00\x05en_US\xce\x01\x00\x00\x00\x00\x00\x0c\x00\x0a\x00\x1e\x00\xff\x00\x02\x00\x00\x00\x00\xce\x01\x00\x00\x00\x00\x00\x05\x00\x0a\x00\x29\x00\xce\x01\x00\x01\x00\x00\x00\x08\x00\x14\x00\x0b\x00\x00\x00\x00\xce";
 
-/// confirm.select and a publish to `orders` under the key `new`, whose body has two bytes, on channel 1.
+/// confirm.select on channel 1, and a publish to `orders` under the key `new` with a body of two bytes.
 pub const PUBLISH: &[u8] =
     b"\x01\x00\x01\x00\x00\x00\x05\x00\x55\x00\x0a\x00\xce\x01\x00\x01\x00\x00\x00\x12\x00\x3c\x00\x28\x00\x00\x06orders\x03new\x00\xce\x02\x00\x01\x00\x00\x00\x0e\x00\x3c\x00\x00\x00\x00\x00\x00\x00\x00\x00\x02\x00\x00\xce\x03\x00\x01\x00\x00\x00\x02hi\xce";
 
-/// select-ok, and the ack of the first publish.
+/// The replies to [`PUBLISH`]: select-ok, and the ack of the first publish.
 pub const ACKED: &[u8] =
     b"\x01\x00\x01\x00\x00\x00\x04\x00\x55\x00\x0b\xce\x01\x00\x01\x00\x00\x00\x0d\x00\x3c\x00\x50\x00\x00\x00\x00\x00\x00\x00\x01\x00\xce";
 
-/// The same publish up to the first byte of its body, whose frame goes on.
+/// The same publish, without confirm.select, up to the first byte of its body, in the middle of a frame.
 pub const STOPPED: &[u8] =
     b"\x01\x00\x01\x00\x00\x00\x12\x00\x3c\x00\x28\x00\x00\x06orders\x03new\x00\xce\x02\x00\x01\x00\x00\x00\x0e\x00\x3c\x00\x00\x00\x00\x00\x00\x00\x00\x00\x02\x00\x00\xce\x03\x00\x01\x00\x00\x00\x02h";
 
-/// basic.consume of `audit` on channel 1 with the tag `t`, of messages that need no acknowledgement.
+/// basic.consume of `audit` on channel 1 with the consumer tag `t` and no-ack.
 pub const CONSUME: &[u8] =
     b"\x01\x00\x01\x00\x00\x00\x13\x00\x3c\x00\x14\x00\x00\x05audit\x01t\x02\x00\x00\x00\x00\xce";
 
-/// A publish as above, without a confirm.select.
+/// The publish of [`PUBLISH`], without confirm.select.
 pub const MESSAGE: &[u8] =
     b"\x01\x00\x01\x00\x00\x00\x12\x00\x3c\x00\x28\x00\x00\x06orders\x03new\x00\xce\x02\x00\x01\x00\x00\x00\x0e\x00\x3c\x00\x00\x00\x00\x00\x00\x00\x00\x00\x02\x00\x00\xce\x03\x00\x01\x00\x00\x00\x02hi\xce";
 
-/// The class and the method of a basic.deliver.
+/// The class id and the method id of basic.deliver.
 const DELIVER: &[u8] = b"\x00\x3c\x00\x3c";
 
-/// Two pieces of bytes as one.
+/// Returns `first` followed by `second`.
 pub fn joined(alloc: Global, first: &[u8], second: &[u8]) -> Result<Vec<u8>, Unmet>
     ensures { IfOk result (λ bytes. bytes.items ≡ first.now ++ second.now) }
 {
@@ -45,23 +45,23 @@ pub fn joined(alloc: Global, first: &[u8], second: &[u8]) -> Result<Vec<u8>, Unm
     Ok(bytes)
 }
 
-/// What a client writes that opens and publishes.
+/// Returns what a client writes that opens and publishes.
 pub fn opening_and_publish(alloc: Global) -> Result<Vec<u8>, Unmet> {
     joined(alloc, OPENING, PUBLISH)
 }
 
-/// How many bytes a client is answered that opens and publishes.
+/// Returns the number of bytes in the replies to a client that opens and publishes.
 pub fn answer_len() -> u64 {
     OPENED.len() as u64 + ACKED.len() as u64
 }
 
-/// Expects that this is what a client is answered that opens and publishes.
+/// Checks that `answer` is the replies to a client that opens and publishes.
 pub fn expect_opened_and_acked(alloc: Global, answer: &[u8]) -> Result<(), Unmet> {
     let expected = joined(alloc, OPENED, ACKED)?;
     expect_bytes("the answer", answer, expected.as_slice())
 }
 
-/// How many deliveries these bytes are. No other method of these scenarios has the two numbers in it.
+/// Returns the number of deliveries in `bytes`, which have the ids of basic.deliver nowhere else in these scenarios.
 pub fn deliveries_in(bytes: &[u8]) -> u64 {
     bytes.windows(4).filter(|part| **part == *DELIVER).count() as u64
 }

@@ -1,12 +1,12 @@
-//! Topologies that are put in force.
+//! Topologies that are ready to be put in force.
 
-use crate::expectations::{Unmet, value_of};
 use certificate::{Checked, admit};
 use exchange_graph::Topology;
 use model::{Binding, DeclaredQueue, Exchange, Text};
+use scenario_outcomes::{Unmet, value_of};
 use std::alloc::Global;
 
-/// A topology of these exchanges, queues and bindings, under no guarantees.
+/// Builds a topology and admits it under no guarantees.
 pub fn in_force(
     alloc: Global,
     exchanges: Vec<Exchange>,
@@ -20,7 +20,7 @@ pub fn in_force(
     value_of("admit", admit(alloc, topology, Vec::new(alloc), &[]))
 }
 
-/// A queue of this name, with no limit, whose messages don't die.
+/// Returns a queue called `name`, without length limits and without a dead-letter exchange.
 pub fn plain_queue(name: Text) -> DeclaredQueue {
     DeclaredQueue {
         name,

@@ -1,4 +1,4 @@
-//! A wire of which each call fails in turn.
+//! Clients over a wire of which each accept, read and write fails in turn.
 
 use engine::Engine;
 use memory_wire::{Asked, Client, Failing, Logged, MemoryWire};
@@ -9,14 +9,14 @@ use scenario_parts::{
 use serving::{Server, serve};
 use std::alloc::Global;
 
-/// How clients are served: how many bytes a write takes at most, and in how many rounds.
+/// How clients are served: the number of bytes that a write takes at most, and the number of rounds.
 #[derive(Clone, Copy, Drop)]
 pub(crate) struct Pace {
     pub(crate) window: usize,
     pub(crate) rounds: u64,
 }
 
-/// How many calls of each kind a run makes of which none fails.
+/// The number of calls of each kind in a run in which none fails.
 #[derive(Clone, Copy, Drop)]
 pub(crate) struct Calls {
     pub(crate) accepts: u64,
@@ -24,23 +24,23 @@ pub(crate) struct Calls {
     pub(crate) writes: u64,
 }
 
-/// A publish to `orders` under the key `new`, whose body is `lo`, and a get of `audit`, to be acknowledged.
+/// A publish to `orders` under the key `new` with the body `lo`, and a basic.get of `audit` that needs an acknowledgement.
 pub(crate) const PUBLISH_AND_GET: &[u8] =
     b"\x01\x00\x01\x00\x00\x00\x12\x00\x3c\x00\x28\x00\x00\x06orders\x03new\x00\xce\x02\x00\x01\x00\x00\x00\x0e\x00\x3c\x00\x00\x00\x00\x00\x00\x00\x00\x00\x02\x00\x00\xce\x03\x00\x01\x00\x00\x00\x02lo\xce\x01\x00\x01\x00\x00\x00\x0d\x00\x3c\x00\x46\x00\x00\x05audit\x00\xce";
 
-/// Two gets of `audit`, to be acknowledged.
+/// Two gets of `audit` that need an acknowledgement.
 pub(crate) const GET_TWICE: &[u8] =
     b"\x01\x00\x01\x00\x00\x00\x0d\x00\x3c\x00\x46\x00\x00\x05audit\x00\xce\x01\x00\x01\x00\x00\x00\x0d\x00\x3c\x00\x46\x00\x00\x05audit\x00\xce";
 
-/// get-ok of `lo` with delivery tag 1, given out for the first time and the last that is ready, and its content.
+/// get-ok of `lo` with delivery tag 1, not redelivered, the last ready message, and its content.
 const GOT: &[u8] =
     b"\x01\x00\x01\x00\x00\x00\x1c\x00\x3c\x00\x47\x00\x00\x00\x00\x00\x00\x00\x01\x00\x06orders\x03new\x00\x00\x00\x00\xce\x02\x00\x01\x00\x00\x00\x0e\x00\x3c\x00\x00\x00\x00\x00\x00\x00\x00\x00\x02\x00\x00\xce\x03\x00\x01\x00\x00\x00\x02lo\xce";
 
-/// The same, given out before, and with one behind it.
+/// The same, redelivered, with one ready message behind it.
 const GOT_AGAIN: &[u8] =
     b"\x01\x00\x01\x00\x00\x00\x1c\x00\x3c\x00\x47\x00\x00\x00\x00\x00\x00\x00\x01\x01\x06orders\x03new\x00\x00\x00\x01\xce\x02\x00\x01\x00\x00\x00\x0e\x00\x3c\x00\x00\x00\x00\x00\x00\x00\x00\x00\x02\x00\x00\xce\x03\x00\x01\x00\x00\x00\x02lo\xce";
 
-/// get-ok of the message of `PUBLISH` with delivery tag 1, given out for the first time and the last that is ready.
+/// get-ok of the message of `PUBLISH` with delivery tag 1, not redelivered, the last ready message, and its content.
 const OWN: &[u8] =
     b"\x01\x00\x01\x00\x00\x00\x1c\x00\x3c\x00\x47\x00\x00\x00\x00\x00\x00\x00\x01\x00\x06orders\x03new\x00\x00\x00\x00\xce\x02\x00\x01\x00\x00\x00\x0e\x00\x3c\x00\x00\x00\x00\x00\x00\x00\x00\x00\x02\x00\x00\xce\x03\x00\x01\x00\x00\x00\x02hi\xce";
 
@@ -48,13 +48,13 @@ const OWN: &[u8] =
 const OWN_BEHIND: &[u8] =
     b"\x01\x00\x01\x00\x00\x00\x1c\x00\x3c\x00\x47\x00\x00\x00\x00\x00\x00\x00\x02\x00\x06orders\x03new\x00\x00\x00\x00\xce\x02\x00\x01\x00\x00\x00\x0e\x00\x3c\x00\x00\x00\x00\x00\x00\x00\x00\x00\x02\x00\x00\xce\x03\x00\x01\x00\x00\x00\x02hi\xce";
 
-/// get-empty.
+/// The reply get-empty.
 const EMPTY: &[u8] = b"\x01\x00\x01\x00\x00\x00\x05\x00\x3c\x00\x48\x00\xce";
 
-/// How many calls of one kind are tried at most.
+/// The number of calls of one kind that are tried at most.
 const PATIENCE: u64 = 1_000;
 
-/// A client that opens, and writes this once it can.
+/// Returns a client that opens and then writes `then`.
 pub(crate) fn client(alloc: Global, then: &[u8], window: usize) -> Result<Client, Unmet> {
     Ok(Client {
         input: joined(alloc, OPENING, then)?,
@@ -64,8 +64,8 @@ pub(crate) fn client(alloc: Global, then: &[u8], window: usize) -> Result<Client
     })
 }
 
-/// Two clients that are served over a wire of which one call may fail. The first comes first, publishes a message and gets
-/// it; the second publishes another one.
+/// Two clients over a wire of which one call may fail. The first to connect publishes a message and gets it; the second publishes
+/// another one.
 #[derive(Drop)]
 struct Run {
     server: Server<Engine>,
@@ -73,7 +73,7 @@ struct Run {
 }
 
 impl Run {
-    /// None has come. The call of this kind fails that is the `count`th; none does where that is 0.
+    /// Sets the run up before any client has connected. The `count`th call of the kind `asked` fails, or none if `count` is 0.
     fn new(alloc: Global, window: usize, asked: Asked, count: u64) -> Result<Run, Unmet> {
         let mut clients = Vec::new(alloc);
         value_of(
@@ -91,12 +91,12 @@ impl Run {
         })
     }
 
-    /// So many rounds.
+    /// Serves the clients for `rounds` rounds.
     fn serve(&mut self, alloc: Global, rounds: u64) {
         serve(alloc, &mut self.server, &mut self.wire, rounds);
     }
 
-    /// How often the socket of a client was closed.
+    /// Returns how often the socket of `client` was closed.
     fn closes(&self, client: u64) -> u64 {
         let mut count = 0u64;
         for call in &self.wire.wire.log.calls {
@@ -105,7 +105,7 @@ impl Run {
         count
     }
 
-    /// Whether all was read that a client writes.
+    /// Returns whether everything that `client` writes was read.
     fn has_come(&self, client: usize) -> bool {
         match self.wire.wire.clients.get(client) {
             Some(client) => client.read == client.input.len(),
@@ -113,7 +113,7 @@ impl Run {
         }
     }
 
-    /// A client gets what is there, twice.
+    /// Lets `client` get twice from the queue, and serves `rounds` rounds.
     fn get_twice(&mut self, alloc: Global, client: usize, rounds: u64) -> Result<(), Unmet> {
         let Some(client) = self.wire.wire.clients.get_mut(client) else {
             return Err(Unmet::Claim("the client is there"));
@@ -126,7 +126,7 @@ impl Run {
         Ok(())
     }
 
-    /// Expects that a client was answered these, and no more.
+    /// Checks that `client` got exactly the replies `parts`.
     fn expect_answer(&self, alloc: Global, client: u64, parts: &[&[u8]]) -> Result<(), Unmet> {
         let mut expected: Vec<u8> = Vec::new(alloc);
         for part in parts {
@@ -137,7 +137,7 @@ impl Run {
     }
 }
 
-/// Whether a call closed the socket of a client.
+/// Returns whether `call` closed the socket of `client`.
 pub(crate) fn is_close(call: &Logged, client: u64) -> bool {
     match call {
         Logged::Closed(socket) => *socket == client,
@@ -145,15 +145,15 @@ pub(crate) fn is_close(call: &Logged, client: u64) -> bool {
     }
 }
 
-/// Expects that the first client holds its message, and that the second gets its own, and no other.
+/// Checks that the first client holds its message, and that the second gets only its own.
 fn expect_both(alloc: Global, run: &mut Run, rounds: u64) -> Result<(), Unmet> {
     run.get_twice(alloc, 1, rounds)?;
     run.expect_answer(alloc, 0, [OPENED, GOT].as_slice())?;
     run.expect_answer(alloc, 1, [OPENED, ACKED, OWN, EMPTY].as_slice())
 }
 
-/// Expects that the second client is answered though the first was lost, and gets what that one held, if it held anything, and
-/// its own behind it.
+/// Checks that the second client is served although the first was lost. It gets the message of the first, if that was published,
+/// and then its own.
 fn expect_second(alloc: Global, run: &mut Run, rounds: u64) -> Result<(), Unmet> {
     let is_held = run.has_come(0);
     run.get_twice(alloc, 1, rounds)?;
@@ -164,8 +164,8 @@ fn expect_second(alloc: Global, run: &mut Run, rounds: u64) -> Result<(), Unmet>
     }
 }
 
-/// Expects that the first client is answered though the second was lost, holds its message, and gets what the second
-/// published, if it published anything.
+/// Checks that the first client is served although the second was lost. It holds its message, and gets that of the second, if it
+/// was published.
 fn expect_first(alloc: Global, run: &mut Run, rounds: u64) -> Result<(), Unmet> {
     let is_published = run.has_come(1);
     run.get_twice(alloc, 0, rounds)?;
@@ -176,7 +176,7 @@ fn expect_first(alloc: Global, run: &mut Run, rounds: u64) -> Result<(), Unmet> 
     }
 }
 
-/// Expects that only the client is lost of which a read or a write failed.
+/// Checks that only the client was lost whose read or write failed.
 fn expect_others(alloc: Global, run: &mut Run, rounds: u64) -> Result<(), Unmet> {
     let victim = run.wire.victim();
     for client in 0..2u64 {
@@ -190,14 +190,14 @@ fn expect_others(alloc: Global, run: &mut Run, rounds: u64) -> Result<(), Unmet>
     }
 }
 
-/// A run of which no call fails.
+/// Checks a run in which no call fails.
 fn fail_none(alloc: Global, pace: Pace) -> Result<(), Unmet> {
     let mut run = Run::new(alloc, pace.window, Asked::Accept, 0)?;
     run.serve(alloc, pace.rounds);
     expect_others(alloc, &mut run, pace.rounds)
 }
 
-/// Runs of each of which the next call of this kind fails. Tells how many there are.
+/// Checks a run for each call of the kind `asked`, in which that call fails. Returns the number of runs.
 fn fail_each(alloc: Global, pace: Pace, asked: Asked) -> Result<u64, Unmet> {
     for count in 0..PATIENCE {
         let mut run = Run::new(alloc, pace.window, asked, count + 1)?;
@@ -210,7 +210,7 @@ fn fail_each(alloc: Global, pace: Pace, asked: Asked) -> Result<u64, Unmet> {
     Err(Unmet::Claim("a run has an end"))
 }
 
-/// Each accept, read and write fails in turn, and no other call. Tells how many of them there are.
+/// Checks a run for each accept, read and write, in which only that call fails. Returns the number of calls of each kind.
 pub(crate) fn each_call_of_a_wire_fails(alloc: Global, pace: Pace) -> Result<Calls, Unmet> {
     fail_none(alloc, pace)?;
     Ok(Calls {

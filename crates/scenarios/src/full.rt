@@ -5,10 +5,10 @@ use scenario_parts::{Unmet, expect, expect_bytes, expect_number, new_broker, val
 use serving::Server;
 use std::alloc::{AllocError, Global};
 
-/// How many connections stand at most: the socket of this number, counted from 0, is one too many.
+/// The number of open connections at most. Sockets count from 0, so the socket of this number is one too many.
 const MOST_CONNECTIONS: u64 = 1_024;
 
-/// Clients that write nothing, one more than a server takes.
+/// Returns clients that write nothing, one more than a server takes.
 fn silent_clients(alloc: Global) -> Result<Vec<Client>, AllocError> {
     let mut clients = Vec::new(alloc);
     for _ in 0..=MOST_CONNECTIONS {
@@ -22,7 +22,7 @@ fn silent_clients(alloc: Global) -> Result<Vec<Client>, AllocError> {
     Ok(clients)
 }
 
-/// The sockets that were closed, in order.
+/// Returns the sockets that were closed, in order.
 fn closed(alloc: Global, log: &Log) -> Result<Vec<u64>, AllocError> {
     let mut sockets = Vec::new(alloc);
     for call in &log.calls {
@@ -33,7 +33,7 @@ fn closed(alloc: Global, log: &Log) -> Result<Vec<u64>, AllocError> {
     Ok(sockets)
 }
 
-/// 1,024 clients stay, and the socket of the next is closed without a byte.
+/// Checks that 1,024 clients stay, and that the socket of the next one is closed without a byte written to it.
 pub(crate) fn a_server_takes_1024_clients_and_closes_one_more(alloc: Global) -> Result<(), Unmet> {
     let clients = value_of("clients", silent_clients(alloc))?;
     let mut wire = MemoryWire::new(alloc, clients);

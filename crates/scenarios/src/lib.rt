@@ -1,6 +1,7 @@
-//! The scenarios of runs and rounds: of a machine on which no connection can be opened, of a connection that is paused, of more clients
-//! than a server takes, of a reload of a new server, of a wire of which each call fails, and of a machine of which each is refused memory.
-//! `cases` runs them.
+//! The scenarios of runs and rounds. Start with [`tell_all`], which `cases` calls.
+//!
+//! They cover a machine that refuses connections, a paused connection, more clients than a server takes, reloads of a new server,
+//! a wire of which each call fails in turn, and a machine of which each call fails for memory in turn.
 #![tactic(auto)]
 
 mod failing;
@@ -15,7 +16,7 @@ use failing::{Pace, each_call_of_a_wire_fails};
 use scenario_parts::Sums;
 use std::io;
 
-/// The scenarios of runs in which arrivals wait, or do nothing, and of a reload before any.
+/// Runs the scenarios of runs in which events wait or do nothing, and of a reload before any event.
 fn tell_runs(sums: &mut Sums, rt: &HostRuntime) -> io::Result<()> {
     let alloc = rt.alloc();
     sums.tell(
@@ -40,7 +41,7 @@ fn tell_runs(sums: &mut Sums, rt: &HostRuntime) -> io::Result<()> {
     )
 }
 
-/// The scenarios of rounds of a machine on which no connection can be opened, or no more.
+/// Runs the scenarios of rounds of a machine that refuses connections.
 fn tell_rounds(sums: &mut Sums, rt: &HostRuntime) -> io::Result<()> {
     let alloc = rt.alloc();
     sums.tell(
@@ -60,7 +61,7 @@ fn tell_rounds(sums: &mut Sums, rt: &HostRuntime) -> io::Result<()> {
     )
 }
 
-/// Tells of calls of a wire that fail in turn, and how many there were.
+/// Runs a scenario over a wire of which each call fails in turn, and prints how many calls there were.
 fn tell_failing(sums: &mut Sums, rt: &HostRuntime, name: &str, pace: Pace) -> io::Result<()> {
     let calls = match each_call_of_a_wire_fails(rt.alloc(), pace) {
         Ok(calls) => calls,
@@ -73,7 +74,7 @@ fn tell_failing(sums: &mut Sums, rt: &HostRuntime, name: &str, pace: Pace) -> io
     sums.tell(rt, name, Ok(()))
 }
 
-/// The scenarios of a wire of which each call fails in turn, and of a machine of which each is refused memory.
+/// Runs the scenarios of a wire of which each call fails in turn, and of a machine of which each call fails for memory in turn.
 fn tell_failures(sums: &mut Sums, rt: &HostRuntime) -> io::Result<()> {
     let whole = Pace {
         window: usize::MAX,
@@ -97,7 +98,7 @@ fn tell_failures(sums: &mut Sums, rt: &HostRuntime) -> io::Result<()> {
     )
 }
 
-/// Runs these scenarios, and prints a line for each.
+/// Runs all scenarios of this crate, and prints a line for each.
 pub fn tell_all(sums: &mut Sums, rt: &HostRuntime) -> io::Result<()> {
     tell_runs(sums, rt)?;
     tell_rounds(sums, rt)?;

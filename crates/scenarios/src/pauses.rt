@@ -1,4 +1,4 @@
-//! A pause: a client that does not take its output gets no more of it than one command brings.
+//! Back-pressure: a client that doesn't take its output gets no more of it than one command brings.
 
 use certificate::Checked;
 use engine::{Setup, run};
@@ -7,35 +7,35 @@ use runs::Transcript;
 use scenario_parts::{Unmet, expect, expect_number, in_force, plain_queue, value_of};
 use std::alloc::{AllocError, Global};
 
-/// basic.publish to `orders` under the key `new` on channel 1, and a header of a body of 1,048,576 bytes.
+/// basic.publish to `orders` under the key `new` on channel 1, and the header of a body of 1,048,576 bytes.
 const PUBLISH: &[u8] =
     b"\x01\x00\x01\x00\x00\x00\x12\x00\x3c\x00\x28\x00\x00\x06orders\x03new\x00\xce\x02\x00\x01\x00\x00\x00\x0e\x00\x3c\x00\x00\x00\x00\x00\x00\x00\x10\x00\x00\x00\x00\xce";
 
-/// How many body frames of 65,536 bytes the body is sent in.
+/// The number of body frames, of 65,536 bytes each.
 const BODY_FRAMES: usize = 16;
 
-/// basic.get of `audit` on channel 1, which needs no acknowledgement.
+/// basic.get of `audit` on channel 1 with no-ack.
 const GET: &[u8] = b"\x01\x00\x01\x00\x00\x00\x0d\x00\x3c\x00\x46\x00\x00\x05audit\x01\xce";
 
 /// get-empty on channel 1.
 const GET_EMPTY: &[u8] = b"\x01\x00\x01\x00\x00\x00\x05\x00\x3c\x00\x48\x00\xce";
 
-/// basic.publish to `orders` under the key `new` on channel 1, of an empty body.
+/// basic.publish to `orders` under the key `new` on channel 1, with an empty body.
 const PUBLISH_EMPTY: &[u8] =
     b"\x01\x00\x01\x00\x00\x00\x12\x00\x3c\x00\x28\x00\x00\x06orders\x03new\x00\xce\x02\x00\x01\x00\x00\x00\x0e\x00\x3c\x00\x00\x00\x00\x00\x00\x00\x00\x00\x00\x00\x00\xce";
 
-/// What get-ok with its content has: 36 bytes of the method's frame, 22 of the header's, and the body in nine frames, of 8
-/// bytes beside it each.
+/// The length of get-ok with its content, in bytes: 36 of the method's frame, 22 of the header's, and the body in nine frames,
+/// each with 8 bytes besides.
 const FIRST_OUTPUT: u64 = 1_048_706;
 
-/// A list of one value.
+/// Returns a list with one element.
 fn single<T: Drop>(alloc: Global, value: T) -> Result<Vec<T>, Unmet> {
     let mut values = Vec::new(alloc);
     value_of("Vec::push", values.push(value))?;
     Ok(values)
 }
 
-/// The queues `audit` and `ledger`.
+/// Returns the queues `audit` and `ledger`.
 fn queues(alloc: Global) -> Result<Vec<DeclaredQueue>, AllocError> {
     let mut queues = Vec::new(alloc);
     queues.push(plain_queue(Text::short(b"audit")))?;
@@ -43,7 +43,7 @@ fn queues(alloc: Global) -> Result<Vec<DeclaredQueue>, AllocError> {
     Ok(queues)
 }
 
-/// A direct exchange `orders`, which routes the key `new` to this queue.
+/// Returns a topology with a direct exchange `orders`, which routes the key `new` to the queue `to`.
 fn shop(alloc: Global, to: Text) -> Result<Checked, Unmet> {
     let orders = Exchange {
         name: Text::short(b"orders"),
@@ -64,7 +64,7 @@ fn shop(alloc: Global, to: Text) -> Result<Checked, Unmet> {
     )
 }
 
-/// The frames of a publish of 1,048,576 bytes.
+/// Returns the frames of a publish of 1,048,576 bytes.
 fn largest_publish(alloc: Global) -> Result<Vec<u8>, AllocError> {
     let mut bytes = Vec::from_slice(alloc, PUBLISH)?;
     let piece = vec![in alloc; 120; 65_536]?;
@@ -76,8 +76,8 @@ fn largest_publish(alloc: Global) -> Result<Vec<u8>, AllocError> {
     Ok(bytes)
 }
 
-/// The arrivals of a connection that publishes the largest body and gets it, and gets again, and then takes so many bytes at
-/// a time.
+/// Returns the events of a connection that publishes the largest body, gets it, and gets again. Then `taken` bytes of its output
+/// are taken, one number at a time.
 fn arrivals(alloc: Global, taken: &[u64]) -> Result<Vec<Arrival<Setup>>, AllocError> {
     let publish = Text::from_vec(largest_publish(alloc)?)?;
     let mut arrivals = Vec::new(alloc);
@@ -91,7 +91,7 @@ fn arrivals(alloc: Global, taken: &[u64]) -> Result<Vec<Arrival<Setup>>, AllocEr
     Ok(arrivals)
 }
 
-/// What such a connection is shown.
+/// Returns the transcript of such a connection.
 fn shown(alloc: Global, taken: &[u64]) -> Result<Transcript, Unmet> {
     let checked = shop(alloc, Text::short(b"audit"))?;
     let Ok(arrivals) = arrivals(alloc, taken) else {
@@ -103,12 +103,12 @@ fn shown(alloc: Global, taken: &[u64]) -> Result<Transcript, Unmet> {
     }
 }
 
-/// Expects that the output of the connection has this length.
+/// Checks that the output of connection 1 has `expected` bytes.
 fn expect_length(name: &'static str, shown: &Transcript, expected: u64) -> Result<(), Unmet> {
     expect_number(name, shown.output(1).len() as u64, expected)
 }
 
-/// The second get waits while the output has the bound or more, and is answered once it has less.
+/// Checks that the second get waits while the output is at the bound or over it, and gets its reply once it is below.
 pub(crate) fn a_paused_connection_performs_nothing_until_its_output_is_below_the_bound(
     alloc: Global,
 ) -> Result<(), Unmet> {
@@ -136,7 +136,7 @@ pub(crate) fn a_paused_connection_performs_nothing_until_its_output_is_below_the
     )
 }
 
-/// The arrivals of a connection whose publish waits while its output is at the bound, and comes below it behind a reload.
+/// Returns the events of a connection whose publish waits while its output is at the bound, which drops below after a reload.
 fn arrivals_with_reload(alloc: Global, reload: Checked) -> Result<Vec<Arrival<Setup>>, AllocError> {
     let mut arrivals = arrivals(alloc, &[])?;
     let setup = Setup::new(reload, Vec::new(alloc));
@@ -146,7 +146,7 @@ fn arrivals_with_reload(alloc: Global, reload: Checked) -> Result<Vec<Arrival<Se
     Ok(arrivals)
 }
 
-/// Whether a message came to this queue by a publish last.
+/// Returns whether the last note is a message that entered the queue `name`.
 fn has_entered_last(shown: &Transcript, name: &[u8]) -> bool {
     match shown.notes().last() {
         Some(Note::Entered { queue, .. }) => queue.as_bytes() == name,
@@ -154,7 +154,7 @@ fn has_entered_last(shown: &Transcript, name: &[u8]) -> bool {
     }
 }
 
-/// A publish that waited while its connection was paused goes by what is in force when it is performed.
+/// Checks that a publish that waited while its connection was paused is routed by the topology in force when it is performed.
 pub(crate) fn a_publish_that_waited_goes_by_what_is_in_force_then(
     alloc: Global,
 ) -> Result<(), Unmet> {

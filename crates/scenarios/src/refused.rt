@@ -1,4 +1,4 @@
-//! A machine of whose calls that may want memory each is refused it in turn.
+//! A machine of which each call that may allocate fails in turn.
 
 use crate::failing::{GET_TWICE, PUBLISH_AND_GET, client, is_close};
 use crate::wanting::Wanting;
@@ -7,22 +7,22 @@ use scenario_parts::{ACKED, OPENED, PUBLISH, Unmet, expect, joined, new_broker, 
 use serving::{Server, serve};
 use std::alloc::Global;
 
-/// How many calls are tried at most.
+/// The number of calls that are tried at most.
 const PATIENCE: u64 = 1_000;
 
-/// So many calls at least are made for two clients: each opening alone is five commands.
+/// The least number of calls that two clients need: each opening alone is five commands.
 const FEWEST: u64 = 20;
 
-/// In how many rounds they are served.
+/// The number of rounds in which the clients are served.
 const ROUNDS: u64 = 16;
 
 /// The body of the message of `PUBLISH_AND_GET`, in its frame.
 const FIRST_BODY: &[u8] = b"\x00\x00\x00\x02lo\xce";
 
-/// That of the message of `PUBLISH`.
+/// The body of the message of `PUBLISH`, in its frame.
 const SECOND_BODY: &[u8] = b"\x00\x00\x00\x02hi\xce";
 
-/// How often the socket of a client was closed.
+/// Returns how often the socket of `client` was closed.
 fn closes(wire: &MemoryWire, client: u64) -> u64 {
     let mut count = 0u64;
     for call in &wire.log.calls {
@@ -31,7 +31,7 @@ fn closes(wire: &MemoryWire, client: u64) -> u64 {
     count
 }
 
-/// Whether this is a part of the bytes.
+/// Returns whether `bytes` contain `part`.
 fn has_part(bytes: &[u8], part: &[u8]) -> bool {
     for start in 0..bytes.len() {
         if bytes.split_at(start).1.starts_with(part) {
@@ -41,7 +41,7 @@ fn has_part(bytes: &[u8], part: &[u8]) -> bool {
     false
 }
 
-/// Expects that a client was answered this first, and got a message with this body.
+/// Checks that the replies to `client` begin with `first`, and that it got a message with this `body`.
 fn expect_answered(
     alloc: Global,
     wire: &MemoryWire,
@@ -57,7 +57,7 @@ fn expect_answered(
     )
 }
 
-/// Expects that at most one client was lost, and that the other's publish was acked and its message is there.
+/// Checks that at most one client was lost, and that the other's publish was acknowledged and its message can be got.
 fn expect_one_lost(alloc: Global, wire: &MemoryWire) -> Result<(), Unmet> {
     let first = closes(wire, 0);
     let second = closes(wire, 1);
@@ -72,7 +72,7 @@ fn expect_one_lost(alloc: Global, wire: &MemoryWire) -> Result<(), Unmet> {
     Ok(())
 }
 
-/// Serves two clients, each of whom publishes a message and gets it, while the call of this number is refused memory. Tells
+/// Serves two clients, each of which publishes a message and gets it, while the machine's call number `count` fails. Returns
 /// whether there was such a call.
 fn serve_two(alloc: Global, count: u64) -> Result<bool, Unmet> {
     let mut left = count;
@@ -100,7 +100,7 @@ fn serve_two(alloc: Global, count: u64) -> Result<bool, Unmet> {
     Ok(left == 0)
 }
 
-/// Each call that may want memory is refused it in a run of its own: at most the client is lost for whom it was made.
+/// Checks, for each call that may allocate, a run in which it fails: at most the client for which it was made is lost.
 pub(crate) fn a_call_that_is_refused_memory_loses_no_other_client(
     alloc: Global,
 ) -> Result<(), Unmet> {

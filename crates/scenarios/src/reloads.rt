@@ -1,4 +1,4 @@
-//! Reloads of a server to which no client has come.
+//! Reloads of a server to which no client has connected.
 
 use certificate::{Certificate, Checked, admit};
 use definitions::read_definitions;
@@ -8,7 +8,7 @@ use scenario_parts::{Unmet, value_of};
 use serving::Server;
 use std::alloc::Global;
 
-/// What a reload is over: the texts of three files.
+/// The texts of the three files of a reload.
 #[derive(Clone, Copy, Drop)]
 struct Stated {
     definitions: &'static [u8],
@@ -16,22 +16,22 @@ struct Stated {
     certificates: &'static [u8],
 }
 
-/// `Y` leads to `q1`, whose dead letters go to `D` under the key `pay`, which leads them to `billing`.
+/// `Y` routes to `q1`, whose dead letters go to `D` under the key `pay`, which routes them to `billing`.
 const PAYING: Stated = Stated {
     definitions: b"{\"vhosts\":[{\"name\":\"/\"}],\"users\":[],\"permissions\":[],\"exchanges\":[{\"name\":\"Y\",\"vhost\":\"/\",\"type\":\"fanout\",\"durable\":true,\"auto_delete\":false,\"internal\":false,\"arguments\":{}},{\"name\":\"D\",\"vhost\":\"/\",\"type\":\"direct\",\"durable\":true,\"auto_delete\":false,\"internal\":false,\"arguments\":{}}],\"queues\":[{\"name\":\"q1\",\"vhost\":\"/\",\"durable\":true,\"auto_delete\":false,\"arguments\":{\"x-dead-letter-exchange\":\"D\",\"x-dead-letter-routing-key\":\"pay\"}},{\"name\":\"billing\",\"vhost\":\"/\",\"durable\":true,\"auto_delete\":false,\"arguments\":{}}],\"bindings\":[{\"source\":\"Y\",\"vhost\":\"/\",\"destination\":\"q1\",\"destination_type\":\"queue\",\"routing_key\":\"\",\"arguments\":{}},{\"source\":\"D\",\"vhost\":\"/\",\"destination\":\"billing\",\"destination_type\":\"queue\",\"routing_key\":\"pay\",\"arguments\":{}}]}",
     guarantees: b"{\"guarantees\":[]}",
     certificates: b"[]",
 };
 
-/// Nothing that is sent to `Y` comes to `billing`.
+/// The guarantee that nothing published to `Y` reaches `billing`.
 const NEVER: &[u8] =
     b"{\"guarantees\":[{\"mode\":\"never\",\"exchange\":\"Y\",\"pattern\":\"#\",\"queue\":\"billing\"}]}";
 
-/// Its certificate: the states of `#` behind any word and before all words. No key of a binding from `Y` is tracked.
+/// Its certificate: the states of `#` after any word and before all words. No key of a binding from `Y` is tracked.
 const CERTIFICATES: &[u8] =
     b"[{\"exchange\":\"Y\",\"form\":1,\"mode\":\"never\",\"pattern\":\"#\",\"queue\":\"billing\",\"states\":[[2],[3]]}]";
 
-/// `Y` leads to `q2` instead.
+/// `Y` routes to `q2` instead.
 const ELSEWHERE: Stated = Stated {
     definitions: b"{\"vhosts\":[{\"name\":\"/\"}],\"users\":[],\"permissions\":[],\"exchanges\":[{\"name\":\"Y\",\"vhost\":\"/\",\"type\":\"fanout\",\"durable\":true,\"auto_delete\":false,\"internal\":false,\"arguments\":{}},{\"name\":\"D\",\"vhost\":\"/\",\"type\":\"direct\",\"durable\":true,\"auto_delete\":false,\"internal\":false,\"arguments\":{}}],\"queues\":[{\"name\":\"q1\",\"vhost\":\"/\",\"durable\":true,\"auto_delete\":false,\"arguments\":{\"x-dead-letter-exchange\":\"D\",\"x-dead-letter-routing-key\":\"pay\"}},{\"name\":\"billing\",\"vhost\":\"/\",\"durable\":true,\"auto_delete\":false,\"arguments\":{}},{\"name\":\"q2\",\"vhost\":\"/\",\"durable\":true,\"auto_delete\":false,\"arguments\":{}}],\"bindings\":[{\"source\":\"Y\",\"vhost\":\"/\",\"destination\":\"q2\",\"destination_type\":\"queue\",\"routing_key\":\"\",\"arguments\":{}},{\"source\":\"D\",\"vhost\":\"/\",\"destination\":\"billing\",\"destination_type\":\"queue\",\"routing_key\":\"pay\",\"arguments\":{}}]}",
     guarantees: NEVER,
@@ -45,7 +45,7 @@ const WITHOUT_Q1: Stated = Stated {
     certificates: CERTIFICATES,
 };
 
-/// Reads these files, and has them admitted.
+/// Reads these files and admits what they state.
 fn admitted(alloc: Global, stated: Stated) -> Result<Checked, Unmet> {
     let definitions = value_of(
         "read_definitions",
@@ -66,13 +66,13 @@ fn admitted(alloc: Global, stated: Stated) -> Result<Checked, Unmet> {
     )
 }
 
-/// A broker over `PAYING`.
+/// Starts a broker over `PAYING`.
 fn paying_engine(alloc: Global) -> Result<Engine, Unmet> {
     let checked = admitted(alloc, PAYING)?;
     value_of("Engine::new", Engine::new(alloc, checked, Vec::new(alloc)))
 }
 
-/// Expects that a new server of `PAYING` puts these files in force.
+/// Checks that a new server over `PAYING` accepts a reload of these files.
 fn expect_reloaded(alloc: Global, stated: Stated) -> Result<(), Unmet> {
     let setup = Setup::new(admitted(alloc, stated)?, Vec::new(alloc));
     let engine = paying_engine(alloc)?;
@@ -82,8 +82,8 @@ fn expect_reloaded(alloc: Global, stated: Stated) -> Result<(), Unmet> {
     value_of("Server::reload", server.reload(alloc, setup))
 }
 
-/// A new server has no message and no consumer, so nothing stands against a reload: neither a queue that is gone nor a guarantee that
-/// forbids what the old files allowed.
+/// Checks that a new server accepts any reload. It has no message and no consumer, so neither a removed queue nor a guarantee
+/// that forbids what the old files allowed stops it.
 pub(crate) fn a_new_server_takes_any_reload(alloc: Global) -> Result<(), Unmet> {
     expect_reloaded(alloc, ELSEWHERE)?;
     expect_reloaded(alloc, WITHOUT_Q1)

@@ -1,4 +1,4 @@
-//! Runs, and rounds over a wire that is scripted, of a machine on which no connection can be opened.
+//! Runs, and rounds over a scripted wire, of a machine that refuses connections.
 
 use model::{Arrival, Note, Text};
 use runs::{Delivered, Machine, ReloadFault, run_over};
@@ -6,7 +6,7 @@ use scenario_parts::{Unmet, expect, expect_number, value_of};
 use serving::{Accept, Read, Server, Wire, Write, serve};
 use std::alloc::{AllocError, Global};
 
-/// It counts how often it is to make a delivery; without memory it says so.
+/// A machine on which no connection can be opened. It counts its pumps, each of which fails unless `has_memory` is set.
 #[derive(Drop)]
 struct Shut<'a> {
     has_memory: bool,
@@ -25,7 +25,7 @@ impl<'a> Machine for Shut<'a> {
 
     ghost left = { λ s. 0 };
 
-    // it may want memory for whatever is asked
+    // every call may fail for memory
     ghost lacks = { λ w n. Unit {0} };
 
     fn open(&mut self, _alloc: Global) -> Result<Option<u64>, AllocError> {
@@ -95,7 +95,7 @@ impl<'a> Machine for Shut<'a> {
     }
 }
 
-/// One socket comes at the first accept, and none after it.
+/// A wire on which one socket connects at the first accept, and none after it.
 #[derive(Drop)]
 struct OneCaller {
     has_come: bool,
@@ -106,7 +106,7 @@ struct OneCaller {
 impl Wire for OneCaller {
     ghost use Rattle.std.specs.Prelude.{None};
 
-    // its one socket is named once
+    // its one socket is returned once
     ghost told = { λ s. record { calls = None; failures = 0; is_given = λ n. s.has_come; totals = λ n. None } };
 
     fn accept(&mut self) -> Accept {
@@ -131,12 +131,14 @@ impl Wire for OneCaller {
 
     fn welcome(&mut self, _socket: u64) {}
 
+    fn farewell(&mut self, _socket: u64) {}
+
     fn rest(&mut self) {
         self.rests = self.rests.saturating_add(1);
     }
 }
 
-/// Serves the machine without memory for so many rounds. Tells how often it was to make a delivery.
+/// Serves a machine without memory for `turns` rounds. Returns its number of pumps.
 fn pumps_of_rounds(alloc: Global, wire: &mut OneCaller, turns: u64) -> Result<u64, Unmet> {
     let mut pumps = 0;
     let machine = Shut {
@@ -149,7 +151,7 @@ fn pumps_of_rounds(alloc: Global, wire: &mut OneCaller, turns: u64) -> Result<u6
     Ok(pumps)
 }
 
-/// What can arrive for connections that were never opened.
+/// Returns events of connections that were never opened.
 fn arrivals_for_none(alloc: Global, bytes: Text) -> Result<Vec<Arrival<()>>, AllocError> {
     let mut arrivals = Vec::new(alloc);
     arrivals.push(Arrival::In(1, bytes))?;
@@ -159,7 +161,7 @@ fn arrivals_for_none(alloc: Global, bytes: Text) -> Result<Vec<Arrival<()>>, All
     Ok(arrivals)
 }
 
-/// A run of arrivals whose connection was never opened.
+/// Checks that events of connections that were never opened do nothing.
 pub(crate) fn arrivals_for_no_connection_do_nothing(alloc: Global) -> Result<(), Unmet> {
     let bytes = value_of("Text::from_slice", Text::from_slice(alloc, b"AMQP"))?;
     let arrivals = value_of("arrivals", arrivals_for_none(alloc, bytes))?;
@@ -186,7 +188,7 @@ pub(crate) fn arrivals_for_no_connection_do_nothing(alloc: Global) -> Result<(),
     expect_number("the number of pumps", pumps, 1)
 }
 
-/// A socket comes in the first of five rounds.
+/// Checks five rounds, in the first of which a socket connects: it is refused and closed, and the four quiet rounds rest.
 pub(crate) fn a_socket_that_is_refused_is_closed_and_quiet_rounds_rest(
     alloc: Global,
 ) -> Result<(), Unmet> {
@@ -201,7 +203,7 @@ pub(crate) fn a_socket_that_is_refused_is_closed_and_quiet_rounds_rest(
     expect_number("the number of rests", wire.rests, 4)
 }
 
-/// Three rounds, in each of which a delivery could be made if there were memory.
+/// Checks three rounds, in each of which the first pump fails for memory: no further one follows, and the round rests.
 pub(crate) fn want_of_memory_ends_the_pumps_of_a_round(alloc: Global) -> Result<(), Unmet> {
     let mut wire = OneCaller {
         has_come: true,

@@ -1,18 +1,18 @@
-//! A machine of whose calls one is refused memory.
+//! A machine of which one call fails for memory.
 
 use model::Note;
 use runs::{Delivered, Machine, ReloadFault};
 use std::alloc::{AllocError, Global};
 
-/// A machine as it is, but that memory is refused for one of its calls that may want it.
+/// A machine that passes every call on, except that one of those that may allocate fails.
 #[derive(Drop)]
 pub(crate) struct Wanting<'a, M: Machine> {
     pub(crate) machine: M,
-    /// How many such calls are to come up to the refused one; 0 behind it.
+    /// The number of such calls up to and including the failing one; 0 after it.
     pub(crate) left: &'a mut u64,
 }
 
-/// Whether a call is the one that is refused.
+/// Counts a call, and returns whether it is the one that fails.
 fn is_refused(left: &mut u64) -> bool {
     if *left == 0 {
         return false;
@@ -31,7 +31,7 @@ impl<'a, M: Machine> Machine for Wanting<'a, M> {
 
     ghost config = { M.config };
 
-    // it may want memory for whatever is asked
+    // every call may fail for memory
     ghost lacks = { λ w n. Unit {0} };
 
     ghost left = { λ s. M.left s.machine };

@@ -1,4 +1,4 @@
--- The files that a reload names (own).
+-- The names of the files of a reload (own).
 use Rattle.model.specs.Words.{Text}
 
 -- the names of a definitions, a guarantees and a certificates file

@@ -1,4 +1,4 @@
--- Replay scripts (own): lines of text, each of which is one arrival. A connection is named by its number, counted from 1 in the order of the openings.
+-- Replay scripts (own): lines of text, one event each. A connection is named by its number, counted from 1 in the order of the openings.
 use Rattle.std.specs.Prelude.{◌≡◌, ◌+◌, ◌-◌, ◌*◌, ◌^◌, ◌++◌, ◌==◌, ◌&&◌, ◌||◌, nat_lt, nat_le, ℕ, List, [], ◌∷◌, length, take, drop}
 use Rattle.std.specs.Prelude.{position, codes, Option, Some, None, option_map, option_and_then, is_some, Result, Ok, Err, if◌then◌else◌}
 use Rattle.std.specs.Str.{bytes_eq, is_utf8}
@@ -10,31 +10,31 @@ use Rattle.scripts.specs.FileNames.{FileNames}
 use Rattle.scripts.specs.declared.script.BadScript.{BadScript}
 use Rattle.scripts.specs.declared.script.BadScript.TheVariants.{Line, Memory}
 
--- what a script says that arrives; a reload names its files
+-- an event that a script brings; a reload names its files
 abbrev pub ScriptArrival : Type 0
 ScriptArrival = Arrival FileNames
 
 -- ---- fields
 
--- what stands before the first space, and what stands after it
+-- the text before the first space, and the text after it
 abbrev pub cut : Text → Option (Text × Text)
 cut text = option_map (λ place. (take place text, drop (place + 1) text)) (position (λ b. b == 32) text)
 
--- the number of these digits and of one more; a number is below 2^64
+-- the number whose decimal digits are those of `n` and then `b`; a number is below 2^64
 abbrev pub with_digit : ℕ → ℕ → Option ℕ
 with_digit n b = if nat_le 48 b && nat_le b 57 && nat_lt (n * 10 + (b - 48)) (2 ^ 64) then Some (n * 10 + (b - 48)) else None
 
--- the number that the digits write behind those of n
+-- the number whose decimal digits are those of `n` and then the text
 abbrev pub digits_after : ℕ → Text → Option ℕ
 digits_after n [] = Some n
 digits_after n (b ∷ bs) = option_and_then (λ next. digits_after next bs) (with_digit n b)
 
--- the number that a field writes: in decimal digits alone, the first of them no zero but for 0 itself
+-- the number that a field writes in decimal digits, without leading zeros
 abbrev pub number : Text → Option ℕ
 number [] = None
 number (b ∷ bs) = if b == 48 && nat_lt 0 (length bs) then None else digits_after 0 (b ∷ bs)
 
--- the value, where there is one
+-- the value, if there is one
 abbrev pub ok_of : {X E : Type 0} → Result X E → Option X
 ok_of (Ok x) = Some x
 ok_of (Err e) = None
@@ -44,60 +44,60 @@ abbrev pub piece : Text → Option Text
 piece [] = None
 piece (b ∷ bs) = ok_of (decode_of (b ∷ bs))
 
--- the name of a file that a field writes: UTF-8, at least one byte, and no space
+-- the file's name that a field writes: UTF-8, at least one byte, no space
 abbrev pub file_name : Text → Option Text
 file_name field = if length field == 0 || is_some (cut field) then None else if is_utf8 field then Some field else None
 
--- ---- lines, where so many connections were opened before
+-- ---- lines, with `opened` connections opened before
 
--- at most 1,024 connections are opened by a script
+-- the number of connections that a script opens at most
 abbrev pub most_openings : ℕ
 most_openings = 1024
 
--- how many channels a connection may have from the first on
+-- the number of channels that a `ready` line opens at most
 abbrev pub most_ready : ℕ
 most_ready = 255
 
--- `open`: a connection of which no byte has come
+-- `open`: a connection from which no byte has come
 abbrev pub opening : ℕ → Option ScriptArrival
 opening opened = if nat_lt opened most_openings then Some Open else None
 
--- `ready K`: a connection that runs at once, with channels 1 to K open
+-- `ready K`: a connection that is running, with channels 1 to K open
 abbrev pub ready : ℕ → Text → Option ScriptArrival
 ready opened k = option_and_then (λ n. if nat_le 1 n && nat_le n most_ready && nat_lt opened most_openings then Some (Ready n) else None) (number k)
 
--- the number of a connection that was opened
+-- the number of a connection, from 1 to `opened`
 abbrev pub connection : ℕ → Text → Option ℕ
 connection opened c = option_and_then (λ n. if nat_le 1 n && nat_le n opened then Some n else None) (number c)
 
--- `in C HEX`: a piece of bytes from a connection
+-- `in C HEX`: a piece of bytes from connection C
 abbrev pub bytes_in : ℕ → Text × Text → Option ScriptArrival
 bytes_in opened f = option_and_then (λ c. option_map (λ bytes. In c bytes) (piece f.1)) (connection opened f.0)
 
--- `sent C N`: so many bytes of a connection's output are taken
+-- `sent C N`: N bytes of connection C's output are taken
 abbrev pub sent : ℕ → Text × Text → Option ScriptArrival
 sent opened f = option_and_then (λ c. option_map (λ n. Sent c n) (number f.1)) (connection opened f.0)
 
--- `lose C`: a connection is lost
+-- `lose C`: connection C is lost
 abbrev pub lost : ℕ → Text → Option ScriptArrival
 lost opened c = option_map (λ n. Lose n) (connection opened c)
 
--- the names of three files, where these fields write them
+-- the names of three files, a field each
 abbrev pub names_of : Text → Text → Text → Option FileNames
 names_of d g c =
     option_and_then (λ definitions. option_and_then (λ guarantees. option_map (λ certificates.
     record { definitions = definitions; guarantees = guarantees; certificates = certificates })
     (file_name c)) (file_name g)) (file_name d)
 
--- the three fields that a space parts, where the third goes on to the end
+-- the names of three files, separated by single spaces; the third extends to the end of the line
 abbrev pub three_names : Text → Option FileNames
 three_names fields = option_and_then (λ f. option_and_then (λ more. names_of f.0 more.0 more.1) (cut f.1)) (cut fields)
 
--- `reload DEFS GUARANTEES CERTS`: what these files state is to be in force
+-- `reload DEFS GUARANTEES CERTS`: the topology in these files is to be loaded
 abbrev pub reload : Text → Option ScriptArrival
 reload fields = option_map (λ names. Reload names) (three_names fields)
 
--- a line of more than one field, by its first
+-- a line of several fields, by the first of them
 abbrev pub by_word : ℕ → Text × Text → Option ScriptArrival
 by_word opened f =
     if bytes_eq f.0 (codes "ready") then ready opened f.1 else
@@ -107,53 +107,53 @@ by_word opened f =
     if bytes_eq f.0 (codes "reload") then reload f.1 else
     None
 
--- the arrival of a line that is not skipped; `pump` alone: a message is delivered, where one can be
+-- the event of a line that is not skipped; `pump` delivers a message if one can be delivered
 abbrev pub arrival_of : ℕ → Text → Option ScriptArrival
 arrival_of opened l =
     if bytes_eq l (codes "open") then opening opened else
     if bytes_eq l (codes "pump") then Some Pump else
     option_and_then (by_word opened) (cut l)
 
--- A line is skipped, brings an arrival, or is at fault. Skipped are the empty line and those that begin with `#`.
+-- A line is skipped, brings an event, or is at fault (`None`). Empty lines and lines that begin with `#` are skipped.
 abbrev pub line_of : ℕ → Text → Option (Option ScriptArrival)
 line_of opened [] = Some None
 line_of opened (b ∷ bs) = if b == 35 then Some None else option_map (λ a. Some a) (arrival_of opened (b ∷ bs))
 
 -- ---- the whole script
 
--- the lines of a text, which LF ends
+-- the lines of a text; LF ends a line
 abbrev pub lines : Text → List Text
 lines text = parted 10 text
 
--- how many were opened, after a line
+-- the number of connections opened after a line
 abbrev pub opened_after : ℕ → Option (Option ScriptArrival) → ℕ
 opened_after opened (Some (Some Open)) = opened + 1
 opened_after opened (Some (Some (Ready k))) = opened + 1
 opened_after opened line = opened
 
--- these arrivals, and then the others
+-- `found` before the events of the rest, unless that is at fault
 abbrev pub onto_arrivals : List ScriptArrival → Result (List ScriptArrival) ℕ → Result (List ScriptArrival) ℕ
 onto_arrivals found (Ok rest) = Ok (found ++ rest)
 onto_arrivals found (Err number) = Err number
 
--- a line with its number, and what the lines after it are
+-- the events of line `number` and of the lines after it, or the number of the first one at fault
 abbrev pub with_line : ℕ → Option (Option ScriptArrival) → Result (List ScriptArrival) ℕ → Result (List ScriptArrival) ℕ
 with_line number None rest = Err number
 with_line number (Some None) rest = rest
 with_line number (Some (Some a)) rest = onto_arrivals (a ∷ []) rest
 
--- the arrivals of these lines, of which the first has this number; or the number of the first line at fault
+-- the events of lines numbered from `number`, or the number of the first line at fault
 abbrev pub arrivals_from : ℕ → ℕ → List Text → Result (List ScriptArrival) ℕ
 arrivals_from number opened [] = Ok []
 arrivals_from number opened (l ∷ ls) = with_line number (line_of opened l) (arrivals_from (number + 1) (opened_after opened (line_of opened l)) ls)
 
--- the arrivals of a script, or the number of its first line at fault, counted from 1
+-- the events of a script, or the number of its first line at fault, counted from 1
 abbrev pub script : Text → Result (List ScriptArrival) ℕ
 script text = arrivals_from 1 0 (lines text)
 
--- ---- what a reader answers
+-- ---- what a reader returns
 
--- why nothing was read; want of memory says nothing
+-- why a script is refused: its first line at fault; an allocation failure promises nothing
 abbrev pub RefusesScript : BadScript → Result (List ScriptArrival) ℕ → Type 0
 RefusesScript (Line n) said = said ≡ Err n
 RefusesScript Memory said = Unit {0}

@@ -1,4 +1,4 @@
--- Printed transcripts (own): for each connection what was put out for it, and then the notes, a line each.
+-- Printed transcripts (own): the output of each connection, then the notes, a line each.
 use Rattle.std.specs.Prelude.{◌+◌, ◌++◌, ℕ, List, [], ◌∷◌, Option, Some, None, codes, if◌then◌else◌, decimal}
 use Rattle.std.specs.Str.Lossy.{utf8_lossy}
 use Rattle.serde_json.specs.Data.{string}
@@ -19,16 +19,16 @@ use Rattle.model.specs.declared.notes.Cause.TheVariants.{Acked, Auto, Rejected, 
 
 -- ---- words
 
--- bytes in lower case hex, or `-` for none
+-- bytes in lower-case hex, or `-` if there are none
 abbrev pub hex_word : Text → Text
 hex_word [] = codes "-"
 hex_word (b ∷ bs) = encode_lower (b ∷ bs)
 
--- a name as a compact JSON string; where it is no UTF-8, each invalid sequence stands as U+FFFD
+-- a name as a compact JSON string; each sequence that is not UTF-8 becomes U+FFFD
 abbrev pub name_word : Text → Text
 name_word name = compact_text (string (utf8_lossy name))
 
--- a confirm number, or `-` outside confirm mode
+-- a confirm's number, or `-` outside confirm mode
 abbrev pub confirm_word : Option ℕ → Text
 confirm_word None = codes "-"
 confirm_word (Some n) = decimal n
@@ -38,7 +38,7 @@ abbrev pub answer_word : Answer → Text
 answer_word Ack = codes "ack"
 answer_word Nack = codes "nack"
 
--- how a message came into a queue
+-- how a message entered a queue
 abbrev pub way_word : Way → Text
 way_word Publish = codes "publish"
 way_word Dead = codes "dead"
@@ -52,17 +52,17 @@ cause_word Purged = codes "purged"
 
 -- ---- lines
 
--- the words after the first, each behind a space, and the end of the line
+-- each word after a space, and the end of the line
 abbrev pub more_words : List Text → Text
 more_words [] = 10 ∷ []
 more_words (w ∷ ws) = 32 ∷ (w ++ more_words ws)
 
--- a line of words
+-- a line of words, separated by single spaces
 abbrev pub line : List Text → Text
 line [] = 10 ∷ []
 line (w ∷ ws) = w ++ more_words ws
 
--- the line of a reload that is refused, as this stands against it; a guarantee is told by its number, counted from 1
+-- the line of a reload that an obstacle stops; a guarantee is given by its number, counted from 1
 abbrev pub obstacle_line : Obstacle → Text
 obstacle_line (InUse queue) = line (codes "reload refused in-use" ∷ name_word queue ∷ [])
 obstacle_line (Breaks queue key guarantee) = line (codes "reload refused breaks" ∷ name_word queue ∷ hex_word key ∷ decimal guarantee ∷ [])
@@ -79,17 +79,17 @@ note_line (Left n queue cause) = line (codes "left" ∷ decimal n ∷ name_word 
 note_line Reloaded = line (codes "reload done" ∷ [])
 note_line (ReloadRefused obstacle) = obstacle_line obstacle
 
--- the line of a connection that is over or lost
+-- the line `over` of a connection that is over or lost
 abbrev pub over_line : ℕ → Shown → Text
 over_line c s = if s.is_over then line (codes "over" ∷ decimal c ∷ []) else []
 
--- the lines of a connection
+-- the lines of connection `c`
 abbrev pub shown_lines : ℕ → Shown → Text
 shown_lines c s = line (codes "out" ∷ decimal c ∷ hex_word s.output ∷ []) ++ over_line c s
 
 -- ---- the whole
 
--- the lines of these connections, of which the first has this number
+-- the lines of connections numbered from `c`
 abbrev pub shown_from : ℕ → List Shown → Text
 shown_from c [] = []
 shown_from c (s ∷ ss) = shown_lines c s ++ shown_from (c + 1) ss
@@ -99,6 +99,6 @@ abbrev pub note_lines : List Note → Text
 note_lines [] = []
 note_lines (n ∷ ns) = note_line n ++ note_lines ns
 
--- the connections in the order of their numbers, and then the notes in their order
+-- the connections by number, then the notes in their order
 abbrev pub transcript_text : Seen → Text
 transcript_text seen = shown_from 1 seen.connections ++ note_lines seen.notes

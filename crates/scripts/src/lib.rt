@@ -1,4 +1,6 @@
-//! The texts of a replay: the script that is read, and the transcript that is printed.
+//! Reads replay scripts and prints transcripts.
+//!
+//! Start with [`read_script`] and [`transcript_text`].
 #![tactic(auto)]
 
 mod lines;

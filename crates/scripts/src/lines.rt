@@ -1,4 +1,4 @@
-//! One line of a script.
+//! Parses one line of a script. Start with [`line_of`].
 
 ghost use Rattle.std.specs.Prelude.{◌≡◌, ◌∷◌, ◌<◌, ◌≤◌, ◌==◌, length, IfSome, option_copied, option_map, position, if◌then◌else◌, Some, None};
 ghost use Rattle.std.specs.Str.{is_utf8};
@@ -12,21 +12,21 @@ use model::Text;
 use std::alloc::{AllocError, AllocFailed, Global};
 use std::str;
 
-/// What a script says that arrives.
+/// An event that a script brings; a reload names its files.
 pub type Arrival = model::Arrival<ReloadFiles>;
 
-/// How many connections a script opens at most.
+/// The number of connections that a script opens at most.
 const MOST_OPENINGS: u64 = 1024;
 
-/// How many channels a connection has open from the first on, at most.
+/// The number of channels that a `ready` line opens at most.
 const MOST_READY: u64 = 255;
 
-/// Why a line is not read.
+/// Why a line was not parsed.
 #[derive(Clone, Copy, PartialEq, Eq, Debug, Drop)]
 pub enum BadLine {
-    /// It has another form.
+    /// The line has another form, or names a connection that was not opened.
     Malformed,
-    /// A growth was refused.
+    /// An allocation failed.
     Memory,
 }
 
@@ -52,7 +52,7 @@ impl<T: Drop> From<AllocFailed<T>> for BadLine {
     }
 }
 
-/// The place of the first space.
+/// Returns the index of the first space.
 fn first_space(text: &[u8]) -> Option<usize>
     ensures place { result ≡ position (λ b. b == 32) text.now }
     ensures within { IfSome result (λ place. place < length text.now) }
@@ -60,7 +60,7 @@ fn first_space(text: &[u8]) -> Option<usize>
     text.iter().position(|b| *b == b' ')
 }
 
-/// What stands before the first space, and what stands after it.
+/// Splits `text` at its first space, which neither part keeps. Returns `None` if there is none.
 fn cut(text: &[u8]) -> Option<(&[u8], &[u8])>
     ensures { option_map (λ f. (f.0.now, f.1.now)) result ≡ cut text.now }
 {
@@ -70,7 +70,7 @@ fn cut(text: &[u8]) -> Option<(&[u8], &[u8])>
     }
 }
 
-/// A number with one more digit, where it stays below 2^64.
+/// Appends the decimal digit `b` to `n`. Returns `None` if `b` is no digit or the number reaches 2^64.
 fn with_digit(n: u64, b: u8) -> Option<u64>
     ensures { result ≡ with_digit n b }
 {
@@ -80,7 +80,7 @@ fn with_digit(n: u64, b: u8) -> Option<u64>
     n.checked_mul(10)?.checked_add(u64::from(b - b'0'))
 }
 
-/// The number that these digits write.
+/// Parses decimal digits. Returns `None` if a byte is no digit or the number reaches 2^64.
 fn digits(text: &[u8]) -> Option<u64>
     ensures { result ≡ digits_after 0 text.now }
 {
@@ -91,7 +91,7 @@ fn digits(text: &[u8]) -> Option<u64>
     Some(n)
 }
 
-/// A decimal number without sign or needless zero.
+/// Parses a decimal number without sign and without leading zeros.
 fn number(text: &[u8]) -> Option<u64>
     ensures { result ≡ number text.now }
 {
@@ -102,7 +102,7 @@ fn number(text: &[u8]) -> Option<u64>
     digits(text)
 }
 
-/// The bytes of hex text, at least one.
+/// Decodes hex digits, at least one pair, in either case.
 fn piece(alloc: Global, text: &[u8]) -> Result<Text, BadLine>
     ensures { TellsIfThere result (piece text.now) }
 {
@@ -116,7 +116,7 @@ fn piece(alloc: Global, text: &[u8]) -> Result<Text, BadLine>
     }
 }
 
-/// The text that these bytes are, where they are UTF-8.
+/// Returns `bytes` as text if they are UTF-8.
 fn text_of(bytes: &[u8]) -> Option<&str>
     ensures { option_map (λ text. text.now) result ≡ if is_utf8 bytes.now then Some bytes.now else None }
 {
@@ -126,7 +126,7 @@ fn text_of(bytes: &[u8]) -> Option<&str>
     }
 }
 
-/// The name of a file that a field writes.
+/// Parses a file's name: UTF-8, at least one byte, no space.
 fn file_name(field: &[u8]) -> Option<&str>
     ensures { option_map (λ name. name.now) result ≡ file_name field.now }
 {
@@ -139,7 +139,7 @@ fn file_name(field: &[u8]) -> Option<&str>
     }
 }
 
-/// `open`.
+/// Parses the line `open`, with `opened` connections opened before it.
 fn opening(opened: u64) -> Option<Arrival>
     ensures { result ≡ opening opened }
 {
@@ -149,7 +149,7 @@ fn opening(opened: u64) -> Option<Arrival>
     Some(Arrival::Open)
 }
 
-/// `ready K`.
+/// Parses the line `ready K`, whose `field` is K, with `opened` connections opened before it.
 fn ready(opened: u64, field: &[u8]) -> Option<Arrival>
     ensures { result ≡ ready opened field.now }
 {
@@ -160,7 +160,7 @@ fn ready(opened: u64, field: &[u8]) -> Option<Arrival>
     Some(Arrival::Ready(channels as u8))
 }
 
-/// The number of a connection that was opened.
+/// Parses the number of a connection, from 1 to `opened`.
 fn connection(opened: u64, field: &[u8]) -> Option<u64>
     ensures { result ≡ connection opened field.now }
 {
@@ -171,7 +171,7 @@ fn connection(opened: u64, field: &[u8]) -> Option<u64>
     Some(c)
 }
 
-/// The fields of `in C HEX` behind the word.
+/// Parses the fields C and HEX of the line `in C HEX`.
 fn bytes_in(alloc: Global, opened: u64, c: &[u8], hex: &[u8]) -> Result<Arrival, BadLine>
     ensures { TellsIfThere result (bytes_in opened (c.now, hex.now)) }
 {
@@ -181,7 +181,7 @@ fn bytes_in(alloc: Global, opened: u64, c: &[u8], hex: &[u8]) -> Result<Arrival,
     }
 }
 
-/// The fields of `sent C N` behind the word.
+/// Parses the fields C and N of the line `sent C N`.
 fn sent(opened: u64, c: &[u8], count: &[u8]) -> Option<Arrival>
     ensures { result ≡ sent opened (c.now, count.now) }
 {
@@ -190,7 +190,7 @@ fn sent(opened: u64, c: &[u8], count: &[u8]) -> Option<Arrival>
     Some(Arrival::Sent(c, count))
 }
 
-/// The field of `lose C` behind the word.
+/// Parses the field of the line `lose C`.
 fn lost(opened: u64, c: &[u8]) -> Option<Arrival>
     ensures { result ≡ lost opened c.now }
 {
@@ -198,7 +198,7 @@ fn lost(opened: u64, c: &[u8]) -> Option<Arrival>
     Some(Arrival::Lose(c))
 }
 
-/// The names of three files, where these fields write them.
+/// Parses three files' names, a field each.
 fn names_of(
     alloc: Global,
     definitions: &[u8],
@@ -213,7 +213,7 @@ fn names_of(
     Ok(ReloadFiles::new(alloc, definitions, guarantees, certificates)?)
 }
 
-/// The names of three files that a space parts.
+/// Parses three files' names, separated by single spaces.
 fn three_names(alloc: Global, fields: &[u8]) -> Result<ReloadFiles, BadLine>
     ensures { TellsIfThere result (three_names fields.now) }
 {
@@ -222,14 +222,14 @@ fn three_names(alloc: Global, fields: &[u8]) -> Result<ReloadFiles, BadLine>
     names_of(alloc, definitions, guarantees, certificates)
 }
 
-/// The fields of `reload DEFS GUARANTEES CERTS` behind the word.
+/// Parses the fields of the line `reload DEFS GUARANTEES CERTS`.
 fn reload(alloc: Global, fields: &[u8]) -> Result<Arrival, BadLine>
     ensures { TellsIfThere result (reload fields.now) }
 {
     Ok(Arrival::Reload(three_names(alloc, fields)?))
 }
 
-/// A line of more than one field, by its first.
+/// Parses a line of several fields, whose first is `word` and whose others are `rest`.
 fn by_word(alloc: Global, opened: u64, word: &[u8], rest: &[u8]) -> Result<Arrival, BadLine>
     ensures { TellsIfThere result (by_word opened (word.now, rest.now)) }
 {
@@ -257,7 +257,7 @@ fn by_word(alloc: Global, opened: u64, word: &[u8], rest: &[u8]) -> Result<Arriv
     Err(BadLine::Malformed)
 }
 
-/// The arrival of a line that is not skipped.
+/// Parses a line that is not skipped.
 fn arrival_of(alloc: Global, opened: u64, line: &[u8]) -> Result<Arrival, BadLine>
     ensures { TellsIfThere result (arrival_of opened line.now) }
 {
@@ -273,8 +273,7 @@ fn arrival_of(alloc: Global, opened: u64, line: &[u8]) -> Result<Arrival, BadLin
     }
 }
 
-/// The arrival of a line, where `opened` connections were opened before it. An empty line and one that begins with
-/// `#` have none.
+/// Parses a line, with `opened` connections opened before it. An empty line, or one that begins with `#`, brings nothing.
 pub fn line_of(alloc: Global, opened: u64, line: &[u8]) -> Result<Option<Arrival>, BadLine>
     ensures { TellsIfThere result (line_of opened line.now) }
 {

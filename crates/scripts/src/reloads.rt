@@ -1,4 +1,4 @@
-//! The files that a reload names.
+//! The names of the files of a reload.
 
 ghost use Rattle.std.specs.Prelude.{◌≡◌, IfOk, string_bytes};
 
@@ -37,7 +37,7 @@ impl Model for ReloadFiles {
 }
 
 impl ReloadFiles {
-    /// These three. The one error is want of memory.
+    /// Copies the three names. Fails only if an allocation fails.
     pub fn new(
         alloc: Global,
         definitions: &str,

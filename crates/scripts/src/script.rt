@@ -1,4 +1,4 @@
-//! Replay scripts.
+//! Reads a replay script. Start with [`read_script`].
 
 ghost use Rattle.std.specs.Prelude.{◌≡◌, ◌≤◌, MatchResult, Some};
 ghost use Rattle.scripts.specs.Script.{script, line_of, opened_after, RefusesScript};
@@ -8,16 +8,16 @@ use crate::lines::{Arrival, BadLine, line_of};
 use model::first_part;
 use std::alloc::Global;
 
-/// Why a script is not read.
+/// Why a script was not read.
 #[derive(Clone, Copy, PartialEq, Eq, Debug, Drop)]
 pub enum BadScript {
-    /// This line has another form, or names a connection that was not opened. Lines count from 1.
+    /// This line, counted from 1, has another form, or names a connection that was not opened.
     Line(u64),
-    /// A growth was refused.
+    /// An allocation failed.
     Memory,
 }
 
-/// How many connections a line opens.
+/// Returns the number of connections that a line opens: 1 or 0.
 fn openings(line: &Option<Arrival>) -> u64
     ensures { opened_after 0 (Some line.now) ≡ result }
 {
@@ -27,7 +27,7 @@ fn openings(line: &Option<Arrival>) -> u64
     }
 }
 
-/// Appends the arrival of a line, if it has one, and gives how many were opened after it.
+/// Appends the event of a line, if it has one, and returns the number of connections opened after it.
 fn take_line(
     alloc: Global,
     found: &mut Vec<Arrival>,
@@ -45,13 +45,14 @@ fn take_line(
     Ok(after)
 }
 
-/// The arrivals of a script, in their order.
+/// Parses a replay script into its events, in their order.
 ///
-/// The script is read whole: lines that LF ends, of fields that one space parts. Empty lines and those that begin with
-/// `#` are skipped; `open` opens a connection of which no byte has come, `ready K` one that runs with channels 1 to K
-/// open, `in C HEX` is a piece of bytes from connection C, `sent C N` takes N bytes of C's output, `pump` delivers a message
-/// where one can be, `lose C` loses C, and `reload DEFS GUARANTEES CERTS` names the files of what is to
-/// be in force. The first line at fault is told by its number, counted from 1.
+/// LF ends a line, and one space separates its fields. Empty lines and lines that begin with `#` are skipped. `open` opens a
+/// connection from which no byte has come, `ready K` one that is running with channels 1 to K open. `in C HEX` is a piece of
+/// bytes from connection C, `sent C N` takes N bytes of its output, `lose C` loses it. `pump` delivers a message if one can be
+/// delivered. `reload DEFS GUARANTEES CERTS` names the files of the topology to load.
+///
+/// Fails with the number of the first line at fault, or with [`BadScript::Memory`] if an allocation fails.
 pub fn read_script(alloc: Global, text: &[u8]) -> Result<Vec<Arrival>, BadScript>
     ensures { MatchResult result (λ found. script text.now ≡ Ok found.items) (λ fault. RefusesScript fault (script text.now)) }
 {

@@ -1,4 +1,4 @@
-//! Printed transcripts.
+//! Prints transcripts. Start with [`transcript_text`].
 
 ghost use Rattle.std.specs.Prelude.{◌≡◌, ◌++◌, ◌∷◌, [], codes, decimal, IfOk, string_bytes, OnErr, OnOk};
 ghost use Rattle.scripts.specs.Transcript.{hex_word, name_word, confirm_word, answer_word, way_word, cause_word, line, obstacle_line, note_line};
@@ -9,7 +9,7 @@ use runs::{Shown, Transcript};
 use serde_json::Value;
 use std::alloc::{AllocError, Global};
 
-/// Bytes in lower case hex, or `-` for none.
+/// Returns `bytes` in lower-case hex, or `-` if there are none.
 fn hex_word(alloc: Global, bytes: &[u8]) -> Result<String, AllocError>
     ensures { IfOk result (λ word. string_bytes word ≡ hex_word bytes.now) }
 {
@@ -19,15 +19,16 @@ fn hex_word(alloc: Global, bytes: &[u8]) -> Result<String, AllocError>
     hex::encode(alloc, bytes)
 }
 
-/// A name as a compact JSON string, in its quotation marks and with no end of line. Names come from a file and are UTF-8;
-/// in any other each invalid sequence is printed as U+FFFD. The one error is want of memory.
+/// Returns `name` as a compact JSON string, in quotation marks and without an end of line.
+///
+/// Names come from a file and are UTF-8; otherwise each invalid sequence is printed as U+FFFD. Fails only if an allocation fails.
 pub fn name_word(alloc: Global, name: &[u8]) -> Result<String, AllocError>
     ensures { IfOk result (λ word. string_bytes word ≡ name_word name.now) }
 {
     Value::String(String::from_utf8_lossy(alloc, name)?).to_string(alloc)
 }
 
-/// A confirm number, or `-` outside confirm mode.
+/// Returns a confirm's number, or `-` outside confirm mode.
 fn confirm_word(alloc: Global, confirm: Option<u64>) -> Result<String, AllocError>
     ensures { IfOk result (λ word. string_bytes word ≡ confirm_word confirm) }
 {
@@ -66,7 +67,7 @@ fn cause_word(cause: Cause) -> &'static str
     }
 }
 
-/// The words of a publish behind its numbers, and the end of the line.
+/// Returns the words of a publish's line after its numbers, and the end of the line.
 fn publish_words(
     alloc: Global,
     exchange: &[u8],
@@ -81,7 +82,7 @@ fn publish_words(
     format!(in alloc; "{exchange} {key} {confirm}\n")
 }
 
-/// The line of a publish: its number, its connection and its channel, and what stands behind them.
+/// Returns the line of a publish: its number, its connection and its channel, then `rest`.
 fn publish_line(
     alloc: Global,
     number: u64,
@@ -95,7 +96,7 @@ fn publish_line(
     format!(in alloc; "published {number} {connection} {channel} {rest}")
 }
 
-/// The line of a message that came to a queue.
+/// Returns the line of message `number` that entered `queue`.
 fn entered_line(alloc: Global, number: u64, queue: &[u8], way: Way) -> Result<String, AllocError>
     ensures { IfOk result (λ text. string_bytes text ≡ line (codes "entered" ∷ decimal number ∷ name_word queue.now ∷ way_word way ∷ [])) }
 {
@@ -104,7 +105,7 @@ fn entered_line(alloc: Global, number: u64, queue: &[u8], way: Way) -> Result<St
     format!(in alloc; "entered {number} {queue} {way}\n")
 }
 
-/// The line of a message that a full queue refused.
+/// Returns the line of message `number` that the full `queue` refused.
 fn refused_line(alloc: Global, number: u64, queue: &[u8]) -> Result<String, AllocError>
     ensures { IfOk result (λ text. string_bytes text ≡ line (codes "refused" ∷ decimal number ∷ name_word queue.now ∷ [])) }
 {
@@ -112,7 +113,7 @@ fn refused_line(alloc: Global, number: u64, queue: &[u8]) -> Result<String, Allo
     format!(in alloc; "refused {number} {queue}\n")
 }
 
-/// The line of a publish that was confirmed.
+/// Returns the line of publish `number` that was confirmed.
 fn confirmed_line(alloc: Global, number: u64, answer: Answer) -> Result<String, AllocError>
     ensures { IfOk result (λ text. string_bytes text ≡ line (codes "confirmed" ∷ decimal number ∷ answer_word answer ∷ [])) }
 {
@@ -120,7 +121,7 @@ fn confirmed_line(alloc: Global, number: u64, answer: Answer) -> Result<String, 
     format!(in alloc; "confirmed {number} {answer}\n")
 }
 
-/// The line of a message that left a queue.
+/// Returns the line of message `number` that left `queue`.
 fn left_line(alloc: Global, number: u64, queue: &[u8], cause: Cause) -> Result<String, AllocError>
     ensures { IfOk result (λ text. string_bytes text ≡ line (codes "left" ∷ decimal number ∷ name_word queue.now ∷ cause_word cause ∷ [])) }
 {
@@ -129,7 +130,7 @@ fn left_line(alloc: Global, number: u64, queue: &[u8], cause: Cause) -> Result<S
     format!(in alloc; "left {number} {queue} {cause}\n")
 }
 
-/// The line of a reload that would leave out a queue in use.
+/// Returns the line of a reload that is refused because it would remove `queue`, which is in use.
 fn in_use_line(alloc: Global, queue: &[u8]) -> Result<String, AllocError>
     ensures { IfOk result (λ text. string_bytes text ≡ line (codes "reload refused in-use" ∷ name_word queue.now ∷ [])) }
 {
@@ -137,7 +138,7 @@ fn in_use_line(alloc: Global, queue: &[u8]) -> Result<String, AllocError>
     format!(in alloc; "reload refused in-use {queue}\n")
 }
 
-/// The line of a reload that would break a guarantee.
+/// Returns the line of a reload that is refused because it would break guarantee number `guarantee`.
 fn breaks_line(
     alloc: Global,
     queue: &[u8],
@@ -151,7 +152,7 @@ fn breaks_line(
     format!(in alloc; "reload refused breaks {queue} {key} {guarantee}\n")
 }
 
-/// The line of a reload that is refused, as this stands against it. The one error is want of memory.
+/// Returns the line of a reload that `obstacle` stops. Fails only if an allocation fails.
 pub fn obstacle_line(alloc: Global, obstacle: &Obstacle) -> Result<String, AllocError>
     ensures { IfOk result (λ text. string_bytes text ≡ obstacle_line obstacle.now) }
 {
@@ -165,7 +166,7 @@ pub fn obstacle_line(alloc: Global, obstacle: &Obstacle) -> Result<String, Alloc
     }
 }
 
-/// The line of a note.
+/// Returns the line of a note.
 fn note_line(alloc: Global, note: &Note) -> Result<String, AllocError>
     ensures { IfOk result (λ line. string_bytes line ≡ note_line note.now) }
 {
@@ -197,7 +198,7 @@ fn note_line(alloc: Global, note: &Note) -> Result<String, AllocError>
     }
 }
 
-/// Appends the bytes of a line, which has its LF. The one error is want of memory; the text is then as it was.
+/// Appends `line`, which ends with its LF. Fails only if an allocation fails; `text` is unchanged then.
 pub fn put_line(text: &mut Vec<u8>, line: String) -> Result<(), AllocError>
     ensures appended { OnOk result (text.new.items ≡ text.old.items ++ string_bytes line) }
     ensures kept { OnErr result (text.new.items ≡ text.old.items) }
@@ -205,7 +206,7 @@ pub fn put_line(text: &mut Vec<u8>, line: String) -> Result<(), AllocError>
     text.extend_from_slice(line.as_bytes())
 }
 
-/// Appends the line of a connection that is over or lost.
+/// Appends the line `over` if connection `number` is over or lost.
 fn put_over(alloc: Global, text: &mut Vec<u8>, number: u64, shown: &Shown) -> Result<(), AllocError>
     ensures { OnOk result (text.new.items ≡ text.old.items ++ over_line number shown.now) }
 {
@@ -215,7 +216,7 @@ fn put_over(alloc: Global, text: &mut Vec<u8>, number: u64, shown: &Shown) -> Re
     Ok(())
 }
 
-/// The line of all bytes that were put out for a connection.
+/// Returns the line with the whole output of connection `number`.
 fn out_line(alloc: Global, number: u64, bytes: &[u8]) -> Result<String, AllocError>
     ensures { IfOk result (λ text. string_bytes text ≡ line (codes "out" ∷ decimal number ∷ hex_word bytes.now ∷ [])) }
 {
@@ -223,7 +224,7 @@ fn out_line(alloc: Global, number: u64, bytes: &[u8]) -> Result<String, AllocErr
     format!(in alloc; "out {number} {bytes}\n")
 }
 
-/// Appends the lines of a connection.
+/// Appends the lines of connection `number`.
 fn put_shown(
     alloc: Global,
     text: &mut Vec<u8>,
@@ -236,7 +237,7 @@ fn put_shown(
     put_over(alloc, text, number, shown)
 }
 
-/// Appends the lines of all connections.
+/// Appends the lines of all connections, which are numbered from 1.
 fn put_connections(
     alloc: Global,
     text: &mut Vec<u8>,
@@ -252,7 +253,7 @@ fn put_connections(
     Ok(())
 }
 
-/// Appends the lines of the notes.
+/// Appends a line for each note.
 fn put_notes(alloc: Global, text: &mut Vec<u8>, notes: &[Note]) -> Result<(), AllocError>
     ensures { OnOk result (text.new.items ≡ text.old.items ++ note_lines notes.now) }
 {
@@ -262,8 +263,8 @@ fn put_notes(alloc: Global, text: &mut Vec<u8>, notes: &[Note]) -> Result<(), Al
     Ok(())
 }
 
-/// A transcript as it is printed: for each connection, in the order of their numbers, a line with all bytes that were
-/// put out for it, and a line where it is over or lost; then a line for each note.
+/// Prints a transcript. Each connection, by number, has a line with its whole output, and the line `over` if it is over or lost;
+/// then each note has a line. Fails only if an allocation fails.
 pub fn transcript_text(alloc: Global, transcript: &Transcript) -> Result<Vec<u8>, AllocError>
     ensures { IfOk result (λ text. text.items ≡ transcript_text transcript.now) }
 {

@@ -1,12 +1,12 @@
 //! A broker that is served over sockets of the system, which are watched.
 
-use crate::watched::Watched;
 use engine::Engine;
-use scenario_parts::{Unmet, new_broker, value_of};
+use scenario_parts::{Unmet, Watched, new_broker, value_of};
 use serving::{Server, serve};
 use sockets::Sockets;
 use std::alloc::Global;
 use std::net::{Net, SocketAddr, TcpStream};
+use std::time::Duration;
 
 /// A server of a broker, with no socket yet.
 pub(crate) fn new_server(alloc: Global) -> Result<Server<Engine>, Unmet> {
@@ -24,16 +24,36 @@ pub(crate) struct Served {
     pub(crate) sockets: Watched<Sockets>,
 }
 
+/// Sockets at a port that is free.
+fn at_a_free_port<N: Net>(net: &N, alloc: Global) -> Result<Sockets, Unmet> {
+    let address = value_of("parse", "127.0.0.1:0".parse::<SocketAddr>())?;
+    value_of("Sockets::bind", Sockets::bind(net, alloc, address))
+}
+
 impl Served {
-    /// At a port that is free.
-    pub(crate) fn new<N: Net>(net: &N, alloc: Global) -> Result<Served, Unmet> {
+    /// Over these sockets.
+    fn over(alloc: Global, sockets: Sockets) -> Result<Served, Unmet> {
         let server = new_server(alloc)?;
-        let address = value_of("parse", "127.0.0.1:0".parse::<SocketAddr>())?;
-        let sockets = value_of("Sockets::bind", Sockets::bind(net, alloc, address))?;
         Ok(Served {
             server,
             sockets: Watched::new(sockets),
         })
+    }
+
+    /// At a port that is free.
+    pub(crate) fn new<N: Net>(net: &N, alloc: Global) -> Result<Served, Unmet> {
+        let sockets = at_a_free_port(net, alloc)?;
+        Served::over(alloc, sockets)
+    }
+
+    /// At a port that is free. A client whose connection does not run has so much time.
+    pub(crate) fn with_patience(
+        rt: &HostRuntime,
+        alloc: Global,
+        patience: Duration,
+    ) -> Result<Served, Unmet> {
+        let sockets = at_a_free_port(rt, alloc)?;
+        Served::over(alloc, sockets.with_patience(rt, patience))
     }
 
     /// A client that comes.

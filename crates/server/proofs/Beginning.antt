@@ -1,22 +1,12 @@
 -- What comes of telling where clients may come, and of serving.
-use Rattle.std.proofs.Common.{◌≡◌, ℕ, Bool, true, false, List, [], Option, Some, None, inl, inr, refl, sym, subst, ap, ◌∙◌}
-use Rattle.std.proofs.lemmas.Option.{same_Some}
-use Rattle.clap.specs.Words.{kind_of}
-use Rattle.clap.specs.declared.error.Error.{Error}
-use Rattle.model.specs.Words.{Text}
-use Rattle.model.specs.State.{Config}
+use Rattle.server.proofs.Names.{◌≡◌, ℕ, Bool, true, false, List, [], Option, Some, None, inl, inr, refl, sym, subst, ap, ◌∙◌, same_Some, kind_of, Error, Text, Config, Wanted, AsksFor, AreWordsRefused, Known, OutputStream, GetsText, PutsOut, TriesPut, IsStarted, ShowsError, out_of_memory, IsTaken, Openings, CanCome, Begins, ServesClients, IsTurns}
 use Rattle.model.specs.Arrivals.{World, new_world}
 use Rattle.engine.specs.Wanting.{engine_lacks}
-use Rattle.command_line.specs.CommandLine.{Wanted, AsksFor, AreWordsRefused}
-use Rattle.server.specs.Files.{Known}
 use Rattle.serving.specs.Wire.{Told}
 use Rattle.serving.specs.Story.{Served, served}
 use Rattle.serving.specs.Rounds.{Rounds}
 use Rattle.serving.specs.Whole.{IsServed}
 use Rattle.serving.specs.declared.peers.Peer.{Peer}
-use Rattle.server.specs.Streams.{OutputStream, GetsText, PutsOut, TriesPut}
-use Rattle.server.specs.Program.{IsStarted, ShowsError, out_of_memory}
-use Rattle.server.specs.Clients.{IsTaken, Openings, CanCome, Begins, ServesClients, IsTurns}
 
 -- ---- the line
 

@@ -1,16 +1,11 @@
 -- A file that is refused by a cause is told by the cause's number.
-use Rattle.std.proofs.Common.{◌≡◌, ℕ, refl, sym, subst}
-use Rattle.std.specs.Prelude.{Result, Ok, Err, IsErrAnd, MatchResult}
-use Rattle.model.specs.Words.{Text}
+use Rattle.server.proofs.Names.{◌≡◌, ℕ, refl, sym, subst, Result, IsErrAnd, MatchResult, Text, IsCauseTold, IsLeastCause, FileRefusal, Known, HasText, IsWhyNot, IsWhyUncertified}
+use Rattle.std.specs.Prelude.{Ok, Err}
 use Rattle.json_file.specs.Causes.{cause_number}
-use Rattle.json_file.specs.Files.{IsCauseTold, IsLeastCause}
 use Rattle.json_file.specs.declared.causes.FileCause.{FileCause}
 use Rattle.json_file.specs.declared.causes.FileCause.TheVariants.{Memory}
 use Rattle.certificate.specs.Reads.{ReadsCertificateFile}
-use Rattle.server.specs.declared.file_refusals.FileRefusal.{FileRefusal}
 use Rattle.server.specs.FileRefusals.{of_cause}
-use Rattle.server.specs.Files.{Known, HasText}
-use Rattle.server.specs.Stated.{IsWhyNot, IsWhyUncertified}
 
 -- ---- why a file of this text is refused
 

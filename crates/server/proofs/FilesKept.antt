@@ -1,13 +1,6 @@
 -- What is known of files that are kept stays known, and what their texts are.
-use Rattle.std.proofs.Common.{◌≤◌, List, Option, Some, None, length, ◌∙◌, subst, inl, inr, arith}
-use Rattle.model.specs.Words.{Text}
-use Rattle.model.specs.Topology.{Topology}
-use Rattle.model.specs.Guarantee.{Guarantee}
+use Rattle.server.proofs.Names.{◌≤◌, List, Option, Some, None, length, ◌∙◌, subst, inl, inr, arith, Text, Topology, Guarantee, TooMany, FileRefusal, Known, AreKept, AreKeptBut, PromisesAt, HoldsCertificates, CertifiesAt, IsWhyNone}
 use Rattle.model.specs.Certificates.{Certificate}
-use Rattle.json_file.specs.declared.causes.FileCause.TheVariants.{TooMany}
-use Rattle.server.specs.declared.file_refusals.FileRefusal.{FileRefusal}
-use Rattle.server.specs.Files.{Known, AreKept, AreKeptBut}
-use Rattle.server.specs.Stated.{PromisesAt, HoldsCertificates, CertifiesAt, IsWhyNone}
 
 -- ---- files
 

@@ -1,17 +1,8 @@
 -- Why files are refused has to do with no socket.
-use Rattle.std.proofs.Common.{◌≡◌, List, Option, sym, subst}
-use Rattle.model.specs.Words.{Text}
-use Rattle.model.specs.Topology.{Topology}
-use Rattle.model.specs.Guarantee.{Guarantee}
+use Rattle.server.proofs.Names.{◌≡◌, List, Option, sym, subst, Text, Topology, Guarantee, Known, FileRefusal, CommandRefusal, Line, Refused, TooLong, Unread, Unwritten, NoExchange, NotListening, of_refused, FailsOver, IsWhyUnadmitted, not_set_up, not_certified, not_admitted, no_memory, IsOfFiles}
 use Rattle.model.specs.Certificates.{Certificate as Shown}
-use Rattle.server.specs.Files.{Known}
-use Rattle.server.specs.declared.file_refusals.FileRefusal.{FileRefusal}
 use Rattle.server.specs.declared.file_refusals.FileRefusal.TheVariants as file
-use Rattle.server.specs.declared.refusals.CommandRefusal.{CommandRefusal}
-use Rattle.server.specs.declared.refusals.CommandRefusal.TheVariants.{Line, Refused, TooLong, Unread, Unwritten, NoExchange, Certificate, NotListening, Memory}
-use Rattle.server.specs.Refusals.{of_refused}
-use Rattle.server.specs.Program.{FailsOver, IsWhyUnadmitted, not_set_up, not_certified, not_admitted, no_memory}
-use Rattle.server.specs.Clients.{IsOfFiles}
+use Rattle.server.specs.declared.refusals.CommandRefusal.TheVariants.{Certificate, Memory}
 
 of_cause : (cause : FileRefusal) → IsOfFiles (of_refused cause)
 of_cause (file.Refused n) = tt

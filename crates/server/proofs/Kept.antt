@@ -1,27 +1,12 @@
 -- What is known of files that are kept stays known.
-use Rattle.std.proofs.Common.{◌≡◌, ◌≤◌, ℕ, List, [], Option, Some, None, length, sym, subst, inl, inr, arith}
-use Rattle.std.proofs.lemmas.Option.{slice_get_within}
+use Rattle.server.proofs.Names.{◌≡◌, ◌≤◌, ℕ, List, [], Option, Some, None, length, sym, subst, inl, inr, arith, slice_get_within, Text, Topology, Guarantee, FailsFirst, Verdict, CommandRefusal, Line, Refused, TooLong, Unread, Unwritten, NoExchange, NotListening, Adds, Draft, Wanted, Known, AreKept, SetsUp, FailsToSetUp, FailsToCertify, IsWhyUncertified, JudgesAll, FileRefusal, of_refused, IsOfFile, Drafts, IsJudgedUnfiled, IsNotAnswered, FilesAreLeft, IsUnfiled, IsFiled, WritesOut, unnamed, doubtful, filed}
 use Rattle.std.proofs.Math.Path.{fun_ext}
-use Rattle.model.specs.Words.{Text}
-use Rattle.model.specs.Topology.{Topology}
-use Rattle.model.specs.Guarantee.{Guarantee}
 use Rattle.model.specs.Certificates.{Certificate}
 use Rattle.certificate.specs.declared.faults.CertFault.{CertFault}
-use Rattle.certificate.specs.Certified.{FailsFirst}
 use Rattle.definitions.specs.Reads.{Stated}
-use Rattle.guarantee_search.specs.declared.verdicts.Verdict.{Verdict}
-use Rattle.server.specs.declared.refusals.CommandRefusal.{CommandRefusal}
-use Rattle.server.specs.declared.refusals.CommandRefusal.TheVariants.{Line, Refused, TooLong, Unread, Unwritten, NoExchange, Certificate as OfCertificate, NotListening, Memory}
-use Rattle.certificate.specs.Drafts.{Adds}
-use Rattle.certificate.specs.declared.drafts.Draft.{Draft}
-use Rattle.command_line.specs.CommandLine.{Wanted}
-use Rattle.server.specs.Files.{Known, AreKept}
-use Rattle.server.specs.Stated.{SetsUp, FailsToSetUp, FailsToCertify, IsWhyUncertified}
+use Rattle.server.specs.declared.refusals.CommandRefusal.TheVariants.{Certificate as OfCertificate, Memory}
 use Rattle.server.proofs.FilesKept.{kept_then, kept_but_then, why_kept}
-use Rattle.server.specs.Verdicts.{JudgesAll}
-use Rattle.server.specs.declared.file_refusals.FileRefusal.{FileRefusal}
-use Rattle.server.specs.Refusals.{of_refused, IsOfFile}
-use Rattle.server.specs.Program.{wanting, Drafts, IsJudgedUnfiled, IsNotAnswered, FilesAreLeft, IsUnfiled, IsFiled, WritesOut, unnamed, doubtful, filed}
+use Rattle.server.specs.Program.{wanting}
 
 -- ---- files
 

@@ -1,3 +1,4 @@
+pub mod Names
 pub mod Beginning
 pub mod Causing
 pub mod FilesKept

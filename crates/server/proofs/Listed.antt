@@ -1,11 +1,8 @@
 -- Which exchanges are there.
-use Rattle.std.proofs.Common.{◌≡◌, List, [], ◌∷◌, Bool, true, false, refl, sym, inl, inr}
-use Rattle.std.specs.Prelude.{◌||◌, Decides}
-use Rattle.std.specs.List.{list_any}
+use Rattle.server.proofs.Names.{◌≡◌, List, [], ◌∷◌, Bool, true, false, refl, sym, inl, inr, Decides, list_any, Text, IsIn, exchange_names}
+use Rattle.std.specs.Prelude.{◌||◌}
 use Rattle.std.specs.Str.{bytes_eq}
 use Rattle.std.proofs.lemmas.Slice.Eq.{bytes_eq-Decides}
-use Rattle.model.specs.Words.{Text}
-use Rattle.model.specs.Topology.{IsIn, exchange_names}
 use Rattle.model.specs.declared.topologies.Exchange.{Exchange}
 
 any_at : (x y : Text) (ys : List Text) (v w : Bool) → (v ≡ true → y ≡ x) → (x ≡ y → v ≡ true) → ((w ≡ true → IsIn x ys) × (IsIn x ys → w ≡ true))

@@ -1,23 +1,14 @@
 -- What the statuses of verdicts and of outcomes mean.
-use Rattle.std.proofs.Common.{◌≡◌, ℕ, zero, suc, ◌+◌, ◌≤◌, List, [], ◌∷◌, ◌++◌, Bool, true, false, ltb, length, refl, sym, ◌∙◌, subst, inl, inr, Some, None, Ok, Err, arith}
-use Rattle.std.specs.Prelude.{slice_get, if◌then◌else◌}
-use Rattle.std.specs.List.{list_any}
+use Rattle.server.proofs.Names.{◌≡◌, ℕ, zero, suc, ◌+◌, ◌≤◌, List, [], ◌∷◌, ◌++◌, Bool, true, false, ltb, length, refl, sym, ◌∙◌, subst, inl, inr, Some, None, arith, slice_get, if◌then◌else◌, list_any, Topology, IsIn, Guarantee, Holds, AllHold, IsCertifiedAt, AreCertifiedBelow, AreCertified, FindsVerdict, Verdict, Yes, No, Undecided, EachWith, FindsVerdicts, IsMeant, is_no, is_undecided, status_by, status_of_verdicts, Outcome, TellsOutcome, AreOutcomes, of_too_many, is_fault, status_of_outcomes}
+use Rattle.std.proofs.Common.{Ok, Err}
 use Rattle.std.proofs.lemmas.Bool.{ltb-false}
-use Rattle.model.specs.Topology.{Topology, IsIn}
-use Rattle.model.specs.Guarantee.{Guarantee, Holds, AllHold}
 use Rattle.model.specs.Certificates.{Certificate}
 use Rattle.certificate_laws.proofs.Certificates.{certificate_sound}
 use Rattle.certificate_laws.proofs.Refutations.{refutation_sound}
 use Rattle.certificate_laws.proofs.Trackings.{contained}
-use Rattle.certificate.specs.Certified.{IsCertifiedAt, AreCertifiedBelow, AreCertified}
 use Rattle.certificate.proofs.Certifying.{certified_all, certified_hold}
 use Rattle.certificate.specs.declared.faults.CertFault.TheVariants.{Form}
 use Rattle.topology_drafts.proofs.Members.{contains_in}
-use Rattle.guarantee_search.specs.Verdicts.{FindsVerdict}
-use Rattle.guarantee_search.specs.declared.verdicts.Verdict.{Verdict}
-use Rattle.guarantee_search.specs.declared.verdicts.Verdict.TheVariants.{Yes, No, Undecided}
-use Rattle.server.specs.Verdicts.{EachWith, FindsVerdicts, IsMeant, is_no, is_undecided, status_by, status_of_verdicts}
-use Rattle.server.specs.Outcomes.{Outcome, TellsOutcome, AreOutcomes, of_too_many, is_fault, status_of_outcomes}
 
 -- ---- verdicts
 

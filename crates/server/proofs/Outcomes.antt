@@ -1,15 +1,7 @@
 -- What the steps of a call come to.
-use Rattle.std.proofs.Common.{◌≡◌, ◌++◌, ℕ, Bool, true, false, List, Option, Some, None, take, drop, refl, sym, ap, ◌∙◌, subst, inl, inr, append_assoc, take-append-drop}
-use Rattle.std.specs.Io.KnownBytes.{Appends, Keeps}
-use Rattle.clap.specs.Words.{kind_of}
-use Rattle.clap.specs.declared.error.Error.{Error}
-use Rattle.command_line.specs.CommandLine.{Wanted, AsksFor, AreWordsRefused}
-use Rattle.model.specs.Words.{Text}
-use Rattle.server.specs.Files.{Known, AreKept}
-use Rattle.server.specs.Streams.{OutputStream, GetsNothing, PutsOut, TriesPut, change, tried}
-use Rattle.server.specs.declared.refusals.CommandRefusal.{CommandRefusal}
+use Rattle.server.proofs.Names.{◌≡◌, ◌++◌, ℕ, Bool, true, false, List, Option, Some, None, take, drop, refl, sym, ap, ◌∙◌, subst, inl, inr, append_assoc, take-append-drop, Appends, Keeps, kind_of, Error, Wanted, AsksFor, AreWordsRefused, Text, Known, AreKept, OutputStream, GetsNothing, PutsOut, TriesPut, change, tried, CommandRefusal, RunsAs, printed, put_unfiled, told_of, unasked, unread, AnswersBut, IsCommandAnswered, IsNotAnswered, PutsBoth, RefusesWith, ShowsError, out_of_memory, refusal_line, status_of}
 use Rattle.server.specs.declared.refusals.Told.{Told}
-use Rattle.server.specs.Program.{RunsAs, printed, put_unfiled, told_of, untold, unasked, unread, AnswersBut, IsCommandAnswered, IsNotAnswered, PutsBoth, RefusesWith, ShowsError, out_of_memory, refusal_line, status_of}
+use Rattle.server.specs.Program.{untold}
 
 -- ---- streams
 

@@ -1,8 +1,5 @@
 -- What is left of a file that is compared in parts.
-use Rattle.std.proofs.Common.{◌≡◌, ◌++◌, [], ◌∷◌, false, Option, Some, None, ap, refl, sym, ◌∙◌, append_assoc}
-use Rattle.std.specs.Io.KnownBytes.{Consumes, Keeps}
-use Rattle.model.specs.Words.{Text}
-use Rattle.server.specs.Files.{TellsLeft}
+use Rattle.server.proofs.Names.{◌≡◌, ◌++◌, [], ◌∷◌, false, Option, Some, None, ap, refl, sym, ◌∙◌, append_assoc, Consumes, Keeps, Text, TellsLeft}
 
 -- Of what was left to read, and of the text, the same front is passed, where what is left is known.
 pub record IsPassed (whole left text rest : Text) : Type 0 where

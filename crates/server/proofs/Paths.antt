@@ -1,9 +1,5 @@
 -- The words of a path.
-use Rattle.std.proofs.Common.{◌≡◌, ◌∙◌, List, [], ◌∷◌, ◌++◌, refl, sym, ap, map, append_assoc}
-use Rattle.std.specs.Prelude.{codes}
-use Rattle.model.specs.Words.{Text}
-use Rattle.scripts.specs.Transcript.{more_words, name_word}
-use Rattle.server.specs.Verdicts.{names_text, path_text, path_words}
+use Rattle.server.proofs.Names.{◌≡◌, ◌∙◌, List, [], ◌∷◌, ◌++◌, refl, sym, ap, map, append_assoc, codes, Text, more_words, name_word, names_text, path_text, path_words}
 
 names_end : (ns : List Text) → more_words (map name_word ns) ≡ names_text ns ++ 10 ∷ []
 names_end [] = refl

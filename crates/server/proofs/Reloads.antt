@@ -1,16 +1,8 @@
 -- Scripts whose reloads are set up, one after another.
-use Rattle.std.proofs.Common.{◌≡◌, ℕ, ◌+◌, ◌<◌, ◌++◌, List, [], ◌∷◌, Option, Some, length, get_or, take, refl, subst}
-use Rattle.std.specs.Prelude.{slice_get}
-use Rattle.std.proofs.lemmas.List.{take_more}
-use Rattle.std.proofs.lemmas.Option.{slice_get_read}
-use Rattle.model.specs.Words.{Text}
-use Rattle.model.specs.State.{Config}
+use Rattle.server.proofs.Names.{◌≡◌, ℕ, ◌+◌, ◌<◌, ◌++◌, List, [], ◌∷◌, Option, Some, length, get_or, take, refl, subst, slice_get, take_more, slice_get_read, Text, Config, Known, AreKept, CommandRefusal, AreSetUp, IsSetUp, IsWhyNotSetUp, FailsToReload, at, no_room}
 use Rattle.model.specs.declared.events.Arrival.{Arrival}
 use Rattle.model.specs.declared.events.Arrival.TheVariants as arrival
 use Rattle.scripts.specs.Script.{ScriptArrival}
-use Rattle.server.specs.Files.{Known, AreKept}
-use Rattle.server.specs.declared.refusals.CommandRefusal.{CommandRefusal}
-use Rattle.server.specs.Program.{AreSetUp, IsSetUp, IsWhyNotSetUp, FailsToReload, at, no_room}
 use Rattle.server.proofs.Kept.{same_known}
 
 set_up_more : (holds : Text → Known) (ss : List ScriptArrival) (s : ScriptArrival) (as' : List (Arrival Config)) (a : Arrival Config)

@@ -1,17 +1,7 @@
 -- Verdicts and outcomes, one for each guarantee.
-use Rattle.std.proofs.Common.{◌≡◌, ℕ, zero, suc, ◌+◌, ◌++◌, ◌<◌, ◌≤◌, ◌||◌, Bool, true, false, List, [], ◌∷◌, length, take, Option, Some, None, refl, sym, ap, ◌∙◌, subst, arith, get_or, append_assoc, append-nil, length-append}
-use Rattle.std.specs.List.{list_any}
-use Rattle.std.proofs.lemmas.List.{take_more, length-take-le}
-use Rattle.model.specs.Words.{Text}
-use Rattle.model.specs.Topology.{Topology}
-use Rattle.model.specs.Guarantee.{Guarantee}
+use Rattle.server.proofs.Names.{◌≡◌, ℕ, zero, suc, ◌+◌, ◌++◌, ◌<◌, ◌≤◌, Bool, true, false, List, [], ◌∷◌, length, take, Option, Some, None, refl, sym, ap, ◌∙◌, subst, arith, get_or, append_assoc, append-nil, length-append, list_any, take_more, length-take-le, Text, Topology, Guarantee, Adds, IsDraft, Draft, FindsVerdict, Verdict, Yes, No, Undecided, EachWith, FindsVerdicts, Judges, certificates_in, is_no, is_undecided, status_by, status_of_verdicts, verdict_line, verdict_lines}
+use Rattle.std.proofs.Common.{◌||◌}
 use Rattle.model.specs.Certificates.{Certificate}
-use Rattle.certificate.specs.Drafts.{Adds, IsDraft}
-use Rattle.certificate.specs.declared.drafts.Draft.{Draft}
-use Rattle.guarantee_search.specs.Verdicts.{FindsVerdict}
-use Rattle.guarantee_search.specs.declared.verdicts.Verdict.{Verdict}
-use Rattle.guarantee_search.specs.declared.verdicts.Verdict.TheVariants.{Yes, No, Undecided}
-use Rattle.server.specs.Verdicts.{EachWith, FindsVerdicts, Judges, certificates_in, is_no, is_undecided, status_by, status_of_verdicts, verdict_line, verdict_lines}
 use Rattle.server.proofs.Meaning.{verdicts_mean}
 
 -- one more at the end of both

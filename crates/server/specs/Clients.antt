@@ -1,4 +1,4 @@
--- What `serve` comes to (own): files are judged, clients may come, and are served.
+-- What `serve` does (own): its files are judged, sockets are opened, their address is reported, and clients are served.
 use Rattle.std.specs.Prelude.{◌≡◌, ◌<◌, ◌^◌, ◌++◌, ℕ, Bool, true, false, List, [], ◌∷◌, Option, Some, None, codes, ⊤}
 use Rattle.std.specs.Str.Parse.{IsNumeral, digits_value, without_leading_plus}
 use Rattle.model.specs.Words.{Text}
@@ -15,9 +15,9 @@ use Rattle.server.specs.declared.refusals.CommandRefusal.TheVariants.{Line, Refu
 use Rattle.server.specs.Streams.{OutputStream, GetsNothing, GetsText, PutsOut, TriesPut}
 use Rattle.server.specs.Program.{FailsOver, IsInForce, RefusesWith, out_of_memory}
 
--- ---- what is judged
+-- ---- the files
 
--- a refusal that has to do with no socket
+-- a refusal that does not concern sockets
 abbrev pub IsOfFiles : CommandRefusal → Type 0
 IsOfFiles (Line n) = ⊤
 IsOfFiles (Refused n) = ⊤
@@ -29,60 +29,60 @@ IsOfFiles (Certificate n fault) = ⊤
 IsOfFiles NotListening = ⊥
 IsOfFiles Memory = ⊤
 
--- Why no broker is started over these files, and the file of which this is told.
+-- Why no broker is started from these files, and the file concerned.
 pub record FailsToStart (holds : Text → Known) (definitions guarantees certificates file : Text) (why : CommandRefusal) : Type 0 where
   pub fails : FailsOver holds (Some definitions) (Some guarantees) (Some certificates) file why
   pub judged : IsOfFiles why
 
 -- ---- sockets
 
--- Sockets at which clients can come: what they have told, and their address.
+-- Open sockets: what they have reported so far, and their address.
 pub record Opened : Type 0 where
   pub told : Told
   pub address : Text
 
--- what may come of opening sockets: none, or these
+-- the outcomes that opening sockets may have: none, or these
 abbrev pub Openings : Type 1
 Openings = Option Opened → Type 0
 
--- the line that tells where clients may come
+-- the line that reports the address
 abbrev pub listening_line : Text → Text
 listening_line address = codes "warren: listening on " ++ (address ++ 10 ∷ [])
 
--- a stream took the text, to be read at once; or it did not, or not so
+-- the stream took the text and was flushed; or it did not take all, or was not flushed
 abbrev pub IsTaken : OutputStream → Text → Bool → Type 0
 IsTaken s text true = GetsText s text
 IsTaken s text false = (done : Bool) × PutsOut s text done
 
--- the line was put out, and nothing was complained of
+-- the address was reported, and nothing was reported on standard error
 abbrev pub IsTold : Text → OutputStream → OutputStream → Type 0
 IsTold address out err = GetsText out (listening_line address) × GetsNothing err
 
--- Why it was not: memory was wanting, which was told, or the stream did not take it.
+-- Why the address was not reported: an allocation failed, which was reported instead, or the stream did not take the line.
 pub data IsUntold (address : Text) (out err : OutputStream) : ℕ → Type 0 where
   wanting : {status : ℕ} → GetsNothing out → TriesPut err out_of_memory 4 status → IsUntold address out err status
   untaken : (done : Bool) → PutsOut out (listening_line address) done → GetsNothing err → IsUntold address out err 4
 
--- Sockets that have told this were opened, and it was told where clients may come.
+-- Sockets were opened, which have reported `told` so far, and their address was reported.
 pub record CanCome (may : Openings) (told : Told) (out err : OutputStream) : Type 0 where
   pub address : Text
   pub opened : may (Some (record { told = told; address = address }))
   pub is_told : IsTold address out err
 
--- No client can come, or none was told where, with this status.
+-- No sockets were opened, or their address could not be reported, with this exit status.
 pub data NobodyComes (may : Openings) (out err : OutputStream) : ℕ → Type 0 where
   shut : {status : ℕ} → may None → GetsNothing out → RefusesWith err [] NotListening status → NobodyComes may out err status
   untold : {status : ℕ} (opened : Opened) → may (Some opened) → IsUntold opened.address out err status → NobodyComes may out err status
 
 -- ---- `serve`
 
--- so many turns: the number that is given, and else more than will ever come
+-- the number of turns to serve: the number given, or 2^64 - 1
 abbrev pub IsTurns : Option Text → ℕ → Type 0
 IsTurns None turns = turns ≡ 18446744073709551615
 IsTurns (Some text) turns = IsNumeral 10 (without_leading_plus text) → digits_value 10 (without_leading_plus text) < 2 ^ 64
     → turns ≡ digits_value 10 (without_leading_plus text)
 
--- How `serve` ends where no client was served, with this status. The files are judged before sockets are opened.
+-- How `serve` ends if it served no client, with this exit status. The files are judged before sockets are opened.
 pub data EndsUnserved (holds : Text → Known) (definitions guarantees certificates : Text)
     (Unasked : Type 0) (may : Openings) (out err : OutputStream) : ℕ → Type 0 where
   refused : {file : Text} {status : ℕ} (why : CommandRefusal) → FailsToStart holds definitions guarantees certificates file why → Unasked
@@ -90,7 +90,7 @@ pub data EndsUnserved (holds : Text → Known) (definitions guarantees certifica
   unheard : {status : ℕ} (force : Config) → IsInForce holds (Some definitions) (Some guarantees) (Some certificates) force
       → NobodyComes may out err status → EndsUnserved holds definitions guarantees certificates Unasked may out err status
 
--- A broker was just started over these files, with no connection, sockets were opened, and it was told where clients may come.
+-- A broker was just started from these files, without any connection, sockets were opened, and their address was reported.
 pub record Begins (holds : Text → Known) (definitions guarantees certificates : Text) (may : Openings) (out err : OutputStream) (start : Served) : Type 0 where
   pub force : Config
   pub in_force : IsInForce holds (Some definitions) (Some guarantees) (Some certificates) force
@@ -98,7 +98,7 @@ pub record Begins (holds : Text → Known) (definitions guarantees certificates 
   pub can_come : CanCome may told out err
   pub is : start ≡ served (new_world force) [] told
 
--- Clients were served: from a broker that was just started over these files, in so many rounds, once it was told where they may come.
+-- Clients were served: by a broker just started from these files, in `count` rounds, after the address was reported.
 pub record ServesClients (holds : Text → Known) (definitions guarantees certificates : Text)
     (turns : Option Text) (may : Openings) (out err : OutputStream) (end : Served) : Type 0 where
   pub force : Config
@@ -108,10 +108,10 @@ pub record ServesClients (holds : Text → Known) (definitions guarantees certif
   pub count : ℕ
   pub counted : IsTurns turns count
   pub rounds : Rounds engine_lacks count (served (new_world force) [] start) end
-  -- all that arrived at the broker, and that certified delivery holds of it
+  -- all events that the broker received, and that certified delivery holds for them
   pub kept : IsServed engine_lacks force start end
 
--- How `serve` ends: with what was served as it was left, where clients could come, and this status.
+-- How `serve` ends: with the served broker as it was left, if it listened, and this exit status.
 abbrev pub ServeEnds : (Text → Known) → Text → Text → Text → Option Text → Type 0 → Openings → OutputStream → OutputStream → Option Served → ℕ → Type 0
 ServeEnds holds definitions guarantees certificates turns Unasked may out err None status =
     EndsUnserved holds definitions guarantees certificates Unasked may out err status

@@ -1,4 +1,4 @@
--- How a file is refused that gives no bytes, or in which a cause stands.
+-- How a file is refused that cannot be read, or to which a cause applies (own).
 use Rattle.std.specs.Prelude.{◌==◌, if◌then◌else◌}
 use Rattle.json_file.specs.Causes.{cause_number}
 use Rattle.json_file.specs.declared.causes.FileCause.{FileCause}
@@ -7,12 +7,12 @@ use Rattle.server.specs.declared.file_refusals.FileRefusal.TheVariants.{Refused,
 use Rattle.server.specs.declared.storage.Unread.{Unread as Why}
 use Rattle.server.specs.declared.storage.Unread.TheVariants as why
 
--- a file that could not be read, is too long, or wants more memory than there is
+-- a file that could not be read, is too long, or for which an allocation failed
 abbrev pub of_file : Why → FileRefusal
 of_file why.Failed = Unread
 of_file why.TooLong = TooLong
 of_file why.Memory = Memory
 
--- by the number of the cause; 14 is want of memory
+-- the number of the cause; 14 is an allocation failure
 abbrev pub of_cause : FileCause → FileRefusal
 of_cause cause = if cause_number cause == 14 then Memory else Refused (cause_number cause)

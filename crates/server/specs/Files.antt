@@ -1,67 +1,67 @@
--- Files by their names, and what a read of one gives (own).
+-- Files by name, and what a read of one returns (own).
 use Rattle.std.specs.Prelude.{◌≡◌, ◌<◌, ◌≤◌, ℕ, Bool, true, false, Option, Some, None, length, ⊤}
 use Rattle.model.specs.Words.{Text}
 use Rattle.server.specs.declared.storage.Unread.{Unread}
 use Rattle.server.specs.declared.storage.Unread.TheVariants as unread
 
--- what is known of a file: nothing, that there is none, or its bytes
+-- what is known about a file: nothing, that it does not exist, or its bytes
 pub data Known : Type 0 where
   Unknown : Known
   Absent : Known
   Holds : (text : Text) → Known
 
--- no file is known to have changed
+-- what is known about files has not changed
 abbrev pub AreKept : (Text → Known) → (Text → Known) → Type 0
 AreKept before after = (name : Text) → after name ≡ before name
 
--- no file is known to have changed but the one of this name
+-- what is known about files has not changed, except about the file `name`
 abbrev pub AreKeptBut : Text → (Text → Known) → (Text → Known) → Type 0
 AreKeptBut name before after = (other : Text) → (other ≡ name → ⊥) → after other ≡ before other
 
--- the longest file that is read, in bytes
+-- the length of the longest file that is read, in bytes
 abbrev pub most_bytes : ℕ
 most_bytes = 16777216
 
--- the file has this text, as far as is known
+-- the file may have this text, as far as is known
 abbrev pub HasText : Known → Text → Type 0
 HasText Unknown text = ⊤
 HasText Absent text = ⊥
 HasText (Holds known) text = text ≡ known
 
--- the file is longer than any that is read
+-- the file may be longer than any that is read
 abbrev pub IsTooLong : Known → Type 0
 IsTooLong Unknown = ⊤
 IsTooLong Absent = ⊥
 IsTooLong (Holds known) = most_bytes < length known
 
--- the file is not there, or cannot be read
+-- the file does not exist, or may be unreadable
 abbrev pub IsUnreadable : Known → Type 0
 IsUnreadable (Holds known) = ⊥
 IsUnreadable other = ⊤
 
--- What is read is the text of the file, whole.
+-- A read returns the whole text of the file, which is no longer than `most_bytes`.
 pub record IsFileRead (known : Known) (text : Text) : Type 0 where
   pub whole : HasText known text
   pub short : length text ≤ most_bytes
 
--- the file has another text, as far as is known
+-- the file may have another text, as far as is known
 abbrev pub HasOther : Known → Text → Type 0
 HasOther Unknown text = ⊤
 HasOther Absent text = ⊥
 HasOther (Holds known) text = text ≡ known → ⊥
 
--- whether the file has this text, no longer than any that is read; else it has another
+-- whether the file has this text, which is then no longer than `most_bytes`
 abbrev pub TellsSame : Known → Text → Bool → Type 0
 TellsSame known text true = IsFileRead known text
 TellsSame known text false = HasOther known text
 
--- whether what is left to read is this text, where that is known
+-- whether the rest of a reader, if that is known, is this text
 abbrev pub TellsLeft : Option Text → Text → Bool → Type 0
 TellsLeft None text same = ⊤
 TellsLeft (Some left) text true = text ≡ left
 TellsLeft (Some left) text false = text ≡ left → ⊥
 
--- why it is not; want of memory says nothing
+-- why a file could not be read; an allocation failure promises nothing
 abbrev pub IsUnread : Known → Unread → Type 0
 IsUnread known unread.Failed = IsUnreadable known
 IsUnread known unread.TooLong = IsTooLong known

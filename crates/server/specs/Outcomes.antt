@@ -1,4 +1,4 @@
--- What `verify` prints (own): whether the certificate of each guarantee is accepted, a line each, and the status.
+-- What `verify` prints (own): whether the certificate of each guarantee is accepted, a line each, and the exit status.
 use Rattle.std.specs.Prelude.{◌≡◌, ◌+◌, ◌++◌, ℕ, Bool, true, false, List, [], ◌∷◌, Option, Some}
 use Rattle.std.specs.Prelude.{None, Result, Ok, Err, codes, decimal, length, nat_lt, if◌then◌else◌}
 use Rattle.std.specs.List.{list_any}
@@ -23,11 +23,11 @@ fault_number Memory = 6
 
 -- ---- outcomes
 
--- what the check of a certificate tells: that it is accepted, or its first fault
+-- the outcome of checking a certificate: accepted, or its first fault
 abbrev pub Outcome : Type 0
 Outcome = Result Unit CertFault
 
--- want of memory is told of no certificate
+-- an outcome that is printed: an allocation failure is none
 abbrev pub IsOutcomeTold : Outcome → Type 0
 IsOutcomeTold (Ok u) = Unit {0}
 IsOutcomeTold (Err Start) = Unit {0}
@@ -37,37 +37,37 @@ IsOutcomeTold (Err (Forbidden at)) = Unit {0}
 IsOutcomeTold (Err Form) = Unit {0}
 IsOutcomeTold (Err Memory) = ⊥
 
--- the certificate at this place is accepted for the guarantee, or this is its first fault; where there is none, that is fault 5
+-- the certificate at this index is accepted for the guarantee, or this is its first fault; a missing certificate is fault 5
 abbrev pub TellsOutcome : Topology → List Certificate → ℕ → Guarantee → Outcome → Type 0
 TellsOutcome t cs place g o = ChecksAt t g cs place o × IsOutcomeTold o
 
--- fault 5 once more where a certificate has no guarantee
+-- one more fault 5 if there are more certificates than guarantees
 abbrev pub of_too_many : List Guarantee → List Certificate → List Outcome
 of_too_many gs cs = if nat_lt (length gs) (length cs) then Err Form ∷ [] else []
 
--- an outcome for each guarantee, and one for the first certificate too many
+-- an outcome for each guarantee, and one for the first surplus certificate
 pub record AreOutcomes (t : Topology) (gs : List Guarantee) (cs : List Certificate) (outcomes : List Outcome) : Type 0 where
   pub own : List Outcome
   pub told : EachWith (TellsOutcome t cs) 0 gs own
   pub all : outcomes ≡ own ++ of_too_many gs cs
 
--- it is not accepted
+-- the certificate is not accepted
 abbrev pub is_fault : Outcome → Bool
 is_fault (Ok u) = false
 is_fault (Err f) = true
 
--- the exit status: 1 where there is some fault, else 0
+-- the exit status: 1 if there is a fault, otherwise 0
 abbrev pub status_of_outcomes : List Outcome → ℕ
 status_of_outcomes os = if list_any is_fault os then 1 else 0
 
 -- ---- lines
 
--- a letter as it is shown: the word that it stands for, or `other` for all words that no pattern names
+-- the word of a letter, or `other` for every word that no pattern names
 abbrev pub letter_word : Option Text → Text
 letter_word None = codes "other"
 letter_word (Some word) = name_word word
 
--- the line of what is told of the certificate of this number
+-- the line of the outcome of certificate `number`
 abbrev pub outcome_line : ℕ → Outcome → Text
 outcome_line number (Ok u) = line (decimal number ∷ codes "ok" ∷ [])
 outcome_line number (Err Start) = line (decimal number ∷ codes "fault 1" ∷ [])
@@ -77,16 +77,16 @@ outcome_line number (Err (Forbidden at)) = line (decimal number ∷ codes "fault
 outcome_line number (Err Form) = line (decimal number ∷ codes "fault 5" ∷ [])
 outcome_line number (Err Memory) = line (decimal number ∷ codes "fault 6" ∷ [])
 
--- the lines of some outcomes, numbered from here on
+-- the lines of outcomes, numbered from `number`
 abbrev pub outcome_lines : ℕ → List Outcome → Text
 outcome_lines number [] = []
 outcome_lines number (o ∷ os) = outcome_line number o ++ outcome_lines (number + 1) os
 
--- What the status 0 says: each guarantee has its certificate, there are no more, and so all of them hold.
+-- What exit status 0 means: each guarantee has its certificate, there are no more, and so all guarantees hold.
 abbrev pub IsVouched : Topology → List Guarantee → List Certificate → ℕ → Type 0
 IsVouched t gs cs status = status ≡ 0 → AreCertified t gs cs × AllHold t gs
 
--- The text and the status tell of each guarantee whether its certificate is accepted, and of the first certificate too many.
+-- The text and the exit status say for each guarantee whether its certificate is accepted, and report the first surplus certificate.
 pub record Verifies (t : Topology) (gs : List Guarantee) (cs : List Certificate) (text : Text) (status : ℕ) : Type 0 where
   pub outcomes : List Outcome
   pub are : AreOutcomes t gs cs outcomes

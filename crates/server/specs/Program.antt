@@ -1,4 +1,4 @@
--- What the program does (own): what it answers, its messages and its status.
+-- What the program does (own): the answers of its commands, its messages and its exit status.
 use Rattle.std.specs.Prelude.{◌≡◌, ◌+◌, ◌⊎◌, ◌++◌, ◌≤◌, ℕ, Bool, List, [], ◌∷◌, Option, Some, None, Ok, Err, codes, decimal, length, slice_get, take, ⊤}
 use Rattle.model.specs.Words.{Text}
 use Rattle.model.specs.Topology.{Topology}
@@ -36,11 +36,11 @@ use Rattle.server.specs.Outcomes.{Verifies, fault_number}
 
 -- ---- what is in force
 
--- what is in force where this is stated, under these guarantees
+-- what is in force by these definitions under these guarantees
 abbrev pub force_of : Stated → List Guarantee → Config
 force_of stated gs = record { topology = stated.topology; guarantees = gs; users = stated.users }
 
--- What is in force: what the definitions state, under exactly the guarantees of their file, each of which has its certificate.
+-- What is in force by these files: what the definitions state, under exactly the guarantees of their file, each of which has its certificate.
 pub record IsInForce (holds : Text → Known) (definitions guarantees certificates : Option Text) (force : Config) : Type 0 where
   pub stated : Stated
   pub promised : List Guarantee
@@ -50,26 +50,26 @@ pub record IsInForce (holds : Text → Known) (definitions guarantees certificat
   pub certified : AreCertified stated.topology promised shown
   pub is : force ≡ force_of stated promised
 
--- this is said of the files that are named for a broker
+-- `Says` holds for the files that are named for a broker
 abbrev pub OverNamed : (Option Text → Option Text → Option Text → Type 0) → BrokerFiles → Type 0
 OverNamed Says named = Says (file_named named.definitions) (file_named named.guarantees) (file_named named.certificates)
 
--- a broker that was just started over these files: what is in force by them is, and no connection was opened
+-- a broker just started from these files: their topology, guarantees and users are in force, and no connection was opened
 abbrev pub IsStarted : (Text → Known) → Text → Text → Text → World → Type 0
 IsStarted holds definitions guarantees certificates world =
     (force : Config) × IsInForce holds (Some definitions) (Some guarantees) (Some certificates) force × (world ≡ new_world force)
 
 -- ---- what is printed
 
--- the file has a script, and these are its arrivals
+-- the file has a script, and these are its events
 abbrev pub ReadsScript : Known → List ScriptArrival → Type 0
 ReadsScript known arrivals = (text : Text) × HasText known text × (script text ≡ Ok arrivals)
 
--- what is in force by the files of these names
+-- what is in force by the files of a reload
 abbrev pub IsInForceBy : (Text → Known) → FileNames → Config → Type 0
 IsInForceBy holds names force = IsInForce holds (Some names.definitions) (Some names.guarantees) (Some names.certificates) force
 
--- What arrives at the broker by an arrival of a script: at a reload what its files put in force, and else the same.
+-- The event of the broker for an event of a script: a reload brings what its files put in force, any other event is the same.
 abbrev pub IsSetUp : (Text → Known) → ScriptArrival → Arrival Config → Type 0
 IsSetUp holds arrival.Open a = a ≡ arrival.Open
 IsSetUp holds (arrival.Ready k) a = a ≡ arrival.Ready k
@@ -79,18 +79,18 @@ IsSetUp holds arrival.Pump a = a ≡ arrival.Pump
 IsSetUp holds (arrival.Lose c) a = a ≡ arrival.Lose c
 IsSetUp holds (arrival.Reload names) a = (force : Config) × (a ≡ arrival.Reload force) × IsInForceBy holds names force
 
--- the same of a list of arrivals, one by one
+-- the same for a list of events, one by one
 abbrev pub AreSetUp : (Text → Known) → List ScriptArrival → List (Arrival Config) → Type 0
 AreSetUp holds [] arrivals = arrivals ≡ []
 AreSetUp holds (s ∷ ss) arrivals = (a : Arrival Config) × (rest : List (Arrival Config)) × (arrivals ≡ a ∷ rest) × IsSetUp holds s a × AreSetUp holds ss rest
 
--- The text prints what a run of these arrivals shows, and certified delivery holds of that run.
+-- The text is the transcript of a run over these events, and certified delivery holds for that run.
 pub record PrintsRun (force : Config) (arrivals : List (Arrival Config)) (printed : Text) : Type 0 where
   pub seen : Seen
   pub certified : CertifiedDelivery force arrivals seen
   pub shown : printed ≡ transcript_text seen
 
--- The file's script prints this: its arrivals are run, and at a reload its files are in force, as they are read before the run.
+-- The text is the transcript of the file's script. The files of its reloads are read before the run.
 pub record PrintsFile (holds : Text → Known) (script : Text) (force : Config) (printed : Text) : Type 0 where
   pub said : List ScriptArrival
   pub read : ReadsScript (holds script) said
@@ -98,25 +98,25 @@ pub record PrintsFile (holds : Text → Known) (script : Text) (force : Config) 
   pub set_up : AreSetUp holds said arrivals
   pub prints : PrintsRun force arrivals printed
 
--- the queues to which the key leads from the exchange, over the topology of a file; none where the exchange is not there
+-- the queues to which the key leads from the exchange, by the definitions of a file; `None` if the exchange does not exist
 abbrev pub ListsFile : Known → Text → Text → Option Text → Type 0
 ListsFile known exchange key listed = (stated : Stated) × States known stated × ListsExchange stated.topology exchange key listed
 
--- ---- certificates that are written
+-- ---- written certificates
 
--- a text that is read back as exactly these certificates: it states them, and is no longer than any that is read
+-- the text reads back as exactly these certificates, and is not too long to be read
 pub record ReadsBack (text : Text) (cs : List Shown) : Type 0 where
   pub short : length text ≤ most_bytes
   pub states : IsCertificatesFile text cs
 
--- the file is read back as exactly these certificates, and no other file is known to have changed
+-- the file reads back as exactly these certificates, and no other file is known to have changed
 pub record IsFiled (before after : Text → Known) (file : Text) (cs : List Shown) : Type 0 where
   pub text : Text
   pub has : HasText (after file) text
   pub read_back : ReadsBack text cs
   pub others : AreKeptBut file before after
 
--- a command that prints nothing leaves all files as they are, but one that it could not write
+-- a refused command changes no file, except one that it could not write
 abbrev pub FilesAreLeft : (Text → Known) → (Text → Known) → Text → CommandRefusal → Type 0
 FilesAreLeft before after file (Line n) = AreKept before after
 FilesAreLeft before after file (Refused n) = AreKept before after
@@ -128,7 +128,7 @@ FilesAreLeft before after file (Certificate n fault) = AreKept before after
 FilesAreLeft before after file NotListening = AreKept before after
 FilesAreLeft before after file Memory = AreKept before after
 
--- why certificates are not written: the write failed, their file would be too long, or memory was wanting
+-- why certificates are not written: the write failed, their file would be too long, or an allocation failed
 abbrev pub IsUnwritten : CommandRefusal → Type 0
 IsUnwritten (Line n) = ⊥
 IsUnwritten (Refused n) = ⊥
@@ -140,22 +140,22 @@ IsUnwritten (Certificate n fault) = ⊥
 IsUnwritten NotListening = ⊥
 IsUnwritten Memory = ⊤
 
--- .. and then no file is known to have changed but the one that could not be written
+-- certificates were not written, and no file is known to have changed except the one that could not be written
 abbrev pub IsUnfiled : (Text → Known) → (Text → Known) → Text → CommandRefusal → Type 0
 IsUnfiled before after file why = IsUnwritten why × FilesAreLeft before after file why
 
--- What `check` leaves of the files: where one is named and all guarantees hold, it has their certificates; else all are as they were.
+-- What `check` writes: if a file is named and all guarantees hold, it has their certificates; otherwise no file is changed.
 pub data WritesOut (before after : Text → Known) : Option Text → List Verdict → Type 0 where
   -- no file is named
   unnamed : {verdicts : List Verdict} → AreKept before after → WritesOut before after None verdicts
-  -- some guarantee doesn't hold, or is undecided
+  -- some guarantee fails or is undecided
   doubtful : {file : Text} {verdicts : List Verdict} → (status_of_verdicts verdicts ≡ 0 → ⊥)
       → AreKept before after → WritesOut before after (Some file) verdicts
-  -- all hold
+  -- all guarantees hold
   filed : {file : Text} {verdicts : List Verdict} → status_of_verdicts verdicts ≡ 0
       → IsFiled before after file (certificates_in verdicts) → WritesOut before after (Some file) verdicts
 
--- a file is named, and its draft is of these certificates
+-- if a file is named, there is a draft of these certificates
 abbrev pub Drafts : Option Text → Option Draft → List Shown → Type 0
 Drafts None draft cs = Unit {0}
 Drafts (Some file) None cs = ⊥
@@ -163,23 +163,23 @@ Drafts (Some file) (Some draft) cs = IsDraft draft cs
 
 -- ---- refusals
 
--- the line that tells of a file: `warren: FILE: ` and what is wrong with it
+-- the message about a file: `warren: FILE: ` and what is wrong with it
 abbrev pub told : Text → Text → Text
 told file what = codes "warren: " ++ (file ++ (codes ": " ++ (what ++ 10 ∷ [])))
 
--- what tells of want of memory
+-- the message for an allocation failure
 abbrev pub out_of_memory : Text
 out_of_memory = codes "warren: memory\n"
 
--- what tells that an exchange is not there
+-- the message for an exchange that does not exist
 abbrev pub no_exchange : Text
 no_exchange = codes "warren: no exchange\n"
 
--- what tells that no client can come
+-- the message for an address at which it cannot listen
 abbrev pub not_listening : Text
 not_listening = codes "warren: cannot listen\n"
 
--- what tells of a refusal
+-- the message of a refusal
 abbrev pub refusal_line : Text → CommandRefusal → Text
 refusal_line file (Line n) = told file (codes "line " ++ decimal n)
 refusal_line file (Refused n) = told file (codes "refused " ++ decimal n)
@@ -191,7 +191,7 @@ refusal_line file (Certificate n fault) = codes "warren: certificate " ++ (decim
 refusal_line file NotListening = not_listening
 refusal_line file Memory = out_of_memory
 
--- the exit status: 3 for a file or a certificate that is refused, or an exchange that is not there, 4 for memory, input or output, sockets among them
+-- the exit status: 3 if a file, a certificate or an exchange is refused, 4 if an allocation, an input or an output failed, sockets included
 abbrev pub status_of : CommandRefusal → ℕ
 status_of (Line n) = 3
 status_of (Refused n) = 3
@@ -203,7 +203,7 @@ status_of (Certificate n fault) = 3
 status_of NotListening = 4
 status_of Memory = 4
 
--- Why a script of which this is known is not replayed: its first line at fault, its length, or that it cannot be read.
+-- Why a script's file is not replayed: its first line at fault, its length, or that it cannot be read.
 abbrev pub IsWhyOfFile : CommandRefusal → Known → Type 0
 IsWhyOfFile (Line n) known = (text : Text) × HasText known text × (script text ≡ Err n)
 IsWhyOfFile (Refused n) known = ⊥
@@ -215,13 +215,13 @@ IsWhyOfFile (Certificate n fault) known = ⊥
 IsWhyOfFile NotListening known = ⊥
 IsWhyOfFile Memory known = ⊤
 
--- the same of a script that was read
+-- the same for a script's text
 abbrev pub IsRefusalOf : CommandRefusal → Text → Type 0
 IsRefusalOf (Line n) text = script text ≡ Err n
 IsRefusalOf Memory text = ⊤
 IsRefusalOf other text = ⊥
 
--- Why the guarantees are not admitted: the certificate of the least number at fault, counted from 1, has this fault first.
+-- Why guarantees are not admitted: the first certificate at fault, counted from 1, and its first fault.
 abbrev pub IsWhyUnadmitted : Topology → List Guarantee → List Shown → CommandRefusal → Type 0
 IsWhyUnadmitted t gs cs (Line n) = ⊥
 IsWhyUnadmitted t gs cs (Refused n) = ⊥
@@ -233,9 +233,9 @@ IsWhyUnadmitted t gs cs (Certificate n k) = (fault : CertFault) × (place : ℕ)
 IsWhyUnadmitted t gs cs NotListening = ⊥
 IsWhyUnadmitted t gs cs Memory = ⊤
 
--- ---- what a command answers
+-- ---- the answers of the commands
 
--- `check`: the verdict on each guarantee of the file, and what is written of it
+-- `check`: the verdict on each guarantee of the file, and what is written
 pub record IsJudged (before after : Text → Known) (definitions guarantees : Text) (out : Option Text) (text : Text) (status : ℕ) : Type 0 where
   pub stated : Stated
   pub promised : List Guarantee
@@ -244,7 +244,7 @@ pub record IsJudged (before after : Text → Known) (definitions guarantees : Te
   pub judged : JudgesAll stated.topology promised verdicts text status
   pub written : WritesOut before after out verdicts
 
--- `check`, where all guarantees hold and their file is not written: the verdicts all the same, and why it is not
+-- `check`, if all guarantees hold and their certificates cannot be written: the verdicts all the same, and why
 pub record IsJudgedUnfiled (before after : Text → Known) (definitions guarantees file text : Text) (why : CommandRefusal) : Type 0 where
   pub stated : Stated
   pub promised : List Guarantee
@@ -262,7 +262,7 @@ pub record IsVerified (holds : Text → Known) (definitions guarantees certifica
   pub certifies : HoldsCertificates (holds certificates) shown
   pub verified : Verifies stated.topology promised shown text status
 
--- `replay`: what the script prints over what is in force
+-- `replay`: the transcript of the script, over what is in force
 pub record IsReplayed (holds : Text → Known) (script : Text) (definitions guarantees certificates : Option Text) (text : Text) (status : ℕ) : Type 0 where
   pub force : Config
   pub in_force : IsInForce holds definitions guarantees certificates force
@@ -274,7 +274,7 @@ pub record IsRouted (holds : Text → Known) (definitions exchange key text : Te
   pub listed : ListsFile (holds definitions) exchange key (Some text)
   pub good : status ≡ 0
 
--- What a command prints, the status that it leaves, and the files before and after it. One that serves prints nothing here.
+-- What a command prints, its exit status, and the files before and after it. `serve` prints nothing here.
 abbrev pub IsCommandAnswered : (Text → Known) → (Text → Known) → Wanted → Text → ℕ → Type 0
 IsCommandAnswered before after (Check definitions guarantees out) text status = IsJudged before after definitions guarantees out text status
 IsCommandAnswered before after (Verify definitions guarantees certificates) text status =
@@ -284,7 +284,7 @@ IsCommandAnswered before after (Replay script definitions guarantees certificate
 IsCommandAnswered before after (Serve definitions guarantees certificates listen turns reload) text status = ⊥
 IsCommandAnswered before after (Route definitions exchange key) text status = IsRouted before definitions exchange key text status × AreKept before after
 
--- what a command prints that was to write a file, why it could not, and the files before and after it
+-- what a command prints that could not write its file, why, and the files before and after it
 abbrev pub IsAnsweredUnfiled : (Text → Known) → (Text → Known) → Wanted → Text → Text → CommandRefusal → Type 0
 IsAnsweredUnfiled before after (Check definitions guarantees out) text file why =
     (out ≡ Some file) × IsJudgedUnfiled before after definitions guarantees file text why
@@ -293,7 +293,7 @@ IsAnsweredUnfiled before after (Replay script definitions guarantees certificate
 IsAnsweredUnfiled before after (Serve definitions guarantees certificates listen turns reload) text file why = ⊥
 IsAnsweredUnfiled before after (Route definitions exchange key) text file why = ⊥
 
--- a command is answered whole, or but for a file of which this is told
+-- a command is answered in full, or except for the file that `told` reports
 abbrev pub AnswersBut : (Text → Known) → (Text → Known) → Wanted → Text → ℕ → Option Told → Type 0
 AnswersBut before after wanted text status None = IsCommandAnswered before after wanted text status
 AnswersBut before after wanted text status (Some told) = IsAnsweredUnfiled before after wanted text told.file.now told.why
@@ -306,7 +306,7 @@ definitions_of (Replay script definitions guarantees certificates) = definitions
 definitions_of (Serve definitions guarantees certificates listen turns reload) = Some definitions
 definitions_of (Route definitions exchange key) = Some definitions
 
--- the guarantees file that it names
+-- the guarantees file that a command names
 abbrev pub guarantees_of : Wanted → Option Text
 guarantees_of (Check definitions guarantees out) = Some guarantees
 guarantees_of (Verify definitions guarantees certificates) = Some guarantees
@@ -314,7 +314,7 @@ guarantees_of (Replay script definitions guarantees certificates) = guarantees
 guarantees_of (Serve definitions guarantees certificates listen turns reload) = Some guarantees
 guarantees_of (Route definitions exchange key) = None
 
--- the certificates file that it reads
+-- the certificates file that a command reads
 abbrev pub certificates_of : Wanted → Option Text
 certificates_of (Check definitions guarantees out) = None
 certificates_of (Verify definitions guarantees certificates) = Some certificates
@@ -322,33 +322,33 @@ certificates_of (Replay script definitions guarantees certificates) = certificat
 certificates_of (Serve definitions guarantees certificates listen turns reload) = Some certificates
 certificates_of (Route definitions exchange key) = None
 
--- The commands that run a broker, and the files over which they do.
+-- The commands that run a broker, and the files from which they start it.
 pub data RunsOver : Wanted → (definitions guarantees certificates : Option Text) → Type 0 where
   replays : {script : Text} {definitions guarantees certificates : Option Text}
       → RunsOver (Replay script definitions guarantees certificates) definitions guarantees certificates
   serves : {definitions guarantees certificates listen : Text} {turns reload : Option Text}
       → RunsOver (Serve definitions guarantees certificates listen turns reload) (Some definitions) (Some guarantees) (Some certificates)
 
--- Why nothing is in force by these files, and the file of which this is told. They are judged in this order.
+-- Why these files put nothing in force, and the file concerned. They are judged in this order.
 pub data FailsOver (holds : Text → Known) (definitions guarantees certificates : Option Text) : Text → CommandRefusal → Type 0 where
-  -- the definitions are refused, or the guarantees over them
+  -- the definitions are refused, or the guarantees stated for them
   not_set_up : {file : Text} {why : CommandRefusal} → IsOfFile (FailsToSetUp holds definitions guarantees) file why
       → FailsOver holds definitions guarantees certificates file why
   -- the certificates file is refused
   not_certified : {file : Text} {why : CommandRefusal} (stated : Stated) (gs : List Guarantee) → SetsUp holds definitions guarantees stated gs
       → IsOfFile (FailsToCertify holds certificates) file why → FailsOver holds definitions guarantees certificates file why
-  -- a certificate is not accepted for its guarantee, or one of them has no partner
+  -- a certificate is not accepted for its guarantee, or a guarantee or a certificate has no partner
   not_admitted : {file : Text} (stated : Stated) (gs : List Guarantee) (cs : List Shown) (why : CommandRefusal) → SetsUp holds definitions guarantees stated gs
       → CertifiesAt holds certificates cs → IsWhyUnadmitted stated.topology gs cs why → FailsOver holds definitions guarantees certificates file why
-  -- memory was wanting
+  -- an allocation failed
   no_memory : {file : Text} → FailsOver holds definitions guarantees certificates file Memory
 
--- why an arrival of a script is not set up: the files of its reload are refused, or memory was wanting
+-- why an event of a script is refused: the files of its reload are refused, or an allocation failed
 abbrev pub IsWhyNotSetUp : (Text → Known) → ScriptArrival → Text → CommandRefusal → Type 0
 IsWhyNotSetUp holds (arrival.Reload names) file why = FailsOver holds (Some names.definitions) (Some names.guarantees) (Some names.certificates) file why
 IsWhyNotSetUp holds said file why = why ≡ Memory
 
--- Why the reloads of a script are not set up: the files of this one are refused, and those of none before it; or memory was wanting.
+-- Why the events of a script are refused: the files of this reload are refused, and those of none before it; or an allocation failed.
 pub data FailsToReload (holds : Text → Known) (said : List ScriptArrival) : Text → CommandRefusal → Type 0 where
   at : {file : Text} {why : CommandRefusal} (place : ℕ) (names : FileNames) (before : List (Arrival Config))
       → slice_get said place ≡ Some (arrival.Reload names)
@@ -356,99 +356,99 @@ pub data FailsToReload (holds : Text → Known) (said : List ScriptArrival) : Te
       → FailsToReload holds said file why
   no_room : {file : Text} → FailsToReload holds said file Memory
 
--- Why a script prints nothing, over what is in force, and the file of which this is told.
+-- Why a script prints nothing, once its broker's files are in force, and the file concerned.
 pub data FailsToPlay (holds : Text → Known) (script : Text) : Text → CommandRefusal → Type 0 where
-  -- it is refused
+  -- the script is refused
   unread_script : (why : CommandRefusal) → IsWhyOfFile why (holds script) → FailsToPlay holds script script why
-  -- the files of a reload are refused, where it is good
+  -- the script is accepted, and the files of a reload are refused
   unloaded : {file : Text} {why : CommandRefusal} (said : List ScriptArrival)
       → ReadsScript (holds script) said → FailsToReload holds said file why → FailsToPlay holds script file why
-  -- memory was wanting
+  -- an allocation failed
   no_run : {file : Text} → FailsToPlay holds script file Memory
 
--- Why a command prints nothing, and the file of which this is told. The files are judged in this order.
+-- Why a command prints nothing, and the file concerned. The files are judged in this order.
 pub data Fails (holds : Text → Known) : Wanted → Text → CommandRefusal → Type 0 where
-  -- the definitions are refused, or the guarantees over them
+  -- the definitions are refused, or the guarantees stated for them
   unset : {wanted : Wanted} {file : Text} {why : CommandRefusal}
       → IsOfFile (FailsToSetUp holds (definitions_of wanted) (guarantees_of wanted)) file why → Fails holds wanted file why
   -- the certificates file is refused
   uncertified : {wanted : Wanted} {file : Text} {why : CommandRefusal} (stated : Stated) (gs : List Guarantee)
       → SetsUp holds (definitions_of wanted) (guarantees_of wanted) stated gs
       → IsOfFile (FailsToCertify holds (certificates_of wanted)) file why → Fails holds wanted file why
-  -- nothing is in force by the files over which a broker is to run
+  -- the files from which a broker is to start put nothing in force
   unforced : {wanted : Wanted} {file : Text} {why : CommandRefusal}
       {definitions guarantees certificates : Option Text} → RunsOver wanted definitions guarantees certificates
       → FailsOver holds definitions guarantees certificates file why → Fails holds wanted file why
-  -- the script is refused, or the files of a reload in it, over what is in force
+  -- the broker's files are in force, and the script is refused, or the files of a reload in it
   unplayed : {script file : Text} {why : CommandRefusal} {definitions guarantees certificates : Option Text} (force : Config)
       → IsInForce holds definitions guarantees certificates force → FailsToPlay holds script file why
       → Fails holds (Replay script definitions guarantees certificates) file why
-  -- the exchange is not there
+  -- the exchange does not exist
   unrouted : {file exchange key : Text} → ListsFile (holds file) exchange key None → Fails holds (Route file exchange key) file NoExchange
-  -- this call opens no socket
+  -- this call opens no sockets
   unheard : {definitions guarantees certificates listen file : Text} {turns reload : Option Text}
       → Fails holds (Serve definitions guarantees certificates listen turns reload) file NotListening
-  -- memory was wanting
+  -- an allocation failed
   wanting : {wanted : Wanted} {file : Text} → Fails holds wanted file Memory
 
--- it prints nothing for this reason, and leaves the files so
+-- the command prints nothing for this reason, and leaves the files like this
 abbrev pub IsNotAnswered : (Text → Known) → (Text → Known) → Wanted → Text → CommandRefusal → Type 0
 IsNotAnswered before after wanted file why = Fails before wanted file why × FilesAreLeft before after file why
 
 -- ---- the program
 
--- the line was told, or where there was no memory for it that memory is wanting: all of it, or else a beginning
+-- the line was written, or, if there was no memory for it, the message for an allocation failure: all of it, or a proper prefix
 abbrev pub TellsLine : OutputStream → Text → Bool → Type 0
 TellsLine err line whole = PutsOut err line whole ⊎ PutsOut err out_of_memory whole
 
--- this refusal of the file was told, or want of memory for telling it
+-- this refusal was reported, or an allocation failure instead
 abbrev pub RefusesWith : OutputStream → Text → CommandRefusal → ℕ → Type 0
 RefusesWith err file why status = TriesPut err (refusal_line file why) (status_of why) status ⊎ TriesPut err out_of_memory 4 status
 
--- why a script prints nothing was told, with this status
+-- why a script prints nothing was reported, with this exit status
 pub record IsUnplayed (holds : Text → Known) (script : Text) (err : OutputStream) (status : ℕ) : Type 0 where
   pub file : Text
   pub why : CommandRefusal
   pub fails : FailsToPlay holds script file why
   pub told : RefusesWith err file why status
 
--- why a command prints nothing was told, with this status, and it leaves the files so
+-- why a command prints nothing was reported, with this exit status, and it leaves the files like this
 pub record IsWhyTold (before after : Text → Known) (wanted : Wanted) (err : OutputStream) (status : ℕ) : Type 0 where
   pub file : Text
   pub why : CommandRefusal
   pub fails : IsNotAnswered before after wanted file why
   pub told : RefusesWith err file why status
 
--- the text was put out, with this status; and then, where this is told of a file, the line of it
+-- the text was written, with this exit status; then, if `told` is a report, its message
 abbrev pub PutsBoth : OutputStream → OutputStream → Text → ℕ → Option Told → ℕ → Type 0
 PutsBoth out err text wanted None status = TriesPut out text wanted status × GetsNothing err
 PutsBoth out err text wanted (Some told) status = (done : Bool) × PutsOut out text done × RefusesWith err told.file.now told.why status
 
--- a command line that was refused for this was shown: want of memory by our own line, any other by clap's text
+-- the refusal of a command line was reported: an allocation failure by our own message, any other by clap's text
 abbrev pub ShowsError : ErrorKind → OutputStream → ℕ → Type 0
 ShowsError kind err status = ((kind ≡ OutOfMemory) × TriesPut err out_of_memory 4 status)
     ⊎ ((kind ≡ OutOfMemory → ⊥) × ((done : Bool) × (status ≡ tried done 3)))
 
--- What a call comes to, by its words, the files as they are known before it and after it, what standard output and
--- standard error got, and the status. Where a stream took no more, `done` is false and the status 4.
+-- The result of a call: by its words, what is known about files before and after it, what standard output and standard error got, and the exit
+-- status. If a stream took only a part, `done` is false and the status is 4.
 pub data RunsAs (words : List Text) (before after : Text → Known) (out err : OutputStream) : ℕ → Type 0 where
-  -- what the command answers was put out
+  -- the command's answer was printed
   printed : (wanted : Wanted) (text : Text) (status : ℕ) (done : Bool) → AsksFor words wanted
       → IsCommandAnswered before after wanted text status → PutsOut out text done → GetsNothing err
       → RunsAs words before after out err (tried done status)
-  -- what it answers was put out, and then was told why a file is not written
+  -- the command's answer was printed, and then it was reported why a file is not written
   put_unfiled : {status : ℕ} (wanted : Wanted) (text file : Text) (why : CommandRefusal) (done : Bool)
       → AsksFor words wanted → IsAnsweredUnfiled before after wanted text file why → PutsOut out text done
       → RefusesWith err file why status → RunsAs words before after out err status
-  -- why it prints nothing was told
+  -- it was reported why the command prints nothing
   told_of : {wanted : Wanted} {file : Text} (why : CommandRefusal) (done : Bool) → AsksFor words wanted
       → IsNotAnswered before after wanted file why → GetsNothing out → PutsOut err (refusal_line file why) done
       → RunsAs words before after out err (tried done (status_of why))
-  -- .. or that there was no memory to tell it
+  -- the command prints nothing, and an allocation failed for the report of it
   untold : {wanted : Wanted} {file : Text} (why : CommandRefusal) (done : Bool) → AsksFor words wanted
       → IsNotAnswered before after wanted file why → GetsNothing out → PutsOut err out_of_memory done
       → RunsAs words before after out err 4
-  -- the words ask for nothing, and clap's own text was shown
+  -- the words ask for no command, and clap's own text was printed
   unasked : (done : Bool) → AsksNothing words → GetsNothing out → AreKept before after → RunsAs words before after out err (tried done 3)
-  -- memory was wanting before the words were read
+  -- an allocation failed before the words were parsed
   unread : (done : Bool) → GetsNothing out → PutsOut err out_of_memory done → AreKept before after → RunsAs words before after out err 4

@@ -1,4 +1,4 @@
--- How a command is refused for a file that it names.
+-- How a command is refused because of a file that it names (own).
 use Rattle.std.specs.Prelude.{◌≡◌}
 use Rattle.model.specs.Words.{Text}
 use Rattle.server.specs.declared.file_refusals.FileRefusal.{FileRefusal}
@@ -8,19 +8,19 @@ use Rattle.server.specs.declared.storage.Unread.TheVariants as why
 use Rattle.server.specs.declared.refusals.CommandRefusal.{CommandRefusal}
 use Rattle.server.specs.declared.refusals.CommandRefusal.TheVariants.{Refused, TooLong, Unread, Memory}
 
--- a file that could not be read, is too long, or wants more memory than there is
+-- a file that could not be read, is too long, or for which an allocation failed
 abbrev pub of_unread : Why → CommandRefusal
 of_unread why.Failed = Unread
 of_unread why.TooLong = TooLong
 of_unread why.Memory = Memory
 
--- the same, or a file in which a cause stands
+-- the same, or a file to which a cause applies
 abbrev pub of_refused : FileRefusal → CommandRefusal
 of_refused (file.Refused n) = Refused n
 of_refused file.TooLong = TooLong
 of_refused file.Unread = Unread
 of_refused file.Memory = Memory
 
--- a file is refused in this way, and the command for it
+-- the command is refused because a file is, in this way
 abbrev pub IsOfFile : (Text → FileRefusal → Type 0) → Text → CommandRefusal → Type 0
 IsOfFile IsRefused file why = (cause : FileRefusal) × (why ≡ of_refused cause) × IsRefused file cause

@@ -16,13 +16,13 @@ use Rattle.server.specs.declared.file_refusals.FileRefusal.{FileRefusal}
 use Rattle.server.specs.declared.file_refusals.FileRefusal.TheVariants.{Refused, TooLong, Unread, Memory}
 use Rattle.server.specs.Files.{Known, HasText, IsTooLong, IsUnreadable}
 
--- the name of a file that is given, where one is
+-- the name of a file, if one is given
 abbrev pub file_named : Option (Bor Text) → Option Text
 file_named file = option_map (λ f. f.now) file
 
 -- ---- definitions
 
--- the topology where no definitions are named: the queue `audit` is bound to the direct exchange `orders` by the key `new`
+-- the topology if no definitions are named: the queue `audit` is bound to the direct exchange `orders` with the key `new`
 abbrev pub built_in : Topology
 built_in = record {
   exchanges = record { name = codes "orders"; kind = Direct; internal = false; alternate = None } ∷ [];
@@ -30,22 +30,22 @@ built_in = record {
   bindings = record { source = codes "orders"; to = place.Queue (codes "audit"); key = codes "new" } ∷ [];
 }
 
--- the file has definitions in which no cause stands, and this is what they state
+-- the file has definitions to which no cause applies, and this is what they state
 abbrev pub States : Known → Stated → Type 0
 States known stated = (text : Text) × HasText known text × ReadsDefinitions (Ok stated) text
 
--- what the definitions of a file state, or where no file is named the built-in topology, and nobody who may log in
+-- what the definitions of a file state, or, if no file is named, the built-in topology without users
 abbrev pub StatesAt : (Text → Known) → Option Text → Stated → Type 0
 StatesAt holds None stated = stated ≡ record { topology = built_in; users = [] }
 StatesAt holds (Some file) stated = States (holds file) stated
 
 -- ---- guarantees
 
--- the file has guarantees of this topology in which no cause stands, and these are they
+-- the file has these guarantees, stated for this topology, and no cause applies to it
 abbrev pub Promises : Known → Topology → List Guarantee → Type 0
 Promises known t gs = (text : Text) × HasText known text × AreAccepted gs t text
 
--- the guarantees of a file, or where no file is named none
+-- the guarantees of a file, or none if no file is named
 abbrev pub PromisesAt : (Text → Known) → Option Text → Topology → List Guarantee → Type 0
 PromisesAt holds None t gs = gs ≡ []
 PromisesAt holds (Some file) t gs = Promises (holds file) t gs
@@ -56,21 +56,21 @@ PromisesAt holds (Some file) t gs = Promises (holds file) t gs
 abbrev pub HoldsCertificates : Known → List Certificate → Type 0
 HoldsCertificates known cs = (text : Text) × HasText known text × IsCertificatesFile text cs
 
--- the certificates of a file, or where no file is named none
+-- the certificates of a file, or none if no file is named
 abbrev pub CertifiesAt : (Text → Known) → Option Text → List Certificate → Type 0
 CertifiesAt holds None cs = cs ≡ []
 CertifiesAt holds (Some file) cs = HoldsCertificates (holds file) cs
 
 -- ---- refusals
 
--- Why a file of which this is known is refused: the cause of a number stands in it, it is too long, or it cannot be read.
+-- Why a file is refused: the cause of a number applies to it, it is too long, or it cannot be read; an allocation failure promises nothing.
 abbrev pub IsWhyNot : (ℕ → Text → Type 0) → FileRefusal → Known → Type 0
 IsWhyNot Stands (Refused n) known = (text : Text) × HasText known text × Stands n text
 IsWhyNot Stands TooLong known = IsTooLong known
 IsWhyNot Stands Unread known = IsUnreadable known
 IsWhyNot Stands Memory known = ⊤
 
--- the cause of this number stands in the definitions, and none of a smaller number
+-- the cause of this number applies to the definitions, and none of a lower number
 abbrev pub NamesCause : ℕ → Text → Type 0
 NamesCause n text = (cause : FileCause) × (n ≡ cause_number cause) × IsFirst cause text
 
@@ -78,15 +78,15 @@ NamesCause n text = (cause : FileCause) × (n ≡ cause_number cause) × IsFirst
 abbrev pub IsWhyUnstated : FileRefusal → Known → Type 0
 IsWhyUnstated why known = IsWhyNot NamesCause why known
 
--- the cause of this number stands in the guarantees of this topology, and none of a smaller number
+-- the cause of this number applies to the guarantees stated for this topology, and none of a lower number
 abbrev pub HasGuaranteeCause : Topology → ℕ → Text → Type 0
 HasGuaranteeCause t n text = (cause : FileCause) × (n ≡ cause_number cause) × IsFirstAgainst cause t text
 
--- why guarantees of this topology are refused
+-- why guarantees stated for this topology are refused
 abbrev pub IsWhyUnpromised : Topology → FileRefusal → Known → Type 0
 IsWhyUnpromised t why known = IsWhyNot (HasGuaranteeCause t) why known
 
--- the one cause that stands in the certificates file has this number
+-- the one cause that applies to the certificates file has this number
 abbrev pub HasCertificateCause : ℕ → Text → Type 0
 HasCertificateCause n text = (cause : FileCause) × (n ≡ cause_number cause) × ReadsCertificateFile (Err cause) text
 
@@ -94,33 +94,33 @@ HasCertificateCause n text = (cause : FileCause) × (n ≡ cause_number cause) �
 abbrev pub IsWhyUncertified : FileRefusal → Known → Type 0
 IsWhyUncertified why known = IsWhyNot HasCertificateCause why known
 
--- Why no file of this kind is had, and the file of which this is told: the named one is refused, or memory was wanting.
+-- Why a file of this kind yields nothing, and the file concerned: the named one is refused, or an allocation failed.
 abbrev pub IsWhyNone : (holds : Text → Known) → (FileRefusal → Known → Type 0) → Option Text → Text → FileRefusal → Type 0
 IsWhyNone holds IsWhy named file why = ((named ≡ Some file) × IsWhy why (holds file)) ⊎ (why ≡ Memory)
 
--- why no definitions are had
+-- why there are no definitions
 abbrev pub FailsToState : (Text → Known) → Option Text → Text → FileRefusal → Type 0
 FailsToState holds named file why = IsWhyNone holds IsWhyUnstated named file why
 
--- why no guarantees of this topology are had
+-- why there are no guarantees for this topology
 abbrev pub FailsToPromise : (Text → Known) → Option Text → Topology → Text → FileRefusal → Type 0
 FailsToPromise holds named t file why = IsWhyNone holds (IsWhyUnpromised t) named file why
 
--- why no certificates are had
+-- why there are no certificates
 abbrev pub FailsToCertify : (Text → Known) → Option Text → Text → FileRefusal → Type 0
 FailsToCertify holds named file why = IsWhyNone holds IsWhyUncertified named file why
 
 -- ---- definitions with guarantees
 
--- what is stated by definitions and guarantees together, where each is named or not
+-- what definitions and guarantees state together, each of which may be named or not
 pub record SetsUp (holds : Text → Known) (definitions guarantees : Option Text) (stated : Stated) (gs : List Guarantee) : Type 0 where
   pub states : StatesAt holds definitions stated
   pub promises : PromisesAt holds guarantees stated.topology gs
 
--- Why definitions and guarantees are refused, and the file of which this is told: the definitions are judged first.
+-- Why definitions or guarantees are refused, and the file concerned. The definitions are judged first.
 pub data FailsToSetUp (holds : Text → Known) (definitions guarantees : Option Text) (file : Text) (why : FileRefusal) : Type 0 where
   -- the definitions are refused
   unstated : FailsToState holds definitions file why → FailsToSetUp holds definitions guarantees file why
-  -- the guarantees are refused, over definitions that are good
+  -- the definitions are accepted, and the guarantees are refused
   unpromised : (stated : Stated) → StatesAt holds definitions stated
       → FailsToPromise holds guarantees stated.topology file why → FailsToSetUp holds definitions guarantees file why

@@ -1,26 +1,26 @@
--- What is put on standard output and standard error (own).
+-- What is written to standard output and standard error (own).
 use Rattle.std.specs.Prelude.{◌≡◌, ◌<◌, ◌++◌, ℕ, length, Bool, true, false, Option, if◌then◌else◌}
 use Rattle.std.specs.Io.KnownBytes.{Appends, Keeps}
 use Rattle.model.specs.Words.{Text}
 
--- a stream before and after a call, where its bytes are known
+-- a stream before and after a call, if its bytes are known
 pub record OutputStream : Type 0 where
   pub before : Option Text
   pub after : Option Text
 
--- a stream that held the first, and holds the second
+-- a stream that had the first bytes, and has the second
 abbrev pub change : Option Text → Option Text → OutputStream
 change before after = record { before = before; after = after }
 
--- it holds what it held
+-- nothing was written to the stream
 abbrev pub GetsNothing : OutputStream → Type 0
 GetsNothing s = Keeps s.before s.after
 
--- this text stands behind what it held
+-- this text was appended to the stream
 abbrev pub GetsText : OutputStream → Text → Type 0
 GetsText s text = Appends s.before s.after text
 
--- a beginning of this text does, and something of it is left
+-- a proper prefix of this text was appended to the stream
 pub record GetsBeginning (s : OutputStream) (text : Text) : Type 0 where
   pub front : Text
   pub rest : Text
@@ -28,15 +28,15 @@ pub record GetsBeginning (s : OutputStream) (text : Text) : Type 0 where
   pub left : 0 < length rest
   pub gets : GetsText s front
 
--- the stream took all of the text, or a beginning and then no more
+-- the stream took all of the text, or a proper prefix
 abbrev pub PutsOut : OutputStream → Text → Bool → Type 0
 PutsOut s text true = GetsText s text
 PutsOut s text false = GetsBeginning s text
 
--- the exit status: 4 where a stream took no more
+-- the exit status: 4 if a stream did not take all
 abbrev pub tried : Bool → ℕ → ℕ
 tried done status = if done then status else 4
 
--- the text was put on the stream, with this status if all of it was taken
+-- the text was written to the stream, with exit status `wanted` if all of it was taken
 abbrev pub TriesPut : OutputStream → Text → ℕ → ℕ → Type 0
 TriesPut s text wanted status = (done : Bool) × PutsOut s text done × (status ≡ tried done wanted)

@@ -1,4 +1,4 @@
-//! The program, but for the sockets: what a command answers is decided first, and printed then.
+//! The program without sockets. Start with [`program`]: a command's answer is decided first and printed then.
 
 ghost use Rattle.std.specs.Prelude.{◌≡◌, List, Some, map, option_map, MatchResult};
 ghost use Rattle.model.specs.Words.{Text};
@@ -26,7 +26,7 @@ use std::alloc::Global;
 use std::convert::AsStr;
 use std::io::Write;
 
-/// What a command prints, with its status; and what is told of a file that it was to write, where it could not.
+/// What a command prints, with its exit status, and the report of a file that it should have written but couldn't.
 #[derive(Drop)]
 struct Answered<'a> {
     output: Output,
@@ -46,8 +46,8 @@ impl<'a> From<Output> for Answered<'a> {
     }
 }
 
-/// `check DEFS GUARANTEES`: the verdict on each guarantee; the certificates are written where a file is named and all
-/// guarantees hold. Where they can't be written the verdicts are answered all the same.
+/// Performs `check DEFS GUARANTEES`: returns the verdict on each guarantee. If `out` is given and all guarantees hold, writes the
+/// certificates to that file; if they can't be written, returns the verdicts all the same, and why.
 fn check<'a, F: Files>(
     alloc: Global,
     definitions: &'a str,
@@ -79,7 +79,7 @@ fn check<'a, F: Files>(
     }
 }
 
-/// `verify DEFS GUARANTEES CERTS`: whether the certificate of each guarantee is accepted.
+/// Performs `verify DEFS GUARANTEES CERTS`: returns whether the certificate of each guarantee is accepted.
 fn verify_files<'a, F: Files>(
     alloc: Global,
     definitions: &'a str,
@@ -112,7 +112,8 @@ fn verify_files<'a, F: Files>(
     }
 }
 
-/// The lines of the queues to which a key leads from an exchange, by the definitions of a file.
+/// Returns the lines of the queues to which `key` leads from `exchange`, by the definitions in `file`. Returns `None` if there is
+/// no such exchange.
 fn routed_file<'a, F: Files>(
     alloc: Global,
     file: &'a str,
@@ -140,7 +141,7 @@ fn routed_file<'a, F: Files>(
     }
 }
 
-/// `route DEFS EXCHANGE KEY`: the queues to which the key leads from the exchange.
+/// Performs `route DEFS EXCHANGE KEY`: returns the queues to which the key leads from the exchange.
 fn route<'a, F: Files>(
     alloc: Global,
     definitions: &'a str,
@@ -163,8 +164,8 @@ fn route<'a, F: Files>(
     }
 }
 
-/// What a command answers; or the status, once it is told why it prints nothing. To serve takes sockets, of which this has
-/// none.
+/// Performs a command and returns its answer. If it is refused, reports that on `err` and returns the exit status. `serve` is
+/// always refused here, since this call has no sockets.
 fn answer<'a, F: Files, E: Write>(
     alloc: Global,
     asked: Asked<'a>,
@@ -226,7 +227,7 @@ fn answer<'a, F: Files, E: Write>(
     }
 }
 
-/// Puts out what a command answers, and then tells of a file that it could not write; and gives the status.
+/// Prints a command's answer, then reports a file that couldn't be written, and returns the exit status.
 fn put_answer<O: Write, E: Write>(
     alloc: Global,
     answered: Answered<'_>,
@@ -245,7 +246,7 @@ fn put_answer<O: Write, E: Write>(
     }
 }
 
-/// Shows why a command line was refused, and gives the status.
+/// Reports why a command line is refused, and returns the exit status.
 pub fn refuse_words<E: Write>(err: &mut E, error: &Error) -> u8
     ensures { ShowsError (kind_of error.now) (change (E.contents err.old) (E.contents err.new)) result }
 {
@@ -255,7 +256,7 @@ pub fn refuse_words<E: Write>(err: &mut E, error: &Error) -> u8
     }
 }
 
-/// Does what was asked for, and gives the exit status. To serve takes sockets, of which this has none.
+/// Performs the command `asked` and returns the exit status. `serve` is refused here: this call has no sockets.
 pub fn answer_asked<F: Files, O: Write, E: Write>(
     alloc: Global,
     asked: Asked<'_>,
@@ -273,13 +274,14 @@ pub fn answer_asked<F: Files, O: Write, E: Write>(
     }
 }
 
-/// Does what the words ask for, and gives the exit status.
+/// Performs what `words` ask for, and returns the exit status. The first word is the program's name.
 ///
-/// The first word is the program's name. 0 is good; 1 is a guarantee that is broken, or a certificate that is not
-/// accepted by `verify`; 2 is a guarantee that is not decided, where none is broken; 3 is a refused file, certificate or
-/// command line, or an exchange that is not there; 4 is want of memory, or input or output that failed. What a command
-/// prints goes to `out`, what is refused to `err`. Where `check` can't write its file it prints the verdicts, and tells so
-/// then. It has no sockets, so `serve` is answered as where it cannot listen: `reload_loop::program_with_sockets` serves.
+/// The status is 0 on success. It is 1 if a guarantee is broken, or if `verify` doesn't accept a certificate; 2 if no guarantee
+/// is broken and one is undecided; 3 if a file, a certificate or the command line is refused, or the exchange doesn't exist; 4 if
+/// an allocation, an input or an output failed.
+///
+/// A command prints to `out`, and refusals are reported on `err`. If `check` can't write its file it prints the verdicts, and
+/// then reports that. `serve` is refused as if it could not listen: `reload_loop::program_with_sockets` serves.
 pub fn program<S: AsStr, F: Files, O: Write, E: Write>(
     alloc: Global,
     words: &[S],

@@ -1,4 +1,4 @@
-//! The topology that a script runs over where no definitions are named.
+//! The built-in topology, over which a script runs if no definitions are named.
 
 ghost use Rattle.std.specs.Prelude.{◌≡◌, IfOk};
 ghost use Rattle.server.specs.Stated.{built_in};
@@ -8,7 +8,7 @@ use model::{Binding, DeclaredQueue, Exchange, ExchangeKind, Place, Text};
 use std::alloc::{AllocError, Global};
 use topology_drafts::BadTopology;
 
-/// The direct exchange `orders`.
+/// Builds the direct exchange `orders`. Fails only if an allocation fails.
 fn orders(alloc: Global) -> Result<Vec<Exchange>, AllocError>
     ensures { IfOk result (λ exchanges. exchanges.items ≡ built_in.exchanges) }
 {
@@ -22,7 +22,7 @@ fn orders(alloc: Global) -> Result<Vec<Exchange>, AllocError>
     Ok(exchanges)
 }
 
-/// The queue `audit`.
+/// Builds the queue `audit`. Fails only if an allocation fails.
 fn audit(alloc: Global) -> Result<Vec<DeclaredQueue>, AllocError>
     ensures { IfOk result (λ queues. queues.items ≡ built_in.queues) }
 {
@@ -37,7 +37,7 @@ fn audit(alloc: Global) -> Result<Vec<DeclaredQueue>, AllocError>
     Ok(queues)
 }
 
-/// The binding of `audit` to `orders` by the key `new`.
+/// Builds the binding of `audit` to `orders` with the key `new`. Fails only if an allocation fails.
 fn new_orders(alloc: Global) -> Result<Vec<Binding>, AllocError>
     ensures { IfOk result (λ bindings. bindings.items ≡ built_in.bindings) }
 {
@@ -50,7 +50,7 @@ fn new_orders(alloc: Global) -> Result<Vec<Binding>, AllocError>
     Ok(bindings)
 }
 
-/// The built-in topology.
+/// Builds the built-in topology. Fails only if an allocation fails.
 pub(crate) fn builtin(alloc: Global) -> Result<Topology, AllocError>
     ensures { IfOk result (λ topology. topology ≡ built_in) }
 {

@@ -1,4 +1,6 @@
-//! What `serve` does: files are judged first, then clients may come, which is told, and then they are served.
+//! The command `serve`: judges its files, opens sockets, reports their address, and serves clients.
+//!
+//! Start with [`serve_clients`].
 
 ghost use Rattle.std.specs.Prelude.{◌≡◌, [], option_map, IfOk, MatchResult, string_bytes};
 ghost use Rattle.engine.specs.World.{world_of};
@@ -19,48 +21,48 @@ use serving::{Server, Wire, new_is_served, serve};
 use std::alloc::{AllocError, Global};
 use std::io::Write;
 
-/// What `serve` is asked for.
+/// The arguments of `serve`.
 #[derive(Clone, Copy, Drop)]
 pub struct ServeArguments<'a> {
     pub definitions: &'a str,
     pub guarantees: &'a str,
     pub certificates: &'a str,
-    /// The address at which clients are to come.
+    /// The address at which clients connect.
     pub listen: &'a str,
-    /// How many turns, where a number is given.
+    /// The number of turns to serve, as text.
     pub turns: Option<&'a str>,
 }
 
-/// Sockets at which clients can come, and their address as it is told.
+/// Open sockets, and their address as it is reported.
 #[derive(Drop)]
 pub struct Listening<W> {
     pub sockets: W,
     pub address: String,
 }
 
-/// What opens sockets at which clients can come.
+/// Opens the listening socket. The program gets its sockets from here, so that tests can serve clients in memory.
 pub trait Listener {
     type Sockets: Wire + Drop;
 
     ghost use Rattle.std.specs.Prelude.{List, ℕ, Option, option_map, string_bytes};
     ghost use Rattle.server.specs.Clients.{Opened};
 
-    // what a call with this text may come to
+    // the outcomes that a call with this address may have
     ghost listens: { Self → List ℕ → Option Opened → Type 0 };
 
-    /// Sockets at the address of this text, unless it is none or no client can come there.
+    /// Opens sockets at `address`. Returns `None` if it is no address, or if it can't listen there.
     fn listen(&mut self, alloc: Global, address: &str) -> Option<Listening<Self::Sockets>>
         ensures { listens self.old address.now (option_map (λ l. record { told = Self.Sockets.told l.sockets; address = string_bytes l.address }) result) };
 }
 
-/// A server of a broker, and its sockets.
+/// The server of a broker, with its sockets.
 #[derive(Drop)]
 pub struct Service<W: Wire> {
     pub server: Server<Engine>,
     pub sockets: W,
 }
 
-/// How `serve` ended: its status, and where clients could come what served them, as it was left.
+/// How `serve` ended: its exit status, and, if it listened, what served the clients, as it was left.
 #[derive(Drop)]
 pub struct Ended<W: Wire> {
     pub status: u8,
@@ -70,7 +72,7 @@ pub struct Ended<W: Wire> {
 impl<W: Wire> Ended<W> {
     ghost use Rattle.std.specs.Prelude.{◌≡◌, None};
 
-    /// No client was served, and this is the status.
+    /// Returns the end of a `serve` that served no client, with this exit status.
     pub fn without_clients(status: u8) -> Ended<W>
         ensures { result ≡ record { status = status; service = None } }
     {
@@ -81,7 +83,7 @@ impl<W: Wire> Ended<W> {
     }
 }
 
-/// How many turns are served: without a number, more than will ever come.
+/// Returns the number of turns to serve: `given`, or `u64::MAX` without one.
 pub fn turns_of(given: Option<&str>) -> u64
     ensures { IsTurns (file_named given.entry) result }
 {
@@ -91,14 +93,14 @@ pub fn turns_of(given: Option<&str>) -> u64
     }
 }
 
-/// The line that tells where clients may come.
+/// Returns the line that reports the address. Fails only if an allocation fails.
 fn line_of(alloc: Global, address: &str) -> Result<String, AllocError>
     ensures { IfOk result (λ text. string_bytes text ≡ listening_line address.now) }
 {
     format!(in alloc; "warren: listening on {address}\n")
 }
 
-/// Puts a text on a stream, to be read at once. Tells whether the stream took it.
+/// Writes `text` to `out` and flushes it. Returns whether both succeeded.
 fn put_at_once<O: Write>(out: &mut O, text: &[u8]) -> bool
     ensures { IsTaken (change (O.contents out.old) (O.contents out.new)) text.now result }
 {
@@ -108,7 +110,7 @@ fn put_at_once<O: Write>(out: &mut O, text: &[u8]) -> bool
     out.flush().is_ok()
 }
 
-/// Tells where clients may come; or gives the status.
+/// Reports the address at which clients can connect. Fails with the exit status.
 fn tell_address<O: Write, E: Write>(
     alloc: Global,
     address: &str,
@@ -131,7 +133,7 @@ fn tell_address<O: Write, E: Write>(
     }
 }
 
-/// Sockets at this address, once it is told that clients may come there; or the status.
+/// Opens sockets at `address` and reports the address on `out`. Fails with the exit status.
 fn open_sockets<L: Listener, O: Write, E: Write>(
     alloc: Global,
     address: &str,
@@ -155,7 +157,7 @@ fn open_sockets<L: Listener, O: Write, E: Write>(
     }
 }
 
-/// A server with no socket, of a broker over what is in force by these files.
+/// Starts a broker from the files of `asked`, and returns its server, without any connection.
 fn new_server<'a, F: Files>(
     alloc: Global,
     asked: ServeArguments<'a>,
@@ -184,8 +186,10 @@ fn new_server<'a, F: Files>(
     }
 }
 
-/// A service that clients can come to; or the status, once it is told why there is none. The files are judged first, and none is
-/// changed.
+/// Starts a service to which clients can connect.
+///
+/// The files are judged before sockets are opened, and none is changed. If the service can't start, reports that on `err` and
+/// returns the exit status.
 pub fn begin<L: Listener, F: Files, O: Write, E: Write>(
     alloc: Global,
     asked: ServeArguments<'_>,
@@ -215,9 +219,9 @@ pub fn begin<L: Listener, F: Files, O: Write, E: Write>(
     }
 }
 
-/// Serves clients over sockets at an address, over what is in force by files, which are judged first. No file is changed.
+/// Serves clients at the address `asked.listen`, with the topology and the guarantees of the files in `asked`. Changes no file.
 ///
-/// Refused as `program` refuses, before the listener is asked. Where clients may come is told on `out`.
+/// The files are judged before the listener is called, and refused as [`program`] refuses them. The address is reported on `out`.
 pub fn serve_clients<L: Listener, F: Files, O: Write, E: Write>(
     alloc: Global,
     asked: ServeArguments<'_>,

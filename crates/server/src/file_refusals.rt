@@ -7,20 +7,20 @@ use std::alloc::AllocError;
 /// Why a file is refused.
 #[derive(Clone, Copy, PartialEq, Eq, Debug, Drop)]
 pub(crate) enum FileRefusal {
-    /// The cause of this number stands in the file, and none of a smaller one.
+    /// The cause of this number applies to the file, and none of a lower number.
     Refused(u8),
     /// The file is too long.
     TooLong,
     /// The file cannot be read.
     Unread,
-    /// A growth was refused.
+    /// An allocation failed.
     Memory,
 }
 
-/// A file that is refused, and why.
+/// A refused file, and why it is refused.
 #[derive(Clone, Copy, PartialEq, Eq, Debug, Drop)]
 pub(crate) struct RefusedFile<'a> {
-    /// The name of the file; empty where memory was wanting and no file is named.
+    /// The name of the file. May be empty if an allocation failed.
     pub(crate) file: &'a str,
     pub(crate) why: FileRefusal,
 }

@@ -1,4 +1,4 @@
-//! Certificates that `check` writes to a file.
+//! Writes the certificates that `check` found to a file. Start with [`write_out`].
 
 ghost use Rattle.std.specs.Prelude.{◌≡◌, [], List, MatchResult, Some};
 ghost use Rattle.certificate.specs.Drafts.{IsDraft};
@@ -13,7 +13,7 @@ use crate::storage::Files;
 use certificate::{Draft, Unwritten};
 use std::alloc::Global;
 
-/// A draft of no certificates, if a file is named.
+/// Returns a draft without certificates, if a file is named.
 pub fn draft_for(alloc: Global, out: Option<&str>) -> Option<Draft>
     ensures { Drafts (file_named out.entry) result [] }
 {
@@ -23,7 +23,7 @@ pub fn draft_for(alloc: Global, out: Option<&str>) -> Option<Draft>
     }
 }
 
-/// The text of a drafted file.
+/// Returns the text of a drafted file.
 fn text_of(draft: Draft) -> Result<Vec<u8>, CommandRefusal>
     ensures { (cs : List Shown) → IsDraft draft cs → MatchResult result (λ text. ReadsBack text.items cs) IsUnwritten }
 {
@@ -52,8 +52,7 @@ fn write_file<F: Files>(file: &str, draft: Draft, files: &mut F) -> Result<(), C
     }
 }
 
-/// Writes the drafted file of the certificates among some verdicts, where one is named and the status says that all
-/// guarantees hold.
+/// Writes the drafted certificates to the file `out`, if it is named and `status` says that all guarantees hold.
 pub fn write_out<'a, F: Files>(
     out: Option<&'a str>,
     status: u8,

@@ -1,4 +1,4 @@
-//! The verdicts on guarantees, as `check` prints them.
+//! The verdicts of `check`, as lines. Start with [`judge`].
 
 ghost use Rattle.std.specs.Prelude.{◌≡◌, ◌++◌, ◌∷◌, [], codes, decimal, IfOk, OnOk, string_bytes};
 ghost use Rattle.certificate.specs.Drafts.{Adds};
@@ -13,21 +13,21 @@ use model::Text;
 use scripts::{name_word, put_line};
 use std::alloc::{AllocError, Global};
 
-/// What a command prints, and the status that it leaves.
+/// What a command prints, and its exit status.
 #[derive(Drop)]
 pub(crate) struct Output {
     pub(crate) text: Vec<u8>,
     pub(crate) status: u8,
 }
 
-/// The line of a guarantee that holds.
+/// Returns the line of a guarantee that holds, by a certificate with this number of states.
 fn yes_line(alloc: Global, number: u64, states: usize) -> Result<String, AllocError>
     ensures { IfOk result (λ text. string_bytes text ≡ line (decimal number ∷ codes "yes states" ∷ decimal states ∷ [])) }
 {
     format!(in alloc; "{number} yes states {states}\n")
 }
 
-/// Appends a name behind a space.
+/// Appends a space and `name`.
 fn put_name(alloc: Global, text: &mut String, name: &Text) -> Result<(), AllocError>
     ensures { OnOk result (string_bytes text.new ≡ string_bytes text.old ++ 32 ∷ name_word name.now) }
 {
@@ -37,7 +37,7 @@ fn put_name(alloc: Global, text: &mut String, name: &Text) -> Result<(), AllocEr
     Ok(())
 }
 
-/// A path as it is shown behind a key; where there is none, nothing.
+/// Returns the text of a path, which follows a key; it is empty if there is no path.
 fn path_text(alloc: Global, path: &[Text]) -> Result<String, AllocError>
     ensures { IfOk result (λ text. string_bytes text ≡ path_text path.now) }
 {
@@ -51,7 +51,7 @@ fn path_text(alloc: Global, path: &[Text]) -> Result<String, AllocError>
     Ok(text)
 }
 
-/// The line of a guarantee that a key breaks, with what is shown behind the key.
+/// Returns the line of a guarantee that `key` breaks, with `shown` after the key.
 fn no_line_with(alloc: Global, number: u64, key: &[u8], shown: &str) -> Result<String, AllocError>
     ensures { IfOk result (λ text. string_bytes text ≡ decimal number ++ 32 ∷ (codes "no key" ++ 32 ∷ (name_word key.now ++ (shown.now ++ 10 ∷ [])))) }
 {
@@ -59,7 +59,7 @@ fn no_line_with(alloc: Global, number: u64, key: &[u8], shown: &str) -> Result<S
     format!(in alloc; "{number} no key {key}{shown}\n")
 }
 
-/// The line of a guarantee that a key breaks, with the path that shows it, if it needs one.
+/// Returns the line of a guarantee that `key` breaks, with the `path` to the queue, unless it is empty.
 fn no_line(alloc: Global, number: u64, key: &[u8], path: &[Text]) -> Result<String, AllocError>
     ensures { IfOk result (λ text. string_bytes text ≡ line (decimal number ∷ codes "no key" ∷ name_word key.now ∷ path_words path.now)) }
 {
@@ -67,7 +67,7 @@ fn no_line(alloc: Global, number: u64, key: &[u8], path: &[Text]) -> Result<Stri
     no_line_with(alloc, number, key, &shown)
 }
 
-/// Why a guarantee is not decided, in a word.
+/// Returns the word for why a guarantee is undecided.
 fn undecided_word(cause: UndecidedCause) -> &'static str
     ensures { result.now ≡ undecided_word cause }
 {
@@ -77,7 +77,7 @@ fn undecided_word(cause: UndecidedCause) -> &'static str
     }
 }
 
-/// The line of a guarantee that is not decided.
+/// Returns the line of an undecided guarantee.
 fn undecided_line(alloc: Global, number: u64, cause: UndecidedCause) -> Result<String, AllocError>
     ensures { IfOk result (λ text. string_bytes text ≡ line (decimal number ∷ codes "undecided" ∷ undecided_word cause ∷ [])) }
 {
@@ -85,7 +85,7 @@ fn undecided_line(alloc: Global, number: u64, cause: UndecidedCause) -> Result<S
     format!(in alloc; "{number} undecided {cause}\n")
 }
 
-/// The line of a verdict.
+/// Returns the line of a verdict on the guarantee of this number.
 fn verdict_line(alloc: Global, number: u64, verdict: &Verdict) -> Result<String, AllocError>
     ensures { IfOk result (λ text. string_bytes text ≡ verdict_line number verdict.now) }
 {
@@ -119,7 +119,7 @@ fn is_undecided(verdict: &Verdict) -> bool
     }
 }
 
-/// The status that verdicts leave of which some are broken, or some undecided.
+/// Returns the exit status for verdicts of which one is `broken`, or one is `undecided`.
 fn status_of(broken: bool, undecided: bool) -> u8
     ensures { result ≡ status_by broken undecided }
 {
@@ -132,7 +132,7 @@ fn status_of(broken: bool, undecided: bool) -> u8
     0
 }
 
-/// The draft with the certificate of a verdict, if a file is wanted and it has one.
+/// Adds the certificate of a verdict, if it has one, to the draft, if there is one.
 fn filed(alloc: Global, file: Option<Draft>, verdict: &Verdict) -> Option<Draft>
     ensures { Adds file result (certificates_in (verdict.now ∷ [])) }
 {
@@ -146,9 +146,11 @@ fn filed(alloc: Global, file: Option<Draft>, verdict: &Verdict) -> Option<Draft>
     }
 }
 
-/// What is printed of guarantees, a line each, numbered from 1, with the status; and the draft with their certificates, if
-/// a file is wanted. The status is 0 only where all guarantees hold, and 1 only where one of them fails. No verdict is kept
-/// once its line is made. The one error is want of memory.
+/// Decides each of `guarantees`, and returns a line for each, numbered from 1, with the exit status. If a draft is given, returns
+/// it with the certificates found.
+///
+/// The status is 0 only if all guarantees hold, and 1 only if one of them fails. A verdict is dropped once its line is made.
+/// Fails only if an allocation fails.
 pub(crate) fn judge(
     alloc: Global,
     topology: &Topology,

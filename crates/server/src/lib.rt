@@ -1,4 +1,6 @@
-//! The program, but for its process: what a command answers, refuses, prints and tells.
+//! The program without its process: what each command answers, refuses and prints.
+//!
+//! Start with [`program`]; [`serve_clients`] is the command `serve`.
 #![tactic(auto)]
 
 mod answering;

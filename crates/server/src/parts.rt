@@ -1,4 +1,4 @@
-//! Files that are compared in parts.
+//! Compares a file with bytes, part by part. Start with [`has_bytes_left`].
 
 ghost use Rattle.std.specs.Prelude.{◌≡◌, ◌++◌, IfOk, MatchOption};
 ghost use Rattle.model.specs.Words.{Text};
@@ -7,10 +7,10 @@ ghost use Rattle.server.specs.Files.{TellsLeft};
 use std::io;
 use std::io::{ErrorKind, Read};
 
-/// How many bytes are read at once.
+/// The number of bytes read at a time.
 const PART: usize = 16_384;
 
-/// What is behind this part, where the bytes begin with it.
+/// Returns what follows `part` in `bytes`, or `None` if `bytes` doesn't begin with `part`.
 fn behind<'a>(bytes: &'a [u8], part: &[u8]) -> Option<&'a [u8]>
     ensures { MatchOption result ((rest : Text) → bytes.now ≡ part.now ++ rest → ⊥) (λ rest. bytes.now ≡ part.now ++ rest.now) }
 {
@@ -21,8 +21,9 @@ fn behind<'a>(bytes: &'a [u8], part: &[u8]) -> Option<&'a [u8]>
     if front == part { Some(rest) } else { None }
 }
 
-/// Whether what is left to read is these bytes. They are compared as they are read, in parts of 16,384 bytes, up to where they
-/// differ; it takes no memory. A read that was interrupted is made again.
+/// Returns whether the rest of `reader` is exactly `bytes`.
+///
+/// Reads parts of 16,384 bytes, and stops at the first part that differs. Retries interrupted reads. Never allocates.
 pub fn has_bytes_left<R: Read>(reader: &mut R, bytes: &[u8]) -> io::Result<bool>
     ensures { IfOk result (TellsLeft (R.remaining reader.old) bytes.now) }
 {

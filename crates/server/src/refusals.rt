@@ -1,4 +1,4 @@
-//! Why the program does not do what it is asked for, and how it tells so.
+//! Why a command is refused, and the messages that report it.
 
 ghost use Rattle.std.specs.Prelude.{◌≡◌, ◌++◌, ◌∷◌, [], codes, decimal, is_ok, IfOk, string_bytes};
 ghost use Rattle.server.specs.Refusals.{of_refused};
@@ -12,21 +12,21 @@ use std::alloc::{AllocError, Global};
 use std::io;
 use std::io::Write;
 
-/// What tells that a growth was refused.
+/// The message for an allocation failure.
 const OUT_OF_MEMORY: &str = "warren: memory\n";
 
-/// What tells that an exchange is not there.
+/// The message for an exchange that doesn't exist.
 const NO_EXCHANGE: &str = "warren: no exchange\n";
 
-/// What tells that no client can come.
+/// The message for an address at which it can't listen.
 const NOT_LISTENING: &str = "warren: cannot listen\n";
 
-/// Why a command is not done.
+/// Why a command is refused.
 #[derive(Clone, Copy, PartialEq, Eq, Debug, Drop)]
 pub enum CommandRefusal {
-    /// This line of the script is at fault. Lines count from 1.
+    /// This line of the script, counted from 1, is at fault.
     Line(u64),
-    /// The cause of this number stands in the file, and none of a smaller one.
+    /// The cause of this number applies to the file, and none of a lower number.
     Refused(u8),
     /// The file is too long.
     TooLong,
@@ -34,21 +34,21 @@ pub enum CommandRefusal {
     Unread,
     /// The file cannot be written.
     Unwritten,
-    /// No exchange of the file has the name.
+    /// The file has no exchange of this name.
     NoExchange,
-    /// The certificate of this number has a fault of this number, or has no guarantee, or its guarantee no certificate.
-    /// Certificates count from 1.
+    /// The certificate of this number, counted from 1, has the fault of this number. Fault 5 is also that it has no guarantee, or
+    /// that its guarantee has no certificate.
     Certificate { number: u64, fault: u8 },
-    /// It cannot listen at the address that was given.
+    /// It can't listen at the given address.
     NotListening,
-    /// A growth was refused.
+    /// An allocation failed.
     Memory,
 }
 
-/// Why a command prints nothing, or writes no file, and the file of which this is told.
+/// Why a command prints nothing, or writes no file, and the file concerned.
 #[derive(Clone, Copy, PartialEq, Eq, Debug, Drop)]
 pub struct Told<'a> {
-    /// The name of the file.
+    /// The name of the file; may be empty if the refusal concerns none.
     pub file: &'a str,
     pub why: CommandRefusal,
 }
@@ -109,7 +109,7 @@ impl<'a> From<AllocError> for Told<'a> {
     }
 }
 
-/// What is told of a file that is refused.
+/// Converts the refusal of a file to the refusal of the command that names it.
 pub(crate) fn told_of(refused: RefusedFile<'_>) -> Told<'_>
     ensures file { result.file.now ≡ refused.entry.file.now }
     ensures why { result.why ≡ of_refused refused.entry.why }
@@ -120,28 +120,28 @@ pub(crate) fn told_of(refused: RefusedFile<'_>) -> Told<'_>
     }
 }
 
-/// What is wrong with a file, in these words.
+/// Returns the message that says `what` about `file`. Fails only if an allocation fails.
 fn file_message(alloc: Global, file: &str, what: &str) -> Result<String, AllocError>
     ensures { IfOk result (λ text. string_bytes text ≡ told file.now what.now) }
 {
     format!(in alloc; "warren: {file}: {what}\n")
 }
 
-/// The same with a number.
+/// Returns the message that says `what` and the number `n` about `file`. Fails only if an allocation fails.
 fn numbered_message(alloc: Global, file: &str, what: &str, n: u64) -> Result<String, AllocError>
     ensures { IfOk result (λ text. string_bytes text ≡ codes "warren: " ++ (file.now ++ (codes ": " ++ (what.now ++ 32 ∷ (decimal n ++ 10 ∷ []))))) }
 {
     format!(in alloc; "warren: {file}: {what} {n}\n")
 }
 
-/// That the certificate of this number has this fault.
+/// Returns the message that certificate `number` has this fault. Fails only if an allocation fails.
 fn certificate_message(alloc: Global, number: u64, fault: u8) -> Result<String, AllocError>
     ensures { IfOk result (λ text. string_bytes text ≡ codes "warren: certificate " ++ (decimal number ++ (codes ": fault " ++ (decimal fault ++ 10 ∷ [])))) }
 {
     format!(in alloc; "warren: certificate {number}: fault {fault}\n")
 }
 
-/// What is wrong with a file, as it is told.
+/// Returns the message of a refusal. Fails only if an allocation fails.
 fn message(alloc: Global, file: &str, refusal: CommandRefusal) -> Result<String, AllocError>
     ensures { IfOk result (λ text. string_bytes text ≡ refusal_line file.now refusal) }
 {
@@ -158,7 +158,7 @@ fn message(alloc: Global, file: &str, refusal: CommandRefusal) -> Result<String,
     }
 }
 
-/// The status of a refusal: 3 for a file that is refused, 4 for memory, input or output.
+/// Returns the exit status of a refusal: 3 if something is refused, 4 if an allocation, an input or an output failed.
 fn status_of(refusal: CommandRefusal) -> u8
     ensures { result ≡ status_of refusal }
 {
@@ -175,15 +175,15 @@ fn status_of(refusal: CommandRefusal) -> u8
     }
 }
 
-/// Puts that a growth was refused behind what the stream holds. Where a write fails, it took a beginning of that, and not all.
+/// Writes the message for an allocation failure to `err`. If a write fails, a proper prefix of it was written.
 pub fn put_out_of_memory<E: Write>(err: &mut E) -> io::Result<()>
     ensures { PutsOut (change (E.contents err.old) (E.contents err.new)) out_of_memory (is_ok result) }
 {
     put(err, OUT_OF_MEMORY.as_bytes())
 }
 
-/// Puts why a file or a certificate is refused behind what the stream holds: its line, or that there was no memory for it.
-/// Where a write fails, the stream took a beginning, and not all.
+/// Writes the message of a refusal to `err`, or the message for an allocation failure if there is no memory for it. If a write
+/// fails, a proper prefix was written.
 pub fn put_refusal<E: Write>(alloc: Global, err: &mut E, told: Told<'_>) -> io::Result<()>
     ensures { TellsLine (change (E.contents err.old) (E.contents err.new)) (refusal_line told.entry.file.now told.entry.why) (is_ok result) }
 {
@@ -193,14 +193,14 @@ pub fn put_refusal<E: Write>(alloc: Global, err: &mut E, told: Told<'_>) -> io::
     }
 }
 
-/// Tells that a growth was refused, and gives the status.
+/// Reports an allocation failure, and returns the exit status.
 pub fn refuse_memory<E: Write>(err: &mut E) -> u8
     ensures { TriesPut (change (E.contents err.old) (E.contents err.new)) out_of_memory 4 result }
 {
     tried(put_out_of_memory(err), 4)
 }
 
-/// Tells why a command prints nothing, and gives the status.
+/// Reports why a command is refused, and returns the exit status.
 pub fn tell<E: Write>(alloc: Global, err: &mut E, told: Told<'_>) -> u8
     ensures { RefusesWith (change (E.contents err.old) (E.contents err.new)) told.entry.file.now told.entry.why result }
 {

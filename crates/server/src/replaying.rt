@@ -1,4 +1,4 @@
-//! What `replay` prints.
+//! The command `replay`, and what its files put in force. Start with [`replay`] and [`in_force`].
 
 ghost use Rattle.std.specs.Prelude.{◌≡◌, ◌≤◌, length, IfOk, MatchResult, Ok, Some};
 ghost use Rattle.certificate.specs.Certified.{AreCertified};
@@ -24,7 +24,7 @@ use scripts::{BadScript, ReloadFiles, read_script, transcript_text};
 use std::alloc::{AllocError, Global};
 use std::io::Write;
 
-/// The number of a fault.
+/// Returns the number of a fault, from 1 to 6.
 fn number_of(fault: &CertFault) -> u8
     ensures { result ≡ fault_number fault.now }
 {
@@ -38,7 +38,7 @@ fn number_of(fault: &CertFault) -> u8
     }
 }
 
-/// The topology with its guarantees, each of which has its certificate.
+/// Admits a topology under guarantees by their certificates.
 fn admitted(
     alloc: Global,
     topology: Topology,
@@ -61,7 +61,7 @@ fn admitted(
     }
 }
 
-/// The files that a command names over which a broker runs.
+/// The files from which a broker starts, if they are named.
 #[derive(Clone, Copy, Drop)]
 pub struct BrokerFiles<'a> {
     pub definitions: Option<&'a str>,
@@ -69,7 +69,8 @@ pub struct BrokerFiles<'a> {
     pub certificates: Option<&'a str>,
 }
 
-/// What is in force by these files, which are judged in this order. No file is changed.
+/// Returns the topology, guarantees and users that the named files put in force. Judges the files in the order of the fields, and
+/// changes none.
 pub fn in_force<'a, F: Files>(
     alloc: Global,
     named: BrokerFiles<'a>,
@@ -99,7 +100,7 @@ pub fn in_force<'a, F: Files>(
     }
 }
 
-/// The arrivals of this text.
+/// Parses a script's text.
 fn said_in(alloc: Global, text: &[u8]) -> Result<Vec<scripts::Arrival>, CommandRefusal>
     ensures { MatchResult result (λ said. script text.now ≡ Ok said.items) (λ refusal. IsRefusalOf refusal text.now) }
 {
@@ -110,7 +111,7 @@ fn said_in(alloc: Global, text: &[u8]) -> Result<Vec<scripts::Arrival>, CommandR
     }
 }
 
-/// The arrivals of the script of a file.
+/// Reads and parses a script's file.
 fn script_of<F: Files>(
     alloc: Global,
     script: &str,
@@ -125,7 +126,7 @@ fn script_of<F: Files>(
     said_in(alloc, text.as_slice())
 }
 
-/// What the files of a reload put in force.
+/// Returns what the files of a reload put in force.
 fn setup_of<'a, F: Files>(
     alloc: Global,
     names: &'a ReloadFiles,
@@ -148,7 +149,7 @@ fn setup_of<'a, F: Files>(
     }
 }
 
-/// What arrives at the broker by an arrival of a script.
+/// Converts an event of a script to one of the broker: reads the files of a reload, and copies any other.
 fn arrival_of<'a, F: Files>(
     alloc: Global,
     said: &'a scripts::Arrival,
@@ -176,7 +177,7 @@ fn arrival_of<'a, F: Files>(
     }
 }
 
-/// What arrives at the broker by the arrivals of a script: the files of its reloads are judged in order.
+/// Converts the events of a script to those of the broker, reading the files of the reloads in order.
 fn arrivals_of<'a, F: Files>(
     alloc: Global,
     said: &'a [scripts::Arrival],
@@ -200,7 +201,7 @@ fn arrivals_of<'a, F: Files>(
     Ok(arrivals)
 }
 
-/// What these arrivals print, over a topology with guarantees that hold of it, where these users may log in.
+/// Runs a broker over `arrivals` and returns its transcript. Fails only if an allocation fails.
 fn played(
     alloc: Global,
     checked: Checked,
@@ -213,7 +214,7 @@ fn played(
     transcript_text(alloc, &transcript)
 }
 
-/// What the script of a file prints over what is in force, or the status, once it is told why.
+/// Runs the script of a file and returns its transcript. If it is refused, reports that on `err` and returns the exit status.
 fn played_file<F: Files, E: Write>(
     alloc: Global,
     script: &str,
@@ -244,8 +245,10 @@ fn played_file<F: Files, E: Write>(
     }
 }
 
-/// `replay SCRIPT`: what the script prints over what is in force by these files, which are judged first; or the status, once
-/// it is told why nothing is printed. The files of its reloads are judged once all of it was read, in its order.
+/// Performs `replay SCRIPT`: runs the script over what the `named` files put in force, and returns its transcript.
+///
+/// The `named` files are judged first. The whole script is read before the files of its reloads are judged, in its order. If a
+/// file is refused, reports that on `err` and returns the exit status.
 pub fn replay<F: Files, E: Write>(
     alloc: Global,
     script: &str,

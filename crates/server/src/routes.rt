@@ -1,4 +1,4 @@
-//! Routes, as they are printed.
+//! The routes of `route`, as lines. Start with [`routed`].
 
 ghost use Rattle.std.specs.Prelude.{◌≡◌, ◌<◌, ◌++◌, ◌∷◌, [], length, All, Decides, IfOk, OnOk, option_map, slice_index_or};
 ghost use Rattle.std.specs.List.{list_any};
@@ -13,21 +13,21 @@ use model::{DeclaredQueue, Exchange};
 use scripts::{name_word, put_line};
 use std::alloc::{AllocError, Global};
 
-/// Whether some exchange has this name.
+/// Returns whether one of `exchanges` is called `name`.
 fn any_exchange(exchanges: &[Exchange], name: &[u8]) -> bool
     ensures { result ≡ list_any (λ x. bytes_eq x.name name.now) exchanges.now }
 {
     exchanges.iter().any(|x| x.name.as_bytes() == name)
 }
 
-/// Whether an exchange of this name is among these.
+/// Returns whether one of `exchanges` is called `name`.
 fn has_name(exchanges: &[Exchange], name: &[u8]) -> bool
     ensures { Decides result (IsIn name.now (exchange_names exchanges.now)) }
 {
     any_exchange(exchanges, name)
 }
 
-/// Whether the exchange is there. The default exchange `""` always is.
+/// Returns whether the topology has an exchange called `name`. The default exchange `""` always exists.
 fn has_exchange(topology: &Topology, name: &[u8]) -> bool
     ensures { Decides result (HasExchange topology.now name.now) }
 {
@@ -37,7 +37,7 @@ fn has_exchange(topology: &Topology, name: &[u8]) -> bool
     has_name(topology.exchanges(), name)
 }
 
-/// Appends the line of a queue.
+/// Appends the line of a queue. Fails only if an allocation fails.
 fn put_name(alloc: Global, text: &mut Vec<u8>, queue: &DeclaredQueue) -> Result<(), AllocError>
     ensures { OnOk result (text.new.items ≡ text.old.items ++ line (name_word queue.now.name ∷ [])) }
 {
@@ -45,7 +45,7 @@ fn put_name(alloc: Global, text: &mut Vec<u8>, queue: &DeclaredQueue) -> Result<
     put_line(text, format!(in alloc; "{word}\n")?)
 }
 
-/// Appends the line of the queue at this place.
+/// Appends the line of the queue at index `place`. Fails only if an allocation fails.
 fn put_queue(
     alloc: Global,
     text: &mut Vec<u8>,
@@ -58,7 +58,7 @@ fn put_queue(
     put_name(alloc, text, &queues[place])
 }
 
-/// Appends the lines of the queues at these places.
+/// Appends the lines of the queues at the indices `places`. Fails only if an allocation fails.
 fn put_queues(
     alloc: Global,
     text: &mut Vec<u8>,
@@ -74,7 +74,7 @@ fn put_queues(
     Ok(())
 }
 
-/// The lines of the queues to which a key leads from an exchange.
+/// Returns the lines of the queues to which `key` leads from `exchange`. Fails only if an allocation fails.
 fn route_text(
     alloc: Global,
     topology: &Topology,
@@ -89,8 +89,10 @@ fn route_text(
     Ok(text)
 }
 
-/// The queues to which a key leads from an exchange, in the order of the file: a line for each, its name as a compact
-/// JSON string. None where the exchange is not there; the default exchange `""` always is.
+/// Returns a line for each queue to which `key` leads from `exchange`: its name as a compact JSON string. The order is that of
+/// the file.
+///
+/// Returns `None` if the exchange doesn't exist; the default exchange `""` always does. Fails only if an allocation fails.
 pub fn routed(
     alloc: Global,
     topology: &Topology,

@@ -1,4 +1,4 @@
-//! What `serve` begins with.
+//! Starts the broker of `serve`.
 
 ghost use Rattle.std.specs.Prelude.{MatchResult};
 ghost use Rattle.engine.specs.World.{world_of};
@@ -12,7 +12,8 @@ use crate::storage::Files;
 use engine::Engine;
 use std::alloc::Global;
 
-/// A broker with no connection over what is in force by these files, which are judged in this order.
+/// Starts a broker over what the named files put in force, without any connection. Judges the files in the order of the
+/// arguments, and changes none.
 pub fn started<'a, F: Files>(
     alloc: Global,
     definitions: &'a str,

@@ -1,4 +1,4 @@
-//! What the files that a command names state.
+//! Reads the files that a command names. Start with [`set_up`].
 
 ghost use Rattle.std.specs.Prelude.{◌≡◌, MatchResult};
 ghost use Rattle.server.specs.Files.{AreKept};
@@ -15,7 +15,7 @@ use guarantees::{Guarantee, read_guarantees};
 use model::User;
 use std::alloc::Global;
 
-/// A topology with those who may log in, and what is wanted of it.
+/// A topology with its users, and the guarantees stated for it.
 #[derive(Drop)]
 pub(crate) struct Setup {
     pub(crate) topology: Topology,
@@ -23,7 +23,7 @@ pub(crate) struct Setup {
     pub(crate) guarantees: Vec<Guarantee>,
 }
 
-/// The definitions of a file.
+/// Reads the definitions of a file.
 fn read_definitions_of<F: Files>(
     alloc: Global,
     file: &str,
@@ -36,10 +36,10 @@ fn read_definitions_of<F: Files>(
     Ok(read_definitions(alloc, text.as_slice())?)
 }
 
-/// What the definitions of a file state. The file is read whole, and none is changed.
+/// Reads the definitions of a file. Changes no file.
 ///
-/// Refused, with the name of the file, where it cannot be read or is too long, by the least cause that stands in it, or for
-/// want of memory.
+/// Fails with the file's name if the file can't be read or is too long, with the lowest-numbered cause that applies to it, or if
+/// an allocation fails.
 pub(crate) fn definitions_of<'a, F: Files>(
     alloc: Global,
     file: &'a str,
@@ -56,7 +56,7 @@ pub(crate) fn definitions_of<'a, F: Files>(
     }
 }
 
-/// The guarantees of a file.
+/// Reads the guarantees of a file for `topology`.
 fn read_guarantees_of<F: Files>(
     alloc: Global,
     file: &str,
@@ -72,7 +72,7 @@ fn read_guarantees_of<F: Files>(
     Ok(read_guarantees(alloc, text.as_slice(), topology)?)
 }
 
-/// The guarantees of a file, where one is named.
+/// Reads the guarantees of a file for `topology`, or returns none if no file is named.
 fn guarantees_of<'a, F: Files>(
     alloc: Global,
     file: Option<&'a str>,
@@ -95,7 +95,7 @@ fn guarantees_of<'a, F: Files>(
     }
 }
 
-/// The topology and the users of the definitions that are named, or the built-in ones.
+/// Reads the topology and the users of a definitions file, or returns the built-in topology if no file is named.
 fn topology_of<'a, F: Files>(
     alloc: Global,
     file: Option<&'a str>,
@@ -113,11 +113,11 @@ fn topology_of<'a, F: Files>(
     }
 }
 
-/// What definitions and guarantees state together, where each is named or not. No file is changed.
+/// Reads definitions and guarantees, each of which may be named or not. Changes no file.
 ///
-/// Where no definitions are named, the built-in topology is taken, and nobody may log in; where no guarantees are, there are
-/// none. The definitions are judged first: the guarantees are refused only over definitions that are good. Where memory is
-/// wanting the file may be left unnamed.
+/// Without definitions the topology is the built-in one, and nobody may log in; without guarantees there are none. The
+/// definitions are judged first: guarantees are refused only if the definitions are accepted. If an allocation fails the refusal
+/// may name no file.
 pub(crate) fn set_up<'a, F: Files>(
     alloc: Global,
     definitions: Option<&'a str>,
@@ -145,7 +145,7 @@ pub(crate) fn set_up<'a, F: Files>(
     }
 }
 
-/// The certificates of a file.
+/// Reads the certificates of a file.
 fn read_certificates_of<F: Files>(
     alloc: Global,
     file: &str,
@@ -160,7 +160,7 @@ fn read_certificates_of<F: Files>(
     Ok(Certificate::read(alloc, text.as_slice())?)
 }
 
-/// The certificates of a file, where one is named, and else none. No file is changed. Refused as definitions are.
+/// Reads the certificates of a file, or returns none if no file is named. Fails as [`definitions_of`] does. Changes no file.
 pub(crate) fn certificates_of<'a, F: Files>(
     alloc: Global,
     file: Option<&'a str>,

@@ -1,4 +1,4 @@
-//! Texts that are put on a stream.
+//! Writes texts to streams.
 
 ghost use Rattle.std.specs.Prelude.{◌≡◌, is_ok};
 ghost use Rattle.server.specs.Streams.{PutsOut, change, tried};
@@ -6,7 +6,7 @@ ghost use Rattle.server.specs.Streams.{PutsOut, change, tried};
 use std::io;
 use std::io::{ErrorKind, Write};
 
-/// Puts a text behind what the stream holds. Where a write fails, the stream took a beginning of it, and not all.
+/// Writes all of `text` to `stream`, retrying interrupted writes. If a write fails, a proper prefix of `text` was written.
 pub fn put<W: Write>(stream: &mut W, text: &[u8]) -> io::Result<()>
     ensures { PutsOut (change (W.contents stream.old) (W.contents stream.new)) text.now (is_ok result) }
 {
@@ -31,7 +31,7 @@ pub fn put<W: Write>(stream: &mut W, text: &[u8]) -> io::Result<()>
     Err(io::Error::from(ErrorKind::Interrupted))
 }
 
-/// This status where a stream took all, and 4 where it didn't.
+/// Returns `status` if the write succeeded, and 4 if it failed.
 pub fn tried(put: io::Result<()>, status: u8) -> u8
     ensures { result ≡ tried (is_ok put) status }
 {

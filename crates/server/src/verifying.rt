@@ -1,4 +1,4 @@
-//! Whether certificates are accepted, as `verify` prints it.
+//! The outcomes of `verify`, as lines. Start with [`verify`].
 
 ghost use Rattle.std.specs.Prelude.{◌≡◌, ◌++◌, ◌∷◌, [], codes, decimal, IfOk, OnOk, string_bytes};
 ghost use Rattle.std.specs.List.{list_any};
@@ -14,10 +14,10 @@ use model::Text;
 use scripts::{name_word, put_line};
 use std::alloc::{AllocError, Global};
 
-/// That a certificate is accepted, or its first fault.
+/// The outcome of checking a certificate: accepted, or its first fault.
 type Outcome = Result<(), CertFault>;
 
-/// What is told of the certificate at this place, if there is one.
+/// Checks the certificate at index `place`; fault 5 if there is none. Fails only if an allocation fails.
 fn outcome_at(
     alloc: Global,
     topology: &Topology,
@@ -36,7 +36,7 @@ fn outcome_at(
     }
 }
 
-/// What is told of the certificate of each guarantee, in their order.
+/// Checks the certificate of each guarantee, in order. Fails only if an allocation fails.
 fn own_outcomes(
     alloc: Global,
     topology: &Topology,
@@ -52,7 +52,8 @@ fn own_outcomes(
     Ok(outcomes)
 }
 
-/// The same, and fault 5 once more where there is a certificate too many.
+/// Checks the certificate of each guarantee, and adds fault 5 if there are more certificates than guarantees. Fails only if an
+/// allocation fails.
 fn outcomes_of(
     alloc: Global,
     topology: &Topology,
@@ -68,7 +69,7 @@ fn outcomes_of(
     Ok(outcomes)
 }
 
-/// A letter as it is shown.
+/// Returns the word of a letter, or `other` for every word that no pattern names.
 fn letter_word(alloc: Global, word: &Option<Text>) -> Result<String, AllocError>
     ensures { IfOk result (λ text. string_bytes text ≡ letter_word word.now) }
 {
@@ -78,7 +79,7 @@ fn letter_word(alloc: Global, word: &Option<Text>) -> Result<String, AllocError>
     }
 }
 
-/// The line of a letter that leads out of a state.
+/// Returns the line of fault 2: the letter `word` leads out of the state at index `state`.
 fn open_line(
     alloc: Global,
     number: u64,
@@ -92,7 +93,7 @@ fn open_line(
     format!(in alloc; "{number} fault 2 state {state} letter {letter}\n")
 }
 
-/// The line of what is told of a certificate.
+/// Returns the line of an outcome of certificate `number`.
 fn outcome_line(alloc: Global, number: u64, outcome: &Outcome) -> Result<String, AllocError>
     ensures { IfOk result (λ text. string_bytes text ≡ outcome_line number outcome.now) }
 {
@@ -109,7 +110,7 @@ fn outcome_line(alloc: Global, number: u64, outcome: &Outcome) -> Result<String,
     }
 }
 
-/// Appends the lines of the outcomes, numbered from 1.
+/// Appends the lines of `outcomes`, numbered from 1. Fails only if an allocation fails.
 fn put_outcomes(alloc: Global, text: &mut Vec<u8>, outcomes: &[Outcome]) -> Result<(), AllocError>
     ensures { OnOk result (text.new.items ≡ text.old.items ++ outcome_lines 1 outcomes.now) }
 {
@@ -136,7 +137,7 @@ fn has_fault(outcomes: &[Outcome]) -> bool
     outcomes.iter().any(|outcome| is_fault(outcome))
 }
 
-/// The status that the outcomes leave.
+/// Returns the exit status for `outcomes`: 1 if there is a fault, otherwise 0.
 fn status_of(outcomes: &[Outcome]) -> u8
     ensures { result ≡ status_of_outcomes outcomes.now }
 {
@@ -146,9 +147,11 @@ fn status_of(outcomes: &[Outcome]) -> u8
     0
 }
 
-/// What is printed of the certificates of guarantees, a line each, numbered from 1, with the status. The certificate of a
-/// guarantee is the one at its place; where it has none that is fault 5, and fault 5 is told once more where there are
-/// certificates too many. The status is 0 only where each has its certificate, and so holds. The one error is want of memory.
+/// Checks the certificates of `guarantees`, and returns a line for each, numbered from 1, with the exit status.
+///
+/// The certificate of a guarantee is the one at its index. A guarantee without a certificate is fault 5; if there are more
+/// certificates than guarantees, that is one more fault 5. The status is 0 only if each guarantee has its certificate, and so
+/// holds. Fails only if an allocation fails.
 #[tactic(auto, using(crate::proofs::Meaning::outcomes_mean))]
 pub(crate) fn verify(
     alloc: Global,

@@ -1,21 +1,9 @@
 -- What a wire counts of a socket is what arrived for its connection.
-use Rattle.std.proofs.Common.{◌≡◌, ◌≢◌, ◌+◌, ◌⊎◌, inl, inr, ℕ, List, [], ◌∷◌, ◌++◌, Bool, true, false, Option, Some, None, length, refl, sym, ap, subst, ◌∙◌, append_assoc, append-nil, flat_map, filter_map, arith}
-use Rattle.std.specs.Prelude.{◌==◌, if◌then◌else◌, sum_by}
-use Rattle.std.proofs.lemmas.Bool.{eq-eqb, ne_eqb, false≢true, cases_eq}
-use Rattle.std.proofs.lemmas.Option.{none-some, same_Some}
-use Rattle.std.proofs.lemmas.List.Elements.{filter_map-append}
-use Rattle.std.proofs.lemmas.List.Sums.{sum_by-append}
-use Rattle.model.specs.Topology.{IsIn}
-use Rattle.model.specs.History.{Occurrence}
-use Rattle.laws.proofs.Counts.{in_front, in_back}
-use Rattle.serving.specs.Wire.{Call, Accepted, Not_accepted, Accept_failed, Got, Nothing_got, Read_ended, Read_failed, Took, Nothing_taken, Write_failed, Closed, Welcomed, Rested, Totals, no_bytes, with_got, with_taken, total_after, totals_after, Told, Tells}
-use Rattle.serving.specs.Story.{Served, At, Deed, Met, Turned_away, Met_no_one, Heard, Heard_partly, Heard_nothing, Heard_end, Gave, Gave_partly, Gave_nothing, Gave_up, Pumped, Pumped_nothing, Pump_refused, Let_go, Paused, Reload_decided, Reload_undecided, calls, Table, DoesDeed, Story}
-use Rattle.serving.specs.Joined.{got_of, count_of, met_by, all_met, AreCounted}
-use Rattle.serving.specs.declared.peers.Peer.{Peer}
+use Rattle.serving.proofs.Names.{◌≡◌, ◌≢◌, ◌+◌, ◌⊎◌, inl, inr, ℕ, List, [], ◌∷◌, ◌++◌, Bool, true, false, Option, Some, None, length, refl, sym, ap, subst, ◌∙◌, append_assoc, append-nil, flat_map, filter_map, arith, ◌==◌, if◌then◌else◌, sum_by, eq-eqb, ne_eqb, false≢true, cases_eq, none-some, same_Some, filter_map-append, sum_by-append, IsIn, Occurrence, in_front, in_back, Call, Accepted, Not_accepted, Accept_failed, Got, Nothing_got, Read_ended, Read_failed, Took, Nothing_taken, Write_failed, Closed, Welcomed, Parted, Rested, Totals, no_bytes, with_got, with_taken, total_after, totals_after, Told, Tells, Served, At, Deed, Enters, Leaves, Stays, Met, Turned_away, Met_no_one, Heard, Heard_partly, Heard_nothing, Heard_end, Gave, Gave_partly, Gave_nothing, Gave_up, Pumped_nothing, Pump_refused, Let_go, Paused, Reload_decided, Reload_undecided, calls, Table, DoesDeed, Story, got_of, count_of, met_by, all_met, AreCounted, Peer, Lacks}
+use Rattle.serving.specs.Story.{Pumped}
 use Rattle.serving.proofs.Onward.{in_either}
 use Rattle.serving.proofs.Pairs.{Knows, knows_none, goes}
 use Rattle.serving.proofs.Joining.{are_joined}
-use Rattle.runs.specs.Wants.{Lacks}
 
 -- ---- sums over calls
 
@@ -90,6 +78,7 @@ adds_one s (Nothing_taken r offered) ne o t e = add_none s o t (Nothing_taken r 
 adds_one s (Write_failed r offered) ne o t e = add_none s o t (Write_failed r offered ∷ []) refl refl e
 adds_one s (Closed r) ne o t e = add_none s o t (Closed r ∷ []) refl refl e
 adds_one s (Welcomed r) ne o t e = add_none s o t (Welcomed r ∷ []) refl refl e
+adds_one s (Parted r) ne o t e = add_none s o t (Parted r ∷ []) refl refl e
 adds_one s Rested ne o t e = add_none s o t (Rested ∷ []) refl refl e
 
 add_sums : (a b c d e f : ℕ) → a ≡ b + c → b ≡ d + e → f ≡ e + c → a ≡ d + f
@@ -207,10 +196,13 @@ count_deed {L = L} s cs v w d os does names k = go d does.table does.told
     go (Turned_away r o) t told = counted_on s cs _ v.told w.told told (λ e. (refl, refl)) (comes_away s r v.told t.2) k
     go (Met_no_one true) t told = plain _ (refl, refl) (not_one s Accept_failed (λ e. absurd (cc e))) told
     go (Met_no_one false) t told = plain _ (refl, refl) (not_one s Not_accepted (λ e. absurd (cc e))) told
-    go (Heard i p room bytes true) t told =
+    go (Heard i p room bytes Enters) t told =
         counted_on s cs (Got p.socket _ bytes ∷ Welcomed p.socket ∷ []) v.told w.told told (λ e. (ap (λ (x : Bool). got_if x bytes) (apart s p.socket v.told (names i p t.1.0) e), refl))
         (λ j. absurd (not_two s _ _ (λ e. absurd (cc e)) (λ e. absurd (cc e)) j)) k
-    go (Heard i p room bytes false) t told =
+    go (Heard i p room bytes Leaves) t told =
+        counted_on s cs (Got p.socket _ bytes ∷ Parted p.socket ∷ []) v.told w.told told (λ e. (ap (λ (x : Bool). got_if x bytes) (apart s p.socket v.told (names i p t.1.0) e), refl))
+        (λ j. absurd (not_two s _ _ (λ e. absurd (cc e)) (λ e. absurd (cc e)) j)) k
+    go (Heard i p room bytes Stays) t told =
         counted_on s cs (Got p.socket _ bytes ∷ []) v.told w.told told (λ e. (ap (λ (x : Bool). got_if x bytes) (apart s p.socket v.told (names i p t.1.0) e), refl))
         (λ j. absurd (not_one s _ (λ e. absurd (cc e)) j)) k
     go (Heard_partly i p room bytes) t told =
@@ -219,10 +211,13 @@ count_deed {L = L} s cs v w d os does names k = go d does.table does.told
     go (Heard_nothing i p room) t told = plain _ (refl, refl) (not_one s _ (λ e. absurd (cc e))) told
     go (Heard_end i p room true) t told = plain _ (refl, refl) (not_two s _ _ (λ e. absurd (cc e)) (λ e. absurd (cc e))) told
     go (Heard_end i p room false) t told = plain _ (refl, refl) (not_two s _ _ (λ e. absurd (cc e)) (λ e. absurd (cc e))) told
-    go (Gave i p offered taken true) t told =
+    go (Gave i p offered taken Enters) t told =
         counted_on s cs (Took p.socket offered taken ∷ Welcomed p.socket ∷ []) v.told w.told told (λ e. (refl, ap (λ (x : Bool). taken_if x (length taken)) (apart s p.socket v.told (names i p t.2.0) e)))
         (λ j. absurd (not_two s _ _ (λ e. absurd (cc e)) (λ e. absurd (cc e)) j)) k
-    go (Gave i p offered taken false) t told =
+    go (Gave i p offered taken Leaves) t told =
+        counted_on s cs (Took p.socket offered taken ∷ Parted p.socket ∷ []) v.told w.told told (λ e. (refl, ap (λ (x : Bool). taken_if x (length taken)) (apart s p.socket v.told (names i p t.2.0) e)))
+        (λ j. absurd (not_two s _ _ (λ e. absurd (cc e)) (λ e. absurd (cc e)) j)) k
+    go (Gave i p offered taken Stays) t told =
         counted_on s cs (Took p.socket offered taken ∷ []) v.told w.told told (λ e. (refl, ap (λ (x : Bool). taken_if x (length taken)) (apart s p.socket v.told (names i p t.2.0) e)))
         (λ j. absurd (not_one s _ (λ e. absurd (cc e)) j)) k
     go (Gave_partly i p offered taken) t told =
@@ -252,11 +247,11 @@ met_accepts (Met i q) p (inl e) = inl (ap (λ (z : Peer). Accepted z.socket) e)
 met_accepts (Met i q) p (inr x) = absurd x
 met_accepts (Turned_away r o) p x = absurd x
 met_accepts (Met_no_one f) p x = absurd x
-met_accepts (Heard i q room bytes enters) p x = absurd x
+met_accepts (Heard i q room bytes passage) p x = absurd x
 met_accepts (Heard_partly i q room bytes) p x = absurd x
 met_accepts (Heard_nothing i q room) p x = absurd x
 met_accepts (Heard_end i q room f) p x = absurd x
-met_accepts (Gave i q offered taken enters) p x = absurd x
+met_accepts (Gave i q offered taken passage) p x = absurd x
 met_accepts (Gave_partly i q offered taken) p x = absurd x
 met_accepts (Gave_nothing i q offered) p x = absurd x
 met_accepts (Gave_up i q offered) p x = absurd x

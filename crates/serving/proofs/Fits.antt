@@ -1,21 +1,7 @@
 -- However a server goes on, each slot has a connection of its own.
-use Rattle.std.proofs.Common.{◌≡◌, ◌≢◌, ◌≤◌, ◌<◌, ℕ, suc, zero, ◌+◌, List, [], ◌∷◌, Bool, true, false, Option, None, length, refl, sym, ap, subst, ◌∙◌, ◌⊎◌, inl, inr, slice_set, slice_index_or, arith}
-use Rattle.std.proofs.lemmas.Bool.{false≢true, cases_eq}
-use Rattle.std.proofs.lemmas.Option.{same_Some}
-use Rattle.std.specs.Prelude.{MatchBool}
-use Rattle.model.specs.State.{Config}
-use Rattle.model.specs.Run.{Happening}
-use Rattle.model.specs.History.{Occurrence}
-use Rattle.model.specs.Arrivals.{World, Works, none_more, one_more, Waits, WorksOff, Answers, ByEvents, Same, with_heard, is_over, is_gone, can_open, Opens, Loses, TakesAndWorks, Pumps, delivers, idles}
-use Rattle.model.specs.declared.events.Arrival.{Arrival}
+use Rattle.serving.proofs.Names.{◌≡◌, ◌≢◌, ◌≤◌, ◌<◌, ℕ, suc, zero, ◌+◌, List, [], ◌∷◌, Bool, true, false, Option, None, length, refl, sym, ap, subst, ◌∙◌, ◌⊎◌, inl, inr, slice_set, slice_index_or, arith, false≢true, cases_eq, same_Some, MatchBool, Config, Happening, Occurrence, World, Works, none_more, one_more, Waits, WorksOff, Answers, ByEvents, Same, with_heard, is_over, is_gone, can_open, Opens, Loses, TakesAndWorks, Pumps, delivers, idles, Arrival, Ask, Attempt, whole, FallsShort, Attempts, Served, At, Filled, Deed, Met, Turned_away, Met_no_one, Heard, Heard_partly, Heard_nothing, Heard_end, Gave, Gave_partly, Gave_nothing, Gave_up, Pumped_nothing, Pump_refused, Let_go, Paused, Reload_decided, Reload_undecided, attempts, Table, DoesDeed, Story, Serves, IsFit, AreSeated, AreQuiet, Peer, Lacks}
 use Rattle.model.specs.declared.events.Arrival.TheVariants as arrival
-use Rattle.serving.specs.Wire.{Ask}
-use Rattle.serving.specs.Coming.{Attempt, whole, FallsShort, Attempts}
-use Rattle.serving.specs.Story.{Served, At, Filled, Deed, Met, Turned_away, Met_no_one, Heard, Heard_partly, Heard_nothing, Heard_end, Gave, Gave_partly, Gave_nothing, Gave_up, Pumped, Pumped_nothing, Pump_refused, Let_go, Paused, Reload_decided, Reload_undecided, attempts, Table, DoesDeed, Story, Serves}
-use Rattle.serving.specs.Fit.{IsFit}
-use Rattle.serving.specs.Quiet.{AreSeated, AreQuiet}
-use Rattle.serving.specs.declared.peers.Peer.{Peer}
-use Rattle.runs.specs.Wants.{Lacks}
+use Rattle.serving.specs.Story.{Pumped}
 
 -- ---- numbers of connections are only given
 
@@ -139,11 +125,11 @@ fit_does {L = L} a b d os does f = go d does.table (attempts_le L (attempts d) a
     go (Met i p) t le br = fit_filled a.world b.world a.peers b.peers i p t.1 (met_given L a.world b.world os t.0 br) t.3 f
     go (Turned_away s o) t le br = fit_same a b le t.3 f
     go (Met_no_one x) t le br = fit_same a b le t f
-    go (Heard i p room bytes enters) t le br = fit_same a b le t.1.1 f
+    go (Heard i p room bytes passage) t le br = fit_same a b le t.1.1 f
     go (Heard_partly i p room bytes) t le br = fit_freed a b i le t.1.1 f
     go (Heard_nothing i p room) t le br = fit_same a b le t.1.1 f
     go (Heard_end i p room x) t le br = fit_freed a b i le t.1.1 f
-    go (Gave i p offered taken enters) t le br = fit_same a b le t.2.1 f
+    go (Gave i p offered taken passage) t le br = fit_same a b le t.2.1 f
     go (Gave_partly i p offered taken) t le br = fit_freed a b i le t.2.1 f
     go (Gave_nothing i p offered) t le br = fit_same a b le t.1.1 f
     go (Gave_up i p offered) t le br = fit_freed a b i le t.1.1 f

@@ -1,38 +1,17 @@
 -- What was taken of an output, with what waits there, is what was put out; of one that is gone it is a beginning.
-use Rattle.std.proofs.Common.{◌≡◌, ◌≢◌, ◌<◌, ℕ, ◌+◌, List, [], ◌∷◌, ◌++◌, Bool, true, false, eqb, length, take, drop, map, refl, sym, ap, subst, ◌∙◌, append_assoc, append-nil, flat_map, ◌⊎◌, inl, inr, Some, arith}
-use Rattle.std.proofs.lemmas.Bool.{eqb-true, eqb-false, false≢true, lt-ltb}
-use Rattle.std.proofs.lemmas.List.{length-take-le}
-use Rattle.std.proofs.lemmas.List.Concat.{flat_map-append}
-use Rattle.std.specs.Prelude.{◌==◌, ◌&&◌, not, nat_lt, if◌then◌else◌, MatchBool}
-use Rattle.std.specs.List.{AllByRecursion}
+use Rattle.serving.proofs.Names.{◌≡◌, ◌≢◌, ◌<◌, ℕ, ◌+◌, List, [], ◌∷◌, ◌++◌, Bool, true, false, eqb, length, take, drop, map, refl, sym, ap, subst, ◌∙◌, append_assoc, append-nil, flat_map, ◌⊎◌, inl, inr, Some, arith, eqb-true, eqb-false, false≢true, lt-ltb, length-take-le, flat_map-append, ◌==◌, ◌&&◌, nat_lt, if◌then◌else◌, MatchBool, AllByRecursion, Session, no_session, running_session, with_one, Stream, IsSound, Config, State, Happening, put_out, Occurrence, Of_event, IsDecided, events_of, World, Wire, new_world, is_over, is_gone, is_ended, can_open, Turns, Works, none_more, one_more, Waits, WorksOff, Same, with_heard, Takes_off, TakesAndWorks, Opens, Loses, Puts, Pumps, delivers, idles, Answers, ByEvents, Reloads, IsConsistent, Arrival, Told, Attempt, whole, short, FallsShort, Attempts, Served, served, Deed, Enters, Leaves, Stays, Met, Turned_away, Met_no_one, Heard, Heard_partly, Heard_nothing, Heard_end, Gave, Gave_partly, Gave_nothing, Gave_up, Pumped_nothing, Pump_refused, Let_go, Paused, Reload_decided, Reload_undecided, calls, IsFront, DoesDeed, Story, written_to, AreBeginnings, Peer, IsOffered, new_is_consistent, events-append, events-mapped, Lacks}
+use Rattle.std.specs.Prelude.{not}
 use Rattle.model.specs.Opening.{new_session}
-use Rattle.model.specs.Phases.{Session, no_session, running_session}
 use Rattle.model.specs.Spelling.{sends_to, spelling}
-use Rattle.model.specs.Broker.{with_one}
-use Rattle.model.specs.Commands.{Stream}
-use Rattle.model.specs.Headline.{IsSound}
-use Rattle.model.specs.State.{Config, State}
-use Rattle.model.specs.Run.{Happening, put_out}
-use Rattle.model.specs.History.{Occurrence, Of_event, Reload as OneReload, IsDecided, events_of}
-use Rattle.model.specs.Arrivals.{World, Wire, new_world, is_over, is_gone, is_ended, can_open, Turns, Works, none_more, one_more, Waits, WorksOff, Same, with_heard, Takes_off, TakesAndWorks, Opens, Loses, Puts, Pumps, delivers, idles, Answers, ByEvents, Reloads}
-use Rattle.model.specs.Consistent.{IsConsistent}
+use Rattle.model.specs.History.{Reload as OneReload}
 use Rattle.model.specs.declared.events.Event.{Event}
 use Rattle.model.specs.declared.events.Event.TheVariants as event
-use Rattle.model.specs.declared.events.Arrival.{Arrival}
 use Rattle.model.specs.declared.events.Arrival.TheVariants as arrival
 use Rattle.runs.proofs.Steps.{settled, puts_each, turns_apart, delivers_apart}
 use Rattle.runs.proofs.Places.{with_here, with_other, take_nothing, drop_nothing, take_and_drop}
-use Rattle.serving.specs.Wire.{Told}
-use Rattle.serving.specs.Coming.{Attempt, whole, short, FallsShort, Attempts}
-use Rattle.serving.specs.Story.{Served, served, Deed, Met, Turned_away, Met_no_one, Heard, Heard_partly, Heard_nothing, Heard_end, Gave, Gave_partly, Gave_nothing, Gave_up, Pumped, Pumped_nothing, Pump_refused, Let_go, Paused, Reload_decided, Reload_undecided, calls, IsFront, DoesDeed, Story}
-use Rattle.serving.specs.Joined.{written_to, AreBeginnings}
-use Rattle.serving.specs.declared.peers.Peer.{Peer}
-use Rattle.laws.specs.Reloading.{IsOffered}
-use Rattle.laws.proofs.Consistency.{new_is_consistent}
-use Rattle.laws.proofs.Histories.{events-append, events-mapped}
+use Rattle.serving.specs.Story.{Pumped}
 use Rattle.serving.proofs.Staying.{brings_stays, deed_stays}
 use Rattle.serving.proofs.Pairs.{peer_of, PairsWith, pairs_in}
-use Rattle.runs.specs.Wants.{Lacks}
 
 -- of connection d these bytes were taken and those were put out
 pub record Accounts (d : ℕ) (taken put : List ℕ) (w : World) : Type 0 where
@@ -364,15 +343,18 @@ flows_deed {L = L} p v w (Met i q) os k does pair = flows_one L p.connection v.w
 flows_deed {L = L} p v w (Turned_away s o) os k does pair = subst (λ (t : Arrival Config). Flows p.connection v.world (taken_by p.connection v.world t) (events_of os) w.world) does.table.0 (flows_one L p.connection v.world w.world o os k does.brings)
 flows_deed {L = L} p v w (Met_no_one true) os k does pair = flows_none p.connection v.world w.world os does.brings
 flows_deed {L = L} p v w (Met_no_one false) os k does pair = flows_none p.connection v.world w.world os does.brings
-flows_deed {L = L} p v w (Heard i q room bytes true) os k does pair = flows_one L p.connection v.world w.world (whole (arrival.In q.connection bytes)) os k does.brings
-flows_deed {L = L} p v w (Heard i q room bytes false) os k does pair = flows_one L p.connection v.world w.world (whole (arrival.In q.connection bytes)) os k does.brings
+flows_deed {L = L} p v w (Heard i q room bytes Enters) os k does pair = flows_one L p.connection v.world w.world (whole (arrival.In q.connection bytes)) os k does.brings
+flows_deed {L = L} p v w (Heard i q room bytes Leaves) os k does pair = flows_one L p.connection v.world w.world (whole (arrival.In q.connection bytes)) os k does.brings
+flows_deed {L = L} p v w (Heard i q room bytes Stays) os k does pair = flows_one L p.connection v.world w.world (whole (arrival.In q.connection bytes)) os k does.brings
 flows_deed {L = L} p v w (Heard_partly i q room bytes) os k does pair = flows_lost L p.connection v.world w.world (short (arrival.In q.connection bytes)) q.connection os tt k does.brings
 flows_deed {L = L} p v w (Heard_nothing i q room) os k does pair = flows_none p.connection v.world w.world os does.brings
 flows_deed {L = L} p v w (Heard_end i q room true) os k does pair = flows_one L p.connection v.world w.world (whole (arrival.Lose q.connection)) os k does.brings
 flows_deed {L = L} p v w (Heard_end i q room false) os k does pair = flows_one L p.connection v.world w.world (whole (arrival.Lose q.connection)) os k does.brings
-flows_deed {L = L} p v w (Gave i q offered taken true) os k does pair =
+flows_deed {L = L} p v w (Gave i q offered taken Enters) os k does pair =
     subst (λ (z : List ℕ). Flows p.connection v.world z (events_of os) w.world) (taken_written p q v.world taken does.table.1 pair) (flows_one L p.connection v.world w.world (whole (arrival.Sent q.connection (length taken))) os k does.brings)
-flows_deed {L = L} p v w (Gave i q offered taken false) os k does pair =
+flows_deed {L = L} p v w (Gave i q offered taken Leaves) os k does pair =
+    subst (λ (z : List ℕ). Flows p.connection v.world z (events_of os) w.world) (taken_written p q v.world taken does.table.1 pair) (flows_one L p.connection v.world w.world (whole (arrival.Sent q.connection (length taken))) os k does.brings)
+flows_deed {L = L} p v w (Gave i q offered taken Stays) os k does pair =
     subst (λ (z : List ℕ). Flows p.connection v.world z (events_of os) w.world) (taken_written p q v.world taken does.table.1 pair) (flows_one L p.connection v.world w.world (whole (arrival.Sent q.connection (length taken))) os k does.brings)
 flows_deed {L = L} p v w (Gave_partly i q offered taken) os k does pair =
     subst (λ (z : List ℕ). Flows p.connection v.world z (events_of os) w.world) (taken_written p q v.world taken does.table.1 pair) (flows_lost L p.connection v.world w.world (short (arrival.Sent q.connection (length taken))) q.connection os tt k does.brings)

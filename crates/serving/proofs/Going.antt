@@ -1,17 +1,5 @@
 -- What one call does goes on from the server as the call found it.
-use Rattle.std.proofs.Common.{ℕ, List, [], refl, sym, inl, inr}
-use Rattle.std.specs.List.{AllByRecursion}
-use Rattle.model.specs.Topology.{IsIn}
-use Rattle.model.specs.State.{Config}
-use Rattle.model.specs.Consistent.{IsConsistent}
-use Rattle.model.specs.Arrivals.{new_world}
-use Rattle.laws.proofs.Consistency.{new_is_consistent}
-use Rattle.runs.specs.Wants.{Lacks}
-use Rattle.serving.specs.Wire.{Told}
-use Rattle.serving.specs.Story.{Served, served}
-use Rattle.serving.specs.Rounds.{Rounds}
-use Rattle.serving.specs.Whole.{arrived, IsServed, IsOf, TakesOn, GoesOn}
-use Rattle.serving.specs.declared.peers.Peer.{Peer}
+use Rattle.serving.proofs.Names.{ℕ, List, [], refl, sym, inl, inr, AllByRecursion, IsIn, Config, IsConsistent, new_world, new_is_consistent, Lacks, Told, Served, served, Rounds, arrived, IsServed, IsOf, TakesOn, GoesOn, Peer}
 use Rattle.serving.proofs.Staying.{attempts_stay, story_offered}
 use Rattle.serving.proofs.Pairs.{peer_of, PairsWith, AllGo, known_after, stays_known, met_known, all_go, pairs_each, knows_none}
 use Rattle.serving.proofs.Joining.{joined_all}

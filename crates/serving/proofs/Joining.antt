@@ -1,20 +1,8 @@
 -- What arrived for a connection is what its socket gave and took, deed by deed.
-use Rattle.std.proofs.Common.{◌≡◌, ◌+◌, ℕ, List, [], ◌∷◌, ◌++◌, Bool, true, false, Option, Some, None, length, refl, sym, ap, subst, ◌∙◌, flat_map, filter_map, count_by, arith}
-use Rattle.std.proofs.lemmas.List.Elements.{filter_map-append}
-use Rattle.std.proofs.lemmas.List.Sums.{sum_by-append}
-use Rattle.std.specs.Prelude.{◌==◌, if◌then◌else◌}
-use Rattle.std.specs.List.{AllByRecursion}
-use Rattle.model.specs.State.{Config}
-use Rattle.model.specs.History.{Occurrence}
-use Rattle.serving.specs.Wire.{Call}
-use Rattle.serving.specs.Coming.{Attempt}
-use Rattle.serving.specs.Story.{Served, Deed, Met, Turned_away, Met_no_one, Heard, Heard_partly, Heard_nothing, Heard_end, Gave, Gave_partly, Gave_nothing, Gave_up, Pumped, Pumped_nothing, Pump_refused, Let_go, Paused, Reload_decided, Reload_undecided, calls, attempts, DoesDeed, Story}
-use Rattle.serving.specs.Joined.{piece_for, amount_for, is_loss_of, is_short_for, got_of, count_of, is_end_of, IsJoined, AreJoined}
-use Rattle.model.specs.declared.events.Arrival.{Arrival}
+use Rattle.serving.proofs.Names.{◌≡◌, ◌+◌, ℕ, List, [], ◌∷◌, ◌++◌, Bool, true, false, Option, Some, None, length, refl, sym, ap, subst, ◌∙◌, flat_map, filter_map, count_by, arith, filter_map-append, sum_by-append, ◌==◌, if◌then◌else◌, AllByRecursion, Config, Occurrence, Call, Attempt, Served, Deed, Enters, Leaves, Stays, Met, Turned_away, Met_no_one, Heard, Heard_partly, Heard_nothing, Heard_end, Gave, Gave_partly, Gave_nothing, Gave_up, Pumped_nothing, Pump_refused, Let_go, Paused, Reload_decided, Reload_undecided, calls, attempts, DoesDeed, Story, piece_for, amount_for, is_loss_of, is_short_for, got_of, count_of, is_end_of, IsJoined, AreJoined, Arrival, Peer, Lacks}
+use Rattle.serving.specs.Story.{Pumped}
 use Rattle.model.specs.declared.events.Arrival.TheVariants as arrival
-use Rattle.serving.specs.declared.peers.Peer.{Peer}
 use Rattle.serving.proofs.Pairs.{peer_of, PairsWith, pairs_in}
-use Rattle.runs.specs.Wants.{Lacks}
 
 joined_none : (p : Peer) → IsJoined p [] []
 joined_none p = record { pieces = refl; amounts = refl; losses = refl }
@@ -67,14 +55,16 @@ joined_one p v w (Met i q) os does pair = record { pieces = refl; amounts = refl
 joined_one p v w (Turned_away s o) os does pair = opening_joined p o _ does.table.0 (record { pieces = refl; amounts = refl; losses = refl })
 joined_one p v w (Met_no_one true) os does pair = record { pieces = refl; amounts = refl; losses = refl }
 joined_one p v w (Met_no_one false) os does pair = record { pieces = refl; amounts = refl; losses = refl }
-joined_one p v w (Heard i q room bytes true) os does pair = record { pieces = same_bytes (q.connection == p.connection) (q.socket == p.socket) bytes pair; amounts = refl; losses = refl }
-joined_one p v w (Heard i q room bytes false) os does pair = record { pieces = same_bytes (q.connection == p.connection) (q.socket == p.socket) bytes pair; amounts = refl; losses = refl }
+joined_one p v w (Heard i q room bytes Enters) os does pair = record { pieces = same_bytes (q.connection == p.connection) (q.socket == p.socket) bytes pair; amounts = refl; losses = refl }
+joined_one p v w (Heard i q room bytes Leaves) os does pair = record { pieces = same_bytes (q.connection == p.connection) (q.socket == p.socket) bytes pair; amounts = refl; losses = refl }
+joined_one p v w (Heard i q room bytes Stays) os does pair = record { pieces = same_bytes (q.connection == p.connection) (q.socket == p.socket) bytes pair; amounts = refl; losses = refl }
 joined_one p v w (Heard_partly i q room bytes) os does pair = record { pieces = same_bytes (q.connection == p.connection) (q.socket == p.socket) bytes pair; amounts = refl; losses = short_loss (q.connection == p.connection) }
 joined_one p v w (Heard_nothing i q room) os does pair = record { pieces = refl; amounts = refl; losses = refl }
 joined_one p v w (Heard_end i q room true) os does pair = record { pieces = refl; amounts = refl; losses = same_end (q.connection == p.connection) (q.socket == p.socket) pair }
 joined_one p v w (Heard_end i q room false) os does pair = record { pieces = refl; amounts = refl; losses = same_end (q.connection == p.connection) (q.socket == p.socket) pair }
-joined_one p v w (Gave i q offered taken true) os does pair = record { pieces = refl; amounts = same_amount (q.connection == p.connection) (q.socket == p.socket) (length taken) pair; losses = refl }
-joined_one p v w (Gave i q offered taken false) os does pair = record { pieces = refl; amounts = same_amount (q.connection == p.connection) (q.socket == p.socket) (length taken) pair; losses = refl }
+joined_one p v w (Gave i q offered taken Enters) os does pair = record { pieces = refl; amounts = same_amount (q.connection == p.connection) (q.socket == p.socket) (length taken) pair; losses = refl }
+joined_one p v w (Gave i q offered taken Leaves) os does pair = record { pieces = refl; amounts = same_amount (q.connection == p.connection) (q.socket == p.socket) (length taken) pair; losses = refl }
+joined_one p v w (Gave i q offered taken Stays) os does pair = record { pieces = refl; amounts = same_amount (q.connection == p.connection) (q.socket == p.socket) (length taken) pair; losses = refl }
 joined_one p v w (Gave_partly i q offered taken) os does pair = record { pieces = refl; amounts = same_amount (q.connection == p.connection) (q.socket == p.socket) (length taken) pair; losses = short_loss (q.connection == p.connection) }
 joined_one p v w (Gave_nothing i q offered) os does pair = record { pieces = refl; amounts = refl; losses = refl }
 joined_one p v w (Gave_up i q offered) os does pair = record { pieces = refl; amounts = refl; losses = same_end (q.connection == p.connection) (q.socket == p.socket) pair }

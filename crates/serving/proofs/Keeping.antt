@@ -1,34 +1,15 @@
 -- What a server did is one story, in which the promises are kept.
-use Rattle.std.proofs.Common.{◌≡◌, ◌<◌, ℕ, zero, suc, ◌+◌, List, [], ◌∷◌, ◌++◌, Bool, true, false, Option, Some, length, slice_get, refl, sym, ap, subst, ◌∙◌, append_assoc, append-nil, flat_map, map, inl, inr, arith}
-use Rattle.std.specs.Prelude.{MatchBool}
-use Rattle.std.specs.List.{AllByRecursion}
-use Rattle.model.specs.State.{Config}
-use Rattle.model.specs.Run.{Happening}
-use Rattle.model.specs.History.{Occurrence, Of_event, events_of, notes_over}
-use Rattle.model.specs.Arrivals.{World, new_world, Answers, ByEvents, Same, Shows, shown, Plays, with_heard}
-use Rattle.model.specs.Consistent.{IsConsistent}
-use Rattle.model.specs.Headline.{IsSound}
-use Rattle.model.specs.declared.events.Arrival.{Arrival}
+use Rattle.serving.proofs.Names.{◌≡◌, ◌<◌, ℕ, zero, suc, ◌+◌, List, [], ◌∷◌, ◌++◌, Bool, true, false, Option, Some, length, slice_get, refl, sym, ap, subst, ◌∙◌, append_assoc, append-nil, flat_map, map, inl, inr, arith, MatchBool, AllByRecursion, Config, Happening, Occurrence, Of_event, events_of, notes_over, World, new_world, Answers, ByEvents, Same, Shows, shown, Plays, with_heard, IsConsistent, IsSound, Arrival, linked, new_is_consistent, IsOffered, ToldOver, over_told, over_at, over-append, over_plays, events-append, events-mapped, Ask, Told, Tells, Attempt, WorksPartly, FallsShort, Attempts, IsWhole, Served, served, Deed, Paused, calls, attempts, DoesDeed, Story, Serves, PumpsUp, RestsUnless, IsRound, Rounds, arrived, arrivals_of, seen_after, seen_of, IsServed, Peer, Lacks}
 use Rattle.model.specs.declared.events.Arrival.TheVariants as arrival
-use Rattle.laws.proofs.Consistency.{linked, new_is_consistent}
-use Rattle.laws.specs.Reloading.{IsOffered}
-use Rattle.laws.proofs.Histories.{ToldOver, over_told, over_at, over-append, over_plays, events-append, events-mapped}
 use Rattle.laws.proofs.Plays.{Told as ToldOf, told-append, told_at, told_same, told_works, told_waits, told_heard, told_taken}
 use Rattle.laws.proofs.Spoken.{Speaks, speaks_same, speaks_append, speaks_at, works_speaks, waits_speaks, takes_speaks, answer_speaks, spoken_from_start}
 use Rattle.laws.proofs.Whole.{promises_hold}
-use Rattle.serving.specs.Wire.{Ask, Told, Tells}
-use Rattle.serving.specs.Coming.{Attempt, WorksPartly, FallsShort, Attempts, IsWhole}
-use Rattle.serving.specs.Story.{Served, served, Deed, Paused, calls, attempts, DoesDeed, Story, Serves, PumpsUp}
-use Rattle.serving.specs.Rounds.{RestsUnless, IsRound, Rounds}
-use Rattle.serving.specs.Whole.{arrived, arrivals_of, seen_after, seen_of, IsServed}
-use Rattle.serving.specs.declared.peers.Peer.{Peer}
 use Rattle.serving.proofs.Onward.{tells_none, tells_then, story-append, serves_not}
 use Rattle.serving.proofs.Deeds.{same_not}
 use Rattle.serving.proofs.Staying.{AllOffered, brings_stays, plays_one, story_offered}
 use Rattle.serving.proofs.Joining.{are_joined}
 use Rattle.serving.proofs.Flowing.{are_beginnings}
 use Rattle.serving.proofs.Counting.{are_counted}
-use Rattle.runs.specs.Wants.{Lacks}
 
 -- ---- what is performed of an arrival that met want of memory
 
@@ -148,7 +129,7 @@ went_pumps n a b p s = (s.deeds, s.occurrences, s.story)
 went_rests : (L : Lacks) (v w : Served) (acted : Bool) → RestsUnless v acted w → Went L v w
 went_rests L v w true e = subst (λ (z : Served). Went L v z) (sym e) (went v v [] false (serves_not v))
 went_rests L v w false (e, t) =
-    went_one v w Paused [] (record { table = ap (λ (z : Served). z.peers) e; brings = (refl, ap (λ (z : Served). z.world) e); welcomes = tt; told = t })
+    went_one v w Paused [] (record { table = ap (λ (z : Served). z.peers) e; brings = (refl, ap (λ (z : Served). z.world) e); greets = tt; told = t })
 
 went_round : {L : Lacks} (a b : Served) → IsRound L a b → Went L a b
 went_round {L = L} a b r =

@@ -1,3 +1,4 @@
+pub mod Names
 pub mod Turning
 pub mod Onward
 pub mod Deeds

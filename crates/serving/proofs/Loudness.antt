@@ -1,14 +1,8 @@
 -- The set of loud slots has exactly those that have no mark, and what is due of marked slots is nothing.
-use Rattle.std.proofs.Common.{◌≡◌, ◌≤◌, ◌<◌, ◌+◌, ◌-◌, ◌*◌, ◌++◌, ℕ, zero, suc, max, List, [], ◌∷◌, Bool, true, false, not, cond, Option, None, length, replicate, drop, flat_map, append-nil, refl, sym, ap, subst, ◌∙◌, ◌⊎◌, inl, inr, slice_set, slice_index_or, arith}
+use Rattle.serving.proofs.Names.{◌≡◌, ◌≤◌, ◌<◌, ◌+◌, ◌-◌, ◌*◌, ◌++◌, ℕ, zero, suc, max, List, [], ◌∷◌, Bool, true, false, cond, Option, None, length, replicate, drop, flat_map, append-nil, refl, sym, ap, subst, ◌∙◌, ◌⊎◌, inl, inr, slice_set, slice_index_or, arith, false≢true, cases_eq, cases_lt, drop_all, World, Ask, AreLoud, AreQuiet, IsMarkedAt, IsNextLoud, loud_bit, HasEnded, write_of, Peer}
+use Rattle.std.proofs.Common.{not}
 use Rattle.std.proofs.Math.Nat.{max-eq_left, max-eq_right}
-use Rattle.std.proofs.lemmas.Bool.{false≢true, cases_eq, cases_lt}
-use Rattle.std.proofs.lemmas.List.{drop_all}
-use Rattle.model.specs.Arrivals.{World}
 use Rattle.marks.specs.Places.{Differs, IsNextMark, bit_of}
-use Rattle.serving.specs.Wire.{Ask}
-use Rattle.serving.specs.Quiet.{AreLoud, AreQuiet, IsMarkedAt, IsNextLoud, loud_bit}
-use Rattle.serving.specs.Rounds.{HasEnded, write_of}
-use Rattle.serving.specs.declared.peers.Peer.{Peer}
 use Rattle.serving.proofs.Apart.{due_at, later_on}
 use Rattle.serving.proofs.Quieting.{marked_ended, marked_silent}
 

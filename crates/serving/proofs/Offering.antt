@@ -1,24 +1,12 @@
 -- A reload between two calls that serve: what is offered is decided, or memory was refused, and no slot and no output is different.
-use Rattle.std.proofs.Common.{◌≡◌, ℕ, List, [], Bool, Option, refl, ◌∙◌, arith}
-use Rattle.std.specs.Prelude.{Result, Ok, Err}
-use Rattle.model.specs.State.{Config}
-use Rattle.model.specs.History.{Occurrence}
-use Rattle.model.specs.Headline.{IsSound}
-use Rattle.model.specs.Arrivals.{World, Reloads, Same}
+use Rattle.serving.proofs.Names.{◌≡◌, ℕ, List, [], Bool, Option, refl, ◌∙◌, arith, Result, Ok, Err, Config, Occurrence, IsSound, World, Reloads, Same, Lacks, To_reload, Told, whole, short, served, Reload_decided, Reload_undecided, IsServerKept, IsServed, Peer}
 use Rattle.model.specs.declared.events.Arrival.TheVariants as arrival
 use Rattle.model.specs.declared.obstacles.Obstacle.TheVariants as obstacle
 use Rattle.slab.specs.Slab.{Slab}
-use Rattle.runs.specs.Wants.{Lacks, To_reload}
 use Rattle.runs.specs.Reloaded.{TellsReload, IsMemory, wanting}
 use Rattle.runs.specs.declared.faults.ReloadFault.{ReloadFault}
 use Rattle.runs.specs.declared.faults.ReloadFault.TheVariants.{InUse, Breaks, Memory}
 use Rattle.runs.proofs.Reloads.{put_reloads, refused_reloads}
-use Rattle.serving.specs.Wire.{Told}
-use Rattle.serving.specs.Coming.{whole, short}
-use Rattle.serving.specs.Story.{served, Reload_decided, Reload_undecided}
-use Rattle.serving.specs.Quiet.{IsServerKept}
-use Rattle.serving.specs.Whole.{IsServed}
-use Rattle.serving.specs.declared.peers.Peer.{Peer}
 use Rattle.serving.proofs.Onward.{tells_none, attempt_one}
 use Rattle.serving.proofs.Apart.{StaysFor, same_stays, gone_stays}
 use Rattle.serving.proofs.Fits.{fit_within}
@@ -29,11 +17,11 @@ use Rattle.serving.proofs.Keeping.{Went, went_one, went_on}
 
 decided : {L : Lacks} (a b : World) (ps : List (Option Peer)) (told : Told) (offered : Config) → IsSound offered → (os : List Occurrence) → Reloads a offered os b → Went L (served a ps told) (served b ps told)
 decided {L = L} a b ps told offered sound os p =
-    went_one (served a ps told) (served b ps told) (Reload_decided offered) os (record { table = (sound, refl); brings = attempt_one L a b (whole (arrival.Reload offered)) os p; welcomes = tt; told = tells_none told })
+    went_one (served a ps told) (served b ps told) (Reload_decided offered) os (record { table = (sound, refl); brings = attempt_one L a b (whole (arrival.Reload offered)) os p; greets = tt; told = tells_none told })
 
 undecided : {L : Lacks} (a b : World) (ps : List (Option Peer)) (told : Told) (offered : Config) → IsSound offered → L a (To_reload offered) → Same a b → Went L (served a ps told) (served b ps told)
 undecided {L = L} a b ps told offered sound wants same =
-    went_one (served a ps told) (served b ps told) (Reload_undecided offered) [] (record { table = (sound, refl); brings = attempt_one L a b (short (arrival.Reload offered)) [] ([], refl, (wants, (refl, same))); welcomes = tt; told = tells_none told })
+    went_one (served a ps told) (served b ps told) (Reload_undecided offered) [] (record { table = (sound, refl); brings = attempt_one L a b (short (arrival.Reload offered)) [] ([], refl, (wants, (refl, same))); greets = tt; told = tells_none told })
 
 went_reload : {L : Lacks} (a b : World) (ps : List (Option Peer)) (told : Told) (offered : Config) (r : Result Unit ReloadFault) → IsSound offered → TellsReload a offered r b → (IsMemory r → L a (To_reload offered)) → Went L (served a ps told) (served b ps told)
 went_reload a b ps told offered (Ok x) sound p wants = decided a b ps told offered sound _ (put_reloads a b offered p)

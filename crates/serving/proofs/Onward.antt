@@ -1,21 +1,5 @@
 -- One more deed, and what a server does after what it did.
-use Rattle.std.proofs.Common.{◌≡◌, ◌+◌, ◌⊎◌, inl, inr, ℕ, List, [], ◌∷◌, ◌++◌, length, Bool, true, false, Option, Some, None, flat_map, count_by, refl, sym, ap, subst, ◌∙◌, append_assoc, append-nil, arith}
-use Rattle.std.specs.Prelude.{◌==◌, ◌||◌, if◌then◌else◌, MatchBool}
-use Rattle.std.proofs.lemmas.Option.{none-some}
-use Rattle.std.specs.List.{list_any}
-use Rattle.std.proofs.lemmas.List.Concat.{flat_map-append}
-use Rattle.std.proofs.lemmas.List.Elements.{filter_map-append}
-use Rattle.std.proofs.lemmas.List.Folds.{list_any-append}
-use Rattle.std.proofs.lemmas.List.Sums.{sum_by-append}
-use Rattle.model.specs.Topology.{IsIn}
-use Rattle.model.specs.History.{Occurrence}
-use Rattle.model.specs.Arrivals.{World}
-use Rattle.serving.specs.Wire.{Call, Accepted, Not_accepted, Accept_failed, Got, Nothing_got, Read_ended, Read_failed, Took, Nothing_taken, Write_failed, Closed, Welcomed, Rested, Ask, ask, asks, Totals, no_bytes, with_got, with_taken, total_after, totals_after, Told, Tells, Follows, is_failed}
-use Rattle.serving.specs.Coming.{Attempt, Brings, Attempts}
-use Rattle.serving.specs.Story.{Served, served, Deed, calls, is_done, is_unasked, DoesDeed, Story, Serves}
-use Rattle.serving.specs.Rounds.{RestsUnless}
-use Rattle.runs.specs.Wants.{Lacks}
-use Rattle.serving.specs.declared.peers.Peer.{Peer}
+use Rattle.serving.proofs.Names.{◌≡◌, ◌+◌, ◌⊎◌, inl, inr, ℕ, List, [], ◌∷◌, ◌++◌, length, Bool, true, false, Option, Some, None, flat_map, count_by, refl, sym, ap, subst, ◌∙◌, append_assoc, append-nil, arith, ◌==◌, ◌||◌, if◌then◌else◌, MatchBool, none-some, list_any, flat_map-append, filter_map-append, list_any-append, sum_by-append, IsIn, Occurrence, World, Call, Accepted, Not_accepted, Accept_failed, Got, Nothing_got, Read_ended, Read_failed, Took, Nothing_taken, Write_failed, Closed, Welcomed, Parted, Rested, Ask, ask, asks, Totals, no_bytes, with_got, with_taken, total_after, totals_after, Told, Tells, Follows, is_failed, Attempt, Brings, Attempts, Served, served, Deed, calls, is_done, is_unasked, DoesDeed, Story, Serves, RestsUnless, Lacks, Peer}
 
 -- ---- what a wire tells
 
@@ -69,6 +53,7 @@ totals_any s o (Nothing_taken r offered ∷ ys) t e = totals_any s o ys t e
 totals_any s o (Write_failed r offered ∷ ys) t e = totals_any s o ys t e
 totals_any s o (Closed r ∷ ys) t e = totals_any s o ys t e
 totals_any s o (Welcomed r ∷ ys) t e = totals_any s o ys t e
+totals_any s o (Parted r ∷ ys) t e = totals_any s o ys t e
 totals_any s o (Rested ∷ ys) t e = totals_any s o ys t e
 
 totals_then : (s : ℕ) (a b c : Option Totals) (xs ys : List Call) (t : Totals) → ((u : Totals) → b ≡ Some u → totals_after s a xs ≡ Some u) → (c ≡ Some t → totals_after s b ys ≡ Some t) → c ≡ Some t → totals_after s a (xs ++ ys) ≡ Some t

@@ -1,28 +1,18 @@
 -- In every story a connection has one socket, and a socket one connection.
-use Rattle.std.proofs.Common.{◌≡◌, ◌≢◌, ◌≤◌, true, ℕ, ◌+◌, List, [], ◌∷◌, ◌++◌, Option, Some, None, refl, sym, ap, subst, ◌∙◌, ◌⊎◌, inl, inr, slice_set, arith}
-use Rattle.std.proofs.lemmas.Bool.{eq-eqb, ne_eqb, false≢true}
-use Rattle.std.specs.Prelude.{◌==◌}
-use Rattle.std.specs.List.{AllByRecursion}
-use Rattle.model.specs.Topology.{IsIn}
-use Rattle.model.specs.History.{Occurrence}
-use Rattle.laws.proofs.Counts.{in_back}
-use Rattle.serving.specs.Wire.{Call, Accepted, Tells, IsFresh}
-use Rattle.serving.specs.Story.{Served, At, Filled, Deed, Met, Turned_away, Met_no_one, Heard, Heard_partly, Heard_nothing, Heard_end, Gave, Gave_partly, Gave_nothing, Gave_up, Pumped, Pumped_nothing, Pump_refused, Let_go, Paused, Reload_decided, Reload_undecided, attempts, Table, DoesDeed, Story}
-use Rattle.serving.specs.Joined.{met_by, all_met}
-use Rattle.serving.specs.declared.peers.Peer.{Peer}
+use Rattle.serving.proofs.Names.{◌≡◌, ◌≢◌, ◌≤◌, true, ℕ, ◌+◌, List, [], ◌∷◌, ◌++◌, Option, Some, None, refl, sym, ap, subst, ◌∙◌, ◌⊎◌, inl, inr, slice_set, arith, eq-eqb, ne_eqb, false≢true, ◌==◌, AllByRecursion, IsIn, Occurrence, in_back, Call, Accepted, Tells, IsFresh, Served, At, Filled, Deed, Met, Turned_away, Met_no_one, Heard, Heard_partly, Heard_nothing, Heard_end, Gave, Gave_partly, Gave_nothing, Gave_up, Pumped_nothing, Pump_refused, Let_go, Paused, Reload_decided, Reload_undecided, attempts, Table, DoesDeed, Story, met_by, all_met, Peer, Lacks}
+use Rattle.serving.specs.Story.{Pumped}
 use Rattle.serving.proofs.Fits.{freed_at, filled_at, attempts_le, met_given}
-use Rattle.runs.specs.Wants.{Lacks}
 
 -- whose deed it is
 abbrev pub peer_of : Deed → Option Peer
 peer_of (Met i p) = Some p
 peer_of (Turned_away s o) = None
 peer_of (Met_no_one x) = None
-peer_of (Heard i p room bytes enters) = Some p
+peer_of (Heard i p room bytes passage) = Some p
 peer_of (Heard_partly i p room bytes) = Some p
 peer_of (Heard_nothing i p room) = Some p
 peer_of (Heard_end i p room x) = Some p
-peer_of (Gave i p offered taken enters) = Some p
+peer_of (Gave i p offered taken passage) = Some p
 peer_of (Gave_partly i p offered taken) = Some p
 peer_of (Gave_nothing i p offered) = Some p
 peer_of (Gave_up i p offered) = Some p
@@ -112,11 +102,11 @@ goes {L = L} known v w d os does k = go d does.table (attempts_le L (attempts d)
     go (Met i p) t le does = record { knows = knows_met known v w i p t.1 (met_given L v.world w.world os t.0 does.brings) t.2 t.3 does.told k; mine = inl refl }
     go (Turned_away s o) t le does = record { knows = knows_same known v w _ t.3 le does.told k; mine = tt }
     go (Met_no_one x) t le does = record { knows = knows_same known v w _ t le does.told k; mine = tt }
-    go (Heard i p room bytes enters) t le does = record { knows = knows_same known v w _ t.1.1 le does.told k; mine = k.slots i p t.1.0 }
+    go (Heard i p room bytes passage) t le does = record { knows = knows_same known v w _ t.1.1 le does.told k; mine = k.slots i p t.1.0 }
     go (Heard_partly i p room bytes) t le does = record { knows = knows_freed known v w i _ t.1.1 le does.told k; mine = k.slots i p t.1.0 }
     go (Heard_nothing i p room) t le does = record { knows = knows_same known v w _ t.1.1 le does.told k; mine = k.slots i p t.1.0 }
     go (Heard_end i p room x) t le does = record { knows = knows_freed known v w i _ t.1.1 le does.told k; mine = k.slots i p t.1.0 }
-    go (Gave i p offered taken enters) t le does = record { knows = knows_same known v w _ t.2.1 le does.told k; mine = k.slots i p t.2.0 }
+    go (Gave i p offered taken passage) t le does = record { knows = knows_same known v w _ t.2.1 le does.told k; mine = k.slots i p t.2.0 }
     go (Gave_partly i p offered taken) t le does = record { knows = knows_freed known v w i _ t.2.1 le does.told k; mine = k.slots i p t.2.0 }
     go (Gave_nothing i p offered) t le does = record { knows = knows_same known v w _ t.1.1 le does.told k; mine = k.slots i p t.1.0 }
     go (Gave_up i p offered) t le does = record { knows = knows_freed known v w i _ t.1.1 le does.told k; mine = k.slots i p t.1.0 }

@@ -1,15 +1,6 @@
 -- A slot that is marked is quiet, and what comes for other connections leaves it so.
-use Rattle.std.proofs.Common.{◌≡◌, ◌≢◌, ◌≤◌, ◌+◌, ◌⊎◌, ℕ, suc, zero, List, [], ◌∷◌, Bool, true, false, not, Option, Some, None, length, refl, sym, ap, subst, ◌∙◌, inl, inr, slice_set, slice_index_or, arith}
-use Rattle.std.proofs.lemmas.Bool.{false≢true, le-ltb, ltb-false}
-use Rattle.std.proofs.lemmas.Option.{same_Some}
-use Rattle.std.specs.Prelude.{nat_le, nat_lt, ◌&&◌, if◌then◌else◌}
-use Rattle.model.specs.Arrivals.{World, Same, is_over, is_gone, is_paused, has_output}
-use Rattle.serving.specs.Wire.{To_write}
-use Rattle.serving.specs.Story.{At, Filled}
-use Rattle.serving.specs.Fit.{ApartFrom, IsFit, StaysOrFrees}
-use Rattle.serving.specs.Quiet.{IsQuiet, IsMarkedAt, AreQuiet, AreSeated, IsOther, Wakes}
-use Rattle.serving.specs.Rounds.{HasEnded, write_of}
-use Rattle.serving.specs.declared.peers.Peer.{Peer}
+use Rattle.serving.proofs.Names.{◌≡◌, ◌≢◌, ◌≤◌, ◌+◌, ◌⊎◌, ℕ, suc, zero, List, [], ◌∷◌, Bool, true, false, Option, Some, None, length, refl, sym, ap, subst, ◌∙◌, inl, inr, slice_set, slice_index_or, arith, false≢true, le-ltb, ltb-false, same_Some, nat_le, nat_lt, ◌&&◌, if◌then◌else◌, World, Same, is_over, is_gone, is_paused, has_output, To_write, At, Filled, ApartFrom, IsFit, StaysOrFrees, IsQuiet, IsMarkedAt, AreQuiet, AreSeated, IsOther, Wakes, HasEnded, write_of, Peer}
+use Rattle.std.proofs.Common.{not}
 use Rattle.serving.proofs.Turning.{awake_stands}
 use Rattle.serving.proofs.Apart.{StaysFor, others_stay, same_stays, output_stays, awake_stays, gone_stays}
 use Rattle.serving.proofs.Fits.{freed_at, fit_on}

@@ -1,14 +1,6 @@
 -- Where a connection can be opened a slot is free: each slot that is taken has a connection of its own, which stands.
-use Rattle.std.proofs.Common.{◌≡◌, ◌≢◌, ◌≤◌, ◌<◌, ◌+◌, ◌-◌, ◌++◌, ℕ, zero, suc, List, [], ◌∷◌, Bool, true, false, cond, Option, Some, None, refl, sym, ap, ◌∙◌, ◌⊎◌, inl, inr, drop, flat_map, count_by, slice_index_or, arith}
-use Rattle.std.proofs.lemmas.Bool.{false≢true, cases_eq, leb-true, le-leb, lt-leb, ltb-true, eqb-true, eq-eqb, ne_eqb}
+use Rattle.serving.proofs.Names.{◌≡◌, ◌≢◌, ◌≤◌, ◌<◌, ◌+◌, ◌-◌, ◌++◌, ℕ, zero, suc, List, [], ◌∷◌, Bool, true, false, cond, Option, Some, None, refl, sym, ap, ◌∙◌, ◌⊎◌, inl, inr, drop, flat_map, count_by, slice_index_or, arith, false≢true, cases_eq, leb-true, le-leb, lt-leb, ltb-true, eqb-true, eq-eqb, ne_eqb, is_some, nat_le, nat_lt, ◌==◌, ◌&&◌, if◌then◌else◌, World, standing, is_gone, can_open, Ask, At, IsFit, HasEnded, Peer}
 use Rattle.std.proofs.lemmas.List.Recursion.{is_count_by}
-use Rattle.std.specs.Prelude.{is_some, nat_le, nat_lt, ◌==◌, ◌&&◌, if◌then◌else◌}
-use Rattle.model.specs.Arrivals.{World, standing, is_gone, can_open}
-use Rattle.serving.specs.Wire.{Ask}
-use Rattle.serving.specs.Story.{At}
-use Rattle.serving.specs.Fit.{IsFit}
-use Rattle.serving.specs.Rounds.{HasEnded}
-use Rattle.serving.specs.declared.peers.Peer.{Peer}
 
 -- ---- how many slots pass a test
 

@@ -1,6 +1,6 @@
 -- What a server does: what it asks of its wire, what is answered, and which arrivals it makes of that,
 -- the pumps that it makes by itself, and the reloads that it is called for (own).
-use Rattle.std.specs.Prelude.{◌≡◌, ◌≢◌, ◌≤◌, ◌+◌, ◌&&◌, not, ℕ, zero, suc, List, [], ◌∷◌, ◌++◌, length, take, flat_map}
+use Rattle.std.specs.Prelude.{◌≡◌, ◌≢◌, ◌≤◌, ◌+◌, ℕ, zero, suc, List, [], ◌∷◌, ◌++◌, length, take, flat_map}
 use Rattle.std.specs.Prelude.{Bool, true, false, Option, Some, None, slice_index_or, slice_set, if◌then◌else◌, MatchBool}
 use Rattle.std.specs.List.{list_any}
 use Rattle.model.specs.State.{Config}
@@ -10,7 +10,7 @@ use Rattle.model.specs.Consuming.{CanDeliver}
 use Rattle.model.specs.Arrivals.{World, Answers, NoneCanDeliver, is_gone, can_open}
 use Rattle.model.specs.declared.events.Arrival.TheVariants as arrival
 use Rattle.serving.specs.Wire.{Call, Accepted, Not_accepted, Accept_failed, Got, Nothing_got, Read_ended, Read_failed}
-use Rattle.serving.specs.Wire.{Took, Nothing_taken, Write_failed, Closed, Welcomed, Rested, Ask, asks, Told, Tells, IsFresh}
+use Rattle.serving.specs.Wire.{Took, Nothing_taken, Write_failed, Closed, Welcomed, Parted, Rested, Ask, asks, Told, Tells, IsFresh}
 use Rattle.serving.specs.Coming.{Attempt, whole, short, Brings, Attempts}
 use Rattle.runs.specs.Wants.{Lacks, To_open}
 use Rattle.runs.specs.Opened.{runs}
@@ -34,6 +34,19 @@ read_room = 65536
 abbrev pub IsOffer : ℕ → Type 0
 IsOffer room = (16 ≤ room) × (room ≤ read_room)
 
+-- what becomes of a connection by a deed: it comes to run, it ceases to, or neither
+pub data Passage : Type 0 where
+  Enters : Passage
+  Leaves : Passage
+  Stays : Passage
+
+-- by whether it ran before and runs after
+abbrev pub passage_of : Bool → Bool → Passage
+passage_of false true = Enters
+passage_of true false = Leaves
+passage_of false false = Stays
+passage_of true true = Stays
+
 -- One thing that a server does: what it makes of one answer of its wire, a pump, a rest, or a reload between two calls that serve.
 pub data Deed : Type 0 where
   -- a socket came, and a connection was opened for it in this slot
@@ -41,15 +54,15 @@ pub data Deed : Type 0 where
   -- a socket came, and no connection could be opened, or memory was refused: none was opened
   Turned_away : (socket : ℕ) → (opening : Attempt) → Deed
   Met_no_one : (is_failure : Bool) → Deed
-  -- bytes came into so much room, and by them the connection came to run, or not
-  Heard : (slot : ℕ) → (peer : Peer) → (room : ℕ) → (bytes : List ℕ) → (enters : Bool) → Deed
+  -- bytes came into so much room, and this became of the connection by them
+  Heard : (slot : ℕ) → (peer : Peer) → (room : ℕ) → (bytes : List ℕ) → (passage : Passage) → Deed
   -- memory was refused on the way
   Heard_partly : (slot : ℕ) → (peer : Peer) → (room : ℕ) → (bytes : List ℕ) → Deed
   Heard_nothing : (slot : ℕ) → (peer : Peer) → (room : ℕ) → Deed
   -- the input of a socket ended, or its read failed
   Heard_end : (slot : ℕ) → (peer : Peer) → (room : ℕ) → (is_failure : Bool) → Deed
-  -- by what waited for that the connection came to run, or not
-  Gave : (slot : ℕ) → (peer : Peer) → (offered taken : List ℕ) → (enters : Bool) → Deed
+  -- bytes of its output were taken, and this became of the connection by what waited for that
+  Gave : (slot : ℕ) → (peer : Peer) → (offered taken : List ℕ) → (passage : Passage) → Deed
   -- memory was refused for what waited
   Gave_partly : (slot : ℕ) → (peer : Peer) → (offered taken : List ℕ) → Deed
   Gave_nothing : (slot : ℕ) → (peer : Peer) → (offered : List ℕ) → Deed
@@ -69,21 +82,22 @@ pub data Deed : Type 0 where
   -- memory was refused for it
   Reload_undecided : (offered : Config) → Deed
 
--- a socket whose connection comes to run is welcomed
-abbrev pub greeting : ℕ → Bool → List Call
-greeting s true = Welcomed s ∷ []
-greeting s false = []
+-- a socket whose connection comes to run is welcomed, and one whose connection ceases to is bidden farewell
+abbrev pub greeting : ℕ → Passage → List Call
+greeting s Enters = Welcomed s ∷ []
+greeting s Leaves = Parted s ∷ []
+greeting s Stays = []
 
 -- what was asked of the wire by it, and answered
 abbrev pub calls : Deed → List Call
 calls (Met i p) = Accepted p.socket ∷ []
 calls (Turned_away s o) = Accepted s ∷ Closed s ∷ []
 calls (Met_no_one failed) = (if failed then Accept_failed else Not_accepted) ∷ []
-calls (Heard i p room bytes enters) = Got p.socket room bytes ∷ greeting p.socket enters
+calls (Heard i p room bytes passage) = Got p.socket room bytes ∷ greeting p.socket passage
 calls (Heard_partly i p room bytes) = Got p.socket room bytes ∷ Closed p.socket ∷ []
 calls (Heard_nothing i p room) = Nothing_got p.socket room ∷ []
 calls (Heard_end i p room failed) = (if failed then Read_failed p.socket room else Read_ended p.socket room) ∷ Closed p.socket ∷ []
-calls (Gave i p offered taken enters) = Took p.socket offered taken ∷ greeting p.socket enters
+calls (Gave i p offered taken passage) = Took p.socket offered taken ∷ greeting p.socket passage
 calls (Gave_partly i p offered taken) = Took p.socket offered taken ∷ Closed p.socket ∷ []
 calls (Gave_nothing i p offered) = Nothing_taken p.socket offered ∷ []
 calls (Gave_up i p offered) = Write_failed p.socket offered ∷ Closed p.socket ∷ []
@@ -100,11 +114,11 @@ abbrev pub attempts : Deed → List Attempt
 attempts (Met i p) = whole arrival.Open ∷ []
 attempts (Turned_away s o) = o ∷ []
 attempts (Met_no_one failed) = []
-attempts (Heard i p room bytes enters) = whole (arrival.In p.connection bytes) ∷ []
+attempts (Heard i p room bytes passage) = whole (arrival.In p.connection bytes) ∷ []
 attempts (Heard_partly i p room bytes) = short (arrival.In p.connection bytes) ∷ whole (arrival.Lose p.connection) ∷ []
 attempts (Heard_nothing i p room) = []
 attempts (Heard_end i p room failed) = whole (arrival.Lose p.connection) ∷ []
-attempts (Gave i p offered taken enters) = whole (arrival.Sent p.connection (length taken)) ∷ []
+attempts (Gave i p offered taken passage) = whole (arrival.Sent p.connection (length taken)) ∷ []
 attempts (Gave_partly i p offered taken) = short (arrival.Sent p.connection (length taken)) ∷ whole (arrival.Lose p.connection) ∷ []
 attempts (Gave_nothing i p offered) = []
 attempts (Gave_up i p offered) = whole (arrival.Lose p.connection) ∷ []
@@ -183,11 +197,11 @@ abbrev pub Table : Lacks → Served → Deed → List (Option Peer) → Type 0
 Table L v (Met i p) new = (can_open v.world ≡ true) × (p.connection ≡ v.world.given + 1) × IsFresh p.socket v.told × Filled v.peers i p new
 Table L v (Turned_away s o) new = (o.arrival ≡ arrival.Open) × MayTurnAway L v.world o.is_whole × IsFresh s v.told × (new ≡ v.peers)
 Table L v (Met_no_one failed) new = new ≡ v.peers
-Table L v (Heard i p room bytes enters) new = IsOffer room × KeepsPeer v.peers i p new
+Table L v (Heard i p room bytes passage) new = IsOffer room × KeepsPeer v.peers i p new
 Table L v (Heard_partly i p room bytes) new = IsOffer room × Freed v.peers i p new
 Table L v (Heard_nothing i p room) new = IsOffer room × KeepsPeer v.peers i p new
 Table L v (Heard_end i p room failed) new = IsOffer room × Freed v.peers i p new
-Table L v (Gave i p offered taken enters) new = IsOutput v.world p.connection offered × IsFront v.world p.connection taken × KeepsPeer v.peers i p new
+Table L v (Gave i p offered taken passage) new = IsOutput v.world p.connection offered × IsFront v.world p.connection taken × KeepsPeer v.peers i p new
 Table L v (Gave_partly i p offered taken) new = IsOutput v.world p.connection offered × IsFront v.world p.connection taken × Freed v.peers i p new
 Table L v (Gave_nothing i p offered) new = IsOutput v.world p.connection offered × KeepsPeer v.peers i p new
 Table L v (Gave_up i p offered) new = IsOutput v.world p.connection offered × Freed v.peers i p new
@@ -205,21 +219,21 @@ TakesIn L old ps s true new now = (can_open old ≡ true) × ((os : List Occurre
     × ((i : ℕ) × Filled ps i (record { connection = old.given + 1; socket = s }) now)
 TakesIn L old ps s false new now = ((o : Attempt) × (o.arrival ≡ arrival.Open) × MayTurnAway L old o.is_whole × Brings L old o [] new) × (now ≡ ps)
 
--- the connection did not run, and runs now
-abbrev pub comes_to_run : World → World → ℕ → Bool
-comes_to_run old new c = not (runs old c) && runs new c
+-- what becomes of connection c between these worlds
+abbrev pub passage_between : World → World → ℕ → Passage
+passage_between old new c = passage_of (runs old c) (runs new c)
 
--- a socket is welcomed exactly where its connection comes to run by the deed
-abbrev pub Welcomes : World → Deed → World → Type 0
-Welcomes old (Heard i p room bytes enters) new = enters ≡ comes_to_run old new p.connection
-Welcomes old (Gave i p offered taken enters) new = enters ≡ comes_to_run old new p.connection
-Welcomes old d new = Unit {0}
+-- a socket is welcomed exactly where its connection comes to run by the deed, and bidden farewell exactly where it ceases to
+abbrev pub Greets : World → Deed → World → Type 0
+Greets old (Heard i p room bytes passage) new = passage ≡ passage_between old new p.connection
+Greets old (Gave i p offered taken passage) new = passage ≡ passage_between old new p.connection
+Greets old d new = Unit {0}
 
 -- One deed.
 pub record DoesDeed (L : Lacks) (old : Served) (d : Deed) (os : List Occurrence) (new : Served) : Type 0 where
   pub table : Table L old d new.peers
   pub brings : Attempts L old.world (attempts d) os new.world
-  pub welcomes : Welcomes old.world d new.world
+  pub greets : Greets old.world d new.world
   pub told : Tells old.told (calls d) new.told
 
 -- These deeds, one after another.

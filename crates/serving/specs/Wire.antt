@@ -17,9 +17,11 @@ pub data Call : Type 0 where
   Closed : (socket : ℕ) → Call
   -- its connection has come to run
   Welcomed : (socket : ℕ) → Call
+  -- its connection has ceased to run
+  Parted : (socket : ℕ) → Call
   Rested : Call
 
--- what was asked, without the answer: an accept, a read, a write of these bytes; closes, welcomes and rests are left out
+-- what was asked, without the answer: an accept, a read, a write of these bytes; closes, welcomes, farewells and rests are left out
 pub data Ask : Type 0 where
   To_accept : Ask
   To_read : (socket : ℕ) → Ask
@@ -39,6 +41,7 @@ ask (Nothing_taken s offered) = Some (To_write s offered)
 ask (Write_failed s offered) = Some (To_write s offered)
 ask (Closed s) = None
 ask (Welcomed s) = None
+ask (Parted s) = None
 ask Rested = None
 
 -- the accepts, reads and writes among these calls, in order

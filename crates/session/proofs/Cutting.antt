@@ -1,13 +1,6 @@
 -- A text is cut at its first NUL, and in one way only.
-use Rattle.std.proofs.Common.{◌≡◌, ℕ, suc, ◌+◌, ◌<◌, ◌≤◌, List, [], ◌∷◌, ◌++◌, Bool, true, false, cond, not, ltb, length, take, drop, get_or, refl, sym, ap, ◌∙◌, subst, inl, inr, arith, Option, Some, None, position, ◌==◌, true≢false, Bor, MatchOption, is_some}
-use Rattle.std.specs.List.{position_or_len}
-use Rattle.std.proofs.lemmas.Bool.{eqb-true, ltb-true, ltb-false}
-use Rattle.std.proofs.lemmas.List.{take_all}
+use Rattle.session.proofs.Names.{◌≡◌, ℕ, suc, ◌+◌, ◌<◌, ◌≤◌, List, [], ◌∷◌, ◌++◌, Bool, true, false, cond, not, ltb, length, take, drop, get_or, refl, sym, ap, ◌∙◌, subst, inl, inr, arith, Option, Some, None, position, ◌==◌, true≢false, Bor, MatchOption, is_some, position_or_len, eqb-true, ltb-true, ltb-false, take_all, Text, IsIn, HasNoNul, IsPlain, IsCut}
 use Rattle.std.proofs.lemmas.List.Sums.{split_at_first, passes_at_first}
-use Rattle.model.specs.Words.{Text}
-use Rattle.model.specs.Topology.{IsIn}
-use Rattle.model.specs.Login.{HasNoNul, IsPlain}
-use Rattle.session.specs.Tests.{IsCut}
 
 -- the test for NUL
 abbrev pub is_nul : ℕ → Bool

@@ -1,9 +1,5 @@
 -- A fault of the stream, wherever a close is neither awaited nor done.
-use Rattle.std.proofs.Common.{◌≡◌, ◌≢◌, ℕ, [], ◌∷◌, refl}
-use Rattle.model.specs.Grammar.{ids}
-use Rattle.model.specs.Step.{connection_close}
-use Rattle.model.specs.Phases.{Session, faulted, no_session}
-use Rattle.model.specs.declared.events.Phase.{Phase}
+use Rattle.session.proofs.Names.{◌≡◌, ◌≢◌, ℕ, [], ◌∷◌, refl, ids, connection_close, Session, faulted, no_session, Phase}
 use Rattle.model.specs.declared.events.Phase.TheVariants as phase
 
 pub faulted_elsewhere : (c : ℕ) (s : Session) (p : Phase) (code : ℕ) → p ≢ phase.Closing → p ≢ phase.Over

@@ -1,17 +1,11 @@
 -- What the test of a hash, and the test of a user, tells.
-use Rattle.std.proofs.Common.{codes, IsTrue, IsFalse, ◌≡◌, ◌+◌, ◌≤◌, List, [], ◌∷◌, ◌++◌, Bool, true, false, ◌||◌, not, length, take, refl, sym, ap, ◌∙◌, subst, arith, inl, inr, length-append, Decides, true≢false}
+use Rattle.session.proofs.Names.{codes, IsTrue, IsFalse, ◌≡◌, ◌+◌, ◌≤◌, List, [], ◌∷◌, ◌++◌, Bool, true, false, ◌||◌, not, length, take, refl, sym, ap, ◌∙◌, subst, arith, inl, inr, length-append, Decides, true≢false, list_any, take_at, length-take-le, Text, IsIn, IsHashOf, IsPlain, IsLogin, has_hash, is_user}
 use Rattle.std.specs.Str.{bytes_eq}
-use Rattle.std.specs.List.{list_any}
 use Rattle.std.proofs.lemmas.Bool.Decides.{Decides-and}
-use Rattle.std.proofs.lemmas.List.{take_at, length-take-le}
 use Rattle.std.proofs.lemmas.Slice.Eq.{bytes_eq-Decides}
 use Rattle.sha2.specs.Sha256.{sha256}
 use Rattle.sha2.proofs.Facts256.{length-sha256}
-use Rattle.model.specs.Words.{Text}
-use Rattle.model.specs.Topology.{IsIn}
-use Rattle.model.specs.Login.{IsHashOf, IsPlain, IsLogin}
 use Rattle.model.specs.declared.messages.User.{User}
-use Rattle.session.specs.Tests.{has_hash, is_user}
 use Rattle.session.proofs.Cutting.{one_plain}
 
 hash_length : (hash password : Text) → IsHashOf hash password → length hash ≡ 36

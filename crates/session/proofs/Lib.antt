@@ -1,3 +1,4 @@
+pub mod Names
 pub mod Faults
 pub mod Owned
 pub mod Table

@@ -1,5 +1,5 @@
 -- What a phase sends can be put out: nothing, one method that is not long, or the protocol header.
-use Rattle.std.proofs.Common.{ℕ, [], arith}
+use Rattle.session.proofs.Names.{ℕ, [], arith}
 use Rattle.model.specs.Sending.{AreOwn}
 use Rattle.model.specs.declared.events.Send.TheVariants as send
 

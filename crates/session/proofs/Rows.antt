@@ -1,5 +1,5 @@
 -- The worked examples.
-use Rattle.std.proofs.Common.{refl}
+use Rattle.session.proofs.Names.{refl}
 use Rattle.session.specs.Rows.{StartPayload, OpeningFrames, OpeningRefusals}
 
 pub start_payload : StartPayload

@@ -1,9 +1,6 @@
 -- The table of the opening, row by row.
-use Rattle.std.proofs.Common.{◌≡◌, ℕ, Bool, refl, sym, lit<, lit≤}
-use Rattle.model.specs.Phases.{Session, Move}
+use Rattle.session.proofs.Names.{◌≡◌, ℕ, Bool, refl, sym, lit<, lit≤, Session, Move, server_properties, start, or_closed, at_start, at_tune, at_open, opening_move, Phase}
 use Rattle.model.specs.Tables.{IsTable, pairs_bytes}
-use Rattle.model.specs.Opening.{server_properties, start, or_closed, at_start, at_tune, at_open, opening_move}
-use Rattle.model.specs.declared.events.Phase.{Phase}
 use Rattle.model.specs.declared.events.Phase.TheVariants as phase
 use Rattle.model.specs.declared.methods.Close.{Close}
 use Rattle.model.specs.declared.methods.Method.{Method}

@@ -1,4 +1,4 @@
--- What a phase answers, before room is made for it.
+-- The answers of the opening phases to a method (own), in the form that the code computes before it allocates.
 use Rattle.std.specs.Prelude.{◌≤◌, ℕ, [], length, Bool, ⊤}
 use Rattle.model.specs.Grammar.{IsMethod, method_bytes}
 use Rattle.model.specs.Phases.{Session, Move, stays_in}
@@ -9,24 +9,24 @@ use Rattle.model.specs.declared.methods.Method.{Method}
 use Rattle.session.specs.declared.answers.OpeningAnswer.{OpeningAnswer}
 use Rattle.session.specs.declared.answers.OpeningAnswer.TheVariants.{Nothing, Tunes, Says}
 
--- the move that an answer stands for
+-- the move of connection `c` and session `s` that an answer describes
 abbrev pub move_of : ℕ → Session → OpeningAnswer → Move
 move_of c s Nothing = stays_in s
 move_of c s (Tunes channel_max frame_max) = record { sends = []; next = record { phase = phase.Open; channel_max = channel_max; frame_max = frame_max } }
 move_of c s (Says m p) = answers_with c s m p
 
--- the method has a spelling that fits the least frame
+-- a method that the grammar allows, and that fits in a frame of 4,096 bytes
 pub record Fits (m : Method) : Type 0 where
   pub method : IsMethod m
   pub size : length (method_bytes m) ≤ 4088
 
--- limits in the server's own range; a method that can be sent
+-- what every answer keeps: its limits are within the server's range, its method can be sent
 abbrev pub IsAnswer : OpeningAnswer → Type 0
 IsAnswer Nothing = ⊤
 IsAnswer (Tunes channel_max frame_max) = (4096 ≤ frame_max) × (frame_max ≤ 131072)
 IsAnswer (Says m p) = Fits m
 
--- what each phase does with a method that it may await
+-- the move of a phase for a method on channel 0 that is no close; `is_user` is whether the method is a valid login
 abbrev pub awaited_move : ℕ → Bool → Session → Phase → Method → Move
 awaited_move c is_user s phase.Start m = at_start c is_user s m
 awaited_move c is_user s phase.Tune m = at_tune c s m

@@ -1,4 +1,4 @@
-//! What a phase answers to a method, before room is made for it.
+//! The answers of the opening phases to a method, computed before any memory is allocated for them.
 
 ghost use Rattle.std.specs.Prelude.{◌≡◌, ℕ, [], true, MatchBool};
 ghost use Rattle.model.specs.Phases.{Session};
@@ -10,18 +10,18 @@ use crate::accepts;
 use crate::sends::{close, open_ok, tune};
 use model::{Method, Phase, Tuning, User, limits};
 
-/// What is sent, and where the connection stands then.
+/// The answer of an opening phase: what is sent, and the phase after it.
 #[derive(Drop)]
 pub(crate) enum OpeningAnswer {
-    /// Nothing is sent, and nothing changes.
+    /// Nothing is sent, and the session doesn't change.
     Nothing,
-    /// Nothing is sent: connection.open is awaited, under these limits.
+    /// Nothing is sent. The session awaits `connection.open` under these limits; `frame_max` is in bytes.
     Tunes { channel_max: u16, frame_max: u32 },
-    /// This method is sent on channel 0.
+    /// `method` is sent on channel 0, and the session goes to `phase`.
     Says { method: Method, phase: Phase },
 }
 
-/// A close with this reply code, for the method that caused it.
+/// Returns a `connection.close` with reply code `code` that names `cause` as the method that caused it.
 fn refuse(code: u16, cause: &Method) -> OpeningAnswer
     ensures is { (c : ℕ) (s : Session) → move_of c s result ≡ said.closes_with c s code cause.now }
     ensures fits { IsAnswer result }
@@ -32,7 +32,7 @@ fn refuse(code: u16, cause: &Method) -> OpeningAnswer
     }
 }
 
-/// Whether a tune-ok is taken.
+/// Returns whether the server accepts the limits of this tune-ok, and its heartbeat is 0.
 fn is_taken(tuning: &Tuning) -> bool
     ensures { result ≡ said.is_taken tuning.now }
 {
@@ -40,7 +40,7 @@ fn is_taken(tuning: &Tuning) -> bool
     tuning.channel_max <= limits::CHANNEL_MAX && in_range && tuning.heartbeat == 0
 }
 
-/// The limits that hold after this tune-ok, where it is taken.
+/// Returns the limits that an accepted tune-ok sets; a 0 stands for the server's own limit.
 fn tune_by(tuning: &Tuning) -> OpeningAnswer
     requires { said.is_taken tuning.now ≡ true }
     ensures is { (c : ℕ) (s : Session) → move_of c s result ≡ record { sends = []; next = said.tuned tuning.now } }
@@ -60,7 +60,7 @@ fn tune_by(tuning: &Tuning) -> OpeningAnswer
     }
 }
 
-/// What is said to a method on channel 0 in the phase that awaits start-ok.
+/// Answers a method on channel 0 while start-ok is awaited. `is_user` is whether `method` is a valid login.
 fn at_start(method: &Method, is_user: bool) -> OpeningAnswer
     ensures is { (c : ℕ) (s : Session) → move_of c s result ≡ said.at_start c is_user s method.now }
     ensures fits { IsAnswer result }
@@ -75,7 +75,7 @@ fn at_start(method: &Method, is_user: bool) -> OpeningAnswer
     }
 }
 
-/// What is said to a method on channel 0 in the phase that awaits tune-ok.
+/// Answers a method on channel 0 while tune-ok is awaited.
 fn at_tune(method: &Method) -> OpeningAnswer
     ensures is { (c : ℕ) (s : Session) → move_of c s result ≡ said.at_tune c s method.now }
     ensures fits { IsAnswer result }
@@ -87,7 +87,7 @@ fn at_tune(method: &Method) -> OpeningAnswer
     }
 }
 
-/// What is said to a method on channel 0 in the phase that awaits open.
+/// Answers a method on channel 0 while `connection.open` is awaited.
 fn at_open(method: &Method) -> OpeningAnswer
     ensures is { (c : ℕ) (s : Session) → move_of c s result ≡ said.at_open c s method.now }
     ensures fits { IsAnswer result }
@@ -103,7 +103,7 @@ fn at_open(method: &Method) -> OpeningAnswer
     }
 }
 
-/// What is said on channel 0 where this is not what ends the connection: the row of the phase.
+/// Answers a method on channel 0, other than `connection.close`, by the table of `phase`.
 fn awaited(phase: Phase, method: &Method, is_user: bool) -> OpeningAnswer
     ensures is { (c : ℕ) (s : Session) → move_of c s result ≡ awaited_move c is_user s phase method.now }
     ensures fits { IsAnswer result }
@@ -116,7 +116,7 @@ fn awaited(phase: Phase, method: &Method, is_user: bool) -> OpeningAnswer
     }
 }
 
-/// Whether start-ok is awaited, and this is one with a login of one of these users.
+/// Returns whether `phase` awaits start-ok and `method` is a start-ok that logs in one of `users`.
 pub(crate) fn logs_in(users: &[User], phase: Phase, method: &Method) -> bool
     ensures { MatchBool result (LogsIn users.now phase method.now) (LogsIn users.now phase method.now → ⊥) }
 {
@@ -130,7 +130,7 @@ pub(crate) fn logs_in(users: &[User], phase: Phase, method: &Method) -> bool
     }
 }
 
-/// What is said to a method, in the phases that await start-ok, tune-ok and open.
+/// Answers a method in one of the phases that await start-ok, tune-ok or open. In any other phase nothing is sent.
 pub(crate) fn answer_to(phase: Phase, channel: u16, method: &Method, is_user: bool) -> OpeningAnswer
     ensures is { (c : ℕ) (s : Session) → move_of c s result ≡ said.opening_move c is_user s phase channel method.now }
     ensures fits { IsAnswer result }

@@ -1,8 +1,8 @@
-//! Worked examples.
+//! Worked examples of the definitions in `specs/`, which the checker computes.
 
 ghost use Rattle.session.specs.Rows.{StartPayload, OpeningFrames, OpeningRefusals};
 
-/// Worked examples of the definitions, from the payload of start to what is refused.
+/// Proves the worked examples: the payload of `connection.start`, the frames of an opening, and the refusals.
 pub fn worked_examples()
     ensures start { StartPayload }
     ensures frames { OpeningFrames }

@@ -1,4 +1,4 @@
-//! Password hashes: four bytes of salt, and behind them SHA-256 of salt and password.
+//! Password hashes: four bytes of salt, followed by the SHA-256 digest of salt and password.
 
 ghost use Rattle.std.specs.Prelude.{◌≡◌};
 ghost use Rattle.std.specs.Str.{bytes_eq};
@@ -6,7 +6,7 @@ ghost use Rattle.session.specs.Tests.{has_hash};
 
 use sha2::{Digest, Sha256};
 
-/// Whether the bytes are the same. All of them are looked at, wherever they differ.
+/// Returns whether `left` and `right` are equal. Compares every byte, even after a difference.
 fn are_same(left: &[u8], right: &[u8]) -> bool
     ensures { result ≡ bytes_eq left.now right.now }
 {
@@ -18,7 +18,7 @@ fn are_same(left: &[u8], right: &[u8]) -> bool
     same & (left.len() == right.len())
 }
 
-/// Whether this is a hash of the password. The digest is computed of any hash that has a salt.
+/// Returns whether `hash` is a hash of `password`. Computes a digest for every `hash` of at least four bytes.
 pub fn has_hash(hash: &[u8], password: &[u8]) -> bool
     ensures { result ≡ has_hash hash.now password.now }
 {

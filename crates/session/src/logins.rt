@@ -1,4 +1,4 @@
-//! Logins.
+//! Decides whether a PLAIN response logs in a user.
 
 ghost use Rattle.std.specs.Prelude.{◌≡◌, IsTrue, IsFalse, false};
 ghost use Rattle.std.specs.List.{list_any};
@@ -9,7 +9,7 @@ use crate::hashes::has_hash;
 use crate::responses::read_response;
 use model::User;
 
-/// As much work as a wrong password takes: a digest, which is compared whole.
+/// Returns `false`, after the work of checking a wrong password: one digest, compared in full.
 fn stand_in(password: &[u8]) -> bool
     ensures { result ≡ false }
 {
@@ -19,9 +19,9 @@ fn stand_in(password: &[u8]) -> bool
     )
 }
 
-/// Whether some user has this name, and the hash of this password.
+/// Returns whether a user is called `name` and has the hash of `password`.
 ///
-/// Where no user has the name, a digest is computed all the same, so that the time taken tells nobody who is a user.
+/// If no user has that name a digest is computed all the same, so that the time taken doesn't reveal who is a user.
 fn is_known(users: &[User], name: &[u8], password: &[u8]) -> bool
     ensures { result ≡ list_any (is_user name.now password.now) users.now }
 {
@@ -35,11 +35,12 @@ fn is_known(users: &[User], name: &[u8], password: &[u8]) -> bool
     is_right | (!is_named && stand_in(password))
 }
 
-/// Whether this response logs in one of these users, whose hashes are four bytes of salt with SHA-256 of salt and
-/// password behind them: the mechanism is `PLAIN`, and the response is NUL, the user's name, NUL, the right password.
+/// Returns whether `mechanism` and `response` log in one of `users`.
 ///
-/// It takes no memory. The work of a refused login does not depend on whether there is a user of its name. Source:
-/// RFC 4616.
+/// The mechanism has to be `PLAIN`, and the response NUL, the user's name, NUL, the right password. A user's hash is four bytes
+/// of salt, followed by the SHA-256 digest of salt and password. Source: RFC 4616.
+///
+/// Never allocates. A refused login takes the same work whether or not a user has its name; that is not proved.
 pub fn accepts(users: &[User], mechanism: &[u8], response: &[u8]) -> bool
     // Only a login is accepted.
     ensures only { IsTrue result → IsLogin users.now mechanism.now response.now }

@@ -1,17 +1,17 @@
-//! What a PLAIN response says.
+//! Parses PLAIN responses.
 
 ghost use Rattle.std.specs.Prelude.{◌≡◌, ◌<◌, ◌==◌, ℕ, List, length, position, IfSome, MatchOption};
 ghost use Rattle.model.specs.Login.{HasNoNul, IsPlain};
 ghost use Rattle.session.specs.Tests.{IsCut};
 
-/// Who wants to log in, as the response has it.
+/// The user's name and the password of a PLAIN response.
 #[derive(Clone, Copy, Drop)]
 pub struct Credentials<'a> {
     pub user: &'a [u8],
     pub password: &'a [u8],
 }
 
-/// The place of the first NUL.
+/// Returns the index of the first NUL.
 fn first_nul(text: &[u8]) -> Option<usize>
     ensures place { result ≡ position (λ b. b == 0) text.now }
     ensures within { IfSome result (λ place. place < length text.now) }
@@ -19,7 +19,7 @@ fn first_nul(text: &[u8]) -> Option<usize>
     text.iter().position(|b| *b == 0)
 }
 
-/// What stands before the first NUL, and what stands after it.
+/// Splits `text` at its first NUL, which neither part has. Returns `None` if there is none.
 fn cut(text: &[u8]) -> Option<(&[u8], &[u8])>
     ensures { MatchOption result (HasNoNul text.now) (λ parts. IsCut text.now parts.0.now parts.1.now) }
 {
@@ -29,7 +29,7 @@ fn cut(text: &[u8]) -> Option<(&[u8], &[u8])>
     }
 }
 
-/// The user and the password of a PLAIN response: NUL, a user of at least one byte, NUL, a password, and no further NUL.
+/// Parses a PLAIN response: NUL, a user of at least one byte, NUL, a password without NUL. Any other form is `None`.
 pub fn read_response(response: &[u8]) -> Option<Credentials<'_>>
     ensures { MatchOption result ((user password : List ℕ) → IsPlain response.now user password → ⊥) (λ c. IsPlain response.now c.user.now c.password.now) }
 {

@@ -1,4 +1,4 @@
-//! What a connection is told by itself: the methods of an opening, closes, and the protocol header.
+//! Builds what a session sends by itself: the methods of an opening, closes, and the protocol header.
 
 ghost use Rattle.std.specs.Prelude.{◌≡◌, [], ◌∷◌, ℕ, IfOk};
 ghost use Rattle.model.specs.Grammar.{ids};
@@ -11,11 +11,11 @@ ghost use Rattle.model.specs.Sending.{AreOwn};
 use model::{Close, Ids, Method, Send, Start, Table, Text, Tuning, limits, reply_text};
 use std::alloc::{AllocError, Global};
 
-/// The pairs of the table in start: what the server can do beside AMQP, and its name.
+/// The encoded pairs of the server properties in `connection.start`: the server's extensions of AMQP, and its name.
 const PROPERTIES: &[u8] =
     b"\x0ccapabilitiesF\x00\x00\x00\x3f\x12publisher_confirmst\x01\x1aexchange_exchange_bindingst\x01\x0abasic.nackt\x01\x07productS\x00\x00\x00\x06warren";
 
-/// connection.start. It takes memory for the server's properties.
+/// Builds `connection.start`. Fails only if an allocation fails.
 pub(crate) fn start(alloc: Global) -> Result<Method, AllocError>
     ensures is { IfOk result (λ method. method ≡ said.start) }
     ensures fits { IfOk result (λ method. Fits method) }
@@ -29,7 +29,7 @@ pub(crate) fn start(alloc: Global) -> Result<Method, AllocError>
     }))
 }
 
-/// connection.tune.
+/// Builds `connection.tune`, with the server's own limits.
 pub(crate) fn tune() -> Method
     ensures is { result ≡ said.tune }
     ensures fits { Fits result }
@@ -41,7 +41,7 @@ pub(crate) fn tune() -> Method
     })
 }
 
-/// connection.open-ok.
+/// Builds `connection.open-ok`.
 pub(crate) fn open_ok() -> Method
     ensures is { result ≡ said.open_ok }
     ensures fits { Fits result }
@@ -51,7 +51,7 @@ pub(crate) fn open_ok() -> Method
     }
 }
 
-/// connection.close with this reply code, for the method of these ids; 0 and 0 where none caused it.
+/// Builds `connection.close` with reply code `code`, for the method `cause`; its ids are 0 and 0 if no method caused it.
 pub(crate) fn close(code: u16, cause: Ids) -> Method
     ensures is { (c : ℕ) → reply c 0 result ≡ connection_close c code (ids cause.class cause.method) }
     ensures fits { Fits result }
@@ -64,7 +64,7 @@ pub(crate) fn close(code: u16, cause: Ids) -> Method
     })
 }
 
-/// Nothing at all. It takes no memory.
+/// Returns an empty list of sends. Never allocates.
 pub(crate) fn nothing(alloc: Global) -> Vec<Send>
     ensures sends { result.items ≡ [] }
     ensures own { (c : ℕ) → AreOwn c result.items }
@@ -72,7 +72,7 @@ pub(crate) fn nothing(alloc: Global) -> Vec<Send>
     Vec::new(alloc)
 }
 
-/// One method on channel 0, which carries no content.
+/// Returns a list that sends `method` on channel 0, without content. Fails only if an allocation fails.
 pub(crate) fn one(alloc: Global, connection: u64, method: Method) -> Result<Vec<Send>, AllocError>
     requires { Fits method }
     ensures sends { IfOk result (λ sends. sends.items ≡ reply connection 0 method ∷ []) }
@@ -88,7 +88,7 @@ pub(crate) fn one(alloc: Global, connection: u64, method: Method) -> Result<Vec<
     Ok(sends)
 }
 
-/// The protocol header.
+/// Returns a list that sends the protocol header. Fails only if an allocation fails.
 pub(crate) fn greeting(alloc: Global, connection: u64) -> Result<Vec<Send>, AllocError>
     ensures sends { IfOk result (λ sends. sends.items ≡ send.Greeting connection ∷ []) }
     ensures own { IfOk result (λ sends. AreOwn connection sends.items) }

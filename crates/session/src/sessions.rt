@@ -1,4 +1,4 @@
-//! Sessions.
+//! The session of one connection. Start with [`Session`].
 
 ghost use Rattle.std.specs.Prelude.{◌≡◌, List, ◌∷◌};
 ghost use Rattle.model.specs.Phases.{after_sends};
@@ -11,7 +11,7 @@ use model::{Ids, Method, Phase, Publish, Send, Text, User, limits};
 use std::alloc::{AllocError, Global};
 use std::marker::Model;
 
-/// The phase of a connection, with the limits in force: the greatest channel number, and the greatest frame in bytes.
+/// The phase of a connection and the limits in force: the highest channel number, and the longest frame in bytes.
 #[derive(Drop)]
 pub struct Session {
     phase: Phase,
@@ -30,7 +30,7 @@ impl Model for Session {
     ghost invariant = { λ s. IsSession (record { phase = s.phase; channel_max = s.channel_max; frame_max = s.frame_max }) };
 }
 
-/// The phase after this method was sent, where without it `after` is the phase.
+/// Returns the phase after `method` was sent, given that the sends behind it lead to `after`.
 fn after_method(method: &Method, after: Phase) -> Phase
     ensures { result ≡ said.after_method method.now after }
 {
@@ -41,7 +41,7 @@ fn after_method(method: &Method, after: Phase) -> Phase
     }
 }
 
-/// The phase after this was sent, where without it `after` is the phase.
+/// Returns the phase after `send`, given that the sends behind it lead to `after`.
 fn after_send(send: &Send, after: Phase) -> Phase
     ensures { (sends : List sent.Send) → after ≡ after_sends sends → result ≡ after_sends (send.now ∷ sends) }
 {
@@ -51,7 +51,7 @@ fn after_send(send: &Send, after: Phase) -> Phase
     }
 }
 
-/// The phase after these sends: a close awaits close-ok, and a close-ok ends the connection.
+/// Returns the phase of a running connection after `sends`: a close awaits close-ok, and a close-ok ends it.
 fn phase_after(sends: &[Send]) -> Phase
     ensures { result ≡ after_sends sends.now }
 {
@@ -73,7 +73,7 @@ impl Session {
     ghost use Rattle.model.specs.declared.events.Phase.TheVariants as phase;
     ghost use Rattle.model.specs.Sending.{AreOwn};
 
-    /// One whose first eight bytes are awaited. Until limits are agreed on, a frame has at most 4,096 bytes.
+    /// Returns a session that awaits the protocol header. Until limits are agreed on, a frame has at most 4,096 bytes.
     pub fn new() -> Session
         ensures { result ≡ new_session }
     {
@@ -84,7 +84,7 @@ impl Session {
         }
     }
 
-    /// One that runs at once, with channels up to 255 and frames of at most 131,072 bytes.
+    /// Returns a session that is running already, with channels up to 255 and frames of at most 131,072 bytes.
     pub fn running() -> Session
         ensures { result ≡ running_session }
     {
@@ -95,7 +95,7 @@ impl Session {
         }
     }
 
-    /// One that stands where this one does, with its limits.
+    /// Returns a copy of this session.
     pub fn copied(&self) -> Session
         ensures { result ≡ self.now }
     {
@@ -106,14 +106,14 @@ impl Session {
         }
     }
 
-    /// Where the connection stands.
+    /// Returns the connection's phase.
     pub fn phase(&self) -> Phase
         ensures { result ≡ self.now.phase }
     {
         self.phase
     }
 
-    /// Returns the limits in force: the greatest channel number, and the greatest frame in bytes.
+    /// Returns the limits in force: the highest channel number, and the longest frame in bytes.
     pub fn limits(&self) -> (u16, u32)
         ensures channels { result.0 ≡ self.now.channel_max }
         ensures frame { result.1 ≡ self.now.frame_max }
@@ -121,14 +121,14 @@ impl Session {
         (self.channel_max, self.frame_max)
     }
 
-    /// The greatest channel number.
+    /// Returns the highest channel number.
     pub fn channel_max(&self) -> u16
         ensures { result ≡ self.now.channel_max }
     {
         self.channel_max
     }
 
-    /// The greatest frame, in bytes: 4,096 until a tune-ok was taken.
+    /// Returns the length of the longest frame, in bytes: 4,096 until a tune-ok is accepted, at most 131,072 afterwards.
     pub fn frame_max(&self) -> u32
         ensures value { result ≡ self.now.frame_max }
         ensures least { 4096 ≤ result }
@@ -137,7 +137,7 @@ impl Session {
         self.frame_max
     }
 
-    /// Nothing more is read.
+    /// Returns whether the session is over: nothing is read or sent any more.
     pub fn is_over(&self) -> bool
         ensures value { result ≡ is_ended self.now.phase }
         ensures nothing_kept { IsTrue result → self.now ≡ no_session }
@@ -145,7 +145,7 @@ impl Session {
         matches!(self.phase, Phase::Over)
     }
 
-    /// The connection is over from now on.
+    /// Ends the session. Nothing is read or sent after this.
     pub fn end(&mut self)
         ensures { self.new ≡ to_phase self.old phase.Over }
     {
@@ -154,8 +154,8 @@ impl Session {
         self.frame_max = 131_072;
     }
 
-    /// Learns what the broker sent to the connection while it ran: a close awaits close-ok from now on, and after a
-    /// close-ok the connection is over. A connection that doesn't run stands where it stood.
+    /// Follows what the broker sent: after `connection.close` the session awaits close-ok, after close-ok it is over. Does
+    /// nothing unless the connection is running.
     pub fn after(&mut self, sends: &[Send])
         ensures running { is_running self.old.phase ≡ true → self.new ≡ to_phase self.old (after_sends sends.now) }
         ensures others { is_running self.old.phase ≡ false → self.new ≡ self.old }
@@ -165,7 +165,7 @@ impl Session {
         }
     }
 
-    /// Stands in this phase from now on; of a connection that is over no limits are kept.
+    /// Goes to `phase`. A session that is over forgets the limits that were agreed on.
     fn move_to(&mut self, phase: Phase)
         ensures { self.new ≡ to_phase self.old phase }
     {
@@ -175,10 +175,10 @@ impl Session {
         }
     }
 
-    /// The first eight bytes: the protocol header is answered by start, any other eight by the protocol header, after which
-    /// the connection is over. In a phase that awaits no eight bytes nothing is sent and nothing changes.
+    /// Answers the first eight bytes of a connection. The protocol header gets `connection.start`; any other bytes get the
+    /// protocol header, and the session is over. In any phase but the first nothing is sent and nothing changes.
     ///
-    /// Where nothing is sent no memory is wanted. Where it is refused the session is as before.
+    /// Fails only if an allocation fails; nothing has changed then. If nothing is to be sent it never fails.
     pub fn first(
         &mut self,
         alloc: Global,
@@ -205,8 +205,8 @@ impl Session {
         }
     }
 
-    /// Answers a method while close-ok is awaited: a close on channel 0 is answered, close-ok on channel 0 ends the
-    /// connection, and all else is ignored.
+    /// Answers a method while close-ok is awaited. Replies to a close on channel 0, ends at a close-ok on channel 0, and ignores
+    /// the rest.
     fn take_closing(
         &mut self,
         alloc: Global,
@@ -232,7 +232,7 @@ impl Session {
         }
     }
 
-    /// Answers a method by the table of the opening.
+    /// Answers a method by the table of the opening phases.
     fn take_opening(
         &mut self,
         alloc: Global,
@@ -270,11 +270,12 @@ impl Session {
         }
     }
 
-    /// Answers a method in a phase other than Running, where these are the users. Before Running it goes by the table of the
-    /// opening: a login, the limits, the vhost. While close-ok is awaited, a close on channel 0 is answered, close-ok on
-    /// channel 0 ends the connection, and all else is ignored.
+    /// Answers a method in a phase other than Running.
     ///
-    /// Where nothing is sent no memory is wanted. Where it is refused the session is as before.
+    /// Before Running the table of the opening decides: the login by `users`, the limits, the vhost. While close-ok is awaited
+    /// the session replies to a close on channel 0, ends at a close-ok on channel 0, and ignores the rest.
+    ///
+    /// Fails only if an allocation fails; nothing has changed then. If nothing is to be sent it never fails.
     pub fn take(
         &mut self,
         alloc: Global,
@@ -295,9 +296,9 @@ impl Session {
         }
     }
 
-    /// Answers a publish whose content is too large, in a phase other than Running: what it answers to any publish.
+    /// Answers a publish whose content is too large, in a phase other than Running, as [`Session::take`] answers any publish.
     ///
-    /// Where nothing is sent no memory is wanted. Where it is refused the session is as before.
+    /// Fails only if an allocation fails; nothing has changed then. If nothing is to be sent it never fails.
     pub fn take_large(
         &mut self,
         alloc: Global,
@@ -324,10 +325,10 @@ impl Session {
         sends
     }
 
-    /// The bytes of the connection broke the wire's rules: it is closed with this reply code, and over. While close-ok is
-    /// awaited nothing is sent.
+    /// Ends the session because the client broke the wire format: sends `connection.close` with reply code `code`. While close-ok
+    /// is awaited, or if the session is over already, nothing is sent.
     ///
-    /// Where nothing is sent no memory is wanted. Where it is refused the session is as before.
+    /// Fails only if an allocation fails; nothing has changed then. If nothing is to be sent it never fails.
     pub fn fault(
         &mut self,
         alloc: Global,

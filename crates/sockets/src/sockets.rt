@@ -43,9 +43,9 @@ struct Accepted {
     voice: Voice,
     /// Since which turn a write waits for room, if one does.
     full: Option<u64>,
-    /// By when its connection is to run, if it does not yet.
+    /// By when its connection is to run, or to be over and written, if it does not run.
     ends: Option<Instant>,
-    /// Whether its connection has not come to run yet.
+    /// Whether its connection does not run.
     is_stranger: bool,
 }
 
@@ -84,8 +84,8 @@ fn heard(event: &Event, voice: Voice) -> Voice {
     }
 }
 
-/// The voice of a socket whose connection has come to run. If it is greedy it waits no longer among those that have not logged in.
-fn welcomed(voice: Voice) -> Voice {
+/// The voice of a socket whose connection has come to run, or has ceased to. If it is greedy it waits no longer among those beside which it did.
+fn in_new_cycle(voice: Voice) -> Voice {
     match voice {
         Voice::Greedy(_) => Voice::Speaking,
         other => other,
@@ -137,7 +137,7 @@ impl Sockets {
             listener,
             poll,
             events,
-            accepted: Slab::new(alloc),
+            accepted: Slab::with_capacity(alloc, MOST_EVENTS)?,
             given: 0,
             rounds: Rounds::new(),
             watch: Watch::none(),
@@ -296,7 +296,7 @@ impl Sockets {
         }
     }
 
-    /// Writes to a socket.
+    /// Writes to a socket. One whose time is over fails.
     fn write_to(&mut self, socket: u64, bytes: &[u8]) -> Write
         ensures failures { (s : ℕ) → self.new.failures ≡ self.old.failures + fails (write_call s result bytes.now) }
         ensures counts { self.new.counts ≡ self.old.counts }
@@ -306,6 +306,9 @@ impl Sockets {
         let Some(accepted) = named(&mut self.accepted, socket) else {
             return Write::Wait;
         };
+        if self.watch.is_over(accepted.ends) {
+            return self.failed_write();
+        }
         if !self.rounds.asks_write(accepted.full) {
             return Write::Wait;
         }
@@ -371,7 +374,16 @@ impl Wire for Sockets {
         if let Some(accepted) = named(&mut self.accepted, socket) {
             accepted.ends = None;
             accepted.is_stranger = false;
-            accepted.voice = welcomed(accepted.voice);
+            accepted.voice = in_new_cycle(accepted.voice);
+        }
+    }
+
+    fn farewell(&mut self, socket: u64) {
+        let ends = self.watch.ends();
+        if let Some(accepted) = named(&mut self.accepted, socket) {
+            accepted.ends = ends;
+            accepted.is_stranger = true;
+            accepted.voice = in_new_cycle(accepted.voice);
         }
     }
 

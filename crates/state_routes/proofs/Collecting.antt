@@ -1,35 +1,10 @@
 -- The patterns that are collected are those of the exchanges that a message may meet.
-use Rattle.std.proofs.Common.{◌≡◌, ◌⊎◌, ℕ, zero, suc, ◌+◌, ◌<◌, ◌≤◌, Bool, true, false, cond, List, [], ◌∷◌, length, map, ◌++◌, refl, sym, ap, subst, ◌∙◌, inl, inr, Option, Some, arith}
-use Rattle.std.specs.Prelude.{Contains, slice_index_or, fold, flat_map}
-use Rattle.std.specs.Str.{bytes_eq}
-use Rattle.std.proofs.lemmas.Bool.{false≢true}
+use Rattle.state_routes.proofs.Names.{◌≡◌, ◌⊎◌, ℕ, zero, suc, ◌+◌, ◌<◌, ◌≤◌, Bool, true, false, cond, List, [], ◌∷◌, length, map, ◌++◌, refl, sym, ap, subst, ◌∙◌, inl, inr, Option, Some, arith, Contains, slice_index_or, fold, flat_map, bytes_eq, false≢true, Text, Topology, IsIn, IsWellFormed, exchange_names, Guarantee, Tracked, Met, own, by_bound, by_alternate, by_death, MayEnter, by_binding, by_name, IsTrackedList, Selects, as_topic, same_tracked, once_more, keys_from, keys_by, keys_of, names_in, Mode, Exchange, DeclaredQueue, Binding, Place, ExchangeKind, Direct, Fanout, Topic, IsSet, Hop, Chain, still, along, LinksAreWithin, node, count, end_node, link_of, links_of, alternate_links, any_links, Gate, AreEntered, IsUnfixedEnd, dying, entry, default_entry, links_in, unfixed_end, AreInReach, onto_tracked, keys_onto, keys_by_onto, names_onto, names_if, topics_onto, met_onto, collected, chain_on, in_front, in_back, in-append, in_map, from_map, contained, has_place, first_is}
 use Rattle.std.proofs.lemmas.List.Sums.{fold-append}
-use Rattle.model.specs.Words.{Text}
-use Rattle.model.specs.Topology.{Topology, IsIn, IsWellFormed, exchange_names}
-use Rattle.model.specs.Guarantee.{Guarantee}
-use Rattle.model.specs.Tracking.{Tracked, Met, own, by_bound, by_alternate, by_death, MayEnter, by_binding, by_name, IsTrackedList, Selects, as_topic, same_tracked, once_more, keys_from, keys_by, keys_of, names_in}
-use Rattle.model.specs.declared.topologies.Mode.{Mode}
-use Rattle.model.specs.declared.topologies.Exchange.{Exchange}
-use Rattle.model.specs.declared.topologies.DeclaredQueue.{DeclaredQueue}
-use Rattle.model.specs.declared.topologies.Binding.{Binding}
-use Rattle.model.specs.declared.topologies.Place.{Place}
 use Rattle.model.specs.declared.topologies.Place.TheVariants as place
-use Rattle.model.specs.declared.topologies.ExchangeKind.{ExchangeKind}
-use Rattle.model.specs.declared.topologies.ExchangeKind.TheVariants.{Direct, Fanout, Topic}
-use Rattle.exchange_graph.specs.Marks.{IsSet}
-use Rattle.paths.specs.declared.reach.Hop.{Hop}
-use Rattle.paths.specs.Reach.{Chain, still, along, LinksAreWithin}
-use Rattle.state_routes.specs.Nodes.{node, count, end_node, link_of, links_of, alternate_links, any_links}
-use Rattle.state_routes.specs.declared.gates.Gate.{Gate}
-use Rattle.state_routes.specs.Deaths.{AreEntered, IsUnfixedEnd, dying, entry, default_entry, links_in, unfixed_end}
-use Rattle.state_routes.specs.Collected.{AreInReach, onto_tracked, keys_onto, keys_by_onto, names_onto, names_if, topics_onto, met_onto, collected}
 use Rattle.state_routes.proofs.Numbers.{node_same, node_default, node_above, node_within}
 use Rattle.state_routes.proofs.Known.{alternate_in, from_alternates}
 use Rattle.state_routes.proofs.DeadLetters.{FromDeath, ToDeath, from_entered, to_entered, dying_tells, dying_has, unfixed_tells, link_of_gate, gate_of_link}
-use Rattle.paths.proofs.Chains.{chain_on}
-use Rattle.laws.proofs.Counts.{in_front, in_back, in-append}
-use Rattle.certificate_laws.proofs.Onces.{in_map, from_map}
-use Rattle.certificate_laws.proofs.Trackings.{contained, has_place, first_is}
 
 link_in : (xs : List Exchange) (q : Text) (b : Binding) (bs : List Binding) → IsIn b bs → IsIn (link_of xs q b) (links_of xs q bs)
 link_in xs q b [] i = absurd i

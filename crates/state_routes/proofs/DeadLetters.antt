@@ -1,27 +1,6 @@
 -- Dead letters as gates: which they are, and what comes of a key that a queue fixed.
-use Rattle.std.proofs.Common.{◌≡◌, ◌⊎◌, ℕ, zero, suc, ◌+◌, ◌<◌, ◌≤◌, Bool, true, false, cond, List, [], ◌∷◌, ◌++◌, length, refl, sym, ap, subst, ◌∙◌, inl, inr, Option, Some, None, arith, add-one, append-nil, append_assoc, drop, get_or}
-use Rattle.std.specs.Prelude.{Decides}
-use Rattle.std.proofs.lemmas.Bool.{false≢true}
-use Rattle.std.proofs.lemmas.Slice.Eq.{bytes_eq-Decides}
-use Rattle.model.specs.Words.{Text}
-use Rattle.model.specs.Topology.{Topology, IsIn}
-use Rattle.model.specs.Routing.{Reading, of_key, RoutesBy, reading_after, fixed_after, Comes, routed, dead}
-use Rattle.model.specs.Tracking.{Tracked}
-use Rattle.model.specs.declared.topologies.Mode.{Mode}
-use Rattle.model.specs.declared.topologies.Mode.TheVariants.{Reaches, Never}
-use Rattle.model.specs.declared.topologies.Exchange.{Exchange}
-use Rattle.model.specs.declared.topologies.DeclaredQueue.{DeclaredQueue}
-use Rattle.model.specs.declared.topologies.Binding.{Binding}
-use Rattle.model.specs.declared.topologies.Place.{Place}
+use Rattle.state_routes.proofs.Names.{◌≡◌, ◌⊎◌, ℕ, zero, suc, ◌+◌, ◌<◌, ◌≤◌, Bool, true, false, cond, List, [], ◌∷◌, ◌++◌, length, refl, sym, ap, subst, ◌∙◌, inl, inr, Option, Some, None, arith, add-one, append-nil, append_assoc, drop, get_or, Decides, false≢true, bytes_eq-Decides, Text, Topology, IsIn, Reading, of_key, RoutesBy, reading_after, fixed_after, Comes, routed, dead, Tracked, Mode, Reaches, Never, Exchange, DeclaredQueue, Binding, Place, Direct, Hop, Gate, Pattern, node, tracked_place, test_by, kind_at, is_into_queue, entry, default_entry, entries, entries_through, AreEntered, none, next, AreMore, dying, unfixed_end, GoOn, links_in, in_front, in_back, in-append}
 use Rattle.model.specs.declared.topologies.Place.TheVariants as place
-use Rattle.model.specs.declared.topologies.ExchangeKind.TheVariants.{Direct}
-use Rattle.paths.specs.declared.reach.Hop.{Hop}
-use Rattle.state_routes.specs.declared.gates.Gate.{Gate}
-use Rattle.state_routes.specs.declared.gates.Test.TheVariants.{Pattern}
-use Rattle.state_routes.specs.Nodes.{node}
-use Rattle.state_routes.specs.Gates.{tracked_place, test_by, kind_at}
-use Rattle.state_routes.specs.Deaths.{is_into_queue, entry, default_entry, entries, entries_through, AreEntered, none, next, AreMore, dying, unfixed_end, GoOn, links_in}
-use Rattle.laws.proofs.Counts.{in_front, in_back, in-append}
 
 -- ---- keys that a queue fixed
 

@@ -1,16 +1,5 @@
 -- The texts of patterns tell which patterns there are.
-use Rattle.std.proofs.Common.{◌≡◌, ◌⊎◌, Bool, true, false, cond, List, [], ◌∷◌, ◌++◌, refl, sym, ap, subst, inl, inr}
-use Rattle.std.specs.Prelude.{Decides, ◌||◌}
-use Rattle.std.specs.List.{list_any}
-use Rattle.std.proofs.lemmas.Bool.{false≢true}
-use Rattle.model.specs.Words.{Text}
-use Rattle.model.specs.Topology.{IsIn}
-use Rattle.model.specs.Tracking.{Tracked, once_more, same_tracked}
-use Rattle.model.specs.declared.topologies.ExchangeKind.{ExchangeKind}
-use Rattle.model.specs.declared.topologies.ExchangeKind.TheVariants.{Direct, Fanout, Topic}
-use Rattle.certificate_laws.proofs.Trackings.{same_tracked_tells}
-use Rattle.state_routes.specs.Keys.{ByKind, AreKeysOf, texts_by, with_text}
-use Rattle.laws.proofs.Counts.{in_front, in_back, in-append}
+use Rattle.state_routes.proofs.Names.{◌≡◌, ◌⊎◌, Bool, true, false, cond, List, [], ◌∷◌, ◌++◌, refl, sym, ap, subst, inl, inr, Decides, ◌||◌, list_any, false≢true, Text, IsIn, Tracked, once_more, same_tracked, ExchangeKind, Direct, Fanout, Topic, same_tracked_tells, ByKind, AreKeysOf, texts_by, with_text, in_front, in_back, in-append}
 
 abbrev pub pattern : ExchangeKind → Text → Tracked
 pattern kind text = record { kind = kind; text = text }

@@ -1,39 +1,11 @@
 -- The open links lead exactly where a state makes sure, or does not rule out, that keys lead.
-use Rattle.std.proofs.Common.{rules, ◌≡◌, ◌⊎◌, ℕ, zero, suc, Bool, true, false, cond, eqb, List, [], ◌∷◌, ◌++◌, refl, sym, ap, subst, ◌∙◌, inl, inr, Option, Some, None, arith}
-use Rattle.std.specs.Prelude.{Decides, Contains, not, ◌&&◌, ◌||◌, slice_get, unwrap_or, option_map}
-use Rattle.std.specs.Str.{bytes_eq}
-use Rattle.std.proofs.lemmas.Bool.{false≢true, eqb-true}
-use Rattle.std.proofs.lemmas.Slice.Eq.{bytes_eq-Decides}
-use Rattle.model.specs.Words.{Text}
-use Rattle.model.specs.Topology.{Topology, IsIn, IsWellFormed, exchange_names}
-use Rattle.model.specs.Routing.{Reading, Binds, Edge, bound, alternate, default, Leads, here, on, RoutesBy, of_key, reading_after, fixed_after, Comes, routed, dead}
-use Rattle.model.specs.Tracking.{Tracked, same_tracked}
-use Rattle.model.specs.Positions.{is_accepted}
-use Rattle.model.specs.Certificates.{PatternAnswers, sure, possible}
-use Rattle.model.specs.declared.topologies.Mode.{Mode}
-use Rattle.model.specs.declared.topologies.Mode.TheVariants.{Reaches, Never}
-use Rattle.model.specs.declared.topologies.Exchange.{Exchange}
-use Rattle.model.specs.declared.topologies.DeclaredQueue.{DeclaredQueue}
-use Rattle.model.specs.declared.topologies.Binding.{Binding}
-use Rattle.model.specs.declared.topologies.Place.{Place}
+use Rattle.state_routes.proofs.Names.{rules, ◌≡◌, ◌⊎◌, ℕ, zero, suc, Bool, true, false, cond, eqb, List, [], ◌∷◌, ◌++◌, refl, sym, ap, subst, ◌∙◌, inl, inr, Option, Some, None, arith, Decides, Contains, not, ◌&&◌, ◌||◌, unwrap_or, option_map, bytes_eq, false≢true, eqb-true, bytes_eq-Decides, Text, Topology, IsIn, IsWellFormed, exchange_names, Reading, Binds, Edge, bound, alternate, default, Leads, here, on, RoutesBy, of_key, reading_after, fixed_after, Comes, routed, dead, Tracked, same_tracked, is_accepted, PatternAnswers, sure, possible, Mode, Reaches, Never, Exchange, DeclaredQueue, Binding, Place, ExchangeKind, Direct, Fanout, Topic, Hop, Gate, Pattern, Chain, still, along, node, end_node, alternate_link, alternate_links, tracked_place, test_by, kind_at, kind_or_direct, gate_of, binding_gates, has_queue, default_gate, gates_of, accepted, is_open, is_shut, passes, blocks, all_block, open_links, open_alternates, open_ways, entry, default_entry, AreEntered, dying, GoOn, IsEnd, AreOnce, in_front, in_back, in-append, in_map, from_map, contained, has_place, same_tracked_tells}
+use Rattle.std.specs.Prelude.{slice_get}
 use Rattle.model.specs.declared.topologies.Place.TheVariants as place
-use Rattle.model.specs.declared.topologies.ExchangeKind.{ExchangeKind}
-use Rattle.model.specs.declared.topologies.ExchangeKind.TheVariants.{Direct, Fanout, Topic}
-use Rattle.paths.specs.declared.reach.Hop.{Hop}
-use Rattle.state_routes.specs.declared.gates.Gate.{Gate}
 use Rattle.state_routes.specs.declared.gates.Test.{Test}
-use Rattle.state_routes.specs.declared.gates.Test.TheVariants.{Pattern}
-use Rattle.paths.specs.Reach.{Chain, still, along}
-use Rattle.state_routes.specs.Nodes.{node, end_node, alternate_link, alternate_links}
-use Rattle.state_routes.specs.Gates.{tracked_place, test_by, kind_at, kind_or_direct, gate_of, binding_gates, has_queue, default_gate, gates_of, accepted, is_open, is_shut, passes, blocks, all_block, open_links, open_alternates, open_ways}
-use Rattle.state_routes.specs.Deaths.{entry, default_entry, AreEntered, dying, GoOn, IsEnd}
-use Rattle.certificate_laws.specs.Soundness.{AreOnce}
 use Rattle.state_routes.proofs.DeadLetters.{ToDeath, from_entered, to_entered, dying_tells, dying_has, fixed_goes, fixed_sent, sent_fixed}
 use Rattle.state_routes.proofs.Numbers.{node_same, node_default, node_above, found_same}
-use Rattle.laws.proofs.Counts.{in_front, in_back, in-append}
-use Rattle.certificate_laws.proofs.Onces.{in_map, from_map}
 use Rattle.certificate_laws.proofs.Refutations.{comes_on}
-use Rattle.certificate_laws.proofs.Trackings.{contained, has_place, same_tracked_tells}
 
 -- ---- what a place among the tracked patterns answers
 

@@ -1,17 +1,6 @@
 -- Gates and links are put where they start, and lead on as before.
-use Rattle.std.proofs.Common.{◌≡◌, ◌⊎◌, ℕ, zero, suc, ◌+◌, ◌<◌, ◌≤◌, Bool, true, false, cond, eqb, List, [], ◌∷◌, ◌++◌, length, refl, sym, ap, subst, ◌∙◌, inl, inr, arith, get_or, set, drop, append_assoc, append-nil}
-use Rattle.std.specs.List.{filter}
-use Rattle.std.proofs.lemmas.Bool.{false≢true, eqb-true}
-use Rattle.std.proofs.lemmas.List.{drop_more, at_drop_all, length-set, length-append}
-use Rattle.model.specs.Topology.{IsIn}
-use Rattle.model.specs.declared.topologies.Mode.{Mode}
-use Rattle.paths.specs.declared.reach.Hop.{Hop}
-use Rattle.state_routes.specs.declared.gates.Gate.{Gate}
-use Rattle.paths.specs.Reach.{Chain, still, along}
-use Rattle.state_routes.specs.Gates.{open_alternates, open_links, open_ways}
-use Rattle.state_routes.specs.Exits.{Exit, no_exit, exit_at, gates_from, links_from, AreExits, open_through, LeadsFrom, LeadFrom, IsBounded, AreEmpty, AddsGates, AddsAlternates}
+use Rattle.state_routes.proofs.Names.{◌≡◌, ◌⊎◌, ℕ, zero, suc, ◌+◌, ◌<◌, ◌≤◌, Bool, true, false, cond, eqb, List, [], ◌∷◌, ◌++◌, length, refl, sym, ap, subst, ◌∙◌, inl, inr, arith, get_or, set, drop, append_assoc, append-nil, filter, false≢true, eqb-true, drop_more, at_drop_all, length-set, length-append, IsIn, Mode, Hop, Gate, Chain, still, along, open_alternates, open_links, open_ways, Exit, no_exit, exit_at, gates_from, links_from, AreExits, open_through, LeadsFrom, LeadFrom, IsBounded, AreEmpty, AddsGates, AddsAlternates, in_front, in_back, in-append}
 use Rattle.state_routes.proofs.Known.{all_block_at, blocked_in, blocks_all, eqb_same, from_blocked, from_open, open_in}
-use Rattle.laws.proofs.Counts.{in_front, in_back, in-append}
 
 pub itself : {A : Type 0} (xs : List A) (i : ℕ) (d : A) → i < length xs → get_or xs i d ≡ get_or xs i (get_or xs i d)
 itself [] i d h = absurd (omega (arith, h))

@@ -1,15 +1,6 @@
 -- The numbers of exchanges tell their names.
-use Rattle.std.proofs.Common.{◌≡◌, ◌⊎◌, suc, ◌+◌, ◌<◌, ◌≤◌, Bool, true, false, cond, List, [], ◌∷◌, length, refl, sym, ap, subst, ◌∙◌, inl, inr, Some, arith}
-use Rattle.std.specs.Prelude.{Decides, not, find}
-use Rattle.std.specs.Str.{bytes_eq}
-use Rattle.std.proofs.lemmas.Bool.{false≢true}
-use Rattle.std.proofs.lemmas.Slice.Eq.{bytes_eq-Decides}
-use Rattle.model.specs.Words.{Text}
-use Rattle.model.specs.Topology.{IsIn, AreApart, exchange_names}
-use Rattle.model.specs.declared.topologies.Exchange.{Exchange}
+use Rattle.state_routes.proofs.Names.{◌≡◌, ◌⊎◌, suc, ◌+◌, ◌<◌, ◌≤◌, Bool, true, false, cond, List, [], ◌∷◌, length, refl, sym, ap, subst, ◌∙◌, inl, inr, Some, arith, Decides, not, find, bytes_eq, false≢true, bytes_eq-Decides, Text, IsIn, AreApart, exchange_names, Exchange, in_map, node}
 use Rattle.exchange_graph.specs.Fans.{exchange_place}
-use Rattle.certificate_laws.proofs.Onces.{in_map}
-use Rattle.state_routes.specs.Nodes.{node}
 
 place_same : (xs : List Exchange) (x y : Text) → IsIn x (exchange_names xs) → exchange_place xs x ≡ exchange_place xs y → x ≡ y
 place_same [] x y i e = absurd i

@@ -1,19 +1,7 @@
 -- Marks that spread from place to place come to all that chains lead to.
-use Rattle.std.proofs.Common.{◌≡◌, ◌⊎◌, ℕ, zero, suc, ◌+◌, ◌<◌, ◌≤◌, Bool, true, false, List, [], ◌∷◌, ◌++◌, length, refl, sym, ap, subst, ◌∙◌, inl, inr, arith, get_or, set, take}
-use Rattle.std.specs.Prelude.{replicate}
-use Rattle.std.proofs.lemmas.List.{length-append, length-replicate, length-set, take_all, take_more}
-use Rattle.model.specs.Topology.{IsIn}
-use Rattle.model.specs.declared.topologies.Mode.{Mode}
-use Rattle.exchange_graph.specs.Marks.{IsSet, unset}
+use Rattle.state_routes.proofs.Names.{◌≡◌, ◌⊎◌, ℕ, zero, suc, ◌+◌, ◌<◌, ◌≤◌, Bool, true, false, List, [], ◌∷◌, ◌++◌, length, refl, sym, ap, subst, ◌∙◌, inl, inr, arith, get_or, set, take, replicate, length-append, length-replicate, length-set, take_all, take_more, IsIn, Mode, IsSet, unset, Hop, AreReached, Chain, MarksBegin, open_ways, Exit, IsBounded, LeadFrom, exit_at, open_through, Enters, Spreads, all_marked, begun_at, chain_on, none_set, set_keeps, in_front, in_back, in-append}
 use Rattle.exchange_graph.proofs.Marking.{set_here, set_only, set_within, unset_fewer}
-use Rattle.paths.specs.declared.reach.Hop.{Hop}
-use Rattle.paths.specs.Reach.{AreReached, Chain, MarksBegin}
-use Rattle.state_routes.specs.Gates.{open_ways}
-use Rattle.state_routes.specs.Exits.{Exit, IsBounded, LeadFrom, exit_at, open_through}
-use Rattle.state_routes.specs.Following.{Enters, Spreads}
-use Rattle.paths.proofs.Chains.{all_marked, begun_at, chain_on, none_set, set_keeps}
 use Rattle.state_routes.proofs.Leaving.{in_through, open_at, open_leads}
-use Rattle.laws.proofs.Counts.{in_front, in_back, in-append}
 
 -- ---- links one after another
 

@@ -1,14 +1,8 @@
 -- How many words some tokens match, with one token more.
-use Rattle.std.proofs.Common.{◌≡◌, ℕ, zero, suc, ◌+◌, ◌≤◌, ◌<◌, List, [], ◌∷◌, ◌++◌, Bool, true, false, refl, sym, ap, ◌∙◌, subst, length, take, get_or, inl, inr, ltb, arith}
-use Rattle.std.specs.Prelude.{◌⊎◌, Decides}
-use Rattle.std.proofs.lemmas.Bool.{false≢true, ltb-true, ltb-false}
+use Rattle.topic_match.proofs.Names.{◌≡◌, ℕ, zero, suc, ◌+◌, ◌≤◌, ◌<◌, List, [], ◌∷◌, ◌++◌, Bool, true, false, refl, sym, ap, ◌∙◌, subst, length, take, get_or, inl, inr, ltb, arith, Decides, false≢true, ltb-true, ltb-false, bytes_eq-Decides, Text, Matches, none, Token, Word, One, Any, AreCounts, AreCountsTo, stands_first, stands_after}
+use Rattle.std.specs.Prelude.{◌⊎◌}
 use Rattle.std.proofs.lemmas.Bool.Decides.{Decides-and, Decides-or}
 use Rattle.std.specs.Str.{bytes_eq}
-use Rattle.std.proofs.lemmas.Slice.Eq.{bytes_eq-Decides}
-use Rattle.model.specs.Words.{Text, Matches, none}
-use Rattle.model.specs.declared.texts.Token.{Token}
-use Rattle.model.specs.declared.texts.Token.TheVariants.{Word, One, Any}
-use Rattle.topic_match.specs.Counts.{AreCounts, AreCountsTo, stands_first, stands_after}
 use Rattle.topic_match.proofs.Joins.{Parts, split, word_matches, one_matches, snoc_word, word_snoc, snoc_one, one_snoc, snoc_any, any_snoc_was, any_snoc_is, no_last}
 
 first_right : (t : Token) (b : List Token) (before : Bool) → Decides before (Matches b []) → Decides (stands_first t before) (Matches (b ++ t ∷ []) [])

@@ -1,12 +1,6 @@
 -- The places at nodes, and those that are found.
-use Rattle.std.proofs.Common.{◌≡◌, ℕ, zero, suc, ◌+◌, ◌<◌, List, [], ◌∷◌, ◌++◌, Bool, true, false, cond, refl, sym, ap, ◌∙◌, subst, length, take, get_or, set, inl, inr, arith, append-nil}
+use Rattle.topic_match.proofs.Names.{◌≡◌, ℕ, zero, suc, ◌+◌, ◌<◌, List, [], ◌∷◌, ◌++◌, Bool, true, false, cond, refl, sym, ap, ◌∙◌, subst, length, take, get_or, set, inl, inr, arith, append-nil, false≢true, IsIn, Met, AreEnding, AreSound, IsFound, AreFound, AllApart, nodes_of}
 use Rattle.std.specs.Prelude.{◌⊎◌}
-use Rattle.std.proofs.lemmas.Bool.{false≢true}
-use Rattle.model.specs.Topology.{IsIn}
-use Rattle.topic_match.specs.declared.nodes.Met.{Met}
-use Rattle.topic_match.specs.Ends.{AreEnding, AreSound, IsFound, AreFound}
-use Rattle.topic_match.specs.Beginnings.{AllApart}
-use Rattle.topic_match.specs.Walks.{nodes_of}
 use Rattle.topic_match.proofs.Lists.{in_front, in_back, in_two, in_push, apart_two, in_at, take_push}
 use Rattle.topic_match.proofs.Grown.{set_here, set_there, set_length, same_or, below_or}
 

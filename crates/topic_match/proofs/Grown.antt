@@ -1,13 +1,8 @@
 -- Nodes that are added.
-use Rattle.std.proofs.Common.{◌≡◌, ℕ, zero, suc, ◌+◌, ◌-◌, ◌≤◌, ◌<◌, List, [], ◌∷◌, ◌++◌, Bool, true, false, refl, sym, ap, ◌∙◌, subst, length, take, get_or, set, inl, inr, ltb, arith, replicate}
+use Rattle.topic_match.proofs.Names.{◌≡◌, ℕ, zero, suc, ◌+◌, ◌*◌, ◌-◌, ◌≤◌, ◌<◌, List, [], ◌∷◌, ◌++◌, Bool, true, false, refl, sym, ap, ◌∙◌, subst, length, take, get_or, set, inl, inr, ltb, arith, replicate, ltb-true, ltb-false, Token, Any, Node, no_node, node_at, beginning, beginning_at, last_token, heads_of, IsDeep, IsFoundBy, IsNode, AreLinked, IsChild, IsPlace, KeepNodes, mark_of, first_slot, bits_of, AreGrown, EndAt}
 use Rattle.std.specs.Prelude.{◌⊎◌}
-use Rattle.std.proofs.lemmas.Bool.{ltb-true, ltb-false}
-use Rattle.model.specs.declared.texts.Token.{Token}
-use Rattle.model.specs.declared.texts.Token.TheVariants.{Any}
-use Rattle.topic_match.specs.declared.nodes.Node.{Node}
-use Rattle.topic_match.specs.Nodes.{no_node, node_at, beginning, beginning_at, last_token, slot, Chained, here, further, IsDeep, IsNode, AreLinked, IsChild}
-use Rattle.topic_match.specs.Building.{AreGrown, EndAt}
 use Rattle.topic_match.proofs.Lists.{take_push}
+use Rattle.topic_match.proofs.Slots.{found_more}
 use Rattle.topic_match.proofs.Walking.{is_child}
 
 pub front_at : {A : Type 0} (xs ys : List A) (i : ℕ) (d : A) → i < length xs → get_or (xs ++ ys) i d ≡ get_or xs i d
@@ -55,28 +50,16 @@ same_or zero (suc j) = inr (λ e. omega (arith, e))
 same_or (suc i) zero = inr (λ e. omega (arith, e))
 same_or (suc i) (suc j) = elim (same_or i j) [ inl e ↦ inl (ap suc e) | inr n ↦ inr (λ e. n (omega (arith, e))) ]
 
-default_at : {A : Type 0} (xs : List A) (i : ℕ) (d : A) → length xs ≤ i → get_or xs i d ≡ d
-default_at [] i d h = refl
-default_at (x ∷ xs) zero d h = absurd (omega (arith, h))
-default_at (x ∷ xs) (suc i) d h = default_at xs i d (omega (arith, h))
+-- one empty slot more
+push_zero : (xs : List ℕ) (i : ℕ) → get_or (xs ++ 0 ∷ []) i 0 ≡ get_or xs i 0
+push_zero [] zero = refl
+push_zero [] (suc i) = refl
+push_zero (x ∷ xs) zero = refl
+push_zero (x ∷ xs) (suc i) = push_zero xs i
 
--- a chain stays where nodes are added behind
-chained_front : (patterns : List (List Token)) (nodes : List Node) (chains : List ℕ) (x : Node) (a c : ℕ) → AreLinked patterns nodes chains → a < length nodes → Chained nodes a c → Chained (nodes ++ x ∷ []) a c
-chained_front patterns nodes chains x a c l h here = here
-chained_front patterns nodes chains x a c l h (further k) =
-    let next_is : (node_at (nodes ++ x ∷ []) a).next ≡ (node_at nodes a).next = ap (λ (z : Node). z.next) (front_at nodes (x ∷ []) a no_node h) in
-    further (subst (λ (z : ℕ). Chained (nodes ++ x ∷ []) z c) (sym next_is) (chained_front patterns nodes chains x (node_at nodes a).next c l (within a h) k))
-  where
-    within : (a : ℕ) → a < length nodes → (node_at nodes a).next < length nodes
-    within zero h = subst (λ (z : ℕ). z < length nodes) (sym l.root_next) h
-    within (suc a) h = let q = (l.each (suc a) (omega arith) h).next in omega (arith, q, h)
-
-pub record IsAdded (patterns : List (List Token)) (nodes : List Node) (chains : List ℕ) (parent pattern depth : ℕ) (more : List Node) (changed : List ℕ) : Type 0 where
-  pub place : ℕ
-  pub place_is : place ≡ slot (length chains) parent (get_or (get_or patterns pattern []) depth Any)
-  pub place_within : place < length chains
-  pub nodes_are : more ≡ nodes ++ record { parent = parent; pattern = pattern; depth = depth + 1; next = get_or chains place 0 } ∷ []
-  pub chains_are : changed ≡ set chains place (length nodes)
+pub record IsAdded (patterns : List (List Token)) (nodes : List Node) (slots : List ℕ) (place parent pattern depth : ℕ) (more : List Node) (changed : List ℕ) : Type 0 where
+  pub nodes_are : more ≡ nodes ++ record { parent = parent; pattern = pattern; depth = depth + 1 } ∷ []
+  pub slots_are : changed ≡ set ((slots ++ 0 ∷ []) ++ 0 ∷ []) place (length nodes)
 
 pub added_grown : (patterns : List (List Token)) (nodes : List Node) (x : Node) → AreGrown patterns nodes (nodes ++ x ∷ [])
 added_grown patterns nodes x = record {
@@ -89,27 +72,30 @@ at_default [] i d h x e = absurd (omega (arith, h))
 at_default (y ∷ xs) zero d h x e = e
 at_default (y ∷ xs) (suc i) d h x e = at_default xs i d (omega (arith, h)) x e
 
-pub added_begins : (patterns : List (List Token)) (nodes : List Node) (parent pattern depth next : ℕ) → depth < length (get_or patterns pattern [])
+pub added_begins : (patterns : List (List Token)) (nodes : List Node) (parent pattern depth : ℕ) → depth < length (get_or patterns pattern [])
     → beginning_at patterns nodes parent ≡ take depth (get_or patterns pattern [])
-    → beginning_at patterns (nodes ++ record { parent = parent; pattern = pattern; depth = depth + 1; next = next } ∷ []) (length nodes) ≡ take (depth + 1) (get_or patterns pattern [])
-added_begins patterns nodes parent pattern depth next h b =
-    ap (λ (z : Node). beginning patterns z) (last_at nodes (record { parent = parent; pattern = pattern; depth = depth + 1; next = next }) (length nodes) no_node refl)
+    → beginning_at patterns (nodes ++ record { parent = parent; pattern = pattern; depth = depth + 1 } ∷ []) (length nodes) ≡ take (depth + 1) (get_or patterns pattern [])
+added_begins patterns nodes parent pattern depth h b =
+    ap (λ (z : Node). beginning patterns z) (last_at nodes (record { parent = parent; pattern = pattern; depth = depth + 1 }) (length nodes) no_node refl)
 
-pub added_linked : (patterns : List (List Token)) (nodes : List Node) (chains : List ℕ) (parent pattern depth : ℕ) (more : List Node) (changed : List ℕ) → AreLinked patterns nodes chains
+pub added_linked : (patterns : List (List Token)) (nodes : List Node) (slots : List ℕ) (place parent pattern depth : ℕ) (more : List Node) (changed : List ℕ) → AreLinked patterns nodes slots
     → parent < length nodes → pattern < length patterns → depth < length (get_or patterns pattern []) → beginning_at patterns nodes parent ≡ take depth (get_or patterns pattern [])
-    → ((c : ℕ) → IsChild patterns nodes parent (get_or (get_or patterns pattern []) depth Any) c → ⊥)
-    → IsAdded patterns nodes chains parent pattern depth more changed → AreLinked patterns more changed
-added_linked patterns nodes chains parent pattern depth more changed l hp hq hd before fresh a =
-    subst (λ (zs : List ℕ). AreLinked patterns more zs) (sym a.chains_are) (subst (λ (zs : List Node). AreLinked patterns zs (set chains a.place (length nodes))) (sym a.nodes_are) (record {
+    → IsPlace patterns nodes slots parent (get_or (get_or patterns pattern []) depth Any) place → get_or slots place 0 ≡ 0
+    → IsAdded patterns nodes slots place parent pattern depth more changed → AreLinked patterns more changed
+added_linked patterns nodes slots place parent pattern depth more changed l hp hq hd before p empty a =
+    subst (λ (zs : List ℕ). AreLinked patterns more zs) (sym a.slots_are) (subst (λ (zs : List Node). AreLinked patterns zs (set ((slots ++ 0 ∷ []) ++ 0 ∷ []) place (length nodes))) (sym a.nodes_are) (record {
       some = omega (arith, size);
       root = ap (λ (z : Node). z.depth) (old 0 l.some) ∙ l.root;
-      root_next = ap (λ (z : Node). z.next) (old 0 l.some) ∙ l.root_next;
-      slots = let k = l.slots in omega (arith, k, csize);
-      within = λ h. elim (same_or a.place h) [
-        | inl e ↦ (let g : get_or (set chains a.place (length nodes)) h 0 ≡ length nodes = subst (λ (j : ℕ). get_or (set chains a.place (length nodes)) j 0 ≡ length nodes) e (set_here chains a.place (length nodes) 0 a.place_within) in omega (arith, g, size))
-        | inr n ↦ (let g = set_there chains a.place h (length nodes) 0 n in let k = l.within h in omega (arith, g, k, size))
+      heads = let k = l.heads in omega (arith, k, size, wide);
+      within = λ s. elim (same_or place s) [
+        | inl e ↦ (let g : get_or filled s 0 ≡ length nodes = subst (λ (j : ℕ). get_or filled j 0 ≡ length nodes) e here_is in omega (arith, g, size))
+        | inr n ↦ (let g = there s n in let k = l.within s in omega (arith, g, k, size))
       ];
-      each = λ c h k. elim (below_or (length nodes) c (omega (arith, k, size))) [ inl m ↦ older c h m | inr e ↦ subst (λ (j : ℕ). IsNode patterns all slots j) (sym e) newer ];
+      later = λ s g. elim (same_or place s) [
+        | inl e ↦ (let q : get_or filled s 0 ≡ length nodes = subst (λ (j : ℕ). get_or filled j 0 ≡ length nodes) e here_is in let w = p.within in let k = l.heads in omega (arith, q, e, w, k, size, wide))
+        | inr n ↦ (let q = there s n in let k = l.later s (omega (arith, g, q)) in omega (arith, q, k, size, wide))
+      ];
+      each = λ c h k. elim (below_or (length nodes) c (omega (arith, k, size))) [ inl m ↦ older c h m | inr e ↦ subst (λ (j : ℕ). IsNode patterns all filled j) (sym e) newer ];
       apart = λ c d h k e. elim (below_or (length nodes) c (omega (arith, h, size))) [
         | inl m ↦ (elim (below_or (length nodes) d (omega (arith, k, size))) [
           | inl n ↦ l.apart c d m n (sym (begins c m) ∙ e ∙ begins d n)
@@ -126,19 +112,31 @@ added_linked patterns nodes chains parent pattern depth more changed l hp hq hd 
     pat = get_or patterns pattern []
 
     x : Node
-    x = record { parent = parent; pattern = pattern; depth = depth + 1; next = get_or chains a.place 0 }
+    x = record { parent = parent; pattern = pattern; depth = depth + 1 }
 
     all : List Node
     all = nodes ++ x ∷ []
 
-    slots : List ℕ
-    slots = set chains a.place (length nodes)
+    filled : List ℕ
+    filled = set ((slots ++ 0 ∷ []) ++ 0 ∷ []) place (length nodes)
 
     size : length all ≡ length nodes + 1
     size = length_push nodes x
 
-    csize : length slots ≡ length chains
-    csize = set_length chains a.place (length nodes)
+    wide : length filled ≡ length slots + 2
+    wide = let e = set_length ((slots ++ 0 ∷ []) ++ 0 ∷ []) place (length nodes) in let f = length_push (slots ++ 0 ∷ []) 0 in let g = length_push slots 0 in omega (arith, e, f, g)
+
+    heads_are : heads_of nodes slots ≡ heads_of all filled
+    heads_are = let k = l.heads in omega (arith, k, size, wide)
+
+    here_is : get_or filled place 0 ≡ length nodes
+    here_is = set_here ((slots ++ 0 ∷ []) ++ 0 ∷ []) place (length nodes) 0 (let f = length_push (slots ++ 0 ∷ []) 0 in let g = length_push slots 0 in let w = p.within in omega (arith, f, g, w))
+
+    there : (s : ℕ) → (place ≡ s → ⊥) → get_or filled s 0 ≡ get_or slots s 0
+    there s n = set_there ((slots ++ 0 ∷ []) ++ 0 ∷ []) place s (length nodes) 0 n ∙ push_zero (slots ++ 0 ∷ []) s ∙ push_zero slots s
+
+    keep : KeepNodes slots filled
+    keep s h = there s (λ e. let g : get_or slots s 0 ≡ 0 = subst (λ (j : ℕ). get_or slots j 0 ≡ 0) e empty in omega (arith, g, h))
 
     old : (c : ℕ) → c < length nodes → node_at all c ≡ node_at nodes c
     old c h = front_at nodes (x ∷ []) c no_node h
@@ -162,9 +160,9 @@ added_linked patterns nodes chains parent pattern depth more changed l hp hq hd 
     newest = ap (λ (z : Node). beginning patterns z) new ∙ grown ∙ ap (λ (z : List Token). z ++ tok ∷ []) (sym before)
 
     clash : (c : ℕ) → c < length nodes → beginning_at patterns nodes c ≡ beginning_at patterns nodes parent ++ tok ∷ [] → ⊥
-    clash c h e = fresh c (is_child patterns nodes chains parent c tok l hp h e)
+    clash c h e = p.none empty c (is_child patterns nodes slots parent c tok l hp h e)
 
-    older : (c : ℕ) → 0 < c → c < length nodes → IsNode patterns all slots c
+    older : (c : ℕ) → 0 < c → c < length nodes → IsNode patterns all filled c
     older c h m =
         let n = l.each c h m in
         let q = n.parent in
@@ -174,36 +172,24 @@ added_linked patterns nodes chains parent pattern depth more changed l hp hq hd 
           parent = subst (λ (z : Node). z.parent < c) o n.parent;
           behind = begins c m ∙ n.behind ∙ ap (λ (z : List Token). z ++ last_token patterns (node_at nodes c) ∷ []) (sym (begins (node_at nodes c).parent (omega (arith, q, m))))
               ∙ ap (λ (z : Node). beginning_at patterns all z.parent ++ last_token patterns z ∷ []) o;
-          next = subst (λ (z : Node). z.next < c) o n.next;
-          chained = subst (λ (z : Node). Chained all (get_or slots (slot (length slots) z.parent (last_token patterns z)) 0) c) o
-              (subst (λ (z : ℕ). Chained all (get_or slots (slot z (node_at nodes c).parent (last_token patterns (node_at nodes c))) 0) c) (sym csize)
-              (moved c (slot (length chains) (node_at nodes c).parent (last_token patterns (node_at nodes c))) n.chained));
+          is_found = subst (λ (z : Node). IsFoundBy (heads_of all filled) filled z.parent (last_token patterns z) c) o
+              (subst (λ (z : ℕ). IsFoundBy z filled (node_at nodes c).parent (last_token patterns (node_at nodes c)) c) heads_are
+              (found_more (heads_of nodes slots) slots filled (first_slot (heads_of nodes slots) (node_at nodes c).parent (mark_of (last_token patterns (node_at nodes c))))
+              (bits_of (node_at nodes c).parent (mark_of (last_token patterns (node_at nodes c)))) c keep h n.is_found));
         }
-      where
-        moved : (c h : ℕ) → Chained nodes (get_or chains h 0) c → Chained all (get_or slots h 0) c
-        moved c h k = elim (same_or a.place h) [
-          | inl e ↦ subst (λ (j : ℕ). Chained all (get_or slots j 0) c) e
-              (subst (λ (j : ℕ). Chained all j c) (sym (set_here chains a.place (length nodes) 0 a.place_within))
-              (further (subst (λ (z : Node). Chained all z.next c) (sym new)
-              (chained_front patterns nodes chains x (get_or chains a.place 0) c l (l.within a.place) (subst (λ (j : ℕ). Chained nodes (get_or chains j 0) c) (sym e) k)))))
-          | inr n ↦ subst (λ (j : ℕ). Chained all j c) (sym (set_there chains a.place h (length nodes) 0 n)) (chained_front patterns nodes chains x (get_or chains h 0) c l (l.within h) k)
-        ]
 
-    newer : IsNode patterns all slots (length nodes)
+    newer : IsNode patterns all filled (length nodes)
     newer =
         let o : x ≡ node_at all (length nodes) = sym new in
-        let w = l.within a.place in
         record {
           deep = subst (λ (z : Node). IsDeep patterns z) o (record { pattern = hq; some = omega arith; within = omega (arith, hd) });
           parent = subst (λ (z : Node). z.parent < length nodes) o hp;
           behind = newest ∙ ap (λ (z : List Token). z ++ tok ∷ []) (sym (begins parent hp)) ∙ ap (λ (z : Token). beginning_at patterns all parent ++ z ∷ []) (sym last_is)
               ∙ ap (λ (z : Node). beginning_at patterns all z.parent ++ last_token patterns z ∷ []) o;
-          next = subst (λ (z : Node). z.next < length nodes) o w;
-          chained = subst (λ (z : Node). Chained all (get_or slots (slot (length slots) z.parent (last_token patterns z)) 0) (length nodes)) o
-              (subst (λ (z : ℕ). Chained all (get_or slots (slot z parent (last_token patterns x)) 0) (length nodes)) (sym csize)
-              (subst (λ (z : Token). Chained all (get_or slots (slot (length chains) parent z) 0) (length nodes)) (sym last_is)
-              (subst (λ (z : ℕ). Chained all (get_or slots z 0) (length nodes)) a.place_is
-              (subst (λ (z : ℕ). Chained all z (length nodes)) (sym (set_here chains a.place (length nodes) 0 a.place_within)) here))));
+          is_found = subst (λ (z : Node). IsFoundBy (heads_of all filled) filled z.parent (last_token patterns z) (length nodes)) o
+              (subst (λ (z : Token). IsFoundBy (heads_of all filled) filled parent z (length nodes)) (sym last_is)
+              (subst (λ (z : ℕ). IsFoundBy z filled parent tok (length nodes)) heads_are
+              (subst (λ (z : ℕ). IsFoundBy (heads_of nodes slots) filled parent tok z) here_is (p.put filled keep))));
         }
 
 pub grown_twice : (patterns : List (List Token)) (old mid new : List Node) → AreGrown patterns old mid → AreGrown patterns mid new → AreGrown patterns old new
@@ -234,14 +220,14 @@ rep_at (suc n) zero = refl
 rep_at (suc n) (suc i) = rep_at n i
 
 -- the root alone
-pub root_linked : (patterns : List (List Token)) (nodes : List Node) (chains : List ℕ) (n : ℕ) → 0 < n → nodes ≡ no_node ∷ [] → chains ≡ replicate n 0 → AreLinked patterns nodes chains
-root_linked patterns nodes chains n h e f =
+pub root_linked : (patterns : List (List Token)) (nodes : List Node) (slots : List ℕ) (n : ℕ) → 2 < n → nodes ≡ no_node ∷ [] → slots ≡ replicate n 0 → AreLinked patterns nodes slots
+root_linked patterns nodes slots n h e f =
     subst (λ (z : List ℕ). AreLinked patterns nodes z) (sym f) (subst (λ (z : List Node). AreLinked patterns z (replicate n 0)) (sym e) (record {
       some = omega arith;
       root = refl;
-      root_next = refl;
-      slots = let k = rep_length {A = ℕ} n 0 in omega (arith, k, h);
+      heads = let k = rep_length {A = ℕ} n 0 in omega (arith, k, h);
       within = λ i. (let k = rep_at n i in omega (arith, k));
+      later = λ i g. absurd (let k = rep_at n i in omega (arith, k, g));
       each = λ c i k. absurd (omega (arith, i, k));
       apart = λ c d i k g. omega (arith, i, k);
     }))
@@ -253,15 +239,3 @@ pub same_default : {A : Type 0} (xs : List A) (n : ℕ) (d e : A) → n < length
 same_default [] n d e h = absurd (omega (arith, h))
 same_default (x ∷ xs) zero d e h = refl
 same_default (x ∷ xs) (suc n) d e h = same_default xs n d e (omega (arith, h))
-
-pub token_is : (patterns : List (List Token)) (pattern depth : ℕ) (p ts : List Token) (x : Token) → pattern < length patterns → depth < length (get_or patterns pattern [])
-    → p ≡ get_or patterns pattern p → ts ≡ p → x ≡ get_or ts depth x → x ≡ get_or (get_or patterns pattern []) depth Any
-token_is patterns pattern depth p ts x h k e f g =
-    let q : ts ≡ get_or patterns pattern [] = f ∙ e ∙ same_default patterns pattern p [] h in
-    g ∙ ap (λ (z : List Token). get_or z depth x) q ∙ same_default (get_or patterns pattern []) depth x Any k
-
-pub take_front : (xs ys : List ℕ) (n : ℕ) → n ≡ length xs → take n (xs ++ ys) ≡ xs
-take_front [] ys zero h = refl
-take_front [] ys (suc n) h = absurd (omega (arith, h))
-take_front (x ∷ xs) ys zero h = absurd (omega (arith, h))
-take_front (x ∷ xs) ys (suc n) h = ap (λ (z : List ℕ). x ∷ z) (take_front xs ys n (omega (arith, h)))

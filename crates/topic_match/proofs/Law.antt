@@ -1,22 +1,11 @@
 -- What is found are the places of the patterns that match.
-use Rattle.std.proofs.Common.{ℕ, ◌<◌, List, [], Bool, refl, sym, ap, ◌∙◌, subst, length, take, get_or, arith}
-use Rattle.model.specs.Words.{Text, Matches}
-use Rattle.model.specs.Topology.{IsIn}
-use Rattle.model.specs.declared.texts.Token.{Token}
-use Rattle.topic_match.specs.declared.nodes.Node.{Node}
-use Rattle.topic_match.specs.declared.nodes.Met.{Met}
-use Rattle.topic_match.specs.Counts.{AreCounts}
-use Rattle.topic_match.specs.Ends.{AreSound, IsFound}
-use Rattle.topic_match.specs.Nodes.{AreLinked, beginning_at}
-use Rattle.topic_match.specs.Tries.{IsTrie}
-use Rattle.topic_match.specs.Beginnings.{Begins}
-use Rattle.topic_match.specs.Walks.{AreMet, AreAdded}
+use Rattle.topic_match.proofs.Names.{ℕ, ◌<◌, List, [], Bool, refl, sym, ap, ◌∙◌, subst, length, take, get_or, arith, Text, Matches, IsIn, Token, Node, Met, AreCounts, AreSound, IsFound, AreLinked, beginning_at, IsTrie, Begins, AreMet, AreAdded}
 use Rattle.topic_match.proofs.Lists.{take_all}
 use Rattle.topic_match.proofs.Walking.{node_in, root_is}
 
-pub sound : (patterns : List (List Token)) (nodes : List Node) (chains ends : List ℕ) (places : List (List ℕ)) (ws : List Text) (met : List Met) → IsTrie patterns nodes chains ends places
+pub sound : (patterns : List (List Token)) (nodes : List Node) (slots ends : List ℕ) (places : List (List ℕ)) (ws : List Text) (met : List Met) → IsTrie patterns nodes slots ends places
     → AreMet patterns nodes ws (Begins []) met → AreSound places met (length ws)
-sound patterns nodes chains ends places ws met t a = record {
+sound patterns nodes slots ends places ws met t a = record {
   apart = a.apart;
   each = t.ending.apart;
   own = λ c d p i j. sym (t.ending.only c p i).1 ∙ (t.ending.only d p j).1;
@@ -24,17 +13,17 @@ sound patterns nodes chains ends places ws met t a = record {
   told = λ m i. (let s = (a.counts m i).size in omega (arith, s));
 }
 
-pub only_matching : (patterns : List (List Token)) (nodes : List Node) (chains ends : List ℕ) (places : List (List ℕ)) (ws : List Text) (met : List Met) (p : ℕ) → IsTrie patterns nodes chains ends places
+pub only_matching : (patterns : List (List Token)) (nodes : List Node) (slots ends : List ℕ) (places : List (List ℕ)) (ws : List Text) (met : List Met) (p : ℕ) → IsTrie patterns nodes slots ends places
     → AreMet patterns nodes ws (Begins []) met → IsFound places met (length ws) p → (p < length patterns) × Matches (get_or patterns p []) ws
-only_matching patterns nodes chains ends places ws met p t a f =
+only_matching patterns nodes slots ends places ws met p t a f =
     let e = t.ending.only f.at.node p f.ends in
     let h : p < length patterns = (let k = e.0 in let s = t.ended.size in omega (arith, k, s)) in
     let m : Matches (beginning_at patterns nodes f.at.node) (take (length ws) ws) = ((a.counts f.at f.is_met).each (length ws) (omega arith)).0 f.matches in
     (h, subst (λ (z : List Token). Matches z ws) (ap (λ (z : ℕ). beginning_at patterns nodes z) (sym e.1) ∙ t.ended.are p h) (subst (λ (z : List Text). Matches (beginning_at patterns nodes f.at.node) z) (take_all ws) m))
 
-pub all_matching : (patterns : List (List Token)) (nodes : List Node) (chains ends : List ℕ) (places : List (List ℕ)) (ws : List Text) (met : List Met) (p : ℕ) → IsTrie patterns nodes chains ends places
+pub all_matching : (patterns : List (List Token)) (nodes : List Node) (slots ends : List ℕ) (places : List (List ℕ)) (ws : List Text) (met : List Met) (p : ℕ) → IsTrie patterns nodes slots ends places
     → AreMet patterns nodes ws (Begins []) met → p < length patterns → Matches (get_or patterns p []) ws → IsFound places met (length ws) p
-all_matching patterns nodes chains ends places ws met p t a h m =
+all_matching patterns nodes slots ends places ws met p t a h m =
     let c = get_or ends p 0 in
     let k : Matches (beginning_at patterns nodes c) (take (length ws) ws) =
     subst (λ (z : List Text). Matches (beginning_at patterns nodes c) z) (sym (take_all ws)) (subst (λ (z : List Token). Matches z ws) (sym (t.ended.are p h)) m) in
@@ -47,12 +36,12 @@ all_matching patterns nodes chains ends places ws met p t a h m =
     }
 
 -- what is added from the root on, to nothing, is all
-pub met_all : (patterns : List (List Token)) (nodes : List Node) (chains : List ℕ) (ws : List Text) (met : List Met) → AreLinked patterns nodes chains
+pub met_all : (patterns : List (List Token)) (nodes : List Node) (slots : List ℕ) (ws : List Text) (met : List Met) → AreLinked patterns nodes slots
     → AreAdded patterns nodes ws (Begins (beginning_at patterns nodes 0)) [] met → AreMet patterns nodes ws (Begins []) met
-met_all patterns nodes chains ws met l a =
+met_all patterns nodes slots ws met l a =
     subst (λ (z : List Met). AreMet patterns nodes ws (Begins []) z) (sym a.is_added)
-    (subst (λ (b : List Token). AreMet patterns nodes ws (Begins b) a.more) (root_is patterns nodes chains l) a.are)
+    (subst (λ (b : List Token). AreMet patterns nodes ws (Begins b) a.more) (root_is patterns nodes slots l) a.are)
 
-pub root_counts : (patterns : List (List Token)) (nodes : List Node) (chains : List ℕ) (ws : List Text) (counts : List Bool) → AreLinked patterns nodes chains → AreCounts [] ws counts
+pub root_counts : (patterns : List (List Token)) (nodes : List Node) (slots : List ℕ) (ws : List Text) (counts : List Bool) → AreLinked patterns nodes slots → AreCounts [] ws counts
     → AreCounts (beginning_at patterns nodes 0) ws counts
-root_counts patterns nodes chains ws counts l a = subst (λ (b : List Token). AreCounts b ws counts) (sym (root_is patterns nodes chains l)) a
+root_counts patterns nodes slots ws counts l a = subst (λ (b : List Token). AreCounts b ws counts) (sym (root_is patterns nodes slots l)) a

@@ -1,16 +1,10 @@
 -- By which tokens nodes go on.
-use Rattle.std.proofs.Common.{◌≡◌, ℕ, ◌+◌, ◌<◌, List, true, false, refl, sym, ◌∙◌, subst, length, get_or, set, inl, inr, arith}
-use Rattle.std.proofs.lemmas.Bool.{false≢true}
-use Rattle.model.specs.declared.texts.Token.{Token}
-use Rattle.model.specs.declared.texts.Token.TheVariants.{Word, One, Any}
-use Rattle.topic_match.specs.declared.nodes.Node.{Node}
+use Rattle.topic_match.proofs.Names.{◌≡◌, ℕ, ◌+◌, ◌<◌, List, true, false, refl, sym, ◌∙◌, subst, length, get_or, set, inl, inr, arith, false≢true, Token, Word, One, Any, Node, AreLinked, IsChild, node_at, last_token, no_node, AreDeep, AreExits, has_exit, no_exit, with_exit}
 use Rattle.topic_match.specs.declared.nodes.Exits.{Exits}
-use Rattle.topic_match.specs.Nodes.{AreLinked, IsChild, node_at, last_token, no_node}
-use Rattle.topic_match.specs.Exits.{AreDeep, AreExits, has_exit, no_exit, with_exit}
 use Rattle.topic_match.proofs.Grown.{set_here, set_there, set_length, same_or, below_or, same_default}
 
-pub linked_deep : (patterns : List (List Token)) (nodes : List Node) (chains : List ℕ) → AreLinked patterns nodes chains → AreDeep patterns nodes
-linked_deep patterns nodes chains l = record { deep = λ c a b. (l.each c a b).deep; parent = λ c a b. (l.each c a b).parent }
+pub linked_deep : (patterns : List (List Token)) (nodes : List Node) (slots : List ℕ) → AreLinked patterns nodes slots → AreDeep patterns nodes
+linked_deep patterns nodes slots l = record { deep = λ c a b. (l.each c a b).deep; parent = λ c a b. (l.each c a b).parent }
 
 has_new : (exits : Exits) (t : Token) → has_exit (with_exit exits t) t ≡ true
 has_new exits (Word w) = refl

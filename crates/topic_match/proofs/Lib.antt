@@ -1,9 +1,10 @@
+pub mod Names
 pub mod Loops
 pub mod Taken
 pub mod Some
 pub mod Joins
 pub mod Counting
-pub mod Chains
+pub mod Slots
 pub mod Lists
 pub mod Walking
 pub mod Grown

@@ -1,8 +1,6 @@
 -- What stands in lists.
-use Rattle.std.proofs.Common.{◌≡◌, ℕ, zero, suc, ◌+◌, ◌≤◌, ◌<◌, List, [], ◌∷◌, ◌++◌, refl, sym, ap, ◌∙◌, subst, length, take, get_or, inl, inr, arith}
+use Rattle.topic_match.proofs.Names.{◌≡◌, ℕ, zero, suc, ◌+◌, ◌≤◌, ◌<◌, List, [], ◌∷◌, ◌++◌, refl, sym, ap, ◌∙◌, subst, length, take, get_or, inl, inr, arith, IsIn, AllApart}
 use Rattle.std.specs.Prelude.{◌⊎◌}
-use Rattle.model.specs.Topology.{IsIn}
-use Rattle.topic_match.specs.Beginnings.{AllApart}
 
 pub in_front : {A : Type 0} (xs ys : List A) (a : A) → IsIn a xs → IsIn a (xs ++ ys)
 in_front [] ys a h = absurd h

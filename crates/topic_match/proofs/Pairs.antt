@@ -1,17 +1,5 @@
 -- The pairs of a beginning and a number of words that it matches.
-use Rattle.std.proofs.Common.{◌≡◌, ℕ, zero, suc, ◌+◌, ◌≤◌, ◌<◌, List, [], ◌∷◌, ◌++◌, Bool, true, false, refl, sym, ap, ◌∙◌, subst, length, take, drop, get_or, inl, inr, arith, length-append}
-use Rattle.std.proofs.lemmas.Bool.{false≢true}
-use Rattle.std.proofs.lemmas.List.{take-append-drop}
-use Rattle.model.specs.Words.{Text, words, Matches}
-use Rattle.model.specs.Topology.{IsIn}
-use Rattle.model.specs.declared.texts.Token.{Token}
-use Rattle.topic_match.specs.declared.nodes.Node.{Node}
-use Rattle.topic_match.specs.declared.nodes.Met.{Met}
-use Rattle.topic_match.specs.Beginnings.{AllApart, Begins, Pair, IsPair, IsCounted}
-use Rattle.topic_match.specs.Counts.{trues}
-use Rattle.topic_match.specs.Nodes.{AreLinked, node_at, beginning_at}
-use Rattle.topic_match.specs.Tries.{IsTrie}
-use Rattle.topic_match.specs.Walks.{nodes_of, AreMet, told_in}
+use Rattle.topic_match.proofs.Names.{◌≡◌, ℕ, zero, suc, ◌+◌, ◌≤◌, ◌<◌, List, [], ◌∷◌, ◌++◌, Bool, true, false, refl, sym, ap, ◌∙◌, subst, length, take, drop, get_or, inl, inr, arith, length-append, false≢true, take-append-drop, Text, words, Matches, IsIn, Token, Node, Met, AllApart, Begins, Pair, IsPair, IsCounted, trues, AreLinked, node_at, beginning_at, IsTrie, nodes_of, AreMet, told_in}
 use Rattle.topic_match.proofs.Lists.{in_front, in_back, in_two, apart_two, in_at}
 use Rattle.topic_match.proofs.Grown.{same_default}
 use Rattle.topic_match.proofs.Ending.{met_node}
@@ -94,12 +82,12 @@ in_of patterns nodes (x ∷ ms) m p h i = elim h [
   | inr r ↦ in_back (pairs_from (beginning_at patterns nodes x.node) 0 x.counts.items) (pairs_of patterns nodes ms) p (in_of patterns nodes ms m p r i)
 ]
 
-apart_of : (patterns : List (List Token)) (nodes : List Node) (chains : List ℕ) (met : List Met) → AreLinked patterns nodes chains → AllApart (nodes_of met)
+apart_of : (patterns : List (List Token)) (nodes : List Node) (slots : List ℕ) (met : List Met) → AreLinked patterns nodes slots → AllApart (nodes_of met)
     → ((m : Met) → IsIn m met → m.node < length nodes) → AllApart (pairs_of patterns nodes met)
-apart_of patterns nodes chains [] l a w = tt
-apart_of patterns nodes chains (m ∷ ms) l a w =
+apart_of patterns nodes slots [] l a w = tt
+apart_of patterns nodes slots (m ∷ ms) l a w =
     apart_two (pairs_from (beginning_at patterns nodes m.node) 0 m.counts.items) (pairs_of patterns nodes ms) (apart_from (beginning_at patterns nodes m.node) 0 m.counts.items)
-    (apart_of patterns nodes chains ms l a.1 (λ x i. w x (inr i)))
+    (apart_of patterns nodes slots ms l a.1 (λ x i. w x (inr i)))
     (λ p i j.
     let x = of_in patterns nodes ms p j in
     let e = (one_from (beginning_at patterns nodes m.node) 0 m.counts.items p i).start in
@@ -121,10 +109,10 @@ in_place : (xs : List (List Token)) (p : ℕ) → p < length xs → IsIn (get_or
 in_place xs p h = in_at xs p (get_or xs p []) h (same_default xs p [] (get_or xs p []) h)
 
 -- a node is a beginning of a pattern
-begun : (patterns : List (List Token)) (nodes : List Node) (chains : List ℕ) (c : ℕ) → AreLinked patterns nodes chains → c < length nodes → 0 < length patterns
+begun : (patterns : List (List Token)) (nodes : List Node) (slots : List ℕ) (c : ℕ) → AreLinked patterns nodes slots → c < length nodes → 0 < length patterns
     → (pattern : List Token) × IsIn pattern patterns × Begins (beginning_at patterns nodes c) pattern
-begun patterns nodes chains zero l h s = (get_or patterns 0 [], in_place patterns 0 s, (get_or patterns 0 [], ap (λ (z : List Token). z ++ get_or patterns 0 []) (sym (root_is patterns nodes chains l))))
-begun patterns nodes chains (suc c) l h s =
+begun patterns nodes slots zero l h s = (get_or patterns 0 [], in_place patterns 0 s, (get_or patterns 0 [], ap (λ (z : List Token). z ++ get_or patterns 0 []) (sym (root_is patterns nodes slots l))))
+begun patterns nodes slots (suc c) l h s =
     let n = l.each (suc c) (omega arith) h in
     let p = get_or patterns (node_at nodes (suc c)).pattern [] in
     (p, in_place patterns (node_at nodes (suc c)).pattern n.deep.pattern, (drop (node_at nodes (suc c)).depth p, sym (take-append-drop (node_at nodes (suc c)).depth p)))
@@ -136,13 +124,13 @@ taken_in zero (suc i) (c ∷ []) h e = absurd (false≢true h)
 taken_in zero (suc i) (c ∷ d ∷ cs) h e = absurd (omega (arith, e))
 taken_in (suc n) (suc i) (c ∷ cs) h e = let r = taken_in n i cs h (omega (arith, e)) in omega (arith, r)
 
-only_pairs : (patterns : List (List Token)) (nodes : List Node) (chains : List ℕ) (key : Text) (met : List Met) (p : Pair) → AreLinked patterns nodes chains → 0 < length patterns
+only_pairs : (patterns : List (List Token)) (nodes : List Node) (slots : List ℕ) (key : Text) (met : List Met) (p : Pair) → AreLinked patterns nodes slots → 0 < length patterns
     → AreMet patterns nodes (words key) (Begins []) met → IsIn p (pairs_of patterns nodes met) → IsPair patterns key p
-only_pairs patterns nodes chains key met p l s a h =
+only_pairs patterns nodes slots key met p l s a h =
     let x = of_in patterns nodes met p h in
     let o = one_from (beginning_at patterns nodes x.0.node) 0 x.0.counts.items p x.2 in
     let c = a.counts x.0 x.1 in
-    let b = begun patterns nodes chains x.0.node l (a.within x.0 x.1) s in
+    let b = begun patterns nodes slots x.0.node l (a.within x.0 x.1) s in
     let t : p.taken ≡ o.at = (let e = o.taken in omega (arith, e)) in
     let k : o.at ≤ length (words key) = taken_in (length (words key)) o.at x.0.counts.items o.told c.size in
     record {
@@ -157,12 +145,12 @@ only_pairs patterns nodes chains key met p l s a h =
 begins_same : (patterns : List (List Token)) (nodes : List Node) (a c : ℕ) (b : List Token) → a ≡ c → beginning_at patterns nodes a ≡ b → beginning_at patterns nodes c ≡ b
 begins_same patterns nodes a c b e h = subst (λ (z : ℕ). beginning_at patterns nodes z ≡ b) e h
 
-all_pairs : (patterns : List (List Token)) (nodes : List Node) (chains ends : List ℕ) (places : List (List ℕ)) (key : Text) (met : List Met) (p : Pair) → IsTrie patterns nodes chains ends places
+all_pairs : (patterns : List (List Token)) (nodes : List Node) (slots ends : List ℕ) (places : List (List ℕ)) (key : Text) (met : List Met) (p : Pair) → IsTrie patterns nodes slots ends places
     → AreMet patterns nodes (words key) (Begins []) met → IsPair patterns key p → IsIn p (pairs_of patterns nodes met)
-all_pairs patterns nodes chains ends places key met p t a h =
+all_pairs patterns nodes slots ends places key met p t a h =
     let q = place_in patterns h.pattern h.is_in in
     let e : beginning_at patterns nodes (get_or ends q.0 0) ≡ p.start ++ h.begins.0 = t.ended.are q.0 q.1 ∙ q.2 ∙ h.begins.1 in
-    let u = up patterns nodes chains (suc (get_or ends q.0 0)) (get_or ends q.0 0) p.start h.begins.0 t.linked (omega arith) (t.ended.within q.0 q.1) e in
+    let u = up patterns nodes slots (suc (get_or ends q.0 0)) (get_or ends q.0 0) p.start h.begins.0 t.linked (omega arith) (t.ended.within q.0 q.1) e in
     let m : Matches (beginning_at patterns nodes u.0) (take p.taken (words key)) = subst (λ (z : List Token). Matches z (take p.taken (words key))) (sym u.2) h.matches in
     let x = node_in met u.0 (a.all u.0 p.taken u.1 h.within m (beginning_at patterns nodes u.0, refl)) in
     let b = begins_same patterns nodes u.0 x.0.node p.start x.2 u.2 in
@@ -171,12 +159,12 @@ all_pairs patterns nodes chains ends places key met p t a h =
     (subst (λ (z : List Token). IsIn (pair_of z p.taken) (pairs_from (beginning_at patterns nodes x.0.node) 0 x.0.counts.items)) b
     (in_from (beginning_at patterns nodes x.0.node) 0 x.0.counts.items p.taken p.taken (omega arith) told))
 
-pub counted : (patterns : List (List Token)) (nodes : List Node) (chains ends : List ℕ) (places : List (List ℕ)) (key : Text) (met : List Met) (count : ℕ) → IsTrie patterns nodes chains ends places
+pub counted : (patterns : List (List Token)) (nodes : List Node) (slots ends : List ℕ) (places : List (List ℕ)) (key : Text) (met : List Met) (count : ℕ) → IsTrie patterns nodes slots ends places
     → 0 < length patterns → AreMet patterns nodes (words key) (Begins []) met → count ≡ told_in met → IsCounted patterns key count
-counted patterns nodes chains ends places key met count t s a e = record {
+counted patterns nodes slots ends places key met count t s a e = record {
   pairs = pairs_of patterns nodes met;
-  apart = apart_of patterns nodes chains met t.linked a.apart a.within;
-  only = λ p i. only_pairs patterns nodes chains key met p t.linked s a i;
-  all = λ p h. all_pairs patterns nodes chains ends places key met p t a h;
+  apart = apart_of patterns nodes slots met t.linked a.apart a.within;
+  only = λ p i. only_pairs patterns nodes slots key met p t.linked s a i;
+  all = λ p h. all_pairs patterns nodes slots ends places key met p t a h;
   size = e ∙ size_of patterns nodes met;
 }

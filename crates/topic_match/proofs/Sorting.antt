@@ -1,23 +1,11 @@
 -- Places that are sorted.
-use Rattle.std.proofs.Common.{◌≡◌, ℕ, zero, suc, ◌<◌, List, [], ◌∷◌, Bool, true, false, refl, sym, ap, ◌∙◌, subst, length, get_or, eqb, inl, inr, arith}
-use Rattle.std.specs.Prelude.{AllPairs}
+use Rattle.topic_match.proofs.Names.{◌≡◌, ℕ, zero, suc, ◌<◌, List, [], ◌∷◌, Bool, true, false, refl, sym, ap, ◌∙◌, subst, length, get_or, eqb, inl, inr, arith, AllPairs, eqb-true, Text, words, IsIn, Token, Node, Met, AreSound, AreFound, AreRising, AreMatches, IsTrie, AllApart, Begins, AreMet}
 use Rattle.std.specs.List.{IsDistinct, Contains}
 use Rattle.std.specs.List.Sorted.{IsPermutation, IsSorted}
 use Rattle.std.specs.Ordering.{nat_cmp}
-use Rattle.std.proofs.lemmas.Bool.{eqb-true}
 use Rattle.std.proofs.lemmas.List.Sorted.{Contains-permutation, IsPermutation-sym, IsNonDecreasingBy-from_sort}
 use Rattle.std.proofs.lemmas.List.Kept.{AllPairs-from_increasing}
 use Rattle.std.proofs.lemmas.Map.Keys.{IsDistinct-from_apart, IsDistinct-IsPermutation, IsStrictlyIncreasing-from_distinct}
-use Rattle.model.specs.Words.{Text, words}
-use Rattle.model.specs.Topology.{IsIn}
-use Rattle.model.specs.declared.texts.Token.{Token}
-use Rattle.topic_match.specs.declared.nodes.Node.{Node}
-use Rattle.topic_match.specs.declared.nodes.Met.{Met}
-use Rattle.topic_match.specs.Ends.{AreSound, AreFound, AreRising}
-use Rattle.topic_match.specs.Places.{AreMatches}
-use Rattle.topic_match.specs.Tries.{IsTrie}
-use Rattle.topic_match.specs.Beginnings.{AllApart, Begins}
-use Rattle.topic_match.specs.Walks.{AreMet}
 use Rattle.topic_match.proofs.Lists.{in_at}
 use Rattle.topic_match.proofs.Grown.{same_default}
 use Rattle.topic_match.proofs.Law.{only_matching, all_matching}
@@ -65,13 +53,13 @@ sorted_found lists met n found sorted f p s = record {
   all = λ i h. is_in sorted i (Contains-permutation found sorted i p (contains found i (f.all i h)));
 }
 
-pub law : (patterns : List (List Token)) (nodes : List Node) (chains ends : List ℕ) (places : List (List ℕ)) (key : Text) (met : List Met) (found : List ℕ) → IsTrie patterns nodes chains ends places
+pub law : (patterns : List (List Token)) (nodes : List Node) (slots ends : List ℕ) (places : List (List ℕ)) (key : Text) (met : List Met) (found : List ℕ) → IsTrie patterns nodes slots ends places
     → AreMet patterns nodes (words key) (Begins []) met → AreRising places met (length (words key)) found → AreMatches patterns key found
-law patterns nodes chains ends places key met found t a f = record {
+law patterns nodes slots ends places key met found t a f = record {
   rising = f.rising;
-  within = λ i h. (only_matching patterns nodes chains ends places (words key) met i t a (f.only i h)).0;
-  only = λ i h. (only_matching patterns nodes chains ends places (words key) met i t a (f.only i h)).1;
-  all = λ i h m. f.all i (all_matching patterns nodes chains ends places (words key) met i t a h m);
+  within = λ i h. (only_matching patterns nodes slots ends places (words key) met i t a (f.only i h)).0;
+  only = λ i h. (only_matching patterns nodes slots ends places (words key) met i t a (f.only i h)).1;
+  all = λ i h m. f.all i (all_matching patterns nodes slots ends places (words key) met i t a h m);
 }
 
 -- ---- what is known of slices

@@ -1,12 +1,5 @@
 -- The tokens that can take some words.
-use Rattle.std.proofs.Common.{◌≡◌, ℕ, ◌+◌, ◌<◌, List, [], ◌∷◌, ◌++◌, Bool, true, false, refl, sym, ◌∙◌, subst, length, take, get_or, inl, inr}
-use Rattle.std.specs.Prelude.{Decides}
-use Rattle.std.proofs.lemmas.Bool.{false≢true}
-use Rattle.model.specs.Words.{Text}
-use Rattle.model.specs.Topology.{IsIn}
-use Rattle.model.specs.declared.texts.Token.{Token}
-use Rattle.model.specs.declared.texts.Token.TheVariants.{Word, One, Any}
-use Rattle.topic_match.specs.Walks.{AreSteps}
+use Rattle.topic_match.proofs.Names.{◌≡◌, ℕ, ◌+◌, ◌<◌, List, [], ◌∷◌, ◌++◌, Bool, true, false, refl, sym, ◌∙◌, subst, length, take, get_or, inl, inr, Decides, false≢true, Text, IsIn, Token, Word, One, Any, AreSteps}
 use Rattle.topic_match.proofs.Lists.{in_front, in_back, in_push, apart_two, in_at, take_push}
 
 pub word_here : (steps : List Token) (n : ℕ) (s : Token) (w : Text) (told : Bool) → n < length steps → s ≡ get_or steps n s → Decides told (Word w ≡ s) → told ≡ true → IsIn (Word w) steps

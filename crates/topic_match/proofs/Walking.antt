@@ -1,18 +1,6 @@
 -- The walk: what a token leads to, and what is added.
-use Rattle.std.proofs.Common.{◌≡◌, ℕ, zero, suc, ◌+◌, ◌<◌, List, [], ◌∷◌, ◌++◌, Bool, false, refl, sym, ap, ◌∙◌, subst, length, take, get_or, inl, inr, arith, append_assoc, append-nil}
-use Rattle.std.specs.Prelude.{◌⊎◌, Option, Some, None, IfSome, IfNone}
-use Rattle.std.proofs.lemmas.List.{same_from_push}
-use Rattle.std.proofs.lemmas.Bool.{false≢true}
-use Rattle.model.specs.Words.{Text, Matches, word}
-use Rattle.model.specs.Topology.{IsIn}
-use Rattle.model.specs.declared.texts.Token.{Token}
-use Rattle.model.specs.declared.texts.Token.TheVariants.{Word, One, Any}
-use Rattle.topic_match.specs.declared.nodes.Node.{Node}
-use Rattle.topic_match.specs.declared.nodes.Met.{Met}
-use Rattle.topic_match.specs.Counts.{AreCounts}
-use Rattle.topic_match.specs.Nodes.{node_at, beginning_at, last_token, AreLinked, IsChild}
-use Rattle.topic_match.specs.Beginnings.{AllApart, Begins}
-use Rattle.topic_match.specs.Walks.{AreSteps, GoesOn, nodes_of, AreAdded, IsStep, IsBarren}
+use Rattle.topic_match.proofs.Names.{◌≡◌, ℕ, zero, suc, ◌+◌, ◌<◌, List, [], ◌∷◌, ◌++◌, Bool, false, refl, sym, ap, ◌∙◌, subst, length, take, get_or, inl, inr, arith, append_assoc, append-nil, Option, Some, None, IfSome, IfNone, same_from_push, false≢true, Text, Matches, word, IsIn, Token, Word, One, Any, Node, Met, AreCounts, node_at, beginning_at, last_token, AreLinked, IsChild, AllApart, Begins, AreSteps, GoesOn, nodes_of, AreAdded, IsStep, IsBarren}
+use Rattle.std.specs.Prelude.{◌⊎◌}
 use Rattle.topic_match.proofs.Joins.{split, last_of}
 use Rattle.topic_match.proofs.Lists.{in_front, in_back, in_two, in_push, apart_two, in_taken, take_push, new_at, take_all, front_taken}
 
@@ -22,37 +10,37 @@ take_none : {A : Type 0} (n : ℕ) (xs : List A) → n ≡ 0 → take n xs ≡ [
 take_none zero xs e = refl
 take_none (suc n) xs e = absurd (omega (arith, e))
 
-pub root_is : (patterns : List (List Token)) (nodes : List Node) (chains : List ℕ) → AreLinked patterns nodes chains → beginning_at patterns nodes 0 ≡ []
-root_is patterns nodes chains l = take_none (node_at nodes 0).depth (get_or patterns (node_at nodes 0).pattern []) l.root
+pub root_is : (patterns : List (List Token)) (nodes : List Node) (slots : List ℕ) → AreLinked patterns nodes slots → beginning_at patterns nodes 0 ≡ []
+root_is patterns nodes slots l = take_none (node_at nodes 0).depth (get_or patterns (node_at nodes 0).pattern []) l.root
 
 some_push : {A : Type 0} (xs : List A) (x : A) → [] ≡ xs ++ x ∷ [] → ⊥
 some_push [] x e = cc
 some_push (y ∷ xs) x e = cc
 
-behind_root : (patterns : List (List Token)) (nodes : List Node) (chains : List ℕ) (c : ℕ) (b : List Token) (t : Token) → AreLinked patterns nodes chains
+behind_root : (patterns : List (List Token)) (nodes : List Node) (slots : List ℕ) (c : ℕ) (b : List Token) (t : Token) → AreLinked patterns nodes slots
     → beginning_at patterns nodes c ≡ b ++ t ∷ [] → 0 < c
-behind_root patterns nodes chains zero b t l e = absurd (some_push b t (sym (root_is patterns nodes chains l) ∙ e))
-behind_root patterns nodes chains (suc c) b t l e = omega arith
+behind_root patterns nodes slots zero b t l e = absurd (some_push b t (sym (root_is patterns nodes slots l) ∙ e))
+behind_root patterns nodes slots (suc c) b t l e = omega arith
 
 -- the beginnings of a beginning are there too
-pub up : (patterns : List (List Token)) (nodes : List Node) (chains : List ℕ) (fuel c : ℕ) (b rest : List Token) → AreLinked patterns nodes chains → c < fuel → c < length nodes
+pub up : (patterns : List (List Token)) (nodes : List Node) (slots : List ℕ) (fuel c : ℕ) (b rest : List Token) → AreLinked patterns nodes slots → c < fuel → c < length nodes
     → beginning_at patterns nodes c ≡ b ++ rest → (a : ℕ) × (a < length nodes) × (beginning_at patterns nodes a ≡ b)
-up patterns nodes chains zero c b rest l f h e = absurd (omega (arith, f))
-up patterns nodes chains (suc fuel) c b rest l f h e = elim (last_of rest) [
+up patterns nodes slots zero c b rest l f h e = absurd (omega (arith, f))
+up patterns nodes slots (suc fuel) c b rest l f h e = elim (last_of rest) [
   | inl n ↦ (c, h, e ∙ ap (λ (z : List Token). b ++ z) n ∙ append-nil b)
   | inr p ↦
       let g : beginning_at patterns nodes c ≡ (b ++ p.0) ++ p.1 ∷ [] = e ∙ ap (λ (z : List Token). b ++ z) p.2 ∙ sym (append_assoc b p.0 (p.1 ∷ [])) in
-      let n = l.each c (behind_root patterns nodes chains c (b ++ p.0) p.1 l g) h in
+      let n = l.each c (behind_root patterns nodes slots c (b ++ p.0) p.1 l g) h in
       let s = same_from_push (beginning_at patterns nodes (node_at nodes c).parent) (b ++ p.0) (last_token patterns (node_at nodes c)) p.1 (sym n.behind ∙ g) in
       let q = n.parent in
-      up patterns nodes chains fuel (node_at nodes c).parent b p.0 l (omega (arith, f, q)) (omega (arith, h, q)) s.0
+      up patterns nodes slots fuel (node_at nodes c).parent b p.0 l (omega (arith, f, q)) (omega (arith, h, q)) s.0
 ]
 
 -- the node of a beginning with one token more is its child
-pub is_child : (patterns : List (List Token)) (nodes : List Node) (chains : List ℕ) (at a : ℕ) (t : Token) → AreLinked patterns nodes chains → at < length nodes → a < length nodes
+pub is_child : (patterns : List (List Token)) (nodes : List Node) (slots : List ℕ) (at a : ℕ) (t : Token) → AreLinked patterns nodes slots → at < length nodes → a < length nodes
     → beginning_at patterns nodes a ≡ beginning_at patterns nodes at ++ t ∷ [] → IsChild patterns nodes at t a
-is_child patterns nodes chains at a t l h k e =
-    let some = behind_root patterns nodes chains a (beginning_at patterns nodes at) t l e in
+is_child patterns nodes slots at a t l h k e =
+    let some = behind_root patterns nodes slots a (beginning_at patterns nodes at) t l e in
     let n = l.each a some k in
     let q = n.parent in
     let s = same_from_push (beginning_at patterns nodes (node_at nodes a).parent) (beginning_at patterns nodes at) (last_token patterns (node_at nodes a)) t (sym n.behind ∙ e) in
@@ -62,9 +50,9 @@ is_child patterns nodes chains at a t l h k e =
       last = record { origin = l.apart (node_at nodes a).parent at (omega (arith, q, k)) h s.0; token_is = s.1 };
     }
 
-pub child_is : (patterns : List (List Token)) (nodes : List Node) (chains : List ℕ) (at a : ℕ) (t : Token) → AreLinked patterns nodes chains → IsChild patterns nodes at t a
+pub child_is : (patterns : List (List Token)) (nodes : List Node) (slots : List ℕ) (at a : ℕ) (t : Token) → AreLinked patterns nodes slots → IsChild patterns nodes at t a
     → (at < a) × (beginning_at patterns nodes a ≡ beginning_at patterns nodes at ++ t ∷ [])
-child_is patterns nodes chains at a t l i =
+child_is patterns nodes slots at a t l i =
     let n = l.each a i.some i.within in
     let q = n.parent in
     let o = i.last.origin in (
@@ -76,11 +64,11 @@ child_is patterns nodes chains at a t l i =
 one_more : (b : List Token) (t : Token) (rest : List Token) → b ++ t ∷ rest ≡ (b ++ t ∷ []) ++ rest
 one_more b t rest = sym (append_assoc b (t ∷ []) rest)
 
-pub barren_none : (patterns : List (List Token)) (nodes : List Node) (chains : List ℕ) (words : List Text) (at : ℕ) (t : Token) → AreLinked patterns nodes chains → at < length nodes
+pub barren_none : (patterns : List (List Token)) (nodes : List Node) (slots : List ℕ) (words : List Text) (at : ℕ) (t : Token) → AreLinked patterns nodes slots → at < length nodes
     → ((c : ℕ) → IsChild patterns nodes at t c → ⊥) → IsBarren patterns nodes words at t
-barren_none patterns nodes chains words at t l h n = λ c i rest k e m d.
-    let a = up patterns nodes chains (suc c) c (beginning_at patterns nodes at ++ t ∷ []) rest l (omega arith) k (e ∙ one_more (beginning_at patterns nodes at) t rest) in
-    n a.0 (is_child patterns nodes chains at a.0 t l h a.1 a.2)
+barren_none patterns nodes slots words at t l h n = λ c i rest k e m d.
+    let a = up patterns nodes slots (suc c) c (beginning_at patterns nodes at ++ t ∷ []) rest l (omega arith) k (e ∙ one_more (beginning_at patterns nodes at) t rest) in
+    n a.0 (is_child patterns nodes slots at a.0 t l h a.1 a.2)
 
 pub barren_empty : (patterns : List (List Token)) (nodes : List Node) (words : List Text) (at : ℕ) (t : Token) (counts : List Bool) → AreCounts (beginning_at patterns nodes at ++ t ∷ []) words counts
     → ((i : ℕ) → get_or counts i false ≡ false) → IsBarren patterns nodes words at t
@@ -90,10 +78,10 @@ barren_empty patterns nodes words at t counts a n = λ c i rest k e m d.
     let f = front_taken words i p.front p.back d p.whole in
     false≢true (sym (n f.0) ∙ (a.each f.0 f.1).1 (subst (Matches (b ++ t ∷ [])) f.2 p.first))
 
-pub step_is : (patterns : List (List Token)) (nodes : List Node) (chains : List ℕ) (words : List Text) (at c : ℕ) (t : Token) (counts : List Bool) → AreLinked patterns nodes chains
+pub step_is : (patterns : List (List Token)) (nodes : List Node) (slots : List ℕ) (words : List Text) (at c : ℕ) (t : Token) (counts : List Bool) → AreLinked patterns nodes slots
     → IsChild patterns nodes at t c → AreCounts (beginning_at patterns nodes at ++ t ∷ []) words counts → IsStep patterns nodes words at t c counts
-step_is patterns nodes chains words at c t counts l i a =
-    let b = child_is patterns nodes chains at c t l i in
+step_is patterns nodes slots words at c t counts l i a =
+    let b = child_is patterns nodes slots at c t l i in
     record { later = b.0; within = i.within; begins = b.1; are = subst (λ (ts : List Token). AreCounts ts words counts) (sym b.1) a }
 
 -- ---- what is added
@@ -197,11 +185,11 @@ longer : (b : List Token) (t : Token) (rest : List Token) → b ≡ b ++ t ∷ r
 longer [] t rest e = cc
 longer (x ∷ b) t rest e = longer b t rest (let f : x ∷ b ≡ x ∷ (b ++ t ∷ rest) = e in cc)
 
-pub added_here : (patterns : List (List Token)) (nodes : List Node) (chains : List ℕ) (words : List Text) (steps : List Token) (here : Met) (n : ℕ) (old new last : List Met) → n ≡ length steps → AreLinked patterns nodes chains
+pub added_here : (patterns : List (List Token)) (nodes : List Node) (slots : List ℕ) (words : List Text) (steps : List Token) (here : Met) (n : ℕ) (old new last : List Met) → n ≡ length steps → AreLinked patterns nodes slots
     → here.node < length nodes → AreCounts (beginning_at patterns nodes here.node) words here.counts.items → AreSteps steps words → last ≡ new ++ here ∷ []
     → AreAdded patterns nodes words (GoesOn (beginning_at patterns nodes here.node) (take n steps)) old new
     → AreAdded patterns nodes words (Begins (beginning_at patterns nodes here.node)) old last
-added_here patterns nodes chains words steps here n old new last size l h counts taken is a' =
+added_here patterns nodes slots words steps here n old new last size l h counts taken is a' =
     let b = beginning_at patterns nodes here.node in
     let a : AreAdded patterns nodes words (GoesOn b steps) old new = subst (λ (z : List Token). AreAdded patterns nodes words (GoesOn b z) old new) (ap (λ (i : ℕ). take i steps) size ∙ take_all steps) a' in
     record {

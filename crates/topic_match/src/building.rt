@@ -2,45 +2,47 @@
 
 ghost use Rattle.std.specs.Prelude.{◌≡◌, ◌+◌, ◌<◌, ℕ, [], length, take, IfOk, OnOk, slice_index_or};
 ghost use Rattle.model.specs.declared.texts.Token.TheVariants.{Any};
-ghost use Rattle.topic_match.specs.Nodes.{AreLinked, IsChild, beginning_at};
+ghost use Rattle.topic_match.specs.Nodes.{AreLinked, IsPlace, beginning_at};
 ghost use Rattle.topic_match.specs.Building.{AreGrown, EndAt};
 
-use crate::children::{child, mark_of, slot};
+use crate::children::{node_in, place_of};
 use crate::nodes::Node;
 use crate::patterns::Pattern;
 use crate::steps::Step;
 use std::alloc::{AllocError, Global};
 
-/// Adds the node of a pattern's first tokens, one more than its parent has.
+/// Adds the node of a pattern's first tokens, one more than its parent has, in its slot.
 fn add_node(
     patterns: &[Pattern],
     nodes: &mut Vec<Node>,
-    chains: &mut [usize],
+    slots: &mut Vec<usize>,
+    place: usize,
     parent: usize,
     pattern: usize,
     depth: usize,
 ) -> Result<usize, AllocError>
-    requires linked { AreLinked patterns.now nodes.old.items chains.old }
+    requires linked { AreLinked patterns.now nodes.old.items slots.old.items }
     requires parent { parent < length nodes.old.items }
     requires pattern { pattern < length patterns.now }
     requires depth { depth < length (slice_index_or patterns.now pattern []) }
+    requires fits { depth + 1 < 18446744073709551616 }
     requires before { beginning_at patterns.now nodes.old.items parent ≡ take depth (slice_index_or patterns.now pattern []) }
-    requires is_new { (c : ℕ) → IsChild patterns.now nodes.old.items parent (slice_index_or (slice_index_or patterns.now pattern []) depth Any) c → ⊥ }
-    ensures linked { OnOk result (AreLinked patterns.now nodes.new.items chains.new) }
+    requires place { IsPlace patterns.now nodes.old.items slots.old.items parent (slice_index_or (slice_index_or patterns.now pattern []) depth Any) place }
+    requires empty { slice_index_or slots.old.items place 0 ≡ 0 }
+    ensures linked { OnOk result (AreLinked patterns.now nodes.new.items slots.new.items) }
     ensures grown { OnOk result (AreGrown patterns.now nodes.old.items nodes.new.items) }
     ensures made { IfOk result (λ c. (c < length nodes.new.items)
         × (beginning_at patterns.now nodes.new.items c ≡ take (depth + 1) (slice_index_or patterns.now pattern []))) }
 {
     let node = nodes.len();
-    let mark = mark_of(&patterns[pattern].tokens()[depth]);
-    let place = slot(chains.len(), parent, mark);
     nodes.push(Node {
         parent,
         pattern,
         depth: depth + 1,
-        next: chains[place],
     })?;
-    chains[place] = node;
+    slots.push(0)?;
+    slots.push(0)?;
+    slots[place] = node;
     Ok(node)
 }
 
@@ -48,60 +50,67 @@ fn add_node(
 fn node_behind(
     patterns: &[Pattern],
     nodes: &mut Vec<Node>,
-    chains: &mut [usize],
+    slots: &mut Vec<usize>,
     parent: usize,
     pattern: usize,
     depth: usize,
 ) -> Result<usize, AllocError>
-    requires linked { AreLinked patterns.now nodes.old.items chains.old }
+    requires linked { AreLinked patterns.now nodes.old.items slots.old.items }
     requires parent { parent < length nodes.old.items }
     requires pattern { pattern < length patterns.now }
     requires depth { depth < length (slice_index_or patterns.now pattern []) }
     requires before { beginning_at patterns.now nodes.old.items parent ≡ take depth (slice_index_or patterns.now pattern []) }
-    ensures linked { OnOk result (AreLinked patterns.now nodes.new.items chains.new) }
+    ensures linked { OnOk result (AreLinked patterns.now nodes.new.items slots.new.items) }
     ensures grown { OnOk result (AreGrown patterns.now nodes.old.items nodes.new.items) }
     ensures made { IfOk result (λ c. (c < length nodes.new.items)
         × (beginning_at patterns.now nodes.new.items c ≡ take (depth + 1) (slice_index_or patterns.now pattern []))) }
 {
     let token = &patterns[pattern].tokens()[depth];
-    if let Some(node) = child(patterns, nodes.as_slice(), chains, parent, &Step::by(token)) {
+    let place = place_of(
+        patterns,
+        nodes.as_slice(),
+        slots.as_slice(),
+        parent,
+        &Step::by(token),
+    );
+    if let Some(node) = node_in(slots.as_slice(), place) {
         return Ok(node);
     }
-    add_node(patterns, nodes, chains, parent, pattern, depth)
+    add_node(patterns, nodes, slots, place, parent, pattern, depth)
 }
 
 /// The node of a whole pattern.
 fn node_of(
     patterns: &[Pattern],
     nodes: &mut Vec<Node>,
-    chains: &mut [usize],
+    slots: &mut Vec<usize>,
     pattern: usize,
 ) -> Result<usize, AllocError>
-    requires linked { AreLinked patterns.now nodes.old.items chains.old }
+    requires linked { AreLinked patterns.now nodes.old.items slots.old.items }
     requires pattern { pattern < length patterns.now }
-    ensures linked { OnOk result (AreLinked patterns.now nodes.new.items chains.new) }
+    ensures linked { OnOk result (AreLinked patterns.now nodes.new.items slots.new.items) }
     ensures grown { OnOk result (AreGrown patterns.now nodes.old.items nodes.new.items) }
     ensures made { IfOk result (λ c. (c < length nodes.new.items) × (beginning_at patterns.now nodes.new.items c ≡ slice_index_or patterns.now pattern [])) }
 {
     let mut node = 0;
     for depth in 0..patterns[pattern].tokens().len() {
-        node = node_behind(patterns, nodes, chains, node, pattern, depth)?;
+        node = node_behind(patterns, nodes, slots, node, pattern, depth)?;
     }
     Ok(node)
 }
 
-/// How many chains there are, one for each token.
-fn tokens_in(patterns: &[Pattern]) -> usize
-    ensures { 0 < result }
+/// How many slots there are at first: one for each token, and two behind the root.
+fn first_slots(patterns: &[Pattern]) -> usize
+    ensures { 2 < result }
 {
-    let mut count: usize = 1;
+    let mut count: usize = 3;
     for pattern in patterns {
         count = count.saturating_add(pattern.tokens().len());
     }
     count
 }
 
-/// The nodes of these patterns, their chains, and the node at which each pattern ends.
+/// The nodes of these patterns, their slots, and the node at which each pattern ends.
 pub fn nodes_of(
     alloc: Global,
     patterns: &[Pattern],
@@ -114,13 +123,12 @@ pub fn nodes_of(
         parent: 0,
         pattern: 0,
         depth: 0,
-        next: 0,
     })?;
-    let mut chains = vec![in alloc; 0; tokens_in(patterns)]?;
+    let mut slots = vec![in alloc; 0; first_slots(patterns)]?;
     let mut ends = Vec::new(alloc);
     for pattern in 0..patterns.len() {
-        let node = node_of(patterns, &mut nodes, chains.as_mut_slice(), pattern)?;
+        let node = node_of(patterns, &mut nodes, &mut slots, pattern)?;
         ends.push(node)?;
     }
-    Ok((nodes, chains, ends))
+    Ok((nodes, slots, ends))
 }

@@ -53,7 +53,7 @@ fn met_by(
     links: &Links<'_>,
     words: &[KeyWord<'_>],
 ) -> Result<Vec<Met>, AllocError>
-    requires linked { AreLinked patterns.now links.now.nodes.now links.now.chains.now }
+    requires linked { AreLinked patterns.now links.now.nodes.now links.now.slots.now }
     requires exits { AreExits patterns.now links.now.nodes.now (length links.now.nodes.now) links.now.exits.now }
     ensures { IfOk result (λ met. AreMet patterns.now links.now.nodes.now words.now (Begins []) met.items) }
 {
@@ -80,7 +80,7 @@ fn met_by(
 pub struct Trie {
     patterns: Vec<Pattern>,
     nodes: Vec<Node>,
-    chains: Vec<usize>,
+    slots: Vec<usize>,
     ends: Vec<usize>,
     places: Vec<Places>,
     exits: Vec<Exits>,
@@ -97,7 +97,7 @@ impl Model for Trie {
 
     ghost view = { λ t. t.patterns.items };
 
-    ghost invariant = { λ t. IsTrie t.patterns.items t.nodes.items t.chains.items t.ends.items t.places.items
+    ghost invariant = { λ t. IsTrie t.patterns.items t.nodes.items t.slots.items t.ends.items t.places.items
         × AreExits t.patterns.items t.nodes.items (length t.nodes.items) t.exits.items };
 }
 
@@ -121,7 +121,7 @@ impl Trie {
             self.patterns.as_slice(),
             &Links {
                 nodes: self.nodes.as_slice(),
-                chains: self.chains.as_slice(),
+                slots: self.slots.as_slice(),
                 exits: self.exits.as_slice(),
             },
             words.as_slice(),
@@ -135,13 +135,13 @@ impl Matcher for Trie {
     ghost listed = { λ p. p };
 
     fn new(alloc: Global, patterns: Vec<Pattern>) -> Result<Trie, AllocError> {
-        let (nodes, chains, ends) = nodes_of(alloc, patterns.as_slice())?;
+        let (nodes, slots, ends) = nodes_of(alloc, patterns.as_slice())?;
         let places = ending(alloc, nodes.len(), ends.as_slice())?;
         let exits = exits_of(alloc, patterns.as_slice(), nodes.as_slice())?;
         Ok(Trie {
             patterns,
             nodes,
-            chains,
+            slots,
             ends,
             places,
             exits,

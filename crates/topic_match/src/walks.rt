@@ -24,7 +24,7 @@ fn step(
     from: &Met,
     by: &Step<'_>,
 ) -> Result<Option<Met>, AllocError>
-    requires linked { AreLinked patterns.now links.now.nodes.now links.now.chains.now }
+    requires linked { AreLinked patterns.now links.now.nodes.now links.now.slots.now }
     requires exits { AreExits patterns.now links.now.nodes.now (length links.now.nodes.now) links.now.exits.now }
     requires within { from.now.node < length links.now.nodes.now }
     requires counted { AreCounts (beginning_at patterns.now links.now.nodes.now from.now.node) words.now from.now.counts.items }
@@ -35,7 +35,7 @@ fn step(
     if !by.may_go(links.exits[from.node]) {
         return Ok(None);
     }
-    let Some(node) = child(patterns, links.nodes, links.chains, from.node, by) else {
+    let Some(node) = child(patterns, links.nodes, links.slots, from.node, by) else {
         return Ok(None);
     };
     let counts = counts_after(alloc, by, words, from.counts.as_slice())?;
@@ -55,7 +55,7 @@ pub fn walk(
     from: Met,
     met: &mut Vec<Met>,
 ) -> Result<(), AllocError>
-    requires linked { AreLinked patterns.now links.now.nodes.now links.now.chains.now }
+    requires linked { AreLinked patterns.now links.now.nodes.now links.now.slots.now }
     requires exits { AreExits patterns.now links.now.nodes.now (length links.now.nodes.now) links.now.exits.now }
     requires within { from.node < length links.now.nodes.now }
     requires counted { AreCounts (beginning_at patterns.now links.now.nodes.now from.node) words.now from.counts.items }

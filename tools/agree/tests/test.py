@@ -313,7 +313,7 @@ class Command(unittest.TestCase):
     def test_without_rabbitmq_it_is_passed_over(self):
         with tempfile.TemporaryDirectory() as nothing:
             status, out, said = self.run_agree("warren", path=nothing)
-        self.assertEqual((status, out, said), (0, "skipped: RabbitMQ is not installed: apt-get install rabbitmq-server\n", ""))
+        self.assertEqual((status, out, said), (0, "tools/agree: skipped, RabbitMQ is not installed: apt-get install rabbitmq-server\n", ""))
 
     def test_words_that_are_none(self):
         for words in (("--topologies", "0"), ("--keys", "-1"), ("--only", "x"), ("--keys", "1000001")):

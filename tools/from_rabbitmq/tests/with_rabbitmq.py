@@ -73,4 +73,4 @@ if __name__ == "__main__":
     try:
         sys.exit(main(sys.argv[1:] == ["--write"]))
     except NotHere as error:
-        print(f"skipped: {error}")
+        print(f"tools/from_rabbitmq: with_rabbitmq.py is skipped, {error}")

@@ -68,4 +68,4 @@ if __name__ == "__main__":
     try:
         sys.exit(main(int(sys.argv[1]) if sys.argv[1:] else 1))
     except NotHere as error:
-        print(f"skipped: {error}")
+        print(f"tools/from_rabbitmq: with_rabbitmq_limits.py is skipped, {error}")

@@ -235,4 +235,4 @@ if __name__ == "__main__":
     try:
         sys.exit(main(int(sys.argv[1]) if sys.argv[1:] else COUNT, int(sys.argv[2]) if sys.argv[2:] else 1))
     except NotHere as error:
-        print(f"skipped: {error}")
+        print(f"tools/from_rabbitmq: with_rabbitmq_stays.py is skipped, {error}")

@@ -29,6 +29,21 @@ class Families(unittest.TestCase):
         self.assertEqual(self.sizes(families.broken_at_the_end), [256, 256, 3813, 1])
         self.assertEqual(self.sizes(families.many_certificates), [1, 25, 2, 24])
         self.assertEqual(self.sizes(families.judged_at_a_reload), [65, 65, 127, 1])
+        self.assertEqual(self.sizes(families.many_at_a_reload), [2, 73, 109, 64])
+        self.assertEqual(self.sizes(families.many_through_exchanges), [202, 73, 309, 64])
+        self.assertEqual(self.sizes(lambda: families.one_slot(100)), [1, 1, 100, 0])
+        self.assertEqual(self.sizes(families.same_marks), [1, 1, 4096, 0])
+
+    def test_marks_are_the_same(self):
+        definitions, _ = families.same_marks()
+        words = {binding["routing_key"].split(".")[0] for binding in definitions["bindings"]}
+        self.assertEqual((len(words), len({families.mark(word) for word in words})), (4096, 1))
+
+    def test_nodes_fall_on_one_slot(self):
+        definitions, _ = families.one_slot(100)
+        words = [binding["routing_key"].split(".") for binding in definitions["bindings"]]
+        slots = {(number * 31 + at) * 31 + families.mark(word) for number, pattern in enumerate(words) for at, word in enumerate(pattern) if at}
+        self.assertEqual({slot % 3101 for slot in slots}, {0})
 
     def test_words_differ(self):
         definitions, _ = families.many_letters()

@@ -82,6 +82,18 @@ class Serves(unittest.TestCase):
             self.assertEqual((running.returncode, said.splitlines()[-1]), (128 + signal.SIGTERM, "my defs.json"))
             self.assertEqual(trial.runs(), ["run -- --help"])
 
+    def test_a_program_that_is_given(self):
+        """It is taken as it is, and serves until it is ended; nothing is made."""
+        with Trial("look") as trial:
+            trial.rt("exit 0")
+            trial.write("a b/warren", f'#!/bin/sh\nif [ $1 = --version ]; then echo "warren 7.1"; exit; fi\n{SERVES}\n')
+            running = trial.start("look", "--by", f"{trial.root}/a b/warren", "--listen", "127.0.0.1:0")
+            self.assertEqual(running.stdout.readline(), "warren: listening on 127.0.0.1:1\n")
+            running.terminate()
+            _, said = running.communicate(timeout=60)
+            self.assertEqual((running.returncode, said.splitlines()[0]), (128 + signal.SIGTERM, f"{trial.root}/a b/warren is taken as it is: warren 7.1"))
+            self.assertEqual(trial.runs(), [])
+
 
 class Bad(unittest.TestCase):
     def test_an_address_that_is_taken_is_told_before_the_build(self):
@@ -93,7 +105,7 @@ class Bad(unittest.TestCase):
 
     def test_one_line_each(self):
         with Trial("look") as trial:
-            for words in (("one",), ("--listen", "here"), ("--listen", "127.0.0.1:99999"), ("--listen", "256.0.0.1:1"), ("--seconds", "x"), ("--x",)):
+            for words in (("one",), ("--listen", "here"), ("--listen", "127.0.0.1:99999"), ("--listen", "256.0.0.1:1"), ("--seconds", "x"), ("--x",), ("--proved", "--by", "x"), ("--by", "/nowhere", "--listen", "127.0.0.1:0"), ("--by", "/bin/true", "--listen", "127.0.0.1:0")):
                 status, out, said = trial.run("look", *words)
                 self.assertIn(status, (3, 4))
                 self.assertEqual((out, said.count("\n")), ("", 1), said)

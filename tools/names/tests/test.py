@@ -42,6 +42,21 @@ class Names(TreeTest):
         self.assertEqual(self.read("crates/one/proofs/Lib.antt"), "pub mod Names\nmod First\nmod Second\n")
         self.assertEqual(self.told(), "")
 
+    def test_a_crate_with_a_module_of_that_name_has_another_file(self):
+        self.two()
+        self.write("crates/one/src/names.rt", "")
+        self.gather()
+        self.assertEqual(self.read("crates/one/proofs/Imports.antt").splitlines()[1], "pub use Rattle.std.A.{x, y}")
+        self.assertEqual(self.read("crates/one/proofs/First.antt"), "-- A file.\nuse Rattle.one.proofs.Imports.{x, y, z}\n\nfact = x\n")
+        self.assertEqual(self.read("crates/one/proofs/Lib.antt"), "pub mod Imports\nmod First\nmod Second\n")
+        self.assertEqual(self.told(), "")
+
+    def test_so_has_one_with_a_type_of_that_name(self):
+        self.two()
+        self.write("crates/one/src/lists.rt", "pub struct Names {\n}\n")
+        self.gather()
+        self.assertEqual(self.read("crates/one/proofs/Lib.antt"), "pub mod Imports\nmod First\nmod Second\n")
+
     def test_a_second_time_changes_nothing(self):
         self.two()
         self.gather()

@@ -20,32 +20,29 @@ prose = importlib.util.module_from_spec(importlib.util.spec_from_loader("prose",
 loader.exec_module(prose)
 
 
-def words(count):
-    return "This has " + "many " * (count - 3) + "words."
+class Dialect(unittest.TestCase):
+    def found(self, text):
+        return [it.split('"')[1] for it in prose.dialect("PAGE", text)]
 
+    def test_each_word_of_the_list(self):
+        for words in (
+            "want of memory", "Want of memory", "is wanting", "memory is wanting", "wants memory", "want no memory", "wanted any memory", "no more",
+            "so many", "So many", "stands", "stand", "stood", "So it is if", "and so it was", "once more", "from then on", "from now on", "From there on",
+        ):
+            with self.subTest(words):
+                self.assertTrue(self.found(f"Here {words} for a reader."))
 
-class Sentences(unittest.TestCase):
-    def split(self, text):
-        return [it for _, part in prose.parts(text) for it in prose.sentences(part) if it.strip()]
+    def test_words_that_only_look_like_it(self):
+        for words in ("at most, and no more than 3", "a standard", "to understand", "notwithstanding", "it is so", "so they are proved", "once", "a standby", "many", "wants a port"):
+            with self.subTest(words):
+                self.assertEqual(self.found(words), [])
 
-    def test_a_stop_ends_a_sentence(self):
-        self.assertEqual(len(self.split("One. Two, e.g. three? Four!")), 3)
+    def test_code_may_have_them(self):
+        self.assertEqual(self.found("Run `stands` now.\n\n```\nso many\n```\n\n[this](that.md#no-more)\n\n[`it`]: once_more.md"), [])
 
-    def test_a_stop_in_bold_or_in_brackets_does(self):
-        self.assertEqual(len(self.split("**One.** Two. (Three.) Four. *(Five.)* Six.")), 6)
-
-    def test_a_bullet_and_a_cell_are_read_alone(self):
-        self.assertEqual(len(self.split("- one\n- two\n\n| three | four; five |\n")), 5)
-
-    def test_code_is_one_word(self):
-        self.assertEqual(prose.counts_of("Run `make a b c d` now.")[0][0], 3)
-        self.assertEqual(prose.counts_of("```\nnot a word of this\n```\nBut these three.")[0][0], 3)
-
-    def test_the_percentile_is_the_nearest_rank(self):
-        self.assertEqual(prose.at_95([(count, "") for count in range(1, 21)]), 19)
-        self.assertEqual(prose.at_95([(count, "") for count in range(1, 22)]), 20)
-        self.assertEqual(prose.at_95([(7, "")]), 7)
-        self.assertEqual(prose.at_95([]), 0)
+    def test_the_line_is_told(self):
+        told = list(prose.dialect("PAGE", "one\n```\ntwo\n```\nHere it stands.\n"))
+        self.assertEqual(told, ['PAGE:5: "stands"; instead: is, lies, waits; or the verb of what it does'])
 
 
 class Pages(unittest.TestCase):
@@ -77,17 +74,14 @@ class Pages(unittest.TestCase):
     def test_the_pages_as_they_are(self):
         status, said = self.said()
         self.assertEqual(status, 0, said)
-        self.assertIn(" words  docs/inside/DECISIONS.md\n", said)
 
-    def test_a_long_sentence(self):
-        self.add("docs/LIMITS.md", words(40))
-        self.assertEqual(self.said()[0], 0)
-        self.add("docs/LIMITS.md", words(41))
-        self.assertSays("docs/LIMITS.md: 41 words: This has many")
+    def test_pages_are_found(self):
+        found = prose.found(self.root, prose.PAGES)
+        self.assertLessEqual({"README.md", "docs/COSTS.md", "docs/inside/DECISIONS.md", "tools/README.md", "examples/shop/README.md"}, set(found))
 
-    def test_many_long_sentences(self):
-        self.add("docs/inside/SHAPES.md", (words(31) + " ") * 20)
-        self.assertSays("docs/inside/SHAPES.md: 95 of 100 sentences have up to")
+    def test_a_word_of_the_dialect(self):
+        self.add("docs/LIMITS.md", "Here it stands.")
+        self.assertSays('"stands"')
 
     def test_a_dead_link(self):
         self.add("docs/CLIENTS.md", "See [this](NOWHERE.md).")
@@ -96,6 +90,12 @@ class Pages(unittest.TestCase):
     def test_a_heading_that_is_not_there(self):
         self.add("docs/CLIENTS.md", "See [this](LIMITS.md#every-limit) and [that](LIMITS.md#no-limit).")
         self.assertSays("docs/CLIENTS.md: LIMITS.md#no-limit leads nowhere")
+
+    def test_a_heading_of_the_same_page(self):
+        self.add("docs/LIMITS.md", "See [this](#every-limit).")
+        self.assertEqual(self.said()[0], 0)
+        self.add("docs/LIMITS.md", "See [that](#no-limit).")
+        self.assertSays("docs/LIMITS.md: #no-limit leads nowhere")
 
     def test_a_link_by_a_name(self):
         self.add("docs/CLIENTS.md", "See [`this`] and [`that`].\n\n[`this`]: LIMITS.md\n[`that`]: NOWHERE.md")
@@ -110,21 +110,13 @@ class Pages(unittest.TestCase):
         self.add("docs/CLIENTS.md", "See [this](LIMITS.md#a-row).")
         self.assertEqual(self.said()[0], 0)
 
-    def test_lines_that_say_where_names_lead_are_no_sentence(self):
-        self.add("docs/LIMITS.md", "See [`this`].\n\n" + "[`this`]: CLIENTS.md\n" * 60)
-        self.assertEqual(self.said()[0], 0)
-
     def test_a_page_that_is_named_and_not_there(self):
         self.add("docs/inside/TESTING.md", "As docs/PROOFS.md says.")
         self.assertSays("docs/inside/TESTING.md: there is no docs/PROOFS.md")
 
     def test_a_long_readme(self):
-        self.add("README.md", "\n" * 150)
-        self.assertSays("lines; 150 are the most")
-
-    def test_a_decision_without_its_line(self):
-        self.add("docs/inside/DECISIONS.md", "**A new entry.** It has no line.")
-        self.assertSays("docs/inside/DECISIONS.md: 0 lines by subject: A new entry")
+        self.add("README.md", "\n" * 120)
+        self.assertSays("lines; 120 are the most")
 
 
 if __name__ == "__main__":

@@ -52,4 +52,4 @@ if __name__ == "__main__":
         try_all()
         print("rabbit: as expected")
     except NotHere as error:
-        print(f"skipped: {error}")
+        print(f"tools/shared: skipped, {error}")

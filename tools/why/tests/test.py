@@ -105,7 +105,7 @@ class Sentences(unittest.TestCase):
         with open(os.path.join(SHOP, "definitions.json"), encoding="utf-8") as file:
             changed = file.read().replace('"orders.#"', '"orders.*.#"')
         guarantees = os.path.join(SHOP, "guarantees.json")
-        with written(changed, '1 no key "orders"\n2 yes states 3\n3 undecided key\n4 undecided states\n') as names:
+        with written(changed, '1 no key "orders"\n2 yes states 3\n3 undecided key\n4 undecided states\n5 yes states 7\n6 yes states 5\n') as names:
             status, out, said = run(names[0], guarantees, names[1])
             self.assertEqual((status, said), (1, ""))
             lines = out.splitlines()
@@ -145,6 +145,17 @@ class Sentences(unittest.TestCase):
                 os.chmod(names[2], 0o755)
                 status, out, _ = run(*names[:2], "--warren", names[2])
                 self.assertEqual((status, out), (1, f"1: {promise(guarantee)}: UNDECIDED by `check`, but NO: {said} {witness}\n"))
+
+    def test_a_program_that_does_not_answer(self):
+        """No verdict is taken from silence: not of a program that is killed or prints less, and not of a file that has less."""
+        _, definitions, guarantee, _, _ = BROKEN[0]
+        for lines, why in (("exit 0", "says nothing of guarantee 1"), ("kill -9 $$", "was ended by signal 9"), ("echo 1 yes states 2; exit 0", "says nothing of guarantee 2")):
+            with written(definitions, {"guarantees": [guarantee, guarantee]}, f"#!/bin/sh\n{lines}\n") as names:
+                os.chmod(names[2], 0o755)
+                self.assertEqual(run(*names[:2], "--warren", names[2]), (3, "", f"why: {names[2]} {why}\n"))
+        with written(definitions, {"guarantees": [guarantee, guarantee]}, "1 yes states 2\n") as names:
+            self.assertEqual(run(*names), (3, "", f"why: {names[2]} says nothing of guarantee 2\n"))
+            self.assertEqual(run(*names, "--only", "1")[0], 0)
 
 
 class Refusals(unittest.TestCase):

@@ -1,43 +1,44 @@
-//! The loads of acks that come out of order.
+//! Loads of acks that arrive out of order. Start with [`load_at`].
 
 use crate::loads::consumers::put_ack;
 use crate::measuring::Written;
 
-/// In which order deliveries are acknowledged.
+/// The order in which deliveries are acknowledged.
 #[derive(Clone, Copy, PartialEq, Eq, Drop)]
 pub enum Order {
-    /// From the first one on, of each two the second one first.
+    /// First to last, pairwise swapped.
     Swapped,
-    /// From the last one back to the first.
+    /// Last to first.
     Backward,
-    /// As if each came at random.
+    /// A pseudo-random order.
     Random,
 }
 
-/// By how much a place counts in the order that is as if at random.
+/// The linear coefficient of the polynomial that gives the pseudo-random order.
 const PLACE: u64 = 7_919;
 
-/// By how much its square does.
+/// Its quadratic coefficient.
 const SQUARE: u64 = 12_370;
 
-/// One load: messages that are all delivered to a consumer, and then acknowledged one by one.
+/// A load: messages that are all delivered to a consumer, and then acknowledged one by one.
 #[derive(Clone, Copy, Drop)]
 pub struct AckLoad {
     pub name: &'static str,
     pub order: Order,
-    /// How many are outstanding before the first ack: a number of which 2 and 5 are all primes, so that each comes once.
+    /// The number of unacknowledged messages before the first ack. It has no prime factors but 2 and 5, so that the pseudo-random
+    /// order visits each message once.
     pub outstanding: u64,
 }
 
 impl AckLoad {
-    /// A number below that of all outstanding ones, by a polynomial of a place: at each place another.
+    /// Returns a number below `outstanding`, another one for each `place` below it.
     fn at_random(&self, place: u64) -> u64 {
         let outstanding = self.outstanding.max(1);
         let factor = SQUARE.saturating_mul(place).saturating_add(PLACE) % outstanding;
         factor.saturating_mul(place) % outstanding
     }
 
-    /// The delivery tag that is acknowledged behind so many others.
+    /// Returns the delivery tag that is acknowledged after `others` others.
     fn tag_behind(&self, others: u64) -> u64 {
         match self.order {
             Order::Backward => self.outstanding.saturating_sub(others),
@@ -52,7 +53,7 @@ impl AckLoad {
         }
     }
 
-    /// Appends so many acks, behind so many others.
+    /// Appends `count` acks, after `others` others.
     pub fn put_acks(&self, out: &mut Written, others: u64, count: u64) {
         for place in 0..count {
             put_ack(out, self.tag_behind(others.saturating_add(place)));
@@ -60,7 +61,7 @@ impl AckLoad {
     }
 }
 
-/// The load at this place, none past the last.
+/// Returns the load at index `place`, or `None` after the last.
 pub fn load_at(place: u32) -> Option<AckLoad> {
     let (name, order, outstanding) = match place {
         0 => ("pairs swapped, 10,000 outstanding", Order::Swapped, 10_000),

@@ -3,23 +3,23 @@
 use crate::measuring::Written;
 use std::alloc::Global;
 
-/// The end of a frame.
+/// The last byte of a frame.
 const END: [u8; 1] = [206];
 
-/// Appends the head of a method frame of channel 1 with a payload of so many bytes.
+/// Appends the head of a method frame on channel 1 with a payload of `size` bytes.
 fn put_head(out: &mut Written, size: usize) {
     let size = u32::try_from(size).unwrap_or(0);
     out.put(&[1, 0, 1]);
     out.put(size.to_be_bytes().as_slice());
 }
 
-/// Appends a short text.
+/// Appends a short string.
 fn put_short(out: &mut Written, text: &[u8]) {
     out.put(&[u8::try_from(text.len()).unwrap_or(0)]);
     out.put(text);
 }
 
-/// Appends basic.qos: each consumer that comes may have so many deliveries outstanding.
+/// Appends basic.qos with this prefetch, for each consumer that follows.
 pub fn put_qos(out: &mut Written, prefetch: u16) {
     put_head(out, 11);
     out.put(&[0, 60, 0, 10, 0, 0, 0, 0]);
@@ -28,7 +28,7 @@ pub fn put_qos(out: &mut Written, prefetch: u16) {
     out.put(END.as_slice());
 }
 
-/// Appends basic.consume of this queue, under a tag of the server's.
+/// Appends basic.consume of `queue`, with a consumer tag that the server chooses.
 pub fn put_consume(out: &mut Written, queue: &[u8]) {
     put_head(out, queue.len().saturating_add(13));
     out.put(&[0, 60, 0, 20, 0, 0]);
@@ -37,7 +37,7 @@ pub fn put_consume(out: &mut Written, queue: &[u8]) {
     out.put(END.as_slice());
 }
 
-/// Appends basic.consume of this queue under this tag, and the cancel of that tag.
+/// Appends basic.consume of `queue` with the consumer tag `tag`, and basic.cancel of that tag.
 pub fn put_consume_and_cancel(out: &mut Written, queue: &[u8], tag: &[u8]) {
     put_head(
         out,
@@ -55,7 +55,7 @@ pub fn put_consume_and_cancel(out: &mut Written, queue: &[u8], tag: &[u8]) {
     out.put(END.as_slice());
 }
 
-/// Appends basic.ack of this delivery tag alone.
+/// Appends basic.ack of the delivery tag `tag` alone.
 pub fn put_ack(out: &mut Written, tag: u64) {
     put_head(out, 13);
     out.put(&[0, 60, 0, 80]);
@@ -64,7 +64,7 @@ pub fn put_ack(out: &mut Written, tag: u64) {
     out.put(END.as_slice());
 }
 
-/// Appends basic.nack of all deliveries up to this tag, which are not to be requeued.
+/// Appends basic.nack of all deliveries up to `tag`, without requeue.
 pub fn put_nack_all(out: &mut Written, tag: u64) {
     put_head(out, 13);
     out.put(&[0, 60, 0, 120]);
@@ -73,7 +73,7 @@ pub fn put_nack_all(out: &mut Written, tag: u64) {
     out.put(END.as_slice());
 }
 
-/// Appends queue.purge of this queue.
+/// Appends queue.purge of `queue`.
 pub fn put_purge(out: &mut Written, queue: &[u8]) {
     put_head(out, queue.len().saturating_add(8));
     out.put(&[0, 50, 0, 30, 0, 0]);
@@ -85,7 +85,7 @@ pub fn put_purge(out: &mut Written, queue: &[u8]) {
 /// A client that acknowledges each delivery of its channel.
 #[derive(Drop)]
 pub struct Acks {
-    /// The delivery tag that comes next.
+    /// The next delivery tag.
     next: u64,
     bytes: Written,
 }
@@ -98,7 +98,7 @@ impl Acks {
         }
     }
 
-    /// The acks of the next so many deliveries.
+    /// Returns the acks of the next `deliveries` deliveries.
     pub fn of_next(&mut self, deliveries: u64) -> &[u8] {
         self.bytes.clear();
         for _ in 0..deliveries {
@@ -108,7 +108,7 @@ impl Acks {
         self.bytes.as_slice()
     }
 
-    /// Whether no memory was refused.
+    /// Returns whether every allocation succeeded.
     pub fn is_whole(&self) -> bool {
         self.bytes.is_whole()
     }

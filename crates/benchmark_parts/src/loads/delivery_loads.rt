@@ -1,32 +1,32 @@
-//! The loads of deliveries.
+//! Loads of deliveries. Start with [`load_at`].
 
 use crate::measuring::{Keys, Shape};
 
-/// One load: messages of 12 bytes that are published, delivered to consumers and acknowledged, 100 at a time.
+/// A load: messages of 12 bytes that are published, delivered to consumers and acknowledged, 100 at a time.
 #[derive(Clone, Copy, Drop)]
 pub struct DeliveryLoad {
     pub name: &'static str,
-    /// How many queues have a consumer.
+    /// The number of queues with a consumer.
     pub queues: u32,
-    /// How many consumers stand beside, on a queue without messages.
+    /// The number of further consumers, on a queue without messages.
     pub idle: u32,
-    /// How many consumers stand beside, on the first queue, that hold as much as they may.
+    /// The number of further consumers, on the first queue, that have used up their prefetch.
     pub full: u32,
-    /// How many deliveries a consumer may have outstanding, any number where it is 0.
+    /// The prefetch of a consumer; 0 is no limit.
     pub prefetch: u16,
-    /// How many messages wait all the time.
+    /// The number of messages that are ready all the time.
     pub waiting: u64,
-    /// Whether the first queue has a limit of bytes.
+    /// Whether the first queue has a limit in bytes.
     pub is_limited: bool,
-    /// How many bindings the topic exchange has, whose keys never come again; the exchange is a direct one where it is 0.
+    /// The number of bindings of the topic exchange, which sees each key once; at 0 the exchange is a direct one.
     pub bindings: u32,
 }
 
-/// How many messages a load publishes, delivers and acknowledges.
+/// The number of messages that a load publishes, delivers and acknowledges.
 pub const MESSAGES: u64 = 100_000;
 
 impl DeliveryLoad {
-    /// The topology of the load.
+    /// Returns the topology of the load.
     pub fn shape(&self) -> Shape {
         if self.bindings != 0 {
             return Shape::Topic(self.bindings);
@@ -40,7 +40,7 @@ impl DeliveryLoad {
         Shape::Keyed(self.queues)
     }
 
-    /// The keys of its messages.
+    /// Returns the routing keys of its messages.
     pub fn keys(&self) -> Keys {
         if self.bindings != 0 {
             return Keys::Fresh;
@@ -52,7 +52,7 @@ impl DeliveryLoad {
     }
 }
 
-/// A load with one queue and one consumer.
+/// Returns a load with one queue and one consumer.
 fn one(name: &'static str, prefetch: u16, waiting: u64) -> DeliveryLoad {
     DeliveryLoad {
         name,
@@ -66,17 +66,17 @@ fn one(name: &'static str, prefetch: u16, waiting: u64) -> DeliveryLoad {
     }
 }
 
-/// The load of a drain: so many messages wait, and no more come.
+/// Returns the load of a drain: `messages` messages are ready, and no more come.
 pub fn drain_of(messages: u64) -> DeliveryLoad {
     one("drain", 0, messages)
 }
 
-/// The load of messages that come and go beside so many that wait all the time.
+/// Returns a load of messages that come and go while `waiting` others are ready all the time.
 pub fn beside(waiting: u64) -> DeliveryLoad {
     one("beside", 0, waiting)
 }
 
-/// The load at this place, none past the last.
+/// Returns the load at index `place`, or `None` after the last.
 pub fn load_at(place: u32) -> Option<DeliveryLoad> {
     let load = match place {
         0 => one("one consumer, prefetch 0", 0, 0),

@@ -3,21 +3,21 @@
 use crate::measuring::Written;
 use std::alloc::Global;
 
-/// As many bytes as a file may have, less what a last entry and an end take.
+/// The longest file, in bytes, minus the last entry and the end.
 const NEARLY: usize = 16_776_800;
 
-/// What stands before the lists.
+/// The text before the lists.
 const HEAD: &str =
     r#"{"vhosts":[{"name":"/"}],"permissions":[],"queues":[{"name":"q","vhost":"/","durable":true,"auto_delete":false,"arguments":{}}],"exchanges":[{"name":"x","vhost":"/","type":"topic","durable":true,"auto_delete":false,"internal":false,"arguments":{}}],"#;
 
-/// Appends a text, a number, and a text behind it.
+/// Appends `before`, `number` and `after`.
 fn put_entry(out: &mut Written, before: &str, number: u32, after: &str) {
     out.put_text(before);
     out.put_number(u64::from(number));
     out.put_text(after);
 }
 
-/// Appends a binding by this key.
+/// Appends a binding whose key has the number `place`.
 fn put_binding(out: &mut Written, place: u32) {
     put_entry(
         out,
@@ -27,7 +27,7 @@ fn put_binding(out: &mut Written, place: u32) {
     );
 }
 
-/// Appends a user of this number.
+/// Appends a user whose name has the number `place`.
 fn put_user(out: &mut Written, place: u32) {
     put_entry(
         out,
@@ -37,13 +37,13 @@ fn put_user(out: &mut Written, place: u32) {
     );
 }
 
-/// Appends an entry of an ignored member.
+/// Appends an entry of a member that is ignored.
 fn put_ignored(out: &mut Written, place: u32) {
     put_entry(out, "{\"name\":\"p", place, "\",\"value\":[");
     put_entry(out, "", place, ",true,null]},");
 }
 
-/// Appends the head, a first list, and a second of bindings.
+/// Appends the head, a first list, and a list of `count` bindings, or as many as fit.
 fn put_bindings(out: &mut Written, first: &str, count: u32) {
     out.put_text(HEAD);
     out.put_text(first);
@@ -59,7 +59,7 @@ fn put_bindings(out: &mut Written, first: &str, count: u32) {
     );
 }
 
-/// A file with 4,096 bindings, filled up with an ignored member of many small values.
+/// Returns a file with 4,096 bindings, filled up with an ignored member of many small values.
 pub fn padded(alloc: Global) -> Written {
     let mut file = Written::new(alloc);
     put_bindings(&mut file, "\"users\":[],", 4096);
@@ -74,7 +74,7 @@ pub fn padded(alloc: Global) -> Written {
     file
 }
 
-/// A file of bindings, far more than are taken.
+/// Returns a file with far more bindings than are accepted.
 pub fn many_bindings(alloc: Global) -> Written {
     let mut file = Written::new(alloc);
     put_bindings(&mut file, "\"users\":[],", 16_777_216);
@@ -82,7 +82,7 @@ pub fn many_bindings(alloc: Global) -> Written {
     file
 }
 
-/// A file of users, far more than are taken, no two of one name.
+/// Returns a file with far more users than are accepted, no two of them with the same name.
 pub fn many_users(alloc: Global) -> Written {
     let mut file = Written::new(alloc);
     file.put_text(HEAD);

@@ -1,36 +1,36 @@
-//! What is measured.
+//! Loads of publishes. Start with [`load_at`].
 
 use crate::loads::properties::{MODE, MODE_TYPE, MODE_TYPE_ID, NONE};
 use crate::measuring::{Keys, Shape};
 
-/// One load: so many publishes of one size.
+/// A load: publishes of one size.
 #[derive(Clone, Copy, Drop)]
 pub struct Load {
     pub name: &'static str,
     pub shape: Shape,
     pub connections: u64,
     pub publishes: u64,
-    /// How many of them a client writes at once.
+    /// The number of publishes that a client writes at a time.
     pub window: u64,
-    /// Bytes of a body.
+    /// The number of bytes of a body.
     pub body: usize,
-    /// How many bytes are handed in at once.
+    /// The number of bytes that are fed at a time.
     pub piece: usize,
-    /// How the keys go.
+    /// How the routing keys follow one another.
     pub keys: Keys,
-    /// Flags and values of the properties.
+    /// The flags and values of the properties.
     pub properties: &'static [u8],
 }
 
 const WHOLE: usize = 16_777_216;
 
-/// What the system gives of a socket at most by one read.
+/// The number of bytes that one read of a socket returns at most.
 const READ: usize = 65_536;
 
-/// How many publishes most clients write at once.
+/// The number of publishes that most clients write at a time.
 const WINDOW: u64 = 100;
 
-/// A load of one connection and one key, whose windows are handed in whole.
+/// Returns a load of one connection and one key, whose windows are fed whole.
 pub fn plain(name: &'static str, shape: Shape, publishes: u64, body: usize) -> Load {
     Load {
         name,
@@ -45,7 +45,7 @@ pub fn plain(name: &'static str, shape: Shape, publishes: u64, body: usize) -> L
     }
 }
 
-/// A load by so many connections in turn.
+/// Returns a load of `connections` connections in turn.
 fn by(name: &'static str, connections: u64) -> Load {
     Load {
         connections,
@@ -53,7 +53,7 @@ fn by(name: &'static str, connections: u64) -> Load {
     }
 }
 
-/// A load whose keys never come again.
+/// Returns a load that uses each key once.
 fn fresh(name: &'static str, shape: Shape, publishes: u64) -> Load {
     Load {
         keys: Keys::Fresh,
@@ -61,7 +61,7 @@ fn fresh(name: &'static str, shape: Shape, publishes: u64) -> Load {
     }
 }
 
-/// A load handed in by pieces of so many bytes.
+/// Returns a load that is fed in pieces of `piece` bytes.
 fn pieces(name: &'static str, piece: usize, publishes: u64) -> Load {
     Load {
         piece,
@@ -69,7 +69,7 @@ fn pieces(name: &'static str, piece: usize, publishes: u64) -> Load {
     }
 }
 
-/// A load whose contents have these properties.
+/// Returns a load whose contents have these properties.
 fn with_properties(name: &'static str, properties: &'static [u8]) -> Load {
     Load {
         properties,
@@ -77,7 +77,7 @@ fn with_properties(name: &'static str, properties: &'static [u8]) -> Load {
     }
 }
 
-/// A load of large bodies, each of which is read in parts.
+/// Returns a load of large bodies, each of which is fed in parts.
 fn large(name: &'static str, publishes: u64, body: usize) -> Load {
     Load {
         window: 1,
@@ -86,7 +86,7 @@ fn large(name: &'static str, publishes: u64, body: usize) -> Load {
     }
 }
 
-/// The load at this place, none past the last.
+/// Returns the load at index `place`, or `None` after the last.
 pub fn load_at(place: u32) -> Option<Load> {
     let load = match place {
         0 => plain("direct, 12 bytes", Shape::Direct, 1_000_000, 12),

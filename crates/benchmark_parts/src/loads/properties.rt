@@ -1,14 +1,14 @@
-//! Properties that clients set, as flags and values of a header.
+//! The properties that clients set, as the flags and values of a content header.
 
 /// No property.
 pub const NONE: &[u8] = crate::measuring::NO_PROPERTIES;
 
-/// A delivery-mode of 2.
+/// A delivery mode of 2.
 pub const MODE: &[u8] = b"\x10\x00\x02";
 
-/// And a content type.
+/// The same, and a content type.
 pub const MODE_TYPE: &[u8] = b"\x90\x00\x0atext/plain\x02";
 
-/// And a message id of 36 bytes.
+/// The same, and a message id of 36 bytes.
 pub const MODE_TYPE_ID: &[u8] =
     b"\x90\x80\x0atext/plain\x02\x247d444840-9dc0-11d1-b245-5ffdce74fad2";

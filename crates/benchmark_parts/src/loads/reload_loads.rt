@@ -1,44 +1,44 @@
-//! The loads of reloads.
+//! Loads of reloads. Start with [`load_at`].
 
 use crate::measuring::{Keys, Shape};
 
-/// One load: messages of 12 bytes that wait while a configuration is put in force.
+/// A load: messages of 12 bytes that are ready while a configuration is loaded.
 #[derive(Clone, Copy, Drop)]
 pub struct ReloadLoad {
     pub name: &'static str,
     /// The topology, before and after.
     pub shape: Shape,
-    /// How many guarantees are in force afterwards. Each forbids a queue, the forbidden ones of the shape in turn.
+    /// The number of guarantees in force afterwards. Each forbids a queue, the shape's forbidden queues in turn.
     pub guarantees: u32,
-    /// The pattern of the keys of which they speak.
+    /// The topic pattern of the guarantees.
     pub pattern: &'static str,
-    /// How many messages are published.
+    /// The number of messages that are published.
     pub publishes: u64,
-    /// The keys of these messages.
+    /// The routing keys of these messages.
     pub keys: Keys,
-    /// How many connections there are with 100 consumers, each of which holds a message.
+    /// The number of connections that have 100 consumers, each of which holds a message.
     pub holders: u32,
-    /// How often the configuration is put in force.
+    /// The number of reloads.
     pub reloads: u64,
 }
 
-/// How many messages wait.
+/// The number of ready messages.
 pub const WAITING: u64 = 1_000_000;
 
-/// How many messages wait in each of many queues.
+/// The number of ready messages in each of many queues.
 const WAITING_EACH: u64 = 400;
 
-/// How many keys come in turn.
+/// The number of keys that come in turn.
 const KEYS: u32 = 1_000;
 
-/// How many connections hold messages.
+/// The number of connections that hold messages.
 const HOLDERS: u32 = 1_000;
 
-/// How often a configuration is put in force.
+/// The number of reloads of a load.
 const RELOADS: u64 = 10;
 
 impl ReloadLoad {
-    /// The number of the queue that the guarantee of this number forbids.
+    /// Returns the number of the queue that guarantee `number` forbids.
     pub fn forbidden(&self, number: u32) -> u32 {
         match self.shape {
             Shape::Lettered { forbidden, .. } => number % forbidden.max(1),
@@ -47,7 +47,7 @@ impl ReloadLoad {
     }
 }
 
-/// A load of the same configuration, without a guarantee.
+/// Returns a load that reloads the same configuration, without guarantees.
 pub fn same(name: &'static str) -> ReloadLoad {
     ReloadLoad {
         name,
@@ -61,7 +61,7 @@ pub fn same(name: &'static str) -> ReloadLoad {
     }
 }
 
-/// A load with one guarantee, where dead letters have this key, or else their own.
+/// Returns a load with one guarantee, whose dead letters get this key, or keep their own.
 fn guarded(name: &'static str, key: Option<&'static str>) -> ReloadLoad {
     ReloadLoad {
         shape: Shape::Lettered {
@@ -74,7 +74,7 @@ fn guarded(name: &'static str, key: Option<&'static str>) -> ReloadLoad {
     }
 }
 
-/// The load at this place, none past the last.
+/// Returns the load at index `place`, or `None` after the last.
 pub fn load_at(place: u32) -> Option<ReloadLoad> {
     let load = match place {
         0 => same("the same configuration"),

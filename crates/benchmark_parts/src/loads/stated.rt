@@ -1,4 +1,4 @@
-//! Guarantees that are put together, and their certificates.
+//! Guarantees and their certificates. Start with [`Stated`].
 
 use crate::measuring::Texts;
 use certificate::Certificate;
@@ -8,7 +8,7 @@ use guarantees::Guarantee;
 use model::{Mode, Text};
 use std::alloc::Global;
 
-/// The guarantee of all keys of the pattern that are sent to the exchange; none where the pattern is not one.
+/// Builds a guarantee for the keys of `pattern` at `exchange`. Returns `None` if `pattern` is no topic pattern.
 pub fn guarantee_of(
     texts: &mut Texts,
     mode: Mode,
@@ -21,7 +21,7 @@ pub fn guarantee_of(
     Guarantee::new(mode, exchange, pattern, queue, excepts)
 }
 
-/// Guarantees that are put together.
+/// A list of guarantees, built one by one.
 #[derive(Drop)]
 pub struct Stated {
     pub texts: Texts,
@@ -36,7 +36,7 @@ impl Stated {
         }
     }
 
-    /// One more guarantee, of all keys of the pattern that are sent to the exchange.
+    /// Appends a guarantee for the keys of `pattern` at `exchange`.
     pub fn push(&mut self, mode: Mode, exchange: Text, pattern: &str, queue: Text) {
         match guarantee_of(&mut self.texts, mode, exchange, pattern, queue) {
             Some(guarantee) => self.keep(guarantee),
@@ -44,7 +44,7 @@ impl Stated {
         }
     }
 
-    /// Keeps a guarantee.
+    /// Appends `guarantee`.
     fn keep(&mut self, guarantee: Guarantee) {
         if self.guarantees.push(guarantee).is_err() {
             self.texts.fail();
@@ -52,7 +52,7 @@ impl Stated {
     }
 }
 
-/// The certificate that a search finds, if it does.
+/// Returns the certificate that a search finds, if any.
 pub fn found(alloc: Global, topology: &Topology, guarantee: &Guarantee) -> Option<Certificate> {
     match search(alloc, topology, guarantee) {
         Ok(Verdict::Yes(certificate)) => Some(certificate),
@@ -60,7 +60,7 @@ pub fn found(alloc: Global, topology: &Topology, guarantee: &Guarantee) -> Optio
     }
 }
 
-/// Appends the certificate of a guarantee, if one is found and there is memory for it. Tells whether it did.
+/// Appends the certificate of `guarantee`. Returns whether one was found and the allocations succeeded.
 fn put_certificate(
     certificates: &mut Vec<Certificate>,
     alloc: Global,
@@ -73,7 +73,7 @@ fn put_certificate(
     }
 }
 
-/// The certificates of these guarantees, of those that hold.
+/// Returns the certificates of those `guarantees` that hold.
 pub fn certificates(
     alloc: Global,
     topology: &Topology,

@@ -1,4 +1,4 @@
-//! What a publishing client writes.
+//! What a publishing client writes. Start with [`Client`].
 
 use crate::measuring::shapes::Keys;
 use crate::measuring::written::Written;
@@ -7,13 +7,13 @@ use std::alloc::Global;
 /// confirm.select on channel 1.
 pub const SELECT: [u8; 13] = [1, 0, 1, 0, 0, 0, 5, 0, 85, 0, 10, 0, 206];
 
-/// The end of a frame.
+/// The last byte of a frame.
 const END: [u8; 1] = [206];
 
-/// The longest payload of a frame.
+/// The longest payload of a frame, in bytes.
 const LONGEST: usize = 131_064;
 
-/// Flags and values of no property.
+/// The flags of a content header without properties.
 pub const NO_PROPERTIES: &[u8] = &[0, 0];
 
 /// A client that publishes to the exchange `x` on channel 1.
@@ -21,22 +21,22 @@ pub const NO_PROPERTIES: &[u8] = &[0, 0];
 pub struct Client {
     body: Written,
     keys: Keys,
-    /// Flags and values, as they stand in each header.
+    /// The flags and values of each content header.
     properties: &'static [u8],
-    /// How many publishes were written.
+    /// The number of publishes written so far.
     count: u64,
     /// The last window.
     bytes: Written,
 }
 
-/// Appends the head of a frame of channel 1 with a payload of so many bytes.
+/// Appends the head of a frame on channel 1 with a payload of `size` bytes.
 fn put_head(out: &mut Written, kind: u8, size: usize) {
     let size = u32::try_from(size).unwrap_or(0);
     out.put(&[kind, 0, 1]);
     out.put(size.to_be_bytes().as_slice());
 }
 
-/// Appends basic.publish to `x` under this key.
+/// Appends basic.publish to `x` under `key`.
 fn put_publish(out: &mut Written, key: &[u8]) {
     put_head(out, 1, key.len().saturating_add(10));
     out.put(&[0, 60, 0, 40, 0, 0, 1, b'x']);
@@ -55,7 +55,7 @@ fn put_header(out: &mut Written, size: u64, properties: &[u8]) {
     out.put(END.as_slice());
 }
 
-/// Appends a content header, and the body in the longest frames.
+/// Appends a content header, and the body in frames of the longest payload.
 fn put_content(out: &mut Written, properties: &[u8], body: &[u8]) {
     put_header(out, body.len() as u64, properties);
     for piece in body.chunks(LONGEST) {
@@ -65,7 +65,7 @@ fn put_content(out: &mut Written, properties: &[u8], body: &[u8]) {
     }
 }
 
-/// Puts together the key of the publish of this number: `k`, or `k.` and a number.
+/// Appends the routing key of publish `number`: `k`, or `k.` and a number.
 fn put_key(key: &mut Written, keys: Keys, number: u64) {
     key.put_text("k");
     match keys {
@@ -82,12 +82,12 @@ fn put_number(key: &mut Written, number: u64) {
 }
 
 impl Client {
-    /// A client whose bodies have so many bytes, and whose contents have no properties.
+    /// Returns a client whose bodies have `body` bytes, and whose contents have no properties.
     pub fn new(alloc: Global, body: usize, keys: Keys) -> Client {
         Client::with_properties(alloc, body, keys, NO_PROPERTIES)
     }
 
-    /// A client whose bodies have so many bytes, and whose headers have these flags and values.
+    /// Returns a client whose bodies have `body` bytes, and whose content headers have these flags and values.
     pub fn with_properties(
         alloc: Global,
         body: usize,
@@ -105,12 +105,12 @@ impl Client {
         }
     }
 
-    /// Whether the last window can be written once more.
+    /// Returns whether the last window can be written again unchanged.
     fn is_standing(&self) -> bool {
         self.keys == Keys::One && !self.bytes.as_slice().is_empty()
     }
 
-    /// Spells a publish.
+    /// Encodes one publish.
     fn spell_one(&mut self, alloc: Global) {
         let mut key = Written::new(alloc);
         put_key(&mut key, self.keys, self.count);
@@ -119,7 +119,7 @@ impl Client {
         self.count = self.count.saturating_add(1);
     }
 
-    /// Spells so many publishes.
+    /// Encodes `publishes` publishes.
     fn spell(&mut self, alloc: Global, publishes: u64) {
         self.bytes.clear();
         for _ in 0..publishes {
@@ -127,7 +127,7 @@ impl Client {
         }
     }
 
-    /// The bytes of so many publishes. Where memory was refused they end early.
+    /// Returns the bytes of `publishes` publishes. If an allocation fails they end early.
     pub fn window(&mut self, alloc: Global, publishes: u64) -> &[u8] {
         if !self.is_standing() {
             self.spell(alloc, publishes);
@@ -135,7 +135,7 @@ impl Client {
         self.bytes.as_slice()
     }
 
-    /// Whether no memory was refused.
+    /// Returns whether every allocation succeeded.
     pub fn is_whole(&self) -> bool {
         self.body.is_whole() && self.bytes.is_whole()
     }

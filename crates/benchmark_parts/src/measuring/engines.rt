@@ -1,4 +1,4 @@
-//! An engine under measure.
+//! An engine that is measured. Start with [`Measured`].
 
 use certificate::{Checked, admit};
 use engine::{Engine, Turn};
@@ -7,24 +7,24 @@ use model::User;
 use runs::ReloadFault;
 use std::alloc::Global;
 
-/// An engine, and what came of what was handed to it.
+/// An engine, the number of bytes that it has sent, and whether every allocation succeeded.
 #[derive(Drop)]
 pub struct Measured {
     alloc: Global,
     engine: Engine,
-    /// How many bytes were put out.
+    /// The number of bytes of output taken.
     written: u64,
     is_whole: bool,
 }
 
 impl Measured {
-    /// An engine over a topology, with no guarantee, and these users; none where memory is refused.
+    /// Starts an engine over `topology`, without guarantees. Returns `None` if an allocation fails.
     pub fn over(alloc: Global, topology: Topology, users: Vec<User>) -> Option<Measured> {
         let checked = admit(alloc, topology, Vec::new(alloc), &[]).ok()?;
         Measured::new(alloc, checked, users)
     }
 
-    /// An engine over what was admitted, and these users; none where memory is refused.
+    /// Starts an engine over what was admitted. Returns `None` if an allocation fails.
     pub fn new(alloc: Global, checked: Checked, users: Vec<User>) -> Option<Measured> {
         let engine = Engine::new(alloc, checked, users).ok()?;
         Some(Measured {
@@ -35,7 +35,7 @@ impl Measured {
         })
     }
 
-    /// Whether a turn did something.
+    /// Runs a turn, and returns whether it performed something.
     fn did(&mut self, connection: u64) -> bool {
         match self.engine.turn(self.alloc, connection) {
             Ok(Turn::Did(_)) => true,
@@ -47,14 +47,14 @@ impl Measured {
         }
     }
 
-    /// Takes the output of a connection.
+    /// Takes the whole output of a connection.
     pub fn take_output(&mut self, connection: u64) {
         let written = self.engine.output(connection).len() as u64;
         self.engine.sent(connection, written);
         self.written = self.written.saturating_add(written);
     }
 
-    /// Hands in these bytes, performs what they say, and takes the output.
+    /// Feeds `bytes`, performs every complete command, and takes the output.
     pub fn perform(&mut self, connection: u64, bytes: &[u8]) {
         if self.engine.feed(connection, bytes).is_err() {
             self.is_whole = false;
@@ -67,14 +67,14 @@ impl Measured {
         self.take_output(connection);
     }
 
-    /// Hands in these bytes in pieces of so many, and performs what they say.
+    /// Feeds `bytes` in pieces of `piece` bytes, and performs every complete command.
     pub fn perform_pieces(&mut self, connection: u64, bytes: &[u8], piece: usize) {
         for part in bytes.chunks(piece.max(1)) {
             self.perform(connection, part);
         }
     }
 
-    /// Opens a connection that runs, with its channel 1 open. Tells its number, 0 where memory was refused.
+    /// Opens a connection that is running, with channel 1 open. Returns its number, or 0 if an allocation fails.
     pub fn open_ready(&mut self) -> u64 {
         match self.engine.open_ready(self.alloc, 1) {
             Ok(connection) => connection,
@@ -85,7 +85,7 @@ impl Measured {
         }
     }
 
-    /// Opens a connection that awaits its first eight bytes. Tells its number, 0 where memory was refused.
+    /// Opens a connection that awaits the protocol header. Returns its number, or 0 if an allocation fails.
     pub fn open(&mut self) -> u64 {
         match self.engine.open(self.alloc) {
             Ok(connection) => connection,
@@ -96,7 +96,7 @@ impl Measured {
         }
     }
 
-    /// Puts this in force. Tells whether nothing stands against it.
+    /// Loads this configuration. Returns whether it is in force.
     pub fn reload(&mut self, checked: Checked, users: Vec<User>) -> bool {
         match self.engine.reload(self.alloc, checked, users) {
             Ok(()) => true,
@@ -108,12 +108,12 @@ impl Measured {
         }
     }
 
-    /// The connection is lost.
+    /// Loses the connection.
     pub fn lose(&mut self, connection: u64) {
         self.engine.lose(connection);
     }
 
-    /// Whether a delivery was made.
+    /// Makes a delivery if one can be made, and returns whether it was.
     fn delivered(&mut self) -> bool {
         match self.engine.pump(self.alloc) {
             Ok(delivered) => delivered.is_some(),
@@ -124,7 +124,7 @@ impl Measured {
         }
     }
 
-    /// Makes deliveries until none can be made, at most so many. Tells how many.
+    /// Makes deliveries until none can be made, at most `most`. Returns their number.
     pub fn deliver(&mut self, most: u64) -> u64 {
         for count in 0..most {
             if !self.delivered() {
@@ -134,14 +134,14 @@ impl Measured {
         most
     }
 
-    /// How many bytes were put out since it was asked last.
+    /// Returns the number of bytes of output taken since the last call.
     pub fn take_written(&mut self) -> u64 {
         let written = self.written;
         self.written = 0;
         written
     }
 
-    /// Whether no memory was refused.
+    /// Returns whether every allocation succeeded.
     pub fn is_whole(&self) -> bool {
         self.is_whole
     }

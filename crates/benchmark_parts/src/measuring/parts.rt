@@ -1,21 +1,21 @@
-//! Parts of a load, measured one by one.
+//! Measures a load part by part. Start with [`Part`].
 
 use crate::measuring::meters::processor_time;
 use std::io;
 
-/// How many parts a load has.
+/// The number of parts of a load.
 const PARTS: u64 = 10;
 
 /// A load that runs in equal parts, so that a cost that grows shows between the first and the last.
 pub trait Part {
-    /// What comes before the part of this number, and is not measured.
+    /// Prepares part number `part`. This is not measured.
     fn prepare(&mut self, part: u64);
 
-    /// Runs the part of this number.
+    /// Runs part number `part`.
     fn run(&mut self, part: u64);
 }
 
-/// Runs a part, and prints how long it took, in units of so many nanoseconds.
+/// Runs a part, and prints its processor time, in units of `unit` nanoseconds.
 fn print_part<P: Part>(rt: &HostRuntime, load: &mut P, part: u64, unit: u64) -> io::Result<()> {
     load.prepare(part);
     let start = processor_time(rt)?;
@@ -24,7 +24,7 @@ fn print_part<P: Part>(rt: &HostRuntime, load: &mut P, part: u64, unit: u64) -> 
     print!(rt; " {}", took / unit.max(1))
 }
 
-/// Runs so many parts, and prints how long each of them took, in units of so many nanoseconds of processor time.
+/// Runs `parts` parts, and prints the processor time of each, in units of `unit` nanoseconds.
 pub fn print_times<P: Part>(
     rt: &HostRuntime,
     load: &mut P,
@@ -37,7 +37,7 @@ pub fn print_times<P: Part>(
     Ok(())
 }
 
-/// Runs ten parts of so many messages each, and prints what a message took in each of them, in nanoseconds of processor time.
+/// Runs ten parts of `messages` messages each, and prints the processor time a message in each of them, in nanoseconds.
 pub fn print_parts<P: Part>(rt: &HostRuntime, load: &mut P, messages: u64) -> io::Result<()> {
     print_times(rt, load, PARTS, messages)
 }

@@ -1,50 +1,51 @@
-//! The shapes of what is measured.
+//! The shapes of the topologies and of the routing keys.
 
-/// A topology. But for the last shapes it has the exchange `x`, to which messages are sent.
+/// The shape of a topology. All but the last few have the exchange `x`, to which messages are published.
 #[derive(Clone, Copy, Drop)]
 pub enum Shape {
-    /// A direct exchange, bound to one queue by each key.
+    /// A direct exchange with one queue, to which it routes each key.
     Direct,
-    /// A fanout exchange bound to three queues.
+    /// A fanout exchange with three queues.
     Fanout,
-    /// A topic exchange with so many bindings, of which the last matches each key.
+    /// A topic exchange with this number of bindings, the last of which matches each key.
     Topic(u32),
-    /// A direct exchange among so many others.
+    /// A direct exchange among this number of exchanges.
     Exchanges(u32),
-    /// A direct exchange bound to one queue among so many.
+    /// A direct exchange with one queue among this number of queues.
     Queues(u32),
-    /// The same, where that queue has the greatest limit of bytes.
+    /// The same, where that queue has the largest limit in bytes.
     Limited(u32),
-    /// A direct exchange bound to each of so many queues, `q0`, `q1` .., by a key of its own, `k.0`, `k.1` ..
+    /// A direct exchange with this number of queues, `q0`, `q1` .., each bound with a key of its own, `k.0`, `k.1` ..
     Keyed(u32),
-    /// A topic exchange bound to each of so many queues, `q0`, `q1` .., by `k.#`. Their dead letters go to the topic exchange `d`,
-    /// under this key if there is one. It leads to each of so many forbidden queues, `f0`, `f1` .., by `d.#`.
+    /// A topic exchange with `queues` queues, `q0`, `q1` .., bound with `k.#`. Their dead letters go to the topic exchange `d`,
+    /// under `key` if there is one, which is bound to `forbidden` queues, `f0`, `f1` .., with `d.#`.
     Lettered {
         queues: u32,
         forbidden: u32,
         key: Option<&'static str>,
     },
-    /// An exchange bound to the queue `q`: a fanout one where the number is 0; else a topic one, by `#` and by each pattern of at
-    /// most so many words, of which each is `a` or `*`.
+    /// An exchange bound to the queue `q`. At 0 it is a fanout exchange; otherwise a topic exchange, bound with `#` and with each
+    /// pattern of at most this number of words, each of which is `a` or `*`.
     Worded(u32),
-    /// 256 topic exchanges, each bound to a queue of its own by 16 patterns, of which the first is `k.#`.
+    /// 256 topic exchanges, each bound to a queue of its own with 16 patterns, the first of which is `k.#`.
     Starred,
-    /// 256 topic exchanges, so many of which lead on to the next, 256 queues, and as many bindings as there may be where
-    /// all lead on.
+    /// 256 topic exchanges, this number of which are bound to the next one, and 256 queues. If all are bound to the next one
+    /// there are as many bindings as are allowed.
     Linked(u32),
-    /// 256 topic exchanges, each of which but the last leads on to the next, by `#` and as its alternate exchange, and to a queue of
-    /// its own by 15 keys. The last leads to the queue `q` by `#` and by so many patterns, at most 15: the large one, and `#.a`,
-    /// `#.a.*` .., which a state of the large one tells. By other keys it leads elsewhere, so that there are 4,096 bindings.
+    /// 256 topic exchanges. Each but the last leads to the next one, with `#` and as its alternate exchange, and to a queue of
+    /// its own with 15 keys. The last leads to the queue `q` with `#` and with this number of patterns, at most 15: the large
+    /// one, and `#.a`, `#.a.*` .., which a state of the large one implies. With other keys it leads elsewhere, so that there are
+    /// 4,096 bindings.
     Chained(u32),
 }
 
-/// How the routing keys of a load go.
+/// How the routing keys of a load follow one another.
 #[derive(Clone, Copy, PartialEq, Eq, Drop)]
 pub enum Keys {
-    /// One key comes again.
+    /// One key, again and again.
     One,
-    /// No key comes again.
+    /// Each key once.
     Fresh,
-    /// So many keys in turn.
+    /// This number of keys in turn.
     Turns(u32),
 }

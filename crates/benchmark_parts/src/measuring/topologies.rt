@@ -1,4 +1,4 @@
-//! The topologies that are measured.
+//! Builds the topologies that are measured. Start with [`built`].
 
 use crate::measuring::shapes::Shape;
 use crate::measuring::written::{Texts, Written};
@@ -6,10 +6,10 @@ use exchange_graph::Topology;
 use model::{Binding, DeclaredQueue, Exchange, ExchangeKind, Place, Text};
 use std::alloc::Global;
 
-/// A pattern of one word that comes again, with 63,489 states.
+/// A pattern with one repeated word, with 63,489 states.
 pub const LARGE: &str = "#.a.*.*.*.*.*.*.*.*.*.*.*.*.#.a.#.a.#.a.#.a.#.a.#.a.#.a";
 
-/// Exchanges, queues and bindings, as they are put together.
+/// The exchanges, queues and bindings of a topology that is being built.
 #[derive(Drop)]
 struct Plan {
     texts: Texts,
@@ -32,7 +32,7 @@ impl Plan {
         self.put_backed(name, kind, None);
     }
 
-    /// An exchange with this alternate exchange.
+    /// Adds an exchange with this alternate exchange.
     fn put_backed(&mut self, name: Text, kind: ExchangeKind, alternate: Option<Text>) {
         let exchange = Exchange {
             name,
@@ -49,7 +49,7 @@ impl Plan {
         self.put_limited(name, None);
     }
 
-    /// A queue with this limit of bytes.
+    /// Adds a queue with this limit in bytes.
     fn put_limited(&mut self, name: Text, byte_limit: Option<u32>) {
         self.put_declared(DeclaredQueue {
             name,
@@ -60,7 +60,7 @@ impl Plan {
         });
     }
 
-    /// A queue whose dead letters go to the exchange `d`, under this key if there is one.
+    /// Adds a queue whose dead letters go to the exchange `d`, under `key` if there is one.
     fn put_lettered(&mut self, name: Text, key: Option<&str>) {
         let exchange = self.texts.text(b"d");
         let key = self.texts.text_if(key);
@@ -95,20 +95,20 @@ impl Plan {
         self.put_queue(name);
     }
 
-    /// Binds a queue to an exchange by a key.
+    /// Binds a queue to an exchange with a key.
     fn bind(&mut self, source: &str, queue: &str, key: &str) {
         let queue = self.texts.text(queue.as_bytes());
         self.bind_to(source, queue, key);
     }
 
-    /// Binds the queue of this name to an exchange by a key.
+    /// Binds a queue, given by a text, to an exchange with a key.
     fn bind_to(&mut self, source: &str, queue: Text, key: &str) {
         let source = self.texts.text(source.as_bytes());
         let key = self.texts.text(key.as_bytes());
         self.put_binding(source, Place::Queue(queue), key);
     }
 
-    /// Binds the queue `q` to the exchange `x` by the key that was put together.
+    /// Binds the queue `q` to the exchange `x` with `key`.
     fn bind_by(&mut self, key: &Written) {
         let source = self.texts.text(b"x");
         let queue = self.texts.text(b"q");
@@ -116,7 +116,7 @@ impl Plan {
         self.put_binding(source, Place::Queue(queue), key);
     }
 
-    /// Binds the queue of a number to the exchange of the same number by the key that was put together.
+    /// Binds queue `number` to the exchange of the same number with `key`.
     fn bind_numbered(&mut self, number: u32, key: &Written) {
         let source = self.texts.numbered("x", number);
         let queue = self.texts.numbered("q", number);
@@ -124,7 +124,7 @@ impl Plan {
         self.put_binding(source, Place::Queue(queue), key);
     }
 
-    /// The topic exchange and the queue of this number.
+    /// Adds topic exchange `number` and queue `number`.
     fn numbered(&mut self, number: u32) {
         let exchange = self.texts.numbered("x", number);
         self.put_exchange(exchange, ExchangeKind::Topic);
@@ -132,7 +132,7 @@ impl Plan {
         self.put_queue(queue);
     }
 
-    /// The exchange of this number leads to the next one by every key.
+    /// Binds exchange `number` to the next one with `#`.
     fn link_on(&mut self, number: u32) {
         let source = self.texts.numbered("x", number);
         let next = self.texts.numbered("x", number.saturating_add(1));
@@ -140,13 +140,13 @@ impl Plan {
         self.put_binding(source, Place::Exchange(next), key);
     }
 
-    /// A key without a word.
+    /// Returns an empty key.
     fn key(&self) -> Written {
         Written::new(self.texts.alloc())
     }
 }
 
-/// The direct exchange `x`, with the queue `q` bound by `k`.
+/// Adds the direct exchange `x`, with the queue `q` bound with `k`.
 fn direct(plan: &mut Plan) {
     plan.exchange("x", ExchangeKind::Direct);
     plan.queue("q");
@@ -161,7 +161,7 @@ fn fanout(plan: &mut Plan) {
     }
 }
 
-/// The direct exchange `x`, with each queue of so many bound by its own key.
+/// Adds the direct exchange `x`, with `count` queues, each bound with a key of its own.
 fn keyed(plan: &mut Plan, count: u32) {
     plan.exchange("x", ExchangeKind::Direct);
     for number in 0..count {
@@ -169,7 +169,7 @@ fn keyed(plan: &mut Plan, count: u32) {
     }
 }
 
-/// The queue of this number, bound to `x` by its key.
+/// Adds queue `number`, bound to `x` with its key.
 fn keyed_queue(plan: &mut Plan, number: u32) {
     let queue = plan.texts.numbered("q", number);
     plan.put_queue(queue);
@@ -179,7 +179,7 @@ fn keyed_queue(plan: &mut Plan, number: u32) {
     plan.put_binding(source, Place::Queue(queue), key);
 }
 
-/// The queue of this number, to which `x` leads by `k.#`, and whose dead letters go to `d`.
+/// Adds queue `number`, bound to `x` with `k.#`, whose dead letters go to `d`.
 fn lettered_queue(plan: &mut Plan, number: u32, key: Option<&str>) {
     let queue = plan.texts.numbered("q", number);
     plan.put_lettered(queue, key);
@@ -187,7 +187,7 @@ fn lettered_queue(plan: &mut Plan, number: u32, key: Option<&str>) {
     plan.bind_to("x", queue, "k.#");
 }
 
-/// The queue of this number, to which `d` leads by `d.#`.
+/// Adds forbidden queue `number`, bound to `d` with `d.#`.
 fn forbidden_queue(plan: &mut Plan, number: u32) {
     let queue = plan.texts.numbered("f", number);
     plan.put_queue(queue);
@@ -195,7 +195,7 @@ fn forbidden_queue(plan: &mut Plan, number: u32) {
     plan.bind_to("d", queue, "d.#");
 }
 
-/// The topic exchange `x` over queues whose dead letters go to the topic exchange `d`, and that one over forbidden queues.
+/// Adds the topic exchange `x` with queues whose dead letters go to the topic exchange `d`, and that one with forbidden queues.
 fn lettered(plan: &mut Plan, queues: u32, forbidden: u32, key: Option<&str>) {
     plan.exchange("x", ExchangeKind::Topic);
     plan.exchange("d", ExchangeKind::Topic);
@@ -207,7 +207,7 @@ fn lettered(plan: &mut Plan, queues: u32, forbidden: u32, key: Option<&str>) {
     }
 }
 
-/// A binding that matches no key.
+/// Adds a binding that matches no key.
 fn other(plan: &mut Plan, place: u32) {
     let mut key = plan.key();
     key.put_text("other.");
@@ -216,7 +216,7 @@ fn other(plan: &mut Plan, place: u32) {
     plan.bind_by(&key);
 }
 
-/// The last of the bindings is `k.#`, the others match no key.
+/// Adds a topic exchange, the last of whose bindings is `k.#`; the others match no key.
 fn topic(plan: &mut Plan, bindings: u32) {
     plan.exchange("x", ExchangeKind::Topic);
     plan.queue("q");
@@ -234,7 +234,7 @@ fn among_exchanges(plan: &mut Plan, count: u32) {
     direct(plan);
 }
 
-/// Queues to which nothing leads, one fewer than this.
+/// Adds `count - 1` queues to which nothing leads.
 fn put_others(plan: &mut Plan, count: u32) {
     for place in 1..count {
         let name = plan.texts.numbered("p", place);
@@ -247,7 +247,7 @@ fn among_queues(plan: &mut Plan, count: u32) {
     direct(plan);
 }
 
-/// As `direct`, among so many queues, where `q` has the greatest limit of bytes.
+/// Adds what [`direct`] adds, among `count` queues, where `q` has the largest limit in bytes.
 fn limited(plan: &mut Plan, count: u32) {
     put_others(plan, count);
     plan.exchange("x", ExchangeKind::Direct);
@@ -256,7 +256,7 @@ fn limited(plan: &mut Plan, count: u32) {
     plan.bind("x", "q", "k");
 }
 
-/// The exchange of this number, among 256, is bound to its queue by one of the patterns.
+/// Binds one of 256 exchanges to its queue with pattern number `place`.
 fn bound(plan: &mut Plan, place: u32) {
     let mut key = plan.key();
     if place % 16 == 0 {
@@ -269,7 +269,7 @@ fn bound(plan: &mut Plan, place: u32) {
     plan.bind_numbered(place % 256, &key);
 }
 
-/// 256 exchanges, so many of which lead on to the next, 256 queues and 3,841 bindings from exchanges to queues.
+/// Adds 256 exchanges, `links` of which are bound to the next one, 256 queues, and 3,841 bindings from exchanges to queues.
 fn linked(plan: &mut Plan, links: u32) {
     for place in 0..256 {
         plan.numbered(place);
@@ -282,7 +282,7 @@ fn linked(plan: &mut Plan, links: u32) {
     }
 }
 
-/// A binding by a pattern of words `a` and `*`: the binary digits of a number behind its first.
+/// Adds a binding with a pattern of the words `a` and `*`: the binary digits of `number` after the first.
 fn by_digits(plan: &mut Plan, number: u32) {
     let mut key = plan.key();
     let mut rest = number;
@@ -295,7 +295,7 @@ fn by_digits(plan: &mut Plan, number: u32) {
     plan.bind_by(&key);
 }
 
-/// Appends a word, with a dot before it unless it is the first.
+/// Appends a word, after a dot unless it is the first.
 fn put_digit(key: &mut Written, digit: u32) {
     if !key.as_slice().is_empty() {
         key.put_text(".");
@@ -303,7 +303,7 @@ fn put_digit(key: &mut Written, digit: u32) {
     key.put_text(if digit == 1 { "a" } else { "*" });
 }
 
-/// One exchange and one queue, bound by all patterns of at most so many words.
+/// Adds one exchange and one queue, bound with all patterns of at most `words` words.
 fn worded(plan: &mut Plan, words: u32) {
     plan.queue("q");
     if words == 0 {
@@ -317,7 +317,7 @@ fn worded(plan: &mut Plan, words: u32) {
     }
 }
 
-/// One of the 16 bindings of an exchange to its queue.
+/// Adds one of the 16 bindings of an exchange to its queue.
 fn starred_binding(plan: &mut Plan, number: u32, place: u32) {
     let mut key = plan.key();
     key.put_text("k.");
@@ -330,7 +330,7 @@ fn starred_binding(plan: &mut Plan, number: u32, place: u32) {
     plan.bind_numbered(number, &key);
 }
 
-/// An exchange and its queue, bound by 16 patterns.
+/// Adds an exchange and its queue, bound with 16 patterns.
 fn star(plan: &mut Plan, number: u32) {
     plan.numbered(number);
     for place in 0..16 {
@@ -338,14 +338,14 @@ fn star(plan: &mut Plan, number: u32) {
     }
 }
 
-/// 256 exchanges, each bound to its queue by 16 patterns.
+/// Adds 256 exchanges, each bound to its queue with 16 patterns.
 fn starred(plan: &mut Plan) {
     for number in 0..256 {
         star(plan, number);
     }
 }
 
-/// One of the patterns by which the last exchange of a chain leads to the queue `q`: the large one, then `#.a`, `#.a.*` ..
+/// Binds the last exchange of a chain to the queue `q` with pattern number `place`: the large one, then `#.a`, `#.a.*` ..
 fn bind_last(plan: &mut Plan, place: u32) {
     if place == 0 {
         return plan.bind("x255", "q", LARGE);
@@ -361,7 +361,7 @@ fn bind_last(plan: &mut Plan, place: u32) {
     plan.put_binding(source, Place::Queue(queue), key);
 }
 
-/// A binding of an exchange of a chain to the queue of this number, by a key of its own.
+/// Binds an exchange of a chain to this queue with a key of its own.
 fn bind_aside(plan: &mut Plan, number: u32, queue: u32, place: u32) {
     let mut key = plan.key();
     key.put_text("other.");
@@ -374,7 +374,7 @@ fn bind_aside(plan: &mut Plan, number: u32, queue: u32, place: u32) {
     plan.put_binding(source, Place::Queue(queue), key);
 }
 
-/// An exchange that leads on to the next one by every key, which is its alternate exchange as well.
+/// Adds an exchange that is bound to the next one with `#`, and has it as its alternate exchange as well.
 fn chained_exchange(plan: &mut Plan, number: u32) {
     let name = plan.texts.numbered("x", number);
     let next = plan.texts.numbered("x", number.saturating_add(1));
@@ -387,7 +387,7 @@ fn chained_exchange(plan: &mut Plan, number: u32) {
     plan.link_on(number);
 }
 
-/// 256 exchanges, each of which but the last leads on to the next, and 4,096 bindings.
+/// Adds 256 exchanges, each of which but the last is bound to the next one, and 4,096 bindings.
 fn chained(plan: &mut Plan, patterns: u32) {
     for number in 0..255 {
         chained_exchange(plan, number);
@@ -424,7 +424,7 @@ fn put_shape(plan: &mut Plan, shape: Shape) {
     }
 }
 
-/// The topology that was put together, none where memory was refused or it is refused itself.
+/// Builds the topology. Returns `None` if it is refused, or if an allocation failed.
 fn built_of(alloc: Global, plan: Plan) -> Option<Topology> {
     if !plan.texts.is_whole() {
         return None;
@@ -432,7 +432,7 @@ fn built_of(alloc: Global, plan: Plan) -> Option<Topology> {
     Topology::build(alloc, plan.exchanges, plan.queues, plan.bindings).ok()
 }
 
-/// The topology of this shape, none where it is refused or memory is.
+/// Builds a topology of this shape. Returns `None` if it is refused, or if an allocation fails.
 pub fn built(alloc: Global, shape: Shape) -> Option<Topology> {
     let mut plan = Plan::new(alloc);
     put_shape(&mut plan, shape);

@@ -1,9 +1,9 @@
-//! Bytes and texts that are put together.
+//! Bytes and texts that are built piece by piece. Start with [`Written`].
 
 use model::Text;
 use std::alloc::Global;
 
-/// Bytes that are put together piece by piece. Once memory was refused nothing more is appended.
+/// Bytes that are built piece by piece. After an allocation failure nothing more is appended.
 #[derive(Drop)]
 pub struct Written {
     alloc: Global,
@@ -27,7 +27,7 @@ impl Written {
         }
     }
 
-    /// Appends a byte so many times.
+    /// Appends `byte` `count` times.
     pub fn put_times(&mut self, byte: u8, count: usize) {
         for _ in 0..count {
             self.put(&[byte]);
@@ -47,7 +47,7 @@ impl Written {
         }
     }
 
-    /// Takes out all bytes.
+    /// Removes all bytes.
     pub fn clear(&mut self) {
         self.bytes.clear();
     }
@@ -56,13 +56,13 @@ impl Written {
         self.bytes.as_slice()
     }
 
-    /// Whether no memory was refused.
+    /// Returns whether every allocation succeeded.
     pub fn is_whole(&self) -> bool {
         self.is_whole
     }
 }
 
-/// What makes texts, and remembers that memory was refused. A text that could not be made is empty.
+/// Builds texts, and remembers whether an allocation failed. A text whose allocation fails is empty.
 #[derive(Drop)]
 pub struct Texts {
     alloc: Global,
@@ -77,7 +77,7 @@ impl Texts {
         }
     }
 
-    /// The text of these bytes.
+    /// Copies `bytes` into a text.
     pub fn text(&mut self, bytes: &[u8]) -> Text {
         match Text::from_slice(self.alloc, bytes) {
             Ok(text) => text,
@@ -88,7 +88,7 @@ impl Texts {
         }
     }
 
-    /// The text of this, if there is one.
+    /// Copies `text`, if there is one.
     pub fn text_if(&mut self, text: Option<&str>) -> Option<Text> {
         match text {
             Some(text) => Some(self.text(text.as_bytes())),
@@ -96,7 +96,7 @@ impl Texts {
         }
     }
 
-    /// A text and a number behind it.
+    /// Returns `text` followed by `number`.
     pub fn numbered(&mut self, text: &str, number: u32) -> Text {
         let mut name = Written::new(self.alloc);
         name.put_text(text);
@@ -104,7 +104,7 @@ impl Texts {
         self.of(&name)
     }
 
-    /// The text that was put together.
+    /// Copies `written` into a text.
     pub fn of(&mut self, written: &Written) -> Text {
         if !written.is_whole() {
             self.fail();
@@ -112,7 +112,7 @@ impl Texts {
         self.text(written.as_slice())
     }
 
-    /// Memory was refused.
+    /// Records an allocation failure.
     pub fn fail(&mut self) {
         self.is_whole = false;
     }
@@ -121,7 +121,7 @@ impl Texts {
         self.alloc
     }
 
-    /// Whether no memory was refused.
+    /// Returns whether every allocation succeeded.
     pub fn is_whole(&self) -> bool {
         self.is_whole
     }

@@ -1,4 +1,4 @@
-//! A broker with a consumer.
+//! A broker with a consumer, in a process without memory.
 
 ghost use Rattle.commands.specs.Judged.{IsAsked};
 
@@ -17,7 +17,7 @@ fn perform(alloc: Global, broker: &mut Broker, event: &Event) -> Result<(), Unme
     Ok(())
 }
 
-/// Delivers a message.
+/// Makes a delivery, and checks that one is possible.
 fn deliver(alloc: Global, broker: &mut Broker) -> Result<(), Unmet> {
     let Some(pick) = broker.pick() else {
         return Err(Unmet::Claim("a message can be delivered"));
@@ -26,7 +26,7 @@ fn deliver(alloc: Global, broker: &mut Broker) -> Result<(), Unmet> {
     Ok(())
 }
 
-/// A consumer that may hold one message has one, under the delivery tag 1, while another waits.
+/// Starts a consumer with a prefetch of one, publishes two messages, and delivers the first, with delivery tag 1.
 fn deliver_one(alloc: Global, broker: &mut Broker) -> Result<(), Unmet> {
     let limit = Method::BasicQos(Qos {
         prefetch_size: 0,
@@ -47,7 +47,7 @@ fn deliver_one(alloc: Global, broker: &mut Broker) -> Result<(), Unmet> {
     deliver(alloc, broker)
 }
 
-/// A broker of which connection 1 runs, whose consumer has what it may.
+/// Returns a broker whose connection 1 has a consumer that has used up its prefetch.
 fn busy_broker(alloc: Global) -> Result<Broker, Unmet> {
     let stated = Stated::with(alloc, b"{\"guarantees\":[]}")?;
     let mut broker = value_of("Broker::new", Broker::new(alloc, stated.topology))?;
@@ -56,7 +56,7 @@ fn busy_broker(alloc: Global) -> Result<Broker, Unmet> {
     Ok(broker)
 }
 
-/// An event of the broker sends nothing.
+/// Performs an event, and checks that nothing is sent.
 fn expect_silence(alloc: Global, broker: &mut Broker, event: &Event) -> Result<(), Unmet>
     requires { IsAsked event.now }
 {
@@ -64,7 +64,7 @@ fn expect_silence(alloc: Global, broker: &mut Broker, event: &Event) -> Result<(
     expect("nothing is sent", step.sends.is_empty())
 }
 
-/// The consumer may take nothing until it is asked to requeue what it has; then it may, unless it is paused.
+/// Checks that the consumer can take nothing until it requeues its message, and then only while it isn't paused.
 fn expect_broker(alloc: Global, broker: &mut Broker) -> Result<(), Unmet> {
     expect("the consumer has what it may", broker.pick().is_none())?;
     let reject = Method::BasicReject(Reject {
@@ -81,7 +81,7 @@ fn expect_broker(alloc: Global, broker: &mut Broker) -> Result<(), Unmet> {
     expect("the consumer may take a message", broker.pick().is_some())
 }
 
-/// A consumer is looked at, what it has is requeued, and its connection pauses and goes on.
+/// Checks that picking, requeueing, pausing and resuming never allocate.
 pub(crate) fn a_broker_with_a_consumer_takes_no_memory(
     rt: &HostRuntime,
     alloc: Global,
@@ -95,7 +95,7 @@ pub(crate) fn a_broker_with_a_consumer_takes_no_memory(
     outcome
 }
 
-/// Whether a consumer is found that may take a message, in a process that has no memory left.
+/// Returns whether a consumer can take a message, picked in a process without memory.
 fn finds_one(rt: &HostRuntime, alloc: Global, broker: &mut Broker) -> Result<bool, Unmet> {
     let room = Room::of_all(rt, alloc)?;
     let found = broker.pick().is_some();
@@ -103,7 +103,7 @@ fn finds_one(rt: &HostRuntime, alloc: Global, broker: &mut Broker) -> Result<boo
     Ok(found)
 }
 
-/// The consumer acknowledges what it has.
+/// Acknowledges a delivery.
 fn acknowledge(alloc: Global, broker: &mut Broker, delivery_tag: u64) -> Result<(), Unmet> {
     let ack = Method::BasicAck(Ack {
         delivery_tag,
@@ -112,7 +112,7 @@ fn acknowledge(alloc: Global, broker: &mut Broker, delivery_tag: u64) -> Result<
     perform(alloc, broker, &command(ack, None))
 }
 
-/// The consumer has what it may, and falls asleep where it is looked at. Its ack wakes it, and it is found again.
+/// Checks that the consumer, which has used up its prefetch, is passed over until its ack, and is then picked again.
 fn expect_woken(rt: &HostRuntime, alloc: Global, broker: &mut Broker) -> Result<(), Unmet> {
     for _ in 0..2 {
         let found = finds_one(rt, alloc, broker)?;
@@ -128,7 +128,8 @@ fn expect_woken(rt: &HostRuntime, alloc: Global, broker: &mut Broker) -> Result<
     expect("the consumer has what it may again", !found)
 }
 
-/// A consumer that has what it may falls asleep, is woken by its ack, and is served, though no pick is given memory.
+/// Checks that a consumer that has used up its prefetch is passed over, and picked and served again after its ack. No pick can
+/// allocate.
 pub(crate) fn a_consumer_sleeps_and_wakes_without_memory(
     rt: &HostRuntime,
     alloc: Global,

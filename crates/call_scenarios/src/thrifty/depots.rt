@@ -1,4 +1,4 @@
-//! A depot.
+//! A depot, in a process without memory.
 
 ghost use Rattle.std.specs.Prelude.{◌≡◌, ◌<◌, length, IfOk, vec_len, vec_capacity};
 
@@ -10,13 +10,13 @@ use model::{ChannelId, Delivery, Note, Text};
 use scenario_parts::{Unmet, expect, expect_number, value_of};
 use std::alloc::Global;
 
-/// The channel on which it is published, and which holds the message.
+/// The channel that publishes the message and holds it.
 const CHANNEL: ChannelId = ChannelId {
     connection: 1,
     number: 1,
 };
 
-/// A depot, in whose queue `audit` one message is ready.
+/// Returns a depot in whose queue `audit` one message is ready.
 fn filled_depot(alloc: Global) -> Result<Depot, Unmet> {
     let stated = Stated::with(alloc, b"{\"guarantees\":[]}")?;
     let mut depot = value_of("Depot::new", Depot::new(alloc, stated.topology))?;
@@ -32,7 +32,7 @@ fn filled_depot(alloc: Global) -> Result<Depot, Unmet> {
     Ok(depot)
 }
 
-/// What a depot tells of its one message.
+/// Checks the counts of a depot with one message.
 fn expect_told(depot: &Depot) -> Result<(), Unmet> {
     expect_number("the number of publishes", depot.published(), 1)?;
     let ready = value_of("Depot::ready", depot.ready(b"audit").ok_or(()))?;
@@ -40,7 +40,7 @@ fn expect_told(depot: &Depot) -> Result<(), Unmet> {
     expect("there is no such queue", depot.ready(b"absent").is_none())
 }
 
-/// The message of this queue that is held is ready again.
+/// Requeues a held message of the queue at index `place`.
 fn requeue(depot: &mut Depot, place: usize, arrival: u64)
     requires { place < length depot.old.topology.queues }
     ensures { depot.new.topology ≡ depot.old.topology }
@@ -54,7 +54,7 @@ fn requeue(depot: &mut Depot, place: usize, arrival: u64)
     depot.requeue(CHANNEL, &[given]);
 }
 
-/// The one message is held and made ready again, and then leaves the queue, which these notes have room to tell.
+/// Checks that the one message is held and requeued, and then leaves the queue, which `notes` have spare capacity to record.
 fn expect_taken(depot: &mut Depot, notes: &mut Vec<Note>) -> Result<(), Unmet>
     requires { vec_len notes.old < vec_capacity notes.old }
 {
@@ -80,7 +80,7 @@ fn expect_taken(depot: &mut Depot, notes: &mut Vec<Note>) -> Result<(), Unmet>
     expect_number("that is noted", notes.len() as u64, 1)
 }
 
-/// Expects that so many messages leave this queue by a purge.
+/// Purges `queue`, and checks the number of removed messages.
 fn expect_purged(
     alloc: Global,
     depot: &mut Depot,
@@ -92,7 +92,7 @@ fn expect_purged(
     expect_number("the number of purged messages", purged as u64, expected)
 }
 
-/// All of it. Where no message is ready, a purge takes no memory either.
+/// Checks everything. A purge of a queue without ready messages doesn't allocate either.
 fn expect_depot(alloc: Global, depot: &mut Depot, notes: &mut Vec<Note>) -> Result<(), Unmet>
     requires { vec_len notes.old < vec_capacity notes.old }
 {
@@ -102,7 +102,7 @@ fn expect_depot(alloc: Global, depot: &mut Depot, notes: &mut Vec<Note>) -> Resu
     expect_purged(alloc, depot, b"absent", notes, 0)
 }
 
-/// The one message leaves its queue by a purge.
+/// Checks that a purge removes the one message.
 fn expect_emptied(alloc: Global) -> Result<(), Unmet> {
     let mut depot = filled_depot(alloc)?;
     let mut notes = Vec::new(alloc);
@@ -110,7 +110,7 @@ fn expect_emptied(alloc: Global) -> Result<(), Unmet> {
     expect_number("that is noted", notes.len() as u64, 1)
 }
 
-/// Notes with room for one.
+/// Returns notes with spare capacity for one.
 fn roomy_notes(alloc: Global) -> Result<Vec<Note>, Unmet>
     ensures { IfOk result (λ notes. vec_len notes < vec_capacity notes) }
 {
@@ -119,7 +119,7 @@ fn roomy_notes(alloc: Global) -> Result<Vec<Note>, Unmet>
     Ok(notes)
 }
 
-/// A message is told, held, made ready again and taken.
+/// Checks that counting, holding, requeueing and taking a message never allocate.
 pub(crate) fn a_depot_takes_no_memory(rt: &HostRuntime, alloc: Global) -> Result<(), Unmet> {
     expect_emptied(alloc)?;
     let mut first = filled_depot(alloc)?;

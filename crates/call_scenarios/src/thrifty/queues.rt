@@ -1,4 +1,4 @@
-//! A queue.
+//! A queue, in a process without memory.
 
 use crate::room::Room;
 use crate::thrifty::{HOLDER, message};
@@ -7,10 +7,10 @@ use queue::{Indexed, Store};
 use scenario_parts::{Unmet, expect, expect_number, value_of};
 use std::alloc::Global;
 
-/// How many messages there are.
+/// The number of messages.
 const MESSAGES: u64 = 3;
 
-/// A queue of the messages 1, 2 and 3.
+/// Returns a queue with the messages 1, 2 and 3.
 fn filled_queue(alloc: Global) -> Result<Indexed, Unmet> {
     let mut queue = Indexed::new(alloc);
     for number in 1..=MESSAGES {
@@ -21,7 +21,7 @@ fn filled_queue(alloc: Global) -> Result<Indexed, Unmet> {
     Ok(queue)
 }
 
-/// What a queue tells of its three messages.
+/// Checks the counts of a queue with three messages.
 fn expect_told(queue: &Indexed) -> Result<(), Unmet> {
     expect_number(
         "the number of ready messages",
@@ -36,7 +36,7 @@ fn expect_told(queue: &Indexed) -> Result<(), Unmet> {
     }
 }
 
-/// The first message is held, made ready again, held again and taken out.
+/// Holds and requeues the first message twice, then holds it again and removes it.
 fn expect_held(queue: &mut Indexed) -> Result<Option<Entry>, Unmet> {
     for _ in 0..2 {
         if queue.held(&HOLDER, 0).is_some() {
@@ -52,7 +52,7 @@ fn expect_held(queue: &mut Indexed) -> Result<Option<Entry>, Unmet> {
     Ok(queue.remove(&HOLDER, arrival))
 }
 
-/// One message is taken, and the last is purged; there is room for its number.
+/// Takes one message, and purges the last, whose number fits in `numbers`.
 fn expect_emptied(queue: &mut Indexed, numbers: &mut Vec<u64>) -> Result<(), Unmet> {
     let taken = queue.take_first();
     expect("the second is taken", taken.is_some())?;
@@ -62,7 +62,7 @@ fn expect_emptied(queue: &mut Indexed, numbers: &mut Vec<u64>) -> Result<(), Unm
     expect_number("the number of what is purged", purged, MESSAGES)
 }
 
-/// All of it. What is taken out stays until the end, so that no memory is given back meanwhile.
+/// Checks everything. Keeps the removed message until the end, so that no memory is freed meanwhile.
 fn expect_queue(queue: &mut Indexed, numbers: &mut Vec<u64>) -> Result<(), Unmet> {
     expect_told(&*queue)?;
     let held = expect_held(queue)?;
@@ -70,7 +70,7 @@ fn expect_queue(queue: &mut Indexed, numbers: &mut Vec<u64>) -> Result<(), Unmet
     expect_emptied(queue, numbers)
 }
 
-/// Messages are told, held, made ready again, taken and purged.
+/// Checks that counting, holding, requeueing, taking and purging messages never allocate.
 pub(crate) fn a_queue_takes_no_memory(rt: &HostRuntime, alloc: Global) -> Result<(), Unmet> {
     let mut first = filled_queue(alloc)?;
     let mut second = filled_queue(alloc)?;

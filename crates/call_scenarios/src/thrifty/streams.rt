@@ -1,4 +1,4 @@
-//! A stream that is sound, a session, and a channel.
+//! A stream without a fault, a session, and a channel, in a process without memory.
 
 use crate::parts::consume;
 use crate::room::Room;
@@ -9,10 +9,10 @@ use scenario_parts::{Unmet, expect, expect_number, value_of};
 use session::Session;
 use std::alloc::Global;
 
-/// The greatest frame.
+/// The length of the longest frame, in bytes.
 const FRAME_MAX: u32 = 131_072;
 
-/// A stream that has nothing to read tells so, whatever is set.
+/// Checks that a stream without input has no command, whatever is set.
 fn expect_stream(stream: &mut Stream) -> Result<(), Unmet> {
     stream.set_max(FRAME_MAX);
     stream.set_running(true);
@@ -20,7 +20,7 @@ fn expect_stream(stream: &mut Stream) -> Result<(), Unmet> {
     expect_number("the bytes to be read", stream.unread() as u64, 0)
 }
 
-/// A session tells where it is, and its limits.
+/// Checks the phase and the limits of a running session.
 fn expect_session() -> Result<(), Unmet> {
     let mut session = Session::running();
     session.after(&[]);
@@ -34,7 +34,7 @@ fn expect_session() -> Result<(), Unmet> {
     )
 }
 
-/// A channel with the consumer `t` and room for messages, and the consumer's number.
+/// Returns a channel with the consumer `t` and spare capacity for messages, and the consumer's number.
 fn channel(alloc: Global, consume: &Consume) -> Result<(Channel, u64), Unmet> {
     let mut channel = Channel::new(alloc);
     let number = channel.next_number();
@@ -43,7 +43,7 @@ fn channel(alloc: Global, consume: &Consume) -> Result<(Channel, u64), Unmet> {
     Ok((channel, number))
 }
 
-/// A consumer may take a message, and one that was cancelled may not.
+/// Checks that a consumer can take a message, and no longer once it is cancelled.
 fn expect_consumer(channel: &mut Channel, number: u64) -> Result<(), Unmet> {
     expect("the consumer may take a message", channel.may_take(number))?;
     expect(
@@ -57,7 +57,7 @@ fn expect_consumer(channel: &mut Channel, number: u64) -> Result<(), Unmet> {
     )
 }
 
-/// Gives a message out on the channel, which has room for it.
+/// Delivers a message on the channel, which has spare capacity for it.
 fn give(channel: &mut Channel) -> Result<(), Unmet> {
     value_of("Channel::reserve", channel.reserve(1))?;
     if !channel.has_tag_left() {
@@ -67,7 +67,7 @@ fn give(channel: &mut Channel) -> Result<(), Unmet> {
     Ok(())
 }
 
-/// Expects that this tag settles the deliveries of these tags, and that it is refused once they are forgotten.
+/// Checks that `tag` acknowledges the deliveries with these `tags`, and is refused once they are forgotten.
 fn expect_settled(
     channel: &mut Channel,
     tag: u64,
@@ -89,7 +89,7 @@ fn expect_settled(
     )
 }
 
-/// Three messages are given out. The second is settled, and then the others.
+/// Checks three deliveries: the second is acknowledged, and then the others.
 fn expect_deliveries(channel: &mut Channel) -> Result<(), Unmet> {
     for _ in 0..3 {
         give(channel)?;
@@ -98,21 +98,20 @@ fn expect_deliveries(channel: &mut Channel) -> Result<(), Unmet> {
     expect_settled(channel, 3, true, &[1, 3])
 }
 
-/// A channel tells whether a consumer may take, and what tags settle.
+/// Checks the consumer and the deliveries of a channel.
 fn expect_channel(channel: &mut Channel, number: u64) -> Result<(), Unmet> {
     expect_consumer(channel, number)?;
     expect_deliveries(channel)
 }
 
-/// All three are asked.
+/// Checks the stream, the session and the channel.
 fn expect_all(stream: &mut Stream, channel: &mut Channel, number: u64) -> Result<(), Unmet> {
     expect_stream(stream)?;
     expect_session()?;
     expect_channel(channel, number)
 }
 
-/// A stream is set and read, a session tells its phase and limits, and a channel whether a consumer may take and what
-/// tags settle.
+/// Checks that reading a stream, a session's phase and limits, and a channel's consumers and acknowledgements never allocate.
 pub(crate) fn a_sound_stream_takes_no_memory(rt: &HostRuntime, alloc: Global) -> Result<(), Unmet> {
     let consume = consume();
     let (mut first, number) = channel(alloc, &consume)?;

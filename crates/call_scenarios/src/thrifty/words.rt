@@ -1,4 +1,4 @@
-//! The positions of a pattern.
+//! The positions of a pattern, in a process without memory.
 
 ghost use Rattle.std.specs.Prelude.{◌≡◌, [], ◌∷◌, IfOk, codes};
 ghost use Rattle.model.specs.Positions.{FitsEach};
@@ -11,18 +11,18 @@ use scenario_parts::{Unmet, expect, value_of};
 use std::alloc::Global;
 use word_automata::{Letters, Positions, Tracked};
 
-/// What the pattern `orders.#` has matched before any word: none of its tokens.
+/// The matched prefixes of `orders.#` before any word: none of its tokens.
 const BEFORE_ANY: u64 = 1;
 
-/// What it has matched once the word `orders` came: its first token, and all of them.
+/// The matched prefixes after the word `orders`: its first token, and all of them.
 const BEHIND_ORDERS: u64 = 6;
 
-/// Whether there is one number, and it is this one.
+/// Returns whether `numbers` has exactly one number, `expected`.
 fn is_one(numbers: &[u64], expected: u64) -> bool {
     matches!(numbers, [number] if *number == expected)
 }
 
-/// The letters of the pattern `orders.#`: the word `orders`, and any other.
+/// Returns the letters of the pattern `orders.#`: the word `orders`, and any other.
 fn letters(alloc: Global) -> Result<Letters, Unmet>
     ensures { IfOk result (λ letters. letters ≡ record { kind = Topic; text = codes "orders.#" } ∷ []) }
 {
@@ -34,7 +34,7 @@ fn letters(alloc: Global) -> Result<Letters, Unmet>
     value_of("Letters::new", Letters::new(alloc, patterns))
 }
 
-/// Positions go on by the word `orders`, by which the pattern matches, and start again.
+/// Checks that the pattern doesn't match before any word, and matches after the word `orders`.
 fn expect_positions(letters: &Letters, positions: &mut Positions) -> Result<(), Unmet>
     requires letters { letters.now ≡ record { kind = Topic; text = codes "orders.#" } ∷ [] }
     requires fit { FitsEach letters.now positions.old }
@@ -53,7 +53,7 @@ fn expect_positions(letters: &Letters, positions: &mut Positions) -> Result<(), 
     expect("the pattern matches", positions.accepts(letters, 0))
 }
 
-/// Positions start and step, and tell whether the pattern matches.
+/// Checks that starting, stepping and accepting never allocate.
 pub(crate) fn positions_take_no_memory(rt: &HostRuntime, alloc: Global) -> Result<(), Unmet> {
     let letters = letters(alloc)?;
     let mut first = value_of("Positions::new", Positions::new(alloc, &letters))?;

@@ -8,7 +8,7 @@ use definitions::{Definitions, read_definitions};
 use exchange_graph::Topology;
 use guarantees::{Guarantee, read_guarantees};
 
-/// Answers about what was admitted: how many guarantees it has, or the queues to which it leads a key.
+/// Appends the number of admitted guarantees, or the queues to which they route the key in `words`.
 fn answer_of_admitted(out: &mut LineAnswer, admitted: &Checked, words: &[&str]) {
     match words {
         [] => {
@@ -20,14 +20,14 @@ fn answer_of_admitted(out: &mut LineAnswer, admitted: &Checked, words: &[&str]) 
     }
 }
 
-/// Appends the place of the first guarantee that is not admitted, behind its fault.
+/// Appends the fault, and the index of the first guarantee that is not admitted.
 fn put_not_admitted(out: &mut LineAnswer, place: usize, fault: &CertFault) {
     put_fault(out, fault);
     out.put(" at ");
     out.put_number(place as u64);
 }
 
-/// Answers about what is admitted of these guarantees.
+/// Admits these guarantees and answers the line.
 fn answer_of_guarantees(
     out: &mut LineAnswer,
     topology: Topology,
@@ -41,7 +41,7 @@ fn answer_of_guarantees(
     }
 }
 
-/// Answers about what is admitted of a file of guarantees.
+/// Reads a guarantees file, admits it and answers the line.
 fn answer_over(
     out: &mut LineAnswer,
     read: Definitions,
@@ -56,7 +56,7 @@ fn answer_over(
     }
 }
 
-/// Answers about what is admitted by these certificates of two files.
+/// Reads a definitions and a guarantees file, admits them and answers the line.
 fn answer_by(
     out: &mut LineAnswer,
     definitions: &str,
@@ -70,7 +70,7 @@ fn answer_by(
     }
 }
 
-/// Answers about what is admitted of three files.
+/// Reads the three files, admits them and answers the line.
 fn answer_of_files(out: &mut LineAnswer, files: &[String], words: &[&str]) {
     let [definitions, guarantees, certificates] = files else {
         return out.fail(Unanswered::Form);
@@ -87,7 +87,7 @@ fn answer_of_files(out: &mut LineAnswer, files: &[String], words: &[&str]) {
     }
 }
 
-/// Answers a line about what is admitted, which names three files.
+/// Answers a line about admission, which names three files.
 pub fn answer(out: &mut LineAnswer, rt: &HostRuntime, asked: &str) {
     let (named, edits) = named_and_edits(asked);
     let words = words_of(out, named);

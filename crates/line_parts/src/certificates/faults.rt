@@ -1,10 +1,10 @@
-//! Faults of certificates, told.
+//! The faults of certificates, in words.
 
 use crate::{LineAnswer, Unanswered};
 use certificate::CertFault;
 use model::Text;
 
-/// Appends the letter that leads out: a word in quotes, or `other`.
+/// Appends a letter: a word in quotes, or `other`.
 fn put_letter(out: &mut LineAnswer, named: &Option<Text>) {
     match named {
         Some(text) => out.put_quoted(text),
@@ -12,7 +12,7 @@ fn put_letter(out: &mut LineAnswer, named: &Option<Text>) {
     }
 }
 
-/// Appends the state that a letter leads out of, and the letter.
+/// Appends fault 2: the state, and the letter that leads out of it.
 fn put_open(out: &mut LineAnswer, state: usize, named: &Option<Text>) {
     out.put("fault 2 state ");
     out.put_number(state as u64);
@@ -20,7 +20,7 @@ fn put_open(out: &mut LineAnswer, state: usize, named: &Option<Text>) {
     put_letter(out, named);
 }
 
-/// Appends the state that breaks the promise, behind the fault's number.
+/// Appends the text of a fault, and the state that breaks the promise.
 fn put_broken(out: &mut LineAnswer, fault: &str, state: usize) {
     out.put(fault);
     out.put_number(state as u64);

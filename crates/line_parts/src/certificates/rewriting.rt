@@ -3,7 +3,7 @@
 use crate::{LineAnswer, Unanswered, bytes_of, source_of};
 use certificate::Certificate;
 
-/// Appends how many certificates a file has, or why it is refused.
+/// Appends the number of certificates in a file, or why it is refused.
 fn put_outcome(out: &mut LineAnswer, bytes: &[u8]) {
     match Certificate::read(out.alloc(), bytes) {
         Ok(found) => {
@@ -17,7 +17,7 @@ fn put_outcome(out: &mut LineAnswer, bytes: &[u8]) {
     }
 }
 
-/// Appends the file of these certificates.
+/// Appends the file of `certificates`.
 pub fn put_file_of(out: &mut LineAnswer, certificates: &[Certificate]) {
     match Certificate::write(out.alloc(), certificates) {
         Ok(written) => out.put_bytes(written.as_slice()),
@@ -25,7 +25,7 @@ pub fn put_file_of(out: &mut LineAnswer, certificates: &[Certificate]) {
     }
 }
 
-/// Appends whether what is written of these certificates is the text of the file, or what is written.
+/// Writes `certificates` again, and appends `the same` if that is the text of the file, or otherwise what is written.
 fn put_again(out: &mut LineAnswer, certificates: &[Certificate], file: &[u8]) {
     match Certificate::write(out.alloc(), certificates) {
         Ok(written) if written.as_slice() == file => out.put("the same"),
@@ -34,7 +34,7 @@ fn put_again(out: &mut LineAnswer, certificates: &[Certificate], file: &[u8]) {
     }
 }
 
-/// Appends whether what is written of the certificates of a file is the file's own text, or that text.
+/// Reads a file, writes its certificates again, and appends whether that is the same text.
 fn put_rewritten(out: &mut LineAnswer, file: &[u8]) {
     match Certificate::read(out.alloc(), file) {
         Ok(found) => put_again(out, found.as_slice(), file.trim_ascii()),

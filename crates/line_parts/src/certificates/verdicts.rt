@@ -1,4 +1,4 @@
-//! Lines about certificates, searches and refutations of one guarantee, which the line states.
+//! Lines about the certificates, the search and the refutations of one guarantee, which the line states.
 
 use super::faults::put_fault;
 use super::rewriting::put_file_of;
@@ -10,7 +10,7 @@ use guarantee_search::{UndecidedCause, Verdict, search};
 use guarantees::Guarantee;
 use model::{Mode, Text};
 
-/// The mode of this name.
+/// Parses a mode.
 fn mode_of(out: &mut LineAnswer, mode: &str) -> Mode {
     match mode {
         "reaches" => Mode::Reaches,
@@ -22,7 +22,7 @@ fn mode_of(out: &mut LineAnswer, mode: &str) -> Mode {
     }
 }
 
-/// The text of a word.
+/// Copies a word.
 fn text_of(out: &mut LineAnswer, word: &str) -> Text {
     match Text::from_slice(out.alloc(), word.as_bytes()) {
         Ok(text) => text,
@@ -33,7 +33,7 @@ fn text_of(out: &mut LineAnswer, word: &str) -> Text {
     }
 }
 
-/// Appends what is told of a certificate.
+/// Appends the outcome of checking a certificate.
 fn put_checked(
     out: &mut LineAnswer,
     topology: &Topology,
@@ -46,7 +46,7 @@ fn put_checked(
     }
 }
 
-/// Appends what is told of the one certificate among these.
+/// Appends the outcome of checking the only certificate of `found`.
 fn put_one_checked(
     out: &mut LineAnswer,
     topology: &Topology,
@@ -59,7 +59,7 @@ fn put_one_checked(
     }
 }
 
-/// Appends what is told of the one certificate of a file.
+/// Appends the outcome of checking the only certificate of a file.
 fn put_check_of(out: &mut LineAnswer, topology: &Topology, guarantee: &Guarantee, file: &str) {
     match Certificate::read(out.alloc(), file.as_bytes()) {
         Ok(found) => put_one_checked(out, topology, guarantee, found.as_slice()),
@@ -77,7 +77,7 @@ fn put_yes(out: &mut LineAnswer, topology: &Topology, guarantee: &Guarantee, fou
     }
 }
 
-/// Appends the names of a path, if it has some.
+/// Appends the names of a path, unless it is empty.
 fn put_path(out: &mut LineAnswer, path: &[Text]) {
     if path.is_empty() {
         return;
@@ -89,7 +89,7 @@ fn put_path(out: &mut LineAnswer, path: &[Text]) {
     }
 }
 
-/// Appends that a key was found, with its path, if it is seen to break the guarantee.
+/// Appends the key and the path that were found, if they disprove the guarantee.
 fn put_no(out: &mut LineAnswer, topology: &Topology, guarantee: &Guarantee, found: &Refutation) {
     if disprove(out.alloc(), topology, guarantee, found) {
         out.put("no key ");
@@ -108,7 +108,7 @@ fn put_cause(out: &mut LineAnswer, cause: UndecidedCause) {
     });
 }
 
-/// Appends what a search says.
+/// Appends the verdict of a search.
 fn put_searched(out: &mut LineAnswer, topology: &Topology, guarantee: &Guarantee) {
     match search(out.alloc(), topology, guarantee) {
         Ok(Verdict::Yes(found)) => put_yes(out, topology, guarantee, &found),
@@ -135,7 +135,7 @@ fn push_name(out: &mut LineAnswer, path: &mut Vec<Text>, name: &str) {
     }
 }
 
-/// The path of these names.
+/// Returns the path of these names.
 fn path_of(out: &mut LineAnswer, names: &[&str]) -> Vec<Text> {
     let mut path = Vec::new(out.alloc());
     for name in names {
@@ -144,7 +144,7 @@ fn path_of(out: &mut LineAnswer, names: &[&str]) -> Vec<Text> {
     path
 }
 
-/// Appends whether a key, with a path of these names, is seen to break the guarantee.
+/// Appends whether `key`, with a path of these names, disproves the guarantee.
 fn put_disproved(
     out: &mut LineAnswer,
     topology: &Topology,
@@ -157,8 +157,7 @@ fn put_disproved(
     out.put_yes_or_no(disprove(out.alloc(), topology, guarantee, &refutation));
 }
 
-/// Answers what is asked about a guarantee, with the words that stand behind it, and with a file of certificates if one
-/// is named.
+/// Answers a line about `guarantee`, by the words after it, and by a certificates file if one is named.
 fn answer_of_guarantee(
     out: &mut LineAnswer,
     kind: &str,
@@ -180,7 +179,7 @@ fn answer_of_guarantee(
     }
 }
 
-/// Appends a pattern whose keys are taken out, if the word names one.
+/// Appends an `except` pattern to `excepts`, if `word` begins with a dash.
 fn push_except(out: &mut LineAnswer, excepts: &mut Vec<Text>, word: &str) {
     let Some(pattern) = word.strip_prefix('-') else {
         return;
@@ -191,7 +190,7 @@ fn push_except(out: &mut LineAnswer, excepts: &mut Vec<Text>, word: &str) {
     }
 }
 
-/// The patterns whose keys are taken out: those of the words that begin with a dash.
+/// Returns the `except` patterns: the words that begin with a dash, without it.
 fn excepts_of(out: &mut LineAnswer, words: &[&str]) -> Vec<Text> {
     let mut excepts = Vec::new(out.alloc());
     for word in words {
@@ -200,14 +199,14 @@ fn excepts_of(out: &mut LineAnswer, words: &[&str]) -> Vec<Text> {
     excepts
 }
 
-/// Appends a word that doesn't begin with a dash.
+/// Appends `word` to `others`, unless it begins with a dash.
 fn push_other<'a>(out: &mut LineAnswer, others: &mut Vec<&'a str>, word: &'a str) {
     if !word.starts_with('-') && others.push(word).is_err() {
         out.fail(Unanswered::Memory);
     }
 }
 
-/// The words that don't begin with a dash.
+/// Returns the words that don't begin with a dash.
 fn others_of<'a>(out: &mut LineAnswer, words: &[&'a str]) -> Vec<&'a str> {
     let mut others = Vec::new(out.alloc());
     for word in words {
@@ -216,8 +215,8 @@ fn others_of<'a>(out: &mut LineAnswer, words: &[&'a str]) -> Vec<&'a str> {
     others
 }
 
-/// Answers a line over a topology. Its first words are a guarantee, `MODE EXCHANGE PATTERN QUEUE`, and `-PATTERN` for each
-/// pattern whose keys it takes out.
+/// Answers a line over a topology. Its first words are a guarantee, `MODE EXCHANGE PATTERN QUEUE`, and `-PATTERN` for each of its
+/// `except` patterns.
 fn answer_over(
     out: &mut LineAnswer,
     kind: &str,
@@ -253,8 +252,7 @@ fn answer_of_files(out: &mut LineAnswer, kind: &str, files: &[String], words: &[
     }
 }
 
-/// Answers a line about the certificates or the refutations of a guarantee, which names a definitions file, and for a check
-/// a file of certificates.
+/// Answers a line about one guarantee, which names a definitions file, and for a check a certificates file.
 pub fn answer(out: &mut LineAnswer, rt: &HostRuntime, kind: &str, asked: &str) {
     let (named, edits) = named_and_edits(asked);
     let words = words_of(out, named);

@@ -6,7 +6,7 @@ use exchange_graph::Topology;
 use guarantees::{Guarantee, read_guarantees};
 use model::Mode;
 
-/// Appends how many guarantees a file has, or why it is refused.
+/// Appends the number of guarantees in a file, or why it is refused.
 fn put_outcome(out: &mut LineAnswer, topology: &Topology, bytes: &[u8]) {
     match read_guarantees(out.alloc(), bytes, topology) {
         Ok(read) => {
@@ -31,7 +31,7 @@ fn put_parts(out: &mut LineAnswer, guarantee: &Guarantee) {
     out.put_name(guarantee.queue());
 }
 
-/// Appends whether a guarantee covers what is sent to an exchange under a key.
+/// Appends whether `guarantee` covers a message published to `exchange` under `key`.
 fn put_covered(out: &mut LineAnswer, guarantee: &Guarantee, exchange: &str, key: &str) {
     match guarantee.covers(out.alloc(), exchange.as_bytes(), key.as_bytes()) {
         Ok(yes) => out.put_yes_or_no(yes),
@@ -39,7 +39,7 @@ fn put_covered(out: &mut LineAnswer, guarantee: &Guarantee, exchange: &str, key:
     }
 }
 
-/// Answers what is asked about a guarantee.
+/// Answers a line about `guarantee`.
 fn answer_of_words(out: &mut LineAnswer, kind: &str, guarantee: &Guarantee, words: &[&str]) {
     match words {
         [] if kind == "guarantee" => put_parts(out, guarantee),
@@ -48,7 +48,7 @@ fn answer_of_words(out: &mut LineAnswer, kind: &str, guarantee: &Guarantee, word
     }
 }
 
-/// Answers what is asked about the guarantee at the place that the first word spells.
+/// Answers a line about the guarantee at the index that the first word gives.
 fn answer_at(out: &mut LineAnswer, kind: &str, guarantees: &[Guarantee], words: &[&str]) {
     let Some((place, rest)) = words.split_first() else {
         return out.fail(Unanswered::Form);
@@ -60,7 +60,7 @@ fn answer_at(out: &mut LineAnswer, kind: &str, guarantees: &[Guarantee], words: 
     }
 }
 
-/// Answers a line about a file of guarantees.
+/// Answers a line about a guarantee of a file.
 fn answer_of_file(
     out: &mut LineAnswer,
     rt: &HostRuntime,

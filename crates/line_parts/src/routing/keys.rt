@@ -4,7 +4,7 @@ use crate::{LineAnswer, Unanswered, number_of, words_of};
 use std::alloc::{AllocError, Global};
 use topic_match::{BadPattern, Matcher, Pattern, Plain, Trie, covers_key, split};
 
-/// Appends whether a text is a pattern.
+/// Appends whether `text` is a pattern.
 fn put_pattern(out: &mut LineAnswer, text: &str) {
     match Pattern::read(out.alloc(), text.as_bytes()) {
         Ok(_) => out.put("read"),
@@ -13,7 +13,7 @@ fn put_pattern(out: &mut LineAnswer, text: &str) {
     }
 }
 
-/// Appends whether a key matches a pattern.
+/// Appends whether `key` matches `pattern`.
 fn put_matched(out: &mut LineAnswer, pattern: &str, key: &str) {
     match covers_key(out.alloc(), pattern.as_bytes(), key.as_bytes()) {
         Ok(yes) => out.put_yes_or_no(yes),
@@ -21,7 +21,7 @@ fn put_matched(out: &mut LineAnswer, pattern: &str, key: &str) {
     }
 }
 
-/// Appends the words of a key, each in quotes.
+/// Appends the words of `key`, each in quotes.
 fn put_words(out: &mut LineAnswer, key: &str) {
     let Ok(words) = split(out.alloc(), key.as_bytes()) else {
         return out.fail(Unanswered::Memory);
@@ -33,7 +33,7 @@ fn put_words(out: &mut LineAnswer, key: &str) {
     out.put_none_if_empty();
 }
 
-/// Appends a pattern. `Form` says that the text is none.
+/// Appends the pattern of `text` to `patterns`. Fails with [`Unanswered::Form`] if it is none.
 fn push_pattern(out: &mut LineAnswer, patterns: &mut Vec<Pattern>, text: &str) {
     match Pattern::read(out.alloc(), text.as_bytes()) {
         Ok(pattern) => {
@@ -45,7 +45,7 @@ fn push_pattern(out: &mut LineAnswer, patterns: &mut Vec<Pattern>, text: &str) {
     }
 }
 
-/// The patterns that these texts spell.
+/// Parses `texts` as patterns.
 fn patterns_of(out: &mut LineAnswer, texts: &[&str]) -> Vec<Pattern> {
     let mut patterns = Vec::new(out.alloc());
     for text in texts {
@@ -54,7 +54,7 @@ fn patterns_of(out: &mut LineAnswer, texts: &[&str]) -> Vec<Pattern> {
     patterns
 }
 
-/// Appends places.
+/// Appends indices.
 fn put_places(out: &mut LineAnswer, places: &[usize]) {
     for place in places {
         out.put_space();
@@ -63,7 +63,7 @@ fn put_places(out: &mut LineAnswer, places: &[usize]) {
     out.put_none_if_empty();
 }
 
-/// The places that a matcher of these patterns finds.
+/// Returns the indices of the patterns that match `key`, as a matcher finds them.
 fn found_by<M: Matcher + Drop>(
     alloc: Global,
     patterns: Vec<Pattern>,
@@ -73,7 +73,7 @@ fn found_by<M: Matcher + Drop>(
     matcher.matches(alloc, key.as_bytes())
 }
 
-/// Appends the places that comparing one by one finds, and those that a trie finds, unless they are the same.
+/// Appends the indices that comparing one by one finds, and those that a trie finds unless they are the same.
 fn put_both(out: &mut LineAnswer, plain: &[usize], trie: &[usize]) {
     put_places(out, plain);
     if plain != trie {
@@ -82,7 +82,7 @@ fn put_both(out: &mut LineAnswer, plain: &[usize], trie: &[usize]) {
     }
 }
 
-/// Appends the places of the texts that are patterns which match the key.
+/// Appends the indices of the `texts` that match `key` as patterns.
 fn put_places_of(out: &mut LineAnswer, key: &str, texts: &[&str]) {
     let patterns = patterns_of(out, texts);
     let plain = found_by::<Plain>(out.alloc(), patterns, key);
@@ -94,7 +94,7 @@ fn put_places_of(out: &mut LineAnswer, key: &str, texts: &[&str]) {
     }
 }
 
-/// What a trie of these patterns finds and counts.
+/// Returns the indices of the patterns that match `key`, and the trie's count.
 fn counted_by(
     alloc: Global,
     patterns: Vec<Pattern>,
@@ -103,7 +103,7 @@ fn counted_by(
     Trie::new(alloc, patterns)?.matches_counted(alloc, key.as_bytes())
 }
 
-/// Appends a count.
+/// Appends a trie's count.
 fn put_count(out: &mut LineAnswer, count: u128) {
     match format!(in out.alloc(); " count {count}") {
         Ok(text) => out.put(text.as_str()),
@@ -111,7 +111,7 @@ fn put_count(out: &mut LineAnswer, count: u128) {
     }
 }
 
-/// Appends the places that a trie of these patterns finds, and what it counts.
+/// Appends the indices of the patterns that match `key`, and the trie's count.
 fn put_counted(out: &mut LineAnswer, patterns: Vec<Pattern>, key: &str) {
     match counted_by(out.alloc(), patterns, key) {
         Ok((places, count)) => {
@@ -122,13 +122,13 @@ fn put_counted(out: &mut LineAnswer, patterns: Vec<Pattern>, key: &str) {
     }
 }
 
-/// Appends what a trie of these texts finds and counts.
+/// Appends the indices of the `texts` that match `key` as patterns, and the trie's count.
 fn put_counted_of(out: &mut LineAnswer, key: &str, texts: &[&str]) {
     let patterns = patterns_of(out, texts);
     put_counted(out, patterns, key);
 }
 
-/// Appends a pattern, with a number in place of its `%`. `Form` says that it has none.
+/// Appends the pattern of `text` with `number` in place of its `%`. Fails with [`Unanswered::Form`] if it has none.
 fn push_numbered(out: &mut LineAnswer, patterns: &mut Vec<Pattern>, text: &str, number: u32) {
     let Some((before, after)) = text.split_once('%') else {
         return out.fail(Unanswered::Form);
@@ -139,7 +139,7 @@ fn push_numbered(out: &mut LineAnswer, patterns: &mut Vec<Pattern>, text: &str, 
     }
 }
 
-/// The pattern of this text, once for each number.
+/// Returns the pattern of `text` for each number in `from..to`.
 fn numbered(out: &mut LineAnswer, from: u32, to: u32, text: &str) -> Vec<Pattern> {
     let mut patterns = Vec::new(out.alloc());
     for number in from..to {
@@ -148,7 +148,7 @@ fn numbered(out: &mut LineAnswer, from: u32, to: u32, text: &str) -> Vec<Pattern
     patterns
 }
 
-/// Appends what a trie of a pattern for each number finds and counts.
+/// Appends the indices of the numbered patterns that match `key`, and the trie's count.
 fn put_numbered_counted(out: &mut LineAnswer, key: &str, from: &str, to: &str, text: &str) {
     let from = number_of(out, from);
     let to = number_of(out, to);
@@ -156,7 +156,7 @@ fn put_numbered_counted(out: &mut LineAnswer, key: &str, from: &str, to: &str, t
     put_counted(out, patterns, key);
 }
 
-/// Answers a line about patterns, which is stated by words.
+/// Answers a line about patterns, given as words.
 fn answer_of_words(out: &mut LineAnswer, kind: &str, words: &[&str]) {
     match words {
         [text] if kind == "pattern" => put_pattern(out, text),

@@ -1,11 +1,11 @@
-//! Lines about the ways of a key.
+//! Lines about the routes of a key.
 
 use crate::{LineAnswer, Unanswered};
 use exchange_graph::Topology;
 use model::Text;
 use std::alloc::{AllocError, Global};
 
-/// Appends the names of the queues at these places, or `none`.
+/// Appends the names of the queues at the indices `places`, or `none`.
 fn put_queues(out: &mut LineAnswer, topology: &Topology, places: &[usize]) {
     for place in places {
         match topology.queues().get(*place) {
@@ -16,7 +16,7 @@ fn put_queues(out: &mut LineAnswer, topology: &Topology, places: &[usize]) {
     out.put_none_if_empty();
 }
 
-/// Appends a word, an empty one in quotes.
+/// Appends a word, in quotes if it is empty.
 fn put_word(out: &mut LineAnswer, word: &[u8]) {
     if word.is_empty() {
         out.put("\"\"");
@@ -25,7 +25,7 @@ fn put_word(out: &mut LineAnswer, word: &[u8]) {
     }
 }
 
-/// Appends these names, or `none`.
+/// Appends `names`, or `none`.
 fn put_names(out: &mut LineAnswer, names: &[Text]) {
     for name in names {
         out.put_space();
@@ -34,7 +34,7 @@ fn put_names(out: &mut LineAnswer, names: &[Text]) {
     out.put_none_if_empty();
 }
 
-/// Appends the queues to which a key leads, or `none`.
+/// Appends the queues to which `key` leads from `exchange`, or `none`.
 pub fn put_route(out: &mut LineAnswer, topology: &Topology, exchange: &str, key: &str) {
     match topology.route(out.alloc(), exchange.as_bytes(), key.as_bytes()) {
         Ok(places) => put_queues(out, topology, places.as_slice()),
@@ -42,7 +42,7 @@ pub fn put_route(out: &mut LineAnswer, topology: &Topology, exchange: &str, key:
     }
 }
 
-/// Appends the exchanges that a key passes, or `none`.
+/// Appends the exchanges that `key` passes from `exchange` on, or `none`.
 pub fn put_visited(out: &mut LineAnswer, topology: &Topology, exchange: &str, key: &str) {
     match topology.visited(out.alloc(), exchange.as_bytes(), key.as_bytes()) {
         Ok(names) => put_names(out, names.as_slice()),
@@ -50,7 +50,7 @@ pub fn put_visited(out: &mut LineAnswer, topology: &Topology, exchange: &str, ke
     }
 }
 
-/// Appends the queues to which one death leads from a queue, and under which key; or `none`.
+/// Appends the queues to which one dead-letter step leads from `queue`, and the key; or `none`.
 pub fn put_dead_route(out: &mut LineAnswer, topology: &Topology, queue: &str, key: &str) {
     match topology.dead_route(out.alloc(), queue.as_bytes(), key.as_bytes()) {
         Ok(Some(route)) => {

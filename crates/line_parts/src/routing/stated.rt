@@ -1,4 +1,4 @@
-//! Lines about definitions files, and about what they set up.
+//! Lines about definitions files, and about what they define.
 
 use super::routes::{put_dead_route, put_route, put_visited};
 use crate::{LineAnswer, Unanswered, bytes_of, file_of, number_of, source_of, words_of};
@@ -28,7 +28,7 @@ fn put_counts(out: &mut LineAnswer, topology: &Topology, users: &[User]) {
     out.put(" users");
 }
 
-/// Appends a label and a name in quotes, if there is one.
+/// Appends `label`, and `name` in quotes, if there is one.
 fn put_labelled(out: &mut LineAnswer, label: &str, name: &Option<Text>) {
     if let Some(name) = name {
         out.put(label);
@@ -36,7 +36,7 @@ fn put_labelled(out: &mut LineAnswer, label: &str, name: &Option<Text>) {
     }
 }
 
-/// Appends a label and a limit of a queue, if it has one.
+/// Appends `label` and a queue's limit, if it has one.
 fn put_limit(out: &mut LineAnswer, label: &str, limit: Option<u32>) {
     if let Some(limit) = limit {
         out.put(label);
@@ -44,7 +44,7 @@ fn put_limit(out: &mut LineAnswer, label: &str, limit: Option<u32>) {
     }
 }
 
-/// Appends place, limits and dead lettering of a queue.
+/// Appends a queue's index, name, limits and dead-lettering.
 fn put_declared(out: &mut LineAnswer, place: usize, queue: &DeclaredQueue) {
     out.put_number(place as u64);
     out.put_name(&queue.name);
@@ -69,7 +69,7 @@ fn kind_of(kind: ExchangeKind) -> &'static str {
     }
 }
 
-/// Appends type and alternate of an exchange.
+/// Appends an exchange's type and alternate exchange.
 fn put_typed(out: &mut LineAnswer, exchange: &Exchange) {
     out.put(kind_of(exchange.kind));
     if exchange.internal {
@@ -85,7 +85,7 @@ fn put_exchange(out: &mut LineAnswer, topology: &Topology, name: &str) {
     }
 }
 
-/// Appends name and hash of the user at a place.
+/// Appends the name and the hash of the user at the index `place`.
 fn put_user(out: &mut LineAnswer, users: &[User], place: &str) {
     let place = number_of(out, place);
     match users.get(place as usize) {
@@ -98,7 +98,7 @@ fn put_user(out: &mut LineAnswer, users: &[User], place: &str) {
     }
 }
 
-/// Answers what is asked by words about what was read.
+/// Answers a line about the definitions `read`, given as words.
 fn answer_of_words(out: &mut LineAnswer, kind: &str, read: &Definitions, words: &[&str]) {
     let topology = read.topology();
     match words {
@@ -113,7 +113,7 @@ fn answer_of_words(out: &mut LineAnswer, kind: &str, read: &Definitions, words: 
     }
 }
 
-/// Answers a line about what a file sets up.
+/// Answers a line about what a file defines.
 fn answer_of_file(out: &mut LineAnswer, rt: &HostRuntime, kind: &str, asked: &str) {
     let (name, rest) = asked.split_once(' ').unwrap_or((asked, ""));
     let file = file_of(out, rt, name);

@@ -1,18 +1,18 @@
-//! The calls of a queue, by name.
+//! The calls of a queue, by name. Start with [`put_call`].
 
 use crate::stores::entries::{message_of, put_entry};
 use crate::stores::tags::{Tags, put_count, put_each, put_given};
 use crate::{LineAnswer, Unanswered};
 use queue::Store;
 
-/// Makes room for so many messages.
+/// Reserves slots for `more` messages.
 fn reserve<S: Store>(out: &mut LineAnswer, store: &mut S, more: usize) {
     if store.reserve(more).is_err() {
         out.fail(Unanswered::Memory);
     }
 }
 
-/// Puts a message with a body of so many bytes behind the others, under this publish number.
+/// Pushes the message of publish `number`, with a body of `size` bytes.
 fn push<S: Store>(out: &mut LineAnswer, store: &mut S, number: u32, size: usize) {
     let Ok(message) = message_of(out.alloc(), u64::from(number), size) else {
         return out.fail(Unanswered::Memory);
@@ -23,14 +23,14 @@ fn push<S: Store>(out: &mut LineAnswer, store: &mut S, number: u32, size: usize)
     }
 }
 
-/// Puts a message behind the others for each number.
+/// Pushes a message for each number in `from..to`.
 fn push_all<S: Store>(out: &mut LineAnswer, store: &mut S, from: u32, to: u32, size: u32) {
     for number in from..to {
         push(out, store, number, size as usize);
     }
 }
 
-/// Takes so many messages out, and appends them.
+/// Takes `count` messages, and appends them.
 fn put_taken<S: Store>(out: &mut LineAnswer, store: &mut S, count: u32) {
     for _ in 0..count {
         let entry = store.take_first();
@@ -38,7 +38,7 @@ fn put_taken<S: Store>(out: &mut LineAnswer, store: &mut S, count: u32) {
     }
 }
 
-/// Appends numbers, or that there is none.
+/// Appends `numbers`, or `none`.
 fn put_numbers(out: &mut LineAnswer, numbers: &[u64]) {
     if numbers.is_empty() {
         out.put_space();
@@ -49,7 +49,7 @@ fn put_numbers(out: &mut LineAnswer, numbers: &[u64]) {
     }
 }
 
-/// Takes the ready messages out, and appends their publish numbers.
+/// Purges the ready messages, and appends their publish numbers.
 fn put_purged<S: Store>(out: &mut LineAnswer, store: &mut S) {
     match Vec::with_capacity(out.alloc(), store.ready()) {
         Ok(mut numbers) => {
@@ -60,7 +60,7 @@ fn put_purged<S: Store>(out: &mut LineAnswer, store: &mut S) {
     }
 }
 
-/// Appends how many bytes the bodies have of the ready messages.
+/// Appends the number of bytes in the bodies of the ready messages.
 fn put_bytes<S: Store>(out: &mut LineAnswer, store: &S) {
     match u64::try_from(store.ready_bytes()) {
         Ok(bytes) => put_count(out, bytes),
@@ -68,7 +68,7 @@ fn put_bytes<S: Store>(out: &mut LineAnswer, store: &S) {
     }
 }
 
-/// Appends whether the queue is full for a body of this size.
+/// Appends whether the queue is full for a body of `size` bytes.
 fn put_full<S: Store>(
     out: &mut LineAnswer,
     store: &S,
@@ -80,7 +80,7 @@ fn put_full<S: Store>(
     out.put_yes_or_no(store.is_full(limit, byte_limit, size as usize));
 }
 
-/// Does a call without a number, and appends what is answered.
+/// Makes a call without numbers, and appends its result.
 fn put_plain<S: Store>(out: &mut LineAnswer, store: &mut S, name: &str) {
     match name {
         "ready" => put_count(out, store.ready() as u64),
@@ -91,7 +91,7 @@ fn put_plain<S: Store>(out: &mut LineAnswer, store: &mut S, name: &str) {
     }
 }
 
-/// Does a call of this name with these numbers, and appends what is answered.
+/// Makes the call `name` with these numbers, and appends its result.
 pub(crate) fn put_call<S: Store>(out: &mut LineAnswer, store: &mut S, name: &str, numbers: &[u32]) {
     match *numbers {
         [] => put_plain(out, store, name),

@@ -1,16 +1,16 @@
-//! Messages that are pushed, and what is told of those in a queue.
+//! Builds the messages that are pushed, and writes those that a queue returns.
 
 use crate::LineAnswer;
 use model::{Body, Content, Entry, Holder, Mark, Message, Properties, Publish, Text};
 use std::alloc::{AllocError, Global};
 
-/// A body of so many bytes.
+/// Returns a body of `size` bytes.
 fn body_of(alloc: Global, size: usize) -> Result<Body, AllocError> {
     let bytes = vec![in alloc; 0; size]?;
     Body::from_slice(alloc, bytes.as_slice())
 }
 
-/// The message of a publish under this number, to no exchange and under no key, with a body of so many bytes.
+/// Returns the message of publish `number`, with no exchange, no key, and a body of `size` bytes.
 pub(crate) fn message_of(alloc: Global, number: u64, size: usize) -> Result<Message, AllocError> {
     let publish = Publish {
         reserved: 0,
@@ -26,7 +26,7 @@ pub(crate) fn message_of(alloc: Global, number: u64, size: usize) -> Result<Mess
     Message::of_publish(alloc, number, &publish, &content)
 }
 
-/// Appends who holds a message.
+/// Appends the holder of a message.
 fn put_holder(out: &mut LineAnswer, holder: &Holder) {
     out.put("@");
     out.put_number(holder.connection);
@@ -36,7 +36,7 @@ fn put_holder(out: &mut LineAnswer, holder: &Holder) {
     out.put_number(holder.tag);
 }
 
-/// Appends a message: its publish number, whether it is redelivered, and who holds it.
+/// Appends a message: its publish number, whether it is redelivered, and its holder.
 fn put_there(out: &mut LineAnswer, entry: &Entry) {
     out.put_number(entry.message.number());
     if entry.message.is_redelivered() {
@@ -47,7 +47,7 @@ fn put_there(out: &mut LineAnswer, entry: &Entry) {
     }
 }
 
-/// Appends a message, or that there is none.
+/// Appends a message, or `none`.
 pub(crate) fn put_entry(out: &mut LineAnswer, entry: Option<&Entry>) {
     out.put_space();
     match entry {

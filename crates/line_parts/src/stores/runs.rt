@@ -1,10 +1,10 @@
-//! Calls one after another, of either body of a queue.
+//! Calls one after another, of either implementation of a queue.
 
 use crate::stores::calls::put_call;
 use crate::{LineAnswer, Unanswered, number_of, words_of};
 use queue::{Indexed, Listed, Store};
 
-/// The numbers that these words spell.
+/// Parses the numbers of a call, separated by colons.
 fn numbers_of(out: &mut LineAnswer, words: &str) -> Vec<u32> {
     let mut numbers = Vec::new(out.alloc());
     for word in words.split(':') {
@@ -15,7 +15,7 @@ fn numbers_of(out: &mut LineAnswer, words: &str) -> Vec<u32> {
     numbers
 }
 
-/// Does a call, which is a name with numbers behind it, and appends its answers.
+/// Makes the call that `word` writes, a name with numbers, and appends its result.
 fn put_word<S: Store>(out: &mut LineAnswer, store: &mut S, word: &str) {
     match word.split_once(':') {
         Some((name, words)) => {
@@ -26,7 +26,7 @@ fn put_word<S: Store>(out: &mut LineAnswer, store: &mut S, word: &str) {
     }
 }
 
-/// What a queue with no message answers to these calls.
+/// Returns the results of these calls of a queue that is empty at first.
 fn answers_of<S: Store>(out: &mut LineAnswer, words: &[&str]) -> String {
     let mut answers = LineAnswer::new(out.alloc());
     let mut store = S::new(out.alloc());
@@ -36,7 +36,7 @@ fn answers_of<S: Store>(out: &mut LineAnswer, words: &[&str]) -> String {
     answers.into_part_of(out)
 }
 
-/// Appends what the queue over a list answers, and what the one with indexes does, unless that is the same.
+/// Appends the results of the queue over a list, and those of the queue with indexes unless they are the same.
 pub(crate) fn answer(out: &mut LineAnswer, asked: &str) {
     let words = words_of(out, asked);
     let listed = answers_of::<Listed>(out, words.as_slice());

@@ -1,11 +1,11 @@
-//! What is held under tags of a channel.
+//! Calls for a range of delivery tags of a channel.
 
 use crate::stores::entries::put_entry;
 use crate::{LineAnswer, Unanswered};
 use model::{Holder, Taker};
 use queue::Store;
 
-/// So many tags of a channel, from the first one on, and the number of the arrival of what is held under that.
+/// `count` delivery tags of a channel, from `first` on, and the arrival number of the message under the first of them.
 #[derive(Clone, Copy, Drop)]
 pub(crate) struct Tags {
     pub(crate) connection: u32,
@@ -16,7 +16,7 @@ pub(crate) struct Tags {
 }
 
 impl Tags {
-    /// Who holds what is held under one of these tags.
+    /// Returns the holder with the tag `index` after the first.
     fn holder(&self, index: u32, by: Taker) -> Holder {
         Holder {
             connection: u64::from(self.connection),
@@ -26,19 +26,19 @@ impl Tags {
         }
     }
 
-    /// The number of an arrival, so many behind that of the first tag.
+    /// Returns the arrival number `index` after that of the first tag.
     fn arrival(&self, index: u32) -> u64 {
         u64::from(self.arrival) + u64::from(index)
     }
 }
 
-/// Appends a number, by a space from what stands before it.
+/// Appends a number, after a space unless the answer is empty.
 pub(crate) fn put_count(out: &mut LineAnswer, count: u64) {
     out.put_space();
     out.put_number(count);
 }
 
-/// Gives the first ready message out, unless something is held under this tag. Tells whether one was given out.
+/// Holds the first ready message, unless one is held under this tag. Returns whether one was held.
 fn is_given<S: Store>(store: &mut S, holder: Holder) -> bool {
     if store.held(&holder, 0).is_some() {
         return false;
@@ -46,7 +46,7 @@ fn is_given<S: Store>(store: &mut S, holder: Holder) -> bool {
     store.hold(holder).is_some()
 }
 
-/// Gives a message out under each of these tags, and appends how many were.
+/// Holds a message under each of `tags`, and appends the number of messages held.
 pub(crate) fn put_given<S: Store>(out: &mut LineAnswer, store: &mut S, tags: Tags) {
     let mut given: u64 = 0;
     for index in 0..tags.count {
@@ -56,7 +56,7 @@ pub(crate) fn put_given<S: Store>(out: &mut LineAnswer, store: &mut S, tags: Tag
     put_count(out, given);
 }
 
-/// Appends what is held under each of these tags.
+/// Appends the message held under each of `tags`.
 fn put_held<S: Store>(out: &mut LineAnswer, store: &S, tags: Tags) {
     for index in 0..tags.count {
         let holder = tags.holder(index, Taker::Get);
@@ -64,7 +64,7 @@ fn put_held<S: Store>(out: &mut LineAnswer, store: &S, tags: Tags) {
     }
 }
 
-/// Makes ready what is held under each of these tags, and appends how many were.
+/// Requeues the message held under each of `tags`, and appends the number of requeued messages.
 fn put_released<S: Store>(out: &mut LineAnswer, store: &mut S, tags: Tags) {
     let mut released: u64 = 0;
     for index in 0..tags.count {
@@ -74,7 +74,7 @@ fn put_released<S: Store>(out: &mut LineAnswer, store: &mut S, tags: Tags) {
     put_count(out, released);
 }
 
-/// Takes out what is held under each of these tags, and appends it.
+/// Removes the message held under each of `tags`, and appends it.
 fn put_removed<S: Store>(out: &mut LineAnswer, store: &mut S, tags: Tags) {
     for index in 0..tags.count {
         let holder = tags.holder(index, Taker::Get);
@@ -83,7 +83,7 @@ fn put_removed<S: Store>(out: &mut LineAnswer, store: &mut S, tags: Tags) {
     }
 }
 
-/// Does a call of this name for each of these tags, and appends what is answered.
+/// Makes the call `name` for each of `tags`, and appends its result.
 pub(crate) fn put_each<S: Store>(out: &mut LineAnswer, store: &mut S, name: &str, tags: Tags) {
     match name {
         "held" => put_held(out, store, tags),

@@ -74,7 +74,7 @@ def rabbitmq():
             rabbit.permit("till", "/")
             yield rabbit.port
     except NotHere as error:
-        print(f"passed over: {error}")
+        print(f"unmodified: RabbitMQ is left out: {error}")
         yield None
 
 
@@ -116,7 +116,7 @@ def try_client(name, servers, folder):
 
 def main(warren):
     if version_of("python3-pamqp") is None:
-        print("skipped: the front wants pamqp (apt-get install python3-pamqp)")
+        print("unmodified: skipped, the front wants pamqp: apt-get install python3-pamqp")
         return 0
     serve = [warren, "serve", *SHOP, "--listen", "127.0.0.1:0"]
     with tempfile.TemporaryDirectory() as folder, rabbitmq() as rabbit, listening(serve) as port:

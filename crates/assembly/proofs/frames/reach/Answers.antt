@@ -1,4 +1,4 @@
-use Rattle.std.proofs.Common.{◌∙◌}
+use Rattle.assembly.proofs.Imports.{◌∙◌}
 use Rattle.assembly.proofs.Places.{content_at-push}
 use Rattle.assembly.proofs.frames.reach.Goals as goal
 

@@ -1,5 +1,4 @@
-use Rattle.std.proofs.Common.{◌≡◌, ◌-◌, ◌+◌, vec_len}
-use Rattle.assembly.specs.Pending.{content_at}
+use Rattle.assembly.proofs.Imports.{◌≡◌, ◌-◌, ◌+◌, vec_len, content_at}
 use Rattle.assembly.proofs.frames.reach.Given as goal
 
 abbrev pub invariant-channels : goal.invariant-channels

@@ -1,8 +1,5 @@
-use Rattle.std.proofs.Common.{sym, ◌∙◌}
+use Rattle.assembly.proofs.Imports.{sym, ◌∙◌, TakesOn, seen, pending_at}
 use Rattle.std.proofs.lemmas.Result.{err_from_is_err_and}
-use Rattle.model.specs.Commands.{TakesOn}
-use Rattle.frame.specs.Reading.{seen}
-use Rattle.assembly.specs.Pending.{pending_at}
 use Rattle.assembly.proofs.Places.{does_so, does_not, does_other, takes_heartbeat, spelled_same, pending_same}
 use Rattle.assembly.proofs.frames.take_frame.Goals as goal
 

@@ -1,4 +1,4 @@
-use Rattle.std.proofs.Common.{rules}
+use Rattle.assembly.proofs.Imports.{rules}
 use Rattle.assembly.proofs.Places.{with_one_same}
 use Rattle.assembly.proofs.frames.take_heartbeat.Goals as goal
 

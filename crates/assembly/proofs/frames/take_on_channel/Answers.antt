@@ -1,6 +1,4 @@
-use Rattle.std.proofs.Common.{◌≡◌, ◌==◌, MatchBool, rules}
-use Rattle.model.specs.Commands.{Breaks, TakesPayload, awaited}
-use Rattle.frame.specs.Reading.{seen}
+use Rattle.assembly.proofs.Imports.{◌≡◌, ◌==◌, MatchBool, rules, Breaks, TakesPayload, awaited, seen}
 use Rattle.assembly.proofs.Places.{does_there}
 use Rattle.assembly.proofs.frames.take_on_channel.Goals as goal
 

@@ -1,4 +1,4 @@
-use Rattle.std.proofs.Common.{◌≡◌, length}
+use Rattle.assembly.proofs.Imports.{◌≡◌, length}
 use Rattle.assembly.proofs.names.make_places.Given as goal
 
 abbrev pub invariant-loop : goal.invariant-loop

@@ -1,4 +1,4 @@
-use Rattle.std.proofs.Common.{◌≡◌, length}
+use Rattle.assembly.proofs.Imports.{◌≡◌, length}
 use Rattle.assembly.specs.Names.{AreRight}
 use Rattle.assembly.proofs.names.make_slots.Given as goal
 

@@ -1,7 +1,4 @@
-use Rattle.std.proofs.Common.{◌∙◌, sym, arith}
-use Rattle.model.specs.Commands.{stays}
-use Rattle.frame.specs.Reading.{seen}
-use Rattle.assembly.specs.Pending.{pending_at}
+use Rattle.assembly.proofs.Imports.{◌∙◌, sym, arith, stays, seen, pending_at}
 use Rattle.assembly.proofs.Onwards.{ended, unframed, refused, made, on}
 use Rattle.assembly.proofs.reading.next_command.Goals as goal
 

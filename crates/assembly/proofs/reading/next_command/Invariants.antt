@@ -1,7 +1,4 @@
-use Rattle.std.proofs.Common.{◌≤◌, length, false}
-use Rattle.model.specs.Commands.{GoesOn}
-use Rattle.assembly.specs.Pending.{AreSpelledSoFar}
-use Rattle.assembly.specs.Held.{stream}
+use Rattle.assembly.proofs.Imports.{◌≤◌, length, false, GoesOn, AreSpelledSoFar, stream}
 use Rattle.assembly.proofs.reading.next_command.Given as goal
 
 abbrev pub invariant-frames : goal.invariant-frames

@@ -1,6 +1,4 @@
-use Rattle.std.proofs.Common.{ap, sym, subst}
-use Rattle.model.specs.Grammar.{IsMethod}
-use Rattle.assembly.specs.Pending.{pending_of}
+use Rattle.assembly.proofs.Imports.{ap, sym, subst, IsMethod, pending_of}
 use Rattle.assembly.proofs.Codes.{plain, fits}
 use Rattle.assembly.proofs.taking.begin.Goals as goal
 

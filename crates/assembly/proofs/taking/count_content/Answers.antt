@@ -1,9 +1,5 @@
-use Rattle.std.proofs.Common.{◌≡◌, ◌∙◌, ℕ, false, ap, subst, Result, Ok, Err, refl}
+use Rattle.assembly.proofs.Imports.{◌≡◌, ◌∙◌, ℕ, false, ap, subst, Result, Ok, Err, refl, Taken, taken_dropped, taken_header, Header, SaysHeader, pending_of, TakesEffect}
 use Rattle.model.specs.Commands
-use Rattle.model.specs.Commands.{Taken, taken_dropped, taken_header}
-use Rattle.model.specs.Headers.{Header, SaysHeader}
-use Rattle.assembly.specs.Pending.{pending_of}
-use Rattle.assembly.specs.Taking.{TakesEffect}
 use Rattle.assembly.proofs.Codes.{map_fault, does_wider}
 use Rattle.assembly.proofs.taking.count_content.Goals as goal
 

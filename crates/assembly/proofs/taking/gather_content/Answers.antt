@@ -1,10 +1,5 @@
-use Rattle.std.proofs.Common.{◌≡◌, true, ap, subst, sym, arith, Ok, Err, refl}
-use Rattle.model.specs.Commands.{Makes, taken_header}
-use Rattle.model.specs.Grammar.{IsMethod}
-use Rattle.model.specs.declared.methods.Method.TheVariants.{BasicPublish}
-use Rattle.headers.specs.Reading.{header_seen}
+use Rattle.assembly.proofs.Imports.{◌≡◌, true, ap, subst, sym, arith, Ok, Err, refl, Makes, taken_header, IsMethod, BasicPublish, header_seen, pending_of, IsSpelledSoFar}
 use Rattle.assembly.specs.Coming.{GrowsAsItComes}
-use Rattle.assembly.specs.Pending.{pending_of, IsSpelledSoFar}
 use Rattle.assembly.proofs.Codes.{map_fault, one_publish}
 use Rattle.assembly.proofs.Limits.{begun, empty_body}
 use Rattle.assembly.proofs.taking.gather_content.Goals as goal

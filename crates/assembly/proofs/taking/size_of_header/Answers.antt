@@ -1,5 +1,4 @@
-use Rattle.std.proofs.Common.{refl}
-use Rattle.headers.specs.Reading.{header_seen}
+use Rattle.assembly.proofs.Imports.{refl, header_seen}
 use Rattle.assembly.proofs.Codes.{map_fault}
 use Rattle.assembly.proofs.taking.size_of_header.Goals as goal
 

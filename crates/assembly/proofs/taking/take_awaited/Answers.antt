@@ -1,4 +1,4 @@
-use Rattle.std.proofs.Common.{rules}
+use Rattle.assembly.proofs.Imports.{rules}
 use Rattle.assembly.proofs.taking.take_awaited.Goals as goal
 
 pub returns-in-Drops-clause-does : goal.returns-in-Drops-clause-does

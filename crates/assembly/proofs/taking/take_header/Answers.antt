@@ -1,9 +1,4 @@
-use Rattle.std.proofs.Common.{◌≡◌, ◌∙◌, refl, sym, subst}
-use Rattle.model.specs.Commands.{Wants_header, TakesPayload, taken_dropped}
-use Rattle.frame.specs.Reading.{seen}
-use Rattle.assembly.specs.Pending.{pending_of}
-use Rattle.assembly.specs.Taking.{TakesEffect}
-use Rattle.assembly.specs.declared.contents.Awaited.{Awaited}
+use Rattle.assembly.proofs.Imports.{◌≡◌, ◌∙◌, refl, sym, subst, Wants_header, TakesPayload, taken_dropped, seen, pending_of, TakesEffect, Awaited}
 use Rattle.assembly.proofs.Codes.{map_fault, does_wider, the_publish, takes_large, takes_small, takes_unsized}
 use Rattle.assembly.proofs.Limits.{small_at}
 use Rattle.assembly.proofs.taking.take_header.Goals as goal

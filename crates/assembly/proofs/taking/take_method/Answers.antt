@@ -1,8 +1,4 @@
-use Rattle.std.proofs.Common.{Err, refl, subst, sym}
-use Rattle.model.specs.Commands.{Breaks, TakesPayload}
-use Rattle.frame.specs.Reading.{seen}
-use Rattle.assembly.specs.Pending.{pending_of}
-use Rattle.assembly.specs.declared.contents.Awaited.{Awaited}
+use Rattle.assembly.proofs.Imports.{Err, refl, subst, sym, Breaks, TakesPayload, seen, pending_of, Awaited}
 use Rattle.assembly.proofs.Codes.{map_fault}
 use Rattle.assembly.proofs.taking.take_method.Goals as goal
 

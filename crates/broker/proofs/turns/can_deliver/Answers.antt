@@ -1,5 +1,4 @@
-use Rattle.std.proofs.Common.{ℕ, subst}
-use Rattle.commands.specs.Picked.{IsPickFrom}
+use Rattle.broker.proofs.Names.{ℕ, subst, IsPickFrom}
 use Rattle.broker.proofs.Found.{able, none_picked, from_its}
 use Rattle.broker.proofs.turns.can_deliver.Goals as goal
 

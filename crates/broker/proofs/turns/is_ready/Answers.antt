@@ -1,6 +1,4 @@
-use Rattle.std.proofs.Common.{◌∙◌, subst, sym, arith}
-use Rattle.std.proofs.lemmas.Bool.{eqb-true, eq-eqb, false≢true}
-use Rattle.depot.specs.Store.{HasReady}
+use Rattle.broker.proofs.Names.{◌∙◌, subst, sym, arith, eqb-true, eq-eqb, false≢true, HasReady}
 use Rattle.broker.proofs.Found.{apart_less}
 use Rattle.broker.proofs.turns.is_ready.Goals as goal
 

@@ -1,8 +1,5 @@
-use Rattle.std.proofs.Common.{◌∙◌, sym, subst}
-use Rattle.std.proofs.lemmas.Option.{same_Some}
+use Rattle.broker.proofs.Names.{◌∙◌, sym, subst, same_Some, IsPick, Pick}
 use Rattle.commands.specs.State.{broker_of}
-use Rattle.commands.specs.Picked.{IsPick}
-use Rattle.commands.specs.declared.picks.Pick.{Pick}
 use Rattle.broker.proofs.turns.turn_kept.Goals as goal
 
 pub returns-then-can_deliver-clause-some : goal.returns-then-can_deliver-clause-some

@@ -1,6 +1,4 @@
-use Rattle.std.proofs.Common.{List, refl, subst}
-use Rattle.model.specs.Guarantee.{Guarantee}
-use Rattle.certificate.specs.Certified.{AreCertified}
+use Rattle.certificate.proofs.Names.{List, refl, subst, Guarantee, AreCertified}
 use Rattle.certificate.proofs.Certifying.{certified_hold}
 use Rattle.certificate.proofs.admitted.admit.Goals as goal
 

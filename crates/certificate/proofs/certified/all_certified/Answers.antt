@@ -1,4 +1,4 @@
-use Rattle.std.proofs.Common.{arith}
+use Rattle.certificate.proofs.Names.{arith}
 use Rattle.certificate.proofs.Certifying.{one_certified, refused_at, certified_all}
 use Rattle.certificate.proofs.certified.all_certified.Goals as goal
 

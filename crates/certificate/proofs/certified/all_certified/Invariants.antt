@@ -1,4 +1,4 @@
-use Rattle.certificate.specs.Certified.{AreCertifiedBelow}
+use Rattle.certificate.proofs.Names.{AreCertifiedBelow}
 use Rattle.certificate.proofs.certified.all_certified.Given as goal
 
 abbrev pub invariant-loop-place : goal.invariant-loop-place

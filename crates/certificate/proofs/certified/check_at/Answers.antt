@@ -1,4 +1,4 @@
-use Rattle.std.proofs.Common.{arith}
+use Rattle.certificate.proofs.Names.{arith}
 use Rattle.certificate.proofs.Certifying.{checked_at}
 use Rattle.certificate.proofs.certified.check_at.Goals as goal
 

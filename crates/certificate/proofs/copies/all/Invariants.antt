@@ -1,4 +1,4 @@
-use Rattle.std.proofs.Common.{◌≡◌, ◌++◌, drop}
+use Rattle.certificate.proofs.Names.{◌≡◌, ◌++◌, drop}
 use Rattle.certificate.proofs.copies.all.Given as goal
 
 abbrev pub invariant-loop-one : goal.invariant-loop-one

@@ -1,4 +1,4 @@
-use Rattle.std.proofs.Common.{arith}
+use Rattle.certificate.proofs.Names.{arith}
 use Rattle.certificate.proofs.Drafting.{begun_with, grown_past, fails_with}
 use Rattle.certificate.proofs.drafts.longer.Goals as goal
 

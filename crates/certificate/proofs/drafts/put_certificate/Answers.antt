@@ -1,5 +1,5 @@
-use Rattle.std.proofs.Common.{◌∙◌, ◌++◌, List, ℕ, ap, subst, string_bytes, IsUtf8}
-use Rattle.serde_json.specs.View.{view}
+use Rattle.certificate.proofs.Names.{◌∙◌, ◌++◌, List, ℕ, ap, subst, string_bytes, view}
+use Rattle.std.proofs.Common.{IsUtf8}
 use Rattle.certificate.proofs.Drafting.{has_put}
 use Rattle.certificate.proofs.drafts.put_certificate.Goals as goal
 

@@ -1,5 +1,4 @@
-use Rattle.std.proofs.Common.{◌≡◌, drop}
-use Rattle.certificate.specs.Places.{same_texts}
+use Rattle.certificate.proofs.Names.{◌≡◌, drop, same_texts}
 use Rattle.certificate.proofs.form.are_equal.Given as goal
 
 abbrev pub invariant-loop-at : goal.invariant-loop-at

@@ -1,6 +1,4 @@
-use Rattle.std.proofs.Common.{◌∙◌, List, length, sym, arith, subst, ◌≤◌}
-use Rattle.std.specs.Prelude.{slice_index}
-use Rattle.std.proofs.lemmas.Bool.{false≢true}
+use Rattle.certificate.proofs.Names.{◌∙◌, List, length, sym, arith, subst, ◌≤◌, slice_index, false≢true}
 use Rattle.model.specs.declared.texts.Token.{Token}
 use Rattle.certificate.proofs.Forming.{fits_length, fits_more, fits_not, fits_all, fits_as, short_at}
 use Rattle.certificate.proofs.form.fits.Goals as goal

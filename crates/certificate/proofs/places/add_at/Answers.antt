@@ -1,7 +1,5 @@
-use Rattle.std.proofs.Common.{◌≡◌, ◌∙◌, ◌++◌, [], Option, None, sym, ap, append-nil}
-use Rattle.std.proofs.lemmas.Option.{slice_get_past, MatchOption-at_none}
-use Rattle.std.specs.List.{cons_option, slice_get}
-use Rattle.model.specs.Tracking.{Tracked}
+use Rattle.certificate.proofs.Names.{◌≡◌, ◌∙◌, ◌++◌, [], Option, None, sym, ap, append-nil, slice_get_past, MatchOption-at_none, cons_option, Tracked}
+use Rattle.std.specs.List.{slice_get}
 use Rattle.certificate.proofs.places.add_at.Goals as goal
 
 pub returns-in-None : goal.returns-in-None

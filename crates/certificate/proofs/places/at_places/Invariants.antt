@@ -1,5 +1,4 @@
-use Rattle.std.proofs.Common.{◌≡◌, ◌++◌, drop}
-use Rattle.model.specs.Certificates.{at_places}
+use Rattle.certificate.proofs.Names.{◌≡◌, ◌++◌, drop, at_places}
 use Rattle.certificate.proofs.places.at_places.Given as goal
 
 abbrev pub invariant-loop-place : goal.invariant-loop-place

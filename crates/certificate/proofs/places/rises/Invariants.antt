@@ -1,5 +1,4 @@
-use Rattle.std.proofs.Common.{◌≡◌, drop}
-use Rattle.certificate.specs.Places.{rises}
+use Rattle.certificate.proofs.Names.{◌≡◌, drop, rises}
 use Rattle.certificate.proofs.places.rises.Given as goal
 
 abbrev pub invariant-loop-at : goal.invariant-loop-at

@@ -1,7 +1,4 @@
-use Rattle.std.proofs.Common.{sym, ◌∙◌, arith}
-use Rattle.std.proofs.lemmas.Result.{err_from_is_err_and}
-use Rattle.json_file.proofs.Reading.{each_done, each_none, each_more, fails_then}
-use Rattle.state_walks.specs.Judged.{states_of}
+use Rattle.certificate.proofs.Names.{sym, ◌∙◌, arith, err_from_is_err_and, each_done, each_none, each_more, fails_then, states_of}
 use Rattle.certificate.specs.Stated.{state_in}
 use Rattle.certificate.proofs.Listed.{states_more}
 use Rattle.certificate.proofs.reading.states.Goals as goal

@@ -1,8 +1,5 @@
-use Rattle.std.proofs.Common.{◌≡◌, drop}
-use Rattle.serde_json.specs.View.{items_view}
+use Rattle.certificate.proofs.Names.{◌≡◌, drop, items_view, with_front, states_of}
 use Rattle.json_file.specs.Members.{each}
-use Rattle.json_file.proofs.Reading.{with_front}
-use Rattle.state_walks.specs.Judged.{states_of}
 use Rattle.certificate.specs.Stated.{state_in}
 use Rattle.certificate.proofs.reading.states.Given as goal
 

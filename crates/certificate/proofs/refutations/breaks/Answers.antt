@@ -1,5 +1,4 @@
-use Rattle.std.proofs.Common.{sym, ◌∙◌}
-use Rattle.std.proofs.lemmas.Result.{IfOk-weaker}
+use Rattle.certificate.proofs.Names.{sym, ◌∙◌, IfOk-weaker}
 use Rattle.certificate.proofs.Refuting.{broken_never, its_own}
 use Rattle.certificate.proofs.refutations.breaks.Goals as goal
 

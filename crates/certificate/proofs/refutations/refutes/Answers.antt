@@ -1,7 +1,4 @@
-use Rattle.std.proofs.Common.{subst, ◌∙◌}
-use Rattle.std.proofs.lemmas.Result.{IfOk-weaker}
-use Rattle.model.specs.Words.{Text}
-use Rattle.model.specs.Guarantee.{CoversKey}
+use Rattle.certificate.proofs.Names.{subst, ◌∙◌, IfOk-weaker, Text, CoversKey}
 use Rattle.certificate.proofs.Refuting.{refuted}
 use Rattle.certificate.proofs.refutations.refutes.Goals as goal
 

@@ -1,6 +1,4 @@
-use Rattle.std.proofs.Common.{◌≡◌, ◌++◌, drop, map}
-use Rattle.serde_json.specs.View.{view}
-use Rattle.certificate.specs.Spelled.{certificate_data}
+use Rattle.certificate.proofs.Names.{◌≡◌, ◌++◌, drop, map, view, certificate_data}
 use Rattle.certificate.proofs.writing.certificate_values.Given as goal
 
 abbrev pub invariant-loop-certificate : goal.invariant-loop-certificate

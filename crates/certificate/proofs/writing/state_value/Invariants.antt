@@ -1,6 +1,4 @@
-use Rattle.std.proofs.Common.{◌≡◌, ◌++◌, drop, map}
-use Rattle.serde_json.specs.View.{view}
-use Rattle.certificate.specs.Spelled.{number_data}
+use Rattle.certificate.proofs.Names.{◌≡◌, ◌++◌, drop, map, view, number_data}
 use Rattle.certificate.proofs.writing.state_value.Given as goal
 
 abbrev pub invariant-loop-number : goal.invariant-loop-number

@@ -1,6 +1,4 @@
-use Rattle.std.proofs.Common.{◌≡◌, ◌++◌, drop, map}
-use Rattle.serde_json.specs.Data.{string}
-use Rattle.serde_json.specs.View.{view}
+use Rattle.certificate.proofs.Names.{◌≡◌, ◌++◌, drop, map, string, view}
 use Rattle.certificate.proofs.writing.texts_value.Given as goal
 
 abbrev pub invariant-loop-text : goal.invariant-loop-text

@@ -1,8 +1,6 @@
-use Rattle.std.proofs.Common.{◌≡◌, ◌∙◌, [], List, ap, sum_by}
+use Rattle.channels.proofs.Imports.{◌≡◌, ◌∙◌, [], List, ap, sum_by, consumers_counted, Running}
 use Rattle.std.specs.Map.Iter.{deref}
 use Rattle.std.proofs.lemmas.Map.Iter.{rest_all}
-use Rattle.channels.specs.Counting.{consumers_counted}
-use Rattle.channels.specs.RunningConnections.{Running}
 use Rattle.channels.proofs.ConnectionsCounting.{counts_all, no_more}
 use Rattle.channels.proofs.connections.count_consumers.Goals as goal
 

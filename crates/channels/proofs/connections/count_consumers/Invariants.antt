@@ -1,8 +1,5 @@
-use Rattle.std.proofs.Common.{◌≡◌, ◌+◌, ◌≤◌, sum_by}
-use Rattle.std.specs.Prelude.{min}
+use Rattle.channels.proofs.Imports.{◌≡◌, ◌+◌, ◌≤◌, sum_by, min, greatest, consumers_counted}
 use Rattle.std.specs.HashMap.{values}
-use Rattle.model.specs.Step.{greatest}
-use Rattle.channels.specs.Counting.{consumers_counted}
 use Rattle.channels.proofs.connections.count_consumers.Given as goal
 
 -- what is counted, and what is still to be counted, is the whole

@@ -1,6 +1,4 @@
-use Rattle.std.proofs.Common.{rules}
-use Rattle.std.proofs.lemmas.Map.Made.{map_same_pairs}
-use Rattle.channels.specs.ConnectionsMoving.{running_moved}
+use Rattle.channels.proofs.Imports.{rules, map_same_pairs, running_moved}
 use Rattle.channels.proofs.connections.renumber_all.Goals as goal
 
 pub returns : goal.returns

@@ -1,8 +1,4 @@
-use Rattle.std.proofs.Common.{◌∙◌, refl, sym, ap, subst, arith, List, take}
-use Rattle.model.specs.Placed.{waiting}
-use Rattle.channels.specs.Seats.{consumers_of, counted_out, NumbersRise}
-use Rattle.channels.specs.declared.consumers.Consumer.{Consumer}
-use Rattle.model.specs.declared.deliveries.Delivery.{Delivery}
+use Rattle.channels.proofs.Imports.{◌∙◌, refl, sym, ap, subst, arith, List, take, waiting, consumers_of, counted_out, NumbersRise, Consumer, Delivery}
 use Rattle.channels.proofs.Counting.{same_consumers}
 use Rattle.channels.proofs.Halving.{out_none, out_waiting}
 use Rattle.channels.proofs.consumers.count_each_out.Goals as goal

@@ -1,6 +1,4 @@
-use Rattle.std.proofs.Common.{◌≡◌, map, take}
-use Rattle.model.specs.Placed.{waiting}
-use Rattle.channels.specs.Seats.{counted_out}
+use Rattle.channels.proofs.Imports.{◌≡◌, map, take, waiting, counted_out}
 use Rattle.channels.proofs.consumers.count_each_out.Given as goal
 
 -- those that wait before the index are counted no more

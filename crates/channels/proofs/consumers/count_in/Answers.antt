@@ -1,6 +1,4 @@
-use Rattle.std.proofs.Common.{◌∙◌, sym, ap, map}
-use Rattle.model.specs.declared.messages.Taker.{Taker}
-use Rattle.channels.specs.Seats.{counted_in}
+use Rattle.channels.proofs.Imports.{◌∙◌, sym, ap, map, Taker, counted_in}
 use Rattle.channels.proofs.Halving.{in_get}
 use Rattle.channels.proofs.consumers.count_in.Goals as goal
 

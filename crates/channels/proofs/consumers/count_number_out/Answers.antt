@@ -1,7 +1,5 @@
-use Rattle.std.proofs.Common.{◌≡◌, ◌∙◌, ◌-◌, ℕ, refl, sym, ap, get_or, set, List}
+use Rattle.channels.proofs.Imports.{◌≡◌, ◌∙◌, ◌-◌, ℕ, refl, sym, ap, get_or, set, List, uncounted, CountedConsumer}
 use Rattle.model.specs.declared.messages.Taker.TheVariants as taker
-use Rattle.channels.specs.Seats.{uncounted}
-use Rattle.channels.specs.declared.consumers.CountedConsumer.{CountedConsumer}
 use Rattle.channels.proofs.Halving.{changed_once, changed_none, out_other, out_here, get_same}
 use Rattle.channels.proofs.consumers.count_number_out.Goals as goal
 

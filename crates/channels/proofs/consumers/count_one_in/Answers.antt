@@ -1,7 +1,5 @@
-use Rattle.std.proofs.Common.{◌∙◌, ◌+◌, ℕ, refl, sym, ap, get_or, set, List}
+use Rattle.channels.proofs.Imports.{◌∙◌, ◌+◌, ℕ, refl, sym, ap, get_or, set, List, counted_in, CountedConsumer}
 use Rattle.model.specs.declared.messages.Taker.TheVariants as taker
-use Rattle.channels.specs.Seats.{counted_in}
-use Rattle.channels.specs.declared.consumers.CountedConsumer.{CountedConsumer}
 use Rattle.channels.proofs.Halving.{changed_once, changed_none, in_other, in_here, get_same}
 use Rattle.channels.proofs.consumers.count_one_in.Goals as goal
 

@@ -1,6 +1,4 @@
-use Rattle.std.proofs.Common.{◌∙◌, sym, ap, map}
-use Rattle.model.specs.declared.messages.Taker.{Taker}
-use Rattle.channels.specs.Seats.{uncounted}
+use Rattle.channels.proofs.Imports.{◌∙◌, sym, ap, map, Taker, uncounted}
 use Rattle.channels.proofs.Halving.{out_get}
 use Rattle.channels.proofs.consumers.count_one_out.Goals as goal
 

@@ -1,7 +1,6 @@
-use Rattle.std.proofs.Common.{◌≡◌, ◌≤◌, take, count_by}
-use Rattle.model.specs.Prefetch.{is_to}
+use Rattle.channels.proofs.Imports.{◌≡◌, ◌≤◌, take, is_to, is_waiting}
+use Rattle.std.proofs.Common.{count_by}
 use Rattle.std.specs.Prelude.{◌&&◌}
-use Rattle.model.specs.Placed.{is_waiting}
 use Rattle.channels.proofs.consumers.given_to.Given as goal
 
 -- those before the index are counted

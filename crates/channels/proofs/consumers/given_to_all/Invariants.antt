@@ -1,7 +1,6 @@
-use Rattle.std.proofs.Common.{◌≡◌, ◌≤◌, take, count_by}
-use Rattle.model.specs.Prefetch.{is_delivery}
+use Rattle.channels.proofs.Imports.{◌≡◌, ◌≤◌, take, is_delivery, is_waiting}
+use Rattle.std.proofs.Common.{count_by}
 use Rattle.std.specs.Prelude.{◌&&◌}
-use Rattle.model.specs.Placed.{is_waiting}
 use Rattle.channels.proofs.consumers.given_to_all.Given as goal
 
 -- those before the index are counted

@@ -1,5 +1,4 @@
-use Rattle.std.proofs.Common.{◌∙◌, sym}
-use Rattle.channels.specs.Seats.{is_numbered}
+use Rattle.channels.proofs.Imports.{◌∙◌, sym, is_numbered}
 use Rattle.channels.proofs.Halving.{none_found}
 use Rattle.channels.proofs.consumers.place_of_consumer.Goals as goal
 

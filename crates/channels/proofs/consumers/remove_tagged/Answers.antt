@@ -1,6 +1,4 @@
-use Rattle.std.proofs.Common.{not, rules}
-use Rattle.std.proofs.lemmas.Fn.{filter_same}
-use Rattle.channels.specs.Seats.{has_name}
+use Rattle.channels.proofs.Imports.{not, rules, filter_same, has_name}
 use Rattle.channels.proofs.consumers.remove_tagged.Goals as goal
 
 pub returns-clause-seats : goal.returns-clause-seats

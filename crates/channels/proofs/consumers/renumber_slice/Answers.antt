@@ -1,7 +1,4 @@
-use Rattle.std.proofs.Common.{ℕ, List, set, get_or, ap, ◌∙◌, arith}
-use Rattle.std.specs.Prelude.{slice_set, slice_index_or}
-use Rattle.channels.specs.Moving.{seat_moved}
-use Rattle.channels.specs.declared.consumers.CountedConsumer.{CountedConsumer}
+use Rattle.channels.proofs.Imports.{ℕ, List, set, get_or, ap, ◌∙◌, arith, slice_set, slice_index_or, seat_moved, CountedConsumer}
 use Rattle.channels.proofs.Moving.{one_changed}
 use Rattle.channels.proofs.consumers.renumber_slice.Goals as goal
 

@@ -1,5 +1,4 @@
-use Rattle.std.proofs.Common.{◌≡◌}
-use Rattle.channels.specs.Moving.{seat_moved}
+use Rattle.channels.proofs.Imports.{◌≡◌, seat_moved}
 use Rattle.channels.proofs.Moving.{changed_to}
 use Rattle.channels.proofs.consumers.renumber_slice.Given as goal
 

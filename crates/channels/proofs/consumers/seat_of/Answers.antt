@@ -1,4 +1,4 @@
-use Rattle.std.proofs.Common.{◌∙◌, sym, ap, Some}
+use Rattle.channels.proofs.Imports.{◌∙◌, sym, ap, Some}
 use Rattle.channels.proofs.Halving.{find_at}
 use Rattle.channels.proofs.consumers.seat_of.Goals as goal
 

@@ -1,8 +1,4 @@
-use Rattle.std.proofs.Common.{ℕ, List, set, get_or, ap, ◌∙◌, arith}
-use Rattle.std.specs.Prelude.{slice_set, slice_index_or}
-use Rattle.model.specs.declared.messages.Taker.TheVariants.{Get}
-use Rattle.channels.specs.Moving.{outstanding_moved}
-use Rattle.model.specs.declared.deliveries.Delivery.{Delivery}
+use Rattle.channels.proofs.Imports.{ℕ, List, set, get_or, ap, ◌∙◌, arith, slice_set, slice_index_or, Get, outstanding_moved, Delivery}
 use Rattle.channels.proofs.Moving.{one_changed}
 use Rattle.channels.proofs.pending.renumber_slice.Goals as goal
 

@@ -1,5 +1,4 @@
-use Rattle.std.proofs.Common.{◌≡◌}
-use Rattle.channels.specs.Moving.{outstanding_moved}
+use Rattle.channels.proofs.Imports.{◌≡◌, outstanding_moved}
 use Rattle.channels.proofs.Moving.{changed_to}
 use Rattle.channels.proofs.pending.renumber_slice.Given as goal
 

@@ -1,5 +1,4 @@
-use Rattle.std.proofs.Common.{◌≡◌, length}
-use Rattle.model.specs.Placed.{waiting}
+use Rattle.channels.proofs.Imports.{◌≡◌, length, waiting}
 use Rattle.channels.proofs.settled.first_waiting.Given as goal
 
 -- nothing waited in those that were passed

@@ -1,7 +1,4 @@
-use Rattle.std.proofs.Common.{◌≡◌, take, sum_by}
-use Rattle.std.specs.Prelude.{min}
-use Rattle.model.specs.Step.{greatest}
-use Rattle.channels.specs.Counting.{consumers_at}
+use Rattle.channels.proofs.Imports.{◌≡◌, take, sum_by, min, greatest, consumers_at}
 use Rattle.channels.proofs.slots.count_consumers.Given as goal
 
 -- those before the index are counted

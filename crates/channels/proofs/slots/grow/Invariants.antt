@@ -1,4 +1,4 @@
-use Rattle.std.proofs.Common.{◌≡◌, ◌+◌, ◌++◌, None, replicate, vec_len, vec_capacity, ◌≤◌}
+use Rattle.channels.proofs.Imports.{◌≡◌, ◌+◌, ◌++◌, None, replicate, vec_len, vec_capacity, ◌≤◌}
 use Rattle.channels.proofs.slots.grow.Given as goal
 
 abbrev pub invariant-loop : goal.invariant-loop

@@ -1,6 +1,4 @@
-use Rattle.std.proofs.Common.{◌≡◌, ◌∙◌, ap, arith, ℕ, None, Some, ◌∷◌, replicate}
-use Rattle.model.specs.Broker.{new_channel}
-use Rattle.channels.specs.Open.{open_in}
+use Rattle.channels.proofs.Imports.{◌≡◌, ◌∙◌, ap, arith, ℕ, None, Some, ◌∷◌, replicate, new_channel, open_in}
 use Rattle.channels.proofs.Opening.{opened_next}
 use Rattle.channels.proofs.slots.open_channels.Goals as goal
 

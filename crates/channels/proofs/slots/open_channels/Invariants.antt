@@ -1,7 +1,5 @@
-use Rattle.std.proofs.Common.{◌≡◌, ◌+◌, ◌∷◌, List, None, Some, replicate, map, option_map, vec_len, vec_capacity, ◌≤◌}
-use Rattle.model.specs.Words.{Text}
-use Rattle.model.specs.Broker.{new_channel}
-use Rattle.channels.specs.Open.{open_in}
+use Rattle.channels.proofs.Imports.{◌≡◌, ◌+◌, ◌∷◌, List, None, Some, replicate, map, vec_len, vec_capacity, ◌≤◌, Text, new_channel, open_in}
+use Rattle.std.proofs.Common.{option_map}
 use Rattle.channels.proofs.slots.open_channels.Given as goal
 
 abbrev pub invariant-loop-number : goal.invariant-loop-number

@@ -1,7 +1,5 @@
-use Rattle.std.proofs.Common.{List, set, get_or, ap, ◌∙◌, arith, Option}
+use Rattle.channels.proofs.Imports.{List, set, get_or, ap, ◌∙◌, arith, Option, Open, open_moved}
 use Rattle.std.specs.Prelude.{option_map}
-use Rattle.channels.specs.Open.{Open}
-use Rattle.channels.specs.Moving.{open_moved}
 use Rattle.channels.proofs.Moving.{one_changed}
 use Rattle.channels.proofs.slots.renumber_each.Goals as goal
 

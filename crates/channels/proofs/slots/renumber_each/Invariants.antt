@@ -1,6 +1,5 @@
-use Rattle.std.proofs.Common.{◌≡◌}
+use Rattle.channels.proofs.Imports.{◌≡◌, open_moved}
 use Rattle.std.specs.Prelude.{option_map}
-use Rattle.channels.specs.Moving.{open_moved}
 use Rattle.channels.proofs.Moving.{changed_to}
 use Rattle.channels.proofs.slots.renumber_each.Given as goal
 

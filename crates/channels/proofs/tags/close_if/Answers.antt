@@ -1,7 +1,4 @@
-use Rattle.std.proofs.Common.{◌∙◌, sym, ap, subst, arith, drop, length, length-drop, List}
-use Rattle.channels.specs.Outstanding.{AreInOrder}
-use Rattle.model.specs.Placed.{waiting}
-use Rattle.model.specs.declared.deliveries.Delivery.{Delivery}
+use Rattle.channels.proofs.Imports.{◌∙◌, sym, ap, subst, arith, drop, length, length-drop, List, AreInOrder, waiting, Delivery}
 use Rattle.channels.proofs.Marking.{closed_order, closed_again, fewer_wait}
 use Rattle.channels.proofs.tags.close_if.Goals as goal
 

@@ -1,6 +1,4 @@
-use Rattle.std.proofs.Common.{◌∙◌, ap, rules}
-use Rattle.std.proofs.lemmas.Fn.{filter_same}
-use Rattle.model.specs.Placed.{is_waiting, waiting}
+use Rattle.channels.proofs.Imports.{◌∙◌, ap, rules, filter_same, is_waiting, waiting}
 use Rattle.channels.proofs.tags.close_up.Goals as goal
 
 pub returns-clause-items : goal.returns-clause-items

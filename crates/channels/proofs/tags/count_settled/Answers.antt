@@ -1,9 +1,4 @@
-use Rattle.std.proofs.Common.{◌∙◌, ◌+◌, sym, ap, drop, length, List, ℕ}
-use Rattle.std.proofs.lemmas.List.Sums.{length-filter}
-use Rattle.model.specs.Settling.{kept}
-use Rattle.channels.specs.Outstanding.{tag_of}
-use Rattle.model.specs.Placed.{is_waiting, waiting}
-use Rattle.model.specs.declared.deliveries.Delivery.{Delivery}
+use Rattle.channels.proofs.Imports.{◌∙◌, ◌+◌, sym, ap, drop, length, List, ℕ, length-filter, kept, tag_of, is_waiting, waiting, Delivery}
 use Rattle.channels.proofs.Settlement.{taken_by}
 use Rattle.channels.proofs.Marking.{taken_count}
 use Rattle.channels.proofs.tags.count_settled.Goals as goal

@@ -1,8 +1,4 @@
-use Rattle.std.proofs.Common.{◌≡◌, ◌∙◌, ◌+◌, ◌++◌, sym, ap, subst, drop, take, List, ℕ}
-use Rattle.model.specs.Settling.{kept}
-use Rattle.model.specs.Placed.{waiting}
-use Rattle.model.specs.declared.deliveries.Delivery.{Delivery}
-use Rattle.channels.specs.Outstanding.{tag_of, IsTagAt}
+use Rattle.channels.proofs.Imports.{◌≡◌, ◌∙◌, ◌+◌, ◌++◌, sym, ap, subst, drop, take, List, ℕ, kept, waiting, Delivery, tag_of, IsTagAt}
 use Rattle.channels.proofs.Marking.{marked_behind, passed_order}
 use Rattle.channels.proofs.tags.forget_in.Goals as goal
 

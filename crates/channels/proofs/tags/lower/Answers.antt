@@ -1,7 +1,6 @@
-use Rattle.std.proofs.Common.{ltb, ltb-true, ltb-false, arith, rules}
+use Rattle.channels.proofs.Imports.{ltb, ltb-false, arith, rules, Delivery, given_tag}
+use Rattle.std.proofs.Common.{ltb-true}
 use Rattle.std.proofs.lemmas.List.Sorted.{IsPartitionPoint-from_clause, IsPartitionedBy-ltb}
-use Rattle.model.specs.declared.deliveries.Delivery.{Delivery}
-use Rattle.channels.specs.Outstanding.{given_tag}
 use Rattle.channels.proofs.Settlement.{never_less}
 use Rattle.channels.proofs.tags.lower.Goals as goal
 

@@ -1,5 +1,4 @@
-use Rattle.std.proofs.Common.{ap, take, ◌∙◌}
-use Rattle.model.specs.Placed.{waiting}
+use Rattle.channels.proofs.Imports.{ap, take, ◌∙◌, waiting}
 use Rattle.channels.proofs.Settlement.{taken_some, taken_none, rest_is}
 use Rattle.channels.proofs.tags.settled_of.Goals as goal
 

@@ -1,4 +1,4 @@
-use Rattle.std.proofs.Common.{refl}
+use Rattle.channels.proofs.Imports.{refl}
 use Rattle.channels.proofs.Settlement.{here_settles}
 use Rattle.channels.proofs.tags.span_of.Goals as goal
 

@@ -1,12 +1,8 @@
-use Rattle.std.proofs.Common.{◌≡◌, ◌∙◌, refl, sym, subst, true, false, Some, Option, Err}
-use Rattle.model.specs.Grammar.{IsMethod}
-use Rattle.model.specs.Topology.{Topology}
-use Rattle.model.specs.Step.{Refusal, refusal_while_closing, refusal_on_zero, refusal_of_queue_declare}
-use Rattle.model.specs.declared.methods.Method.{Method}
-use Rattle.model.specs.declared.methods.Method.TheVariants.{ChannelFlow, ExchangeDeclare, QueueDeclare, QueuePurge}
-use Rattle.model.specs.declared.methods.Method.TheVariants.{BasicAck, BasicReject, BasicNack, BasicRecover, BasicGet, BasicConsume, BasicCancel, BasicQos, BasicPublish, ConfirmSelect}
+use Rattle.commands.proofs.Names.{◌≡◌, ◌∙◌, refl, sym, subst, true, false, Option, Err, IsMethod, Topology, refusal_while_closing, refusal_on_zero, refusal_of_queue_declare, Method, ChannelFlow, ExchangeDeclare, QueuePurge, BasicAck, BasicReject, BasicNack, BasicRecover, BasicGet, BasicConsume, BasicCancel, BasicQos, BasicPublish, ConfirmSelect, Answers, Asks, HasSpelling, seen, state_of}
+use Rattle.std.proofs.Common.{Some}
+use Rattle.model.specs.Step.{Refusal}
+use Rattle.model.specs.declared.methods.Method.TheVariants.{QueueDeclare}
 use Rattle.commands.specs.declared.refusals.Stop.TheVariants.{Refused}
-use Rattle.commands.specs.Commands.{Answers, Asks, HasSpelling, seen, state_of}
 use Rattle.commands.proofs.Answering.{has_open, open_here, done_here, as_nack, performed_addressed, left_answers, left_addressed, left_kept}
 use Rattle.commands.proofs.Judging.{closing_is, zero_is}
 use Rattle.commands.proofs.commands.on_channel.Goals as goal

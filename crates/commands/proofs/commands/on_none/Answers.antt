@@ -1,7 +1,6 @@
-use Rattle.std.proofs.Common.{refl, sym, subst, None, Option}
-use Rattle.model.specs.Step.{Refusal, refusal_on, refusal_on_zero}
+use Rattle.commands.proofs.Names.{refl, sym, subst, None, Option, refusal_on, refusal_on_zero, Answers}
+use Rattle.model.specs.Step.{Refusal}
 use Rattle.commands.proofs.Judging.{zero_is, number_passed}
-use Rattle.commands.specs.Commands.{Answers}
 use Rattle.commands.proofs.Answering.{left_answers, left_addressed, left_quiet}
 use Rattle.commands.proofs.commands.on_none.Goals as goal
 

@@ -1,13 +1,5 @@
-use Rattle.std.proofs.Common.{◌≡◌, ◌∙◌, ◌∷◌, ◌++◌, [], List, ap, refl, subst, sym, Some}
-use Rattle.std.specs.Prelude.{option_map, is_some}
-use Rattle.std.proofs.lemmas.Bool.{false≢true}
-use Rattle.model.specs.Deliveries.{first_ready, delivery_notes}
-use Rattle.model.specs.declared.events.Send.{Send}
-use Rattle.model.specs.declared.notes.Note.{Note}
-use Rattle.replies.specs.Sent.{AreAddressed}
-use Rattle.model.specs.declared.messages.Entry.{Entry}
-use Rattle.exchange_graph.specs.Marks.{queue_name}
-use Rattle.depot.specs.Store.{entries_named, queue_at}
+use Rattle.commands.proofs.Names.{◌≡◌, ◌∙◌, ◌∷◌, ◌++◌, [], List, ap, refl, subst, sym, option_map, is_some, false≢true, first_ready, delivery_notes, Send, Note, AreAddressed, Entry, queue_name, entries_named, queue_at}
+use Rattle.std.proofs.Common.{Some}
 use Rattle.commands.proofs.Placing.{takes_within}
 use Rattle.commands.proofs.Getting.{first_carried}
 use Rattle.commands.proofs.Delivered.{ready_on, takes_there, delivered, takes_short}

@@ -1,7 +1,7 @@
-use Rattle.std.proofs.Common.{◌≡◌, ℕ, Option, Some, ap, subst}
+use Rattle.commands.proofs.Names.{◌≡◌, ℕ, Option, ap, subst, channel_at, outstanding_on, AreWithin}
+use Rattle.std.proofs.Common.{Some}
 use Rattle.std.specs.Option.{option_copied}
-use Rattle.channels.specs.RunningConnections.{Running, channel_at, outstanding_on}
-use Rattle.model.specs.Placed.{AreWithin}
+use Rattle.channels.specs.RunningConnections.{Running}
 use Rattle.commands.proofs.freeing.requeue_all.Goals as goal
 
 pub requeue_channels-requires : goal.requeue_channels-requires

@@ -1,9 +1,4 @@
-use Rattle.std.proofs.Common.{◌∙◌, [], List, None, get_or, subst, arith}
-use Rattle.model.specs.Deliveries.{Returns}
-use Rattle.model.specs.declared.deliveries.Delivery.{Delivery}
-use Rattle.depot.specs.Store.{Store}
-use Rattle.depot.specs.Settled.{AreSettledBy}
-use Rattle.channels.specs.RunningConnections.{outstanding_on}
+use Rattle.commands.proofs.Names.{◌∙◌, [], List, None, get_or, subst, arith, Returns, Delivery, Store, AreSettledBy, outstanding_on}
 use Rattle.commands.proofs.Freed.{requeue_next, requeue_ends}
 use Rattle.commands.proofs.freeing.requeue_channels.Goals as goal
 

@@ -1,6 +1,4 @@
-use Rattle.std.proofs.Common.{◌≡◌, drop}
-use Rattle.depot.specs.Store.{Store}
-use Rattle.commands.specs.Freed.{AreReturnedFrom}
+use Rattle.commands.proofs.Names.{◌≡◌, drop, Store, AreReturnedFrom}
 use Rattle.commands.proofs.freeing.requeue_channels.Given as goal
 
 -- once what is outstanding on the channels from here on is ready again, all is

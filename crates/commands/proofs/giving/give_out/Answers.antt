@@ -1,13 +1,6 @@
-use Rattle.std.proofs.Common.{◌≡◌, ◌∙◌, ◌++◌, Bool, Option, ap, arith, refl, sym, subst}
+use Rattle.commands.proofs.Names.{◌≡◌, ◌∙◌, ◌++◌, Bool, Option, ap, arith, refl, sym, subst, delivery_notes, first_ready, left_note, Entry, Auto, queue_name, queue_at, settled_on, IsPlaced, GivesHere}
 use Rattle.std.proofs.lemmas.Grind.{common_steps}
-use Rattle.model.specs.Deliveries.{delivery_notes, first_ready, left_note}
-use Rattle.model.specs.declared.messages.Entry.{Entry}
-use Rattle.model.specs.declared.notes.Cause.TheVariants.{Auto}
-use Rattle.exchange_graph.specs.Marks.{queue_name}
-use Rattle.depot.specs.Store.{queue_at}
-use Rattle.channels.specs.Open.{Open, settled_on}
-use Rattle.channels.specs.Placed.{IsPlaced}
-use Rattle.commands.specs.Commands.{GivesHere}
+use Rattle.channels.specs.Open.{Open}
 use Rattle.commands.proofs.Placing.{placed_as, placed_given}
 use Rattle.commands.proofs.GivenOut.{held_is, tag_free, taken_is}
 use Rattle.commands.proofs.giving.give_out.Goals as goal

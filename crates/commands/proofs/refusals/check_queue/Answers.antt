@@ -1,7 +1,5 @@
-use Rattle.std.proofs.Common.{◌∙◌, ap, sym, subst, Bool, None, Some, if◌then◌else◌}
-use Rattle.model.specs.Words.{Text}
-use Rattle.model.specs.Topology.{queue_names, IsIn}
-use Rattle.model.specs.Step.{Of_channel}
+use Rattle.commands.proofs.Names.{◌∙◌, ap, sym, subst, Bool, None, Text, queue_names, IsIn, Of_channel}
+use Rattle.std.proofs.Common.{Some, if◌then◌else◌}
 use Rattle.commands.proofs.Judging.{queue_there, queue_absent}
 use Rattle.commands.proofs.refusals.check_queue.Goals as goal
 

@@ -1,6 +1,4 @@
-use Rattle.std.proofs.Common.{rules, tests}
-use Rattle.std.proofs.lemmas.Iterator.{YieldsList-from_slice, cases_from_all}
-use Rattle.definitions.specs.Causes.{IsOfUser}
+use Rattle.definitions.proofs.Imports.{rules, tests, YieldsList-from_slice, cases_from_all, IsOfUser}
 use Rattle.definitions.proofs.Deciding.{decides_all}
 use Rattle.definitions.proofs.causes.are_of_users.Goals as goal
 

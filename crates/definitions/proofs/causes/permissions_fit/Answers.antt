@@ -1,4 +1,4 @@
-use Rattle.definitions.specs.File.{file_of}
+use Rattle.definitions.proofs.Imports.{file_of}
 use Rattle.definitions.proofs.Deciding.{permissions_known}
 use Rattle.definitions.proofs.causes.permissions_fit.Goals as goal
 

@@ -1,6 +1,4 @@
-use Rattle.std.proofs.lemmas.Result.{err_from_is_err_and}
-use Rattle.serde_json.specs.View.{view}
-use Rattle.json_file.proofs.Refused.{unread}
+use Rattle.definitions.proofs.Imports.{err_from_is_err_and, view, unread}
 use Rattle.definitions.specs.File.{file_at}
 use Rattle.definitions.proofs.definitions.open.Goals as goal
 

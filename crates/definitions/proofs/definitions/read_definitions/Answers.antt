@@ -1,7 +1,5 @@
-use Rattle.std.proofs.lemmas.Result.{err_from_is_err_and}
-use Rattle.json_file.proofs.Refused.{refused_unread}
-use Rattle.definitions.specs.File.{file_at, file_of}
-use Rattle.definitions.specs.Causes.{IsClear}
+use Rattle.definitions.proofs.Imports.{err_from_is_err_and, refused_unread, file_of, IsClear}
+use Rattle.definitions.specs.File.{file_at}
 use Rattle.definitions.proofs.Whole.{read_whole}
 use Rattle.definitions.proofs.definitions.read_definitions.Goals as goal
 

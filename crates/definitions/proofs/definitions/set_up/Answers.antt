@@ -1,7 +1,4 @@
-use Rattle.std.proofs.Common.{◌∙◌, sym, subst}
-use Rattle.model.specs.Topology.{Topology}
-use Rattle.topology_drafts.specs.Causes.{IsBuildable}
-use Rattle.definitions.specs.File.{file_of}
+use Rattle.definitions.proofs.Imports.{◌∙◌, sym, subst, Topology, IsBuildable, file_of}
 use Rattle.definitions.proofs.Building.{buildable, hashed_some, settled}
 use Rattle.definitions.proofs.definitions.set_up.Goals as goal
 

@@ -1,10 +1,6 @@
-use Rattle.std.proofs.Common.{◌≡◌, None, refl}
-use Rattle.std.proofs.lemmas.Result.{err_from_is_err_and}
-use Rattle.std.specs.Prelude.{codes}
-use Rattle.serde_json.specs.View.{view}
-use Rattle.json_file.proofs.Reading.{fails_then}
-use Rattle.definitions.specs.Shape.{user_entry_at, permission_entry_at, exchange_entry_at, queue_entry_at, binding_entry_at, plain_at}
-use Rattle.definitions.specs.File.{entries_at, file_at}
+use Rattle.definitions.proofs.Imports.{◌≡◌, None, refl, err_from_is_err_and, codes, view, fails_then, user_entry_at, permission_entry_at, exchange_entry_at, queue_entry_at, plain_at, entries_at}
+use Rattle.definitions.specs.Shape.{binding_entry_at}
+use Rattle.definitions.specs.File.{file_at}
 use Rattle.definitions.proofs.shape.document.Goals as goal
 
 pub returns-in_err-users : goal.returns-in_err-users

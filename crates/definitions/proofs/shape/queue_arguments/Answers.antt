@@ -1,9 +1,4 @@
-use Rattle.std.proofs.Common.{◌≡◌, None, refl}
-use Rattle.std.proofs.lemmas.Result.{err_from_is_err_and}
-use Rattle.std.specs.Prelude.{codes}
-use Rattle.serde_json.specs.View.{view}
-use Rattle.json_file.specs.Members.{optional_number_member, optional_text_member}
-use Rattle.json_file.proofs.Reading.{fails_then}
+use Rattle.definitions.proofs.Imports.{◌≡◌, None, refl, err_from_is_err_and, codes, view, optional_number_member, optional_text_member, fails_then}
 use Rattle.definitions.specs.Shape.{queue_arguments_at}
 use Rattle.definitions.proofs.shape.queue_arguments.Goals as goal
 

@@ -1,4 +1,4 @@
-use Rattle.std.proofs.Common.{◌≡◌, ◌++◌, map, drop}
+use Rattle.definitions.proofs.Imports.{◌≡◌, ◌++◌, map, drop}
 use Rattle.definitions.proofs.stating.parts_of.Given as goal
 
 abbrev pub invariant-loop-entry : goal.invariant-loop-entry

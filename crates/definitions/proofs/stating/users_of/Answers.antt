@@ -1,4 +1,4 @@
-use Rattle.std.proofs.Common.{arith}
+use Rattle.definitions.proofs.Imports.{arith}
 use Rattle.definitions.proofs.Hashing.{one_more, all_read}
 use Rattle.definitions.proofs.stating.users_of.Goals as goal
 

@@ -1,11 +1,4 @@
-use Rattle.std.proofs.Common.{◌≡◌, ◌<◌, ◌++◌, ◌∷◌, [], ℕ, List, length, ap, sym, subst, ◌∙◌, arith, append_assoc, All, Bool}
-use Rattle.std.specs.Prelude.{◌||◌}
-use Rattle.std.specs.List.{list_any}
-use Rattle.model.specs.declared.notes.Note.{Note}
-use Rattle.model.specs.declared.messages.Entry.{Entry}
-use Rattle.depot.specs.declared.turns.PlannedTurn.{PlannedTurn}
-use Rattle.depot.specs.Store.{entries_of}
-use Rattle.depot.specs.Turns.{places, outcome, outcomes, notes_of_outcomes, is_refusal, all_entered, times, IsRoomy}
+use Rattle.depot.proofs.Names.{◌≡◌, ◌<◌, ◌++◌, ◌∷◌, [], ℕ, List, length, ap, sym, subst, ◌∙◌, arith, append_assoc, All, Bool, ◌||◌, list_any, Note, Entry, PlannedTurn, entries_of, places, outcome, outcomes, notes_of_outcomes, is_refusal, all_entered, times, IsRoomy}
 use Rattle.depot.proofs.Turning.{within_rest, or_assoc, here_once}
 use Rattle.depot.proofs.entering.enter_all.Goals as goal
 

@@ -1,8 +1,4 @@
-use Rattle.std.proofs.Common.{◌≡◌, ◌<◌, ◌≤◌, ◌+◌, ℕ, ◌++◌, length, vec_len, vec_capacity, All}
-use Rattle.std.specs.Prelude.{◌||◌}
-use Rattle.std.specs.List.{list_any}
-use Rattle.depot.specs.Store.{entries_of}
-use Rattle.depot.specs.Turns.{places, outcomes, notes_of_outcomes, is_refusal, all_entered, room_at, times, IsRoomy}
+use Rattle.depot.proofs.Names.{◌≡◌, ◌<◌, ◌≤◌, ◌+◌, ℕ, ◌++◌, length, vec_len, vec_capacity, All, ◌||◌, list_any, entries_of, places, outcomes, notes_of_outcomes, is_refusal, all_entered, room_at, times, IsRoomy}
 use Rattle.depot.proofs.entering.enter_all.Given as goal
 
 -- what was done and what the other turns will do is the whole, and there is room for it

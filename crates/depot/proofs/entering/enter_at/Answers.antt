@@ -1,7 +1,4 @@
-use Rattle.std.proofs.Common.{◌∙◌, ◌++◌, ◌∷◌, [], ap, arith}
-use Rattle.queue.specs.Line.{Line}
-use Rattle.depot.specs.Store.{entries_of}
-use Rattle.depot.specs.Turns.{TurnOutcome, is_refusal, no_line}
+use Rattle.depot.proofs.Names.{◌∙◌, ◌++◌, ◌∷◌, [], ap, arith, Line, entries_of, TurnOutcome, is_refusal, no_line}
 use Rattle.depot.proofs.Lending.{lent_entries, outcome_there, entered_there}
 use Rattle.depot.proofs.Turning.{room_write}
 use Rattle.depot.proofs.entering.enter_at.Goals as goal

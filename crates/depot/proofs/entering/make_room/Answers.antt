@@ -1,5 +1,4 @@
-use Rattle.std.proofs.Common.{◌∙◌, arith}
-use Rattle.depot.specs.Turns.{places}
+use Rattle.depot.proofs.Names.{◌∙◌, arith, places}
 use Rattle.depot.proofs.Turning.{place_is, places-length, room_more}
 use Rattle.depot.proofs.entering.make_room.Goals as goal
 

@@ -1,6 +1,4 @@
-use Rattle.std.proofs.Common.{◌≡◌, ◌<◌, ◌≤◌, ℕ, length, get_or}
-use Rattle.depot.specs.Store.{entries_of}
-use Rattle.depot.specs.Turns.{places, room_at}
+use Rattle.depot.proofs.Names.{◌≡◌, ◌<◌, ◌≤◌, ℕ, length, get_or, entries_of, places, room_at}
 use Rattle.depot.proofs.entering.make_room.Given as goal
 
 -- the queues before the index have room

@@ -1,6 +1,4 @@
-use Rattle.std.proofs.Common.{◌∙◌, ap, arith}
-use Rattle.queue.specs.Line.{Line}
-use Rattle.depot.specs.Turns.{no_line}
+use Rattle.depot.proofs.Names.{◌∙◌, ap, arith, Line, no_line}
 use Rattle.depot.proofs.Changes.{same_write}
 use Rattle.depot.proofs.Turning.{room_kept}
 use Rattle.depot.proofs.entering.make_room_at.Goals as goal

@@ -1,5 +1,4 @@
-use Rattle.std.proofs.Common.{◌≡◌, ◌≤◌, length, map, take, vec_len, vec_capacity}
-use Rattle.depot.specs.Turns.{turn_at}
+use Rattle.depot.proofs.Names.{◌≡◌, ◌≤◌, length, map, take, vec_len, vec_capacity, turn_at}
 use Rattle.depot.proofs.entering.turns.Given as goal
 
 -- the targets before the index have their turns

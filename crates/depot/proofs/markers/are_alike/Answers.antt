@@ -1,5 +1,4 @@
-use Rattle.std.proofs.Common.{◌∙◌, sym}
-use Rattle.std.proofs.lemmas.Slice.Eq.{bytes_eq-Decides}
+use Rattle.depot.proofs.Names.{◌∙◌, sym, bytes_eq-Decides}
 use Rattle.depot.proofs.Alike.{alike}
 use Rattle.depot.proofs.markers.are_alike.Goals as goal
 

@@ -1,7 +1,5 @@
-use Rattle.std.proofs.Common.{◌≡◌, ◌++◌, ◌∙◌, ap, subst, Some, IfOk}
-use Rattle.model.specs.Words.{Text}
+use Rattle.depot.proofs.Names.{◌≡◌, ◌++◌, ◌∙◌, ap, subst, Some, IfOk, Text, first_death}
 use Rattle.model.specs.declared.contents.Fields.{Fields as Properties}
-use Rattle.model.specs.Deaths.{first_death}
 use Rattle.depot.proofs.Behind.{none_before, no_death, some_death, made_so}
 use Rattle.depot.proofs.marking.marked.Goals as goal
 

@@ -1,6 +1,4 @@
-use Rattle.std.proofs.Common.{◌++◌, ◌∙◌, ap, List, ℕ, codes}
-use Rattle.model.specs.Deaths.{death_queue, death_reason, death_exchange}
-use Rattle.depot.specs.Marked.{text_field}
+use Rattle.depot.proofs.Names.{◌++◌, ◌∙◌, ap, List, ℕ, codes, death_queue, death_reason, death_exchange, text_field}
 use Rattle.depot.proofs.Behind.{three_behind}
 use Rattle.depot.proofs.marking.with_death.Goals as goal
 

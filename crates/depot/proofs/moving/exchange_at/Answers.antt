@@ -1,8 +1,4 @@
-use Rattle.std.proofs.Common.{◌∙◌, List, ap, map, sym}
-use Rattle.std.proofs.lemmas.List.{get_or-set_same}
-use Rattle.model.specs.Reloading.{stood_now}
-use Rattle.model.specs.declared.messages.Entry.{Entry}
-use Rattle.queue.specs.Line.{Line}
+use Rattle.depot.proofs.Names.{◌∙◌, List, ap, map, sym, get_or-set_same, stood_now, Entry, Line}
 use Rattle.depot.proofs.Changes.{entries_of-at, entries_of-set}
 use Rattle.depot.proofs.Moved.{drop_twice}
 use Rattle.depot.proofs.moving.exchange_at.Goals as goal

@@ -1,8 +1,4 @@
-use Rattle.std.proofs.Common.{◌∙◌, ◌<◌, List, length, get_or, ap, subst, refl, arith}
-use Rattle.model.specs.Words.{Text}
-use Rattle.model.specs.Topology.{queue_names}
-use Rattle.model.specs.declared.topologies.DeclaredQueue.{DeclaredQueue}
-use Rattle.depot.specs.Moving.{IsMoved}
+use Rattle.depot.proofs.Names.{◌∙◌, ◌<◌, List, length, get_or, ap, subst, refl, arith, Text, queue_names, DeclaredQueue, IsMoved}
 use Rattle.depot.proofs.Moved.{one_moved, name_there}
 use Rattle.depot.proofs.moving.places_in.Goals as goal
 

@@ -1,4 +1,4 @@
-use Rattle.model.specs.Topology.{queue_names}
+use Rattle.depot.proofs.Names.{queue_names}
 use Rattle.depot.proofs.Moved.{AreMovedBelow}
 use Rattle.depot.proofs.moving.places_in.Given as goal
 

@@ -1,7 +1,4 @@
-use Rattle.std.proofs.Common.{◌∙◌, ◌+◌, List, drop, ap, sym, arith}
-use Rattle.model.specs.declared.messages.Entry.{Entry}
-use Rattle.depot.specs.Store.{entries_of}
-use Rattle.depot.specs.Moving.{taken}
+use Rattle.depot.proofs.Names.{◌∙◌, ◌+◌, List, drop, ap, sym, arith, Entry, entries_of, taken}
 use Rattle.depot.proofs.Changes.{entries_of-length}
 use Rattle.depot.proofs.Moved.{taken_next}
 use Rattle.depot.proofs.moving.take_over_in.Goals as goal

@@ -1,7 +1,4 @@
-use Rattle.std.proofs.Common.{◌≡◌, ℕ, drop, length}
-use Rattle.depot.specs.Store.{entries_of}
-use Rattle.depot.specs.Signs.{AreSignedBut}
-use Rattle.depot.specs.Moving.{taken}
+use Rattle.depot.proofs.Names.{◌≡◌, ℕ, drop, length, entries_of, AreSignedBut, taken}
 use Rattle.depot.proofs.moving.take_over_in.Given as goal
 
 -- what is still to be taken over brings what all brings

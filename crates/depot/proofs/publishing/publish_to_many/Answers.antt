@@ -1,6 +1,4 @@
-use Rattle.std.proofs.Common.{◌≡◌, ◌∙◌, refl, ap, map, List}
-use Rattle.model.specs.declared.topologies.DeclaredQueue.{DeclaredQueue}
-use Rattle.depot.specs.Turns.{turn_at}
+use Rattle.depot.proofs.Names.{◌≡◌, ◌∙◌, refl, ap, map, List, DeclaredQueue, turn_at}
 use Rattle.depot.proofs.Naming.{turned_within, turned_rising}
 use Rattle.depot.proofs.Turning.{roomy, times_rising}
 use Rattle.depot.proofs.publishing.publish_to_many.Goals as goal

@@ -1,4 +1,5 @@
-use Rattle.std.proofs.Common.{◌≡◌, ◌≤◌, replicate, vec_len, vec_capacity}
+use Rattle.depot.proofs.Names.{◌≡◌, ◌≤◌, vec_len, vec_capacity}
+use Rattle.std.proofs.Common.{replicate}
 use Rattle.depot.proofs.purging.copies.Given as goal
 
 abbrev pub invariant-loop : goal.invariant-loop

@@ -1,6 +1,4 @@
-use Rattle.std.proofs.Common.{◌≡◌, ◌++◌, ap, subst, List, length, drop, arith}
-use Rattle.model.specs.Words.{Text}
-use Rattle.depot.specs.Purging.{purged}
+use Rattle.depot.proofs.Names.{◌≡◌, ◌++◌, ap, subst, List, length, drop, arith, Text, purged}
 use Rattle.depot.proofs.Purged.{noted_next}
 use Rattle.depot.proofs.purging.note_purged.Goals as goal
 

@@ -1,5 +1,4 @@
-use Rattle.std.proofs.Common.{◌≡◌, ◌+◌, ◌≤◌, ◌++◌, length, drop, vec_len, vec_capacity}
-use Rattle.depot.specs.Purging.{purged}
+use Rattle.depot.proofs.Names.{◌≡◌, ◌+◌, ◌≤◌, ◌++◌, length, drop, vec_len, vec_capacity, purged}
 use Rattle.depot.proofs.purging.note_purged.Given as goal
 
 -- what was noted and what the rest will note is the whole, and there is room for it

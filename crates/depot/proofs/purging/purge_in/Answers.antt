@@ -1,9 +1,5 @@
-use Rattle.std.proofs.Common.{rules, ◌≡◌, ◌++◌, ℕ, List, ap, ◌∙◌, length, map, filter, replicate}
-use Rattle.model.specs.Broker.{is_ready}
-use Rattle.model.specs.Entries.{number_of}
-use Rattle.model.specs.declared.messages.Entry.{Entry}
-use Rattle.model.specs.declared.notes.Note.{Note}
-use Rattle.depot.specs.Purging.{purged}
+use Rattle.depot.proofs.Names.{rules, ◌≡◌, ◌++◌, ℕ, List, ap, ◌∙◌, length, map, filter, is_ready, number_of, Entry, Note, purged}
+use Rattle.std.proofs.Common.{replicate}
 use Rattle.depot.proofs.Purged.{noted_purge}
 use Rattle.depot.proofs.purging.purge_in.Goals as goal
 

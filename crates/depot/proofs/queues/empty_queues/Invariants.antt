@@ -1,5 +1,5 @@
-use Rattle.std.proofs.Common.{◌≡◌, [], replicate}
-use Rattle.depot.specs.Store.{entries_of}
+use Rattle.depot.proofs.Names.{◌≡◌, [], entries_of}
+use Rattle.std.proofs.Common.{replicate}
 use Rattle.depot.proofs.queues.empty_queues.Given as goal
 
 -- so many stand there

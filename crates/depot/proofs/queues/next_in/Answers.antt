@@ -1,7 +1,4 @@
-use Rattle.std.proofs.Common.{◌≡◌, ◌∙◌, Bool, ap, arith, cond}
-use Rattle.marks.specs.Places.{bit_of}
-use Rattle.depot.specs.Store.{entries_of}
-use Rattle.depot.specs.Signs.{ready_places}
+use Rattle.depot.proofs.Names.{◌≡◌, ◌∙◌, Bool, ap, arith, cond, bit_of, entries_of, ready_places}
 use Rattle.depot.proofs.Signing.{lent_bit, none_before, next_behind, next_past}
 use Rattle.depot.proofs.queues.next_in.Goals as goal
 

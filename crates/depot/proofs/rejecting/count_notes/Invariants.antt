@@ -1,5 +1,4 @@
-use Rattle.std.proofs.Common.{◌≡◌, ◌⊎◌, ◌+◌, ◌-◌, ◌^◌, drop}
-use Rattle.depot.specs.Dying.{notes_in}
+use Rattle.depot.proofs.Names.{◌≡◌, ◌⊎◌, ◌+◌, ◌-◌, ◌^◌, drop, notes_in}
 use Rattle.depot.proofs.rejecting.count_notes.Given as goal
 
 -- what was counted and what is left is the whole, or the greatest number was reached

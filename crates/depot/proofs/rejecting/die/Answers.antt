@@ -1,12 +1,6 @@
-use Rattle.std.proofs.Common.{◌∙◌, ◌++◌, ◌∷◌, [], List, ap, arith, append_assoc, filter, not}
-use Rattle.model.specs.Entries.{is_held_as}
-use Rattle.model.specs.declared.messages.Entry.{Entry}
-use Rattle.model.specs.declared.notes.Note.{Note}
+use Rattle.depot.proofs.Names.{◌∙◌, ◌++◌, ◌∷◌, [], List, ap, arith, append_assoc, filter, is_held_as, Entry, Note, Line, entries_of, outcomes, all_entered, notes_of_outcomes, no_line, outcomes_of}
+use Rattle.std.proofs.Common.{not}
 use Rattle.model.specs.declared.notes.Way.TheVariants as way
-use Rattle.queue.specs.Line.{Line}
-use Rattle.depot.specs.Store.{entries_of}
-use Rattle.depot.specs.Turns.{outcomes, all_entered, notes_of_outcomes, no_line}
-use Rattle.depot.specs.Dying.{outcomes_of}
 use Rattle.depot.proofs.Changes.{changed_write}
 use Rattle.depot.proofs.Turning.{room_kept}
 use Rattle.depot.proofs.rejecting.die.Goals as goal

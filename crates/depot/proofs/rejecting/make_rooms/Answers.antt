@@ -1,4 +1,4 @@
-use Rattle.std.proofs.Common.{length, arith}
+use Rattle.depot.proofs.Names.{length, arith}
 use Rattle.depot.proofs.Planned.{rooms}
 use Rattle.depot.proofs.rejecting.make_rooms.Goals as goal
 

@@ -1,7 +1,4 @@
-use Rattle.std.proofs.Common.{◌≡◌, ◌<◌, ℕ, length, get_or}
-use Rattle.depot.specs.declared.plans.Death.{Death}
-use Rattle.depot.specs.Store.{entries_of}
-use Rattle.depot.specs.Turns.{places, LinesHaveRoom}
+use Rattle.depot.proofs.Names.{◌≡◌, ◌<◌, ℕ, length, get_or, Death, entries_of, places, LinesHaveRoom}
 use Rattle.depot.proofs.rejecting.make_rooms.Given as goal
 
 -- there is room for the deaths before the index

@@ -1,9 +1,4 @@
-use Rattle.std.proofs.Common.{◌≡◌, ◌++◌, ◌∷◌, ℕ, suc, List, length, ap, sym, subst, ◌∙◌, arith, append_assoc, All}
-use Rattle.model.specs.declared.notes.Note.{Note}
-use Rattle.model.specs.declared.messages.Entry.{Entry}
-use Rattle.depot.specs.declared.plans.Death.{Death}
-use Rattle.depot.specs.Store.{entries_of}
-use Rattle.depot.specs.Dying.{died, death_notes, died_all, all_notes, IsSoundDeath, notes_in, times_in}
+use Rattle.depot.proofs.Names.{◌≡◌, ◌++◌, ◌∷◌, ℕ, suc, List, length, ap, sym, subst, ◌∙◌, arith, append_assoc, All, Note, Entry, Death, entries_of, died, death_notes, died_all, all_notes, IsSoundDeath, notes_in, times_in}
 use Rattle.depot.proofs.rejecting.perform.Goals as goal
 
 pub die-requires-clause-sound : goal.die-requires-clause-sound

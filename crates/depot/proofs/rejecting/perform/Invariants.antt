@@ -1,7 +1,4 @@
-use Rattle.std.proofs.Common.{◌≡◌, ◌≤◌, ◌+◌, ℕ, ◌++◌, length, vec_len, vec_capacity, All}
-use Rattle.depot.specs.Store.{entries_of}
-use Rattle.depot.specs.Turns.{room_at}
-use Rattle.depot.specs.Dying.{died_all, all_notes, IsSoundDeath, notes_in, times_in}
+use Rattle.depot.proofs.Names.{◌≡◌, ◌≤◌, ◌+◌, ℕ, ◌++◌, length, vec_len, vec_capacity, All, entries_of, room_at, died_all, all_notes, IsSoundDeath, notes_in, times_in}
 use Rattle.depot.proofs.rejecting.perform.Given as goal
 
 -- what was done and what the other deaths will do is the whole, and there is room for it

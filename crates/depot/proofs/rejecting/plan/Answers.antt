@@ -1,5 +1,4 @@
-use Rattle.std.proofs.Common.{◌∙◌, arith}
-use Rattle.depot.specs.Store.{entries_of}
+use Rattle.depot.proofs.Names.{◌∙◌, arith, entries_of}
 use Rattle.depot.proofs.Waiting.{nothing, within_next}
 use Rattle.depot.proofs.Planned.{planned_next}
 use Rattle.depot.proofs.rejecting.plan.Goals as goal

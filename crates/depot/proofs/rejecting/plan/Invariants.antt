@@ -1,7 +1,4 @@
-use Rattle.std.proofs.Common.{◌≡◌, take}
-use Rattle.model.specs.Placed.{waiting}
-use Rattle.depot.specs.Store.{entries_of}
-use Rattle.depot.specs.Dying.{ArePlanned}
+use Rattle.depot.proofs.Names.{◌≡◌, take, waiting, entries_of, ArePlanned}
 use Rattle.depot.proofs.rejecting.plan.Given as goal
 
 -- those before the index that wait are planned

@@ -1,16 +1,5 @@
-use Rattle.std.proofs.Common.{◌≡◌, ◌∙◌, [], ◌++◌, List, ℕ, refl, sym, ap, subst, Option, Some, find, get_or}
-use Rattle.model.specs.Words.{Text}
-use Rattle.model.specs.Topology.{Topology}
-use Rattle.model.specs.Entries.{is_held_as}
-use Rattle.model.specs.declared.messages.Entry.{Entry}
-use Rattle.model.specs.declared.messages.Holder.{Holder}
-use Rattle.model.specs.declared.notes.Cause.TheVariants.{Rejected}
-use Rattle.model.specs.declared.notes.Note.TheVariants.{Left}
-use Rattle.exchange_graph.specs.Marks.{queue_name}
-use Rattle.depot.specs.declared.plans.Death.{Death}
-use Rattle.depot.specs.Store.{entries_of}
-use Rattle.model.specs.Placed.{holder_of_delivery}
-use Rattle.depot.specs.Dying.{Plans, given_at}
+use Rattle.depot.proofs.Names.{◌≡◌, ◌∙◌, [], ◌++◌, List, ℕ, refl, sym, ap, subst, Option, Some, get_or, Text, Topology, is_held_as, Entry, Holder, Rejected, Left, queue_name, Death, entries_of, holder_of_delivery, Plans, given_at}
+use Rattle.std.proofs.Common.{find}
 use Rattle.depot.proofs.Planned.{name_there}
 use Rattle.depot.proofs.rejecting.plan_one.Goals as goal
 

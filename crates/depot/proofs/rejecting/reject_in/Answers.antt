@@ -1,5 +1,4 @@
-use Rattle.std.proofs.Common.{◌∙◌, length}
-use Rattle.model.specs.Placed.{waiting}
+use Rattle.depot.proofs.Names.{◌∙◌, length, waiting}
 use Rattle.depot.proofs.Planned.{sound_all}
 use Rattle.depot.proofs.rejecting.reject_in.Goals as goal
 

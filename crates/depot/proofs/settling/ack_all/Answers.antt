@@ -1,7 +1,4 @@
-use Rattle.std.proofs.Common.{rules, refl, ap, sym, ◌∙◌, length, arith, subst}
-use Rattle.model.specs.Placed.{waiting}
-use Rattle.depot.specs.Store.{entries_of, IsStoreWhole}
-use Rattle.depot.specs.Settled.{store_of}
+use Rattle.depot.proofs.Names.{rules, refl, ap, sym, ◌∙◌, length, arith, subst, waiting, entries_of, IsStoreWhole, store_of}
 use Rattle.depot.proofs.Changes.{entries_of-length}
 use Rattle.depot.proofs.Rejected.{apart_by}
 use Rattle.depot.proofs.Settled.{AreLeaving, leaving_begins, leaving_within, leaving_next, leaving_ends}

@@ -1,6 +1,4 @@
-use Rattle.std.proofs.Common.{◌≡◌, ◌≤◌, ◌+◌, length, vec_len, vec_capacity}
-use Rattle.model.specs.Placed.{waiting}
-use Rattle.depot.specs.Store.{entries_of}
+use Rattle.depot.proofs.Names.{◌≡◌, ◌≤◌, ◌+◌, length, vec_len, vec_capacity, waiting, entries_of}
 use Rattle.depot.proofs.Settled.{AreLeaving}
 use Rattle.depot.proofs.settling.ack_all.Given as goal
 

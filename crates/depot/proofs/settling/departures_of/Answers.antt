@@ -1,4 +1,4 @@
-use Rattle.std.proofs.Common.{arith}
+use Rattle.depot.proofs.Names.{arith}
 use Rattle.depot.proofs.Waiting.{nothing, at_waiting}
 use Rattle.depot.proofs.settling.departures_of.Goals as goal
 

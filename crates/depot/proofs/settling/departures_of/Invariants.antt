@@ -1,6 +1,4 @@
-use Rattle.std.proofs.Common.{◌≡◌, ◌≤◌, ◌++◌, length, map, drop, vec_len, vec_capacity}
-use Rattle.model.specs.Placed.{waiting}
-use Rattle.depot.specs.Settled.{departure_in}
+use Rattle.depot.proofs.Names.{◌≡◌, ◌≤◌, ◌++◌, length, map, drop, vec_len, vec_capacity, waiting, departure_in}
 use Rattle.depot.proofs.settling.departures_of.Given as goal
 
 -- those that were added and those that the rest adds are the whole, and there is room for them

@@ -1,10 +1,5 @@
-use Rattle.std.proofs.Common.{◌∙◌, List, ap, filter, not}
-use Rattle.model.specs.Entries.{is_held_as}
-use Rattle.model.specs.Placed.{holder_of_delivery}
-use Rattle.model.specs.declared.messages.Entry.{Entry}
-use Rattle.model.specs.declared.messages.Holder.{Holder}
-use Rattle.queue.specs.Line.{Line}
-use Rattle.depot.specs.Turns.{no_line}
+use Rattle.depot.proofs.Names.{◌∙◌, List, ap, filter, is_held_as, holder_of_delivery, Entry, Holder, Line, no_line}
+use Rattle.std.proofs.Common.{not}
 use Rattle.depot.proofs.Changes.{changed_write}
 use Rattle.depot.proofs.settling.leave.Goals as goal
 

@@ -1,10 +1,4 @@
-use Rattle.std.proofs.Common.{◌∙◌, List, ap}
-use Rattle.model.specs.Entries.{is_under}
-use Rattle.model.specs.Placed.{holder_of_delivery}
-use Rattle.model.specs.declared.messages.Entry.{Entry}
-use Rattle.model.specs.declared.messages.Holder.{Holder}
-use Rattle.queue.specs.Line.{Line, requeued}
-use Rattle.depot.specs.Turns.{no_line}
+use Rattle.depot.proofs.Names.{◌∙◌, List, ap, is_under, holder_of_delivery, Entry, Holder, Line, requeued, no_line}
 use Rattle.depot.proofs.Changes.{changed_write}
 use Rattle.depot.proofs.settling.put_back.Goals as goal
 

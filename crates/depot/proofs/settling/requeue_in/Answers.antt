@@ -1,10 +1,4 @@
-use Rattle.std.proofs.Common.{◌∙◌, List, [], sym, length, arith, subst}
-use Rattle.std.proofs.lemmas.List.{drop_all}
-use Rattle.model.specs.Deliveries.{Returns}
-use Rattle.model.specs.Placed.{waiting}
-use Rattle.model.specs.declared.deliveries.Delivery.{Delivery}
-use Rattle.depot.specs.Store.{entries_of}
-use Rattle.depot.specs.Settled.{AreSettledBy, store_of}
+use Rattle.depot.proofs.Names.{◌∙◌, List, [], sym, length, arith, subst, drop_all, Returns, waiting, Delivery, entries_of, AreSettledBy, store_of}
 use Rattle.depot.proofs.Changes.{entries_of-length}
 use Rattle.depot.proofs.Settled.{of_next, returned_next, none_returns}
 use Rattle.depot.proofs.Waiting.{nothing}

@@ -1,9 +1,4 @@
-use Rattle.std.proofs.Common.{◌≡◌, ℕ, [], length, drop}
-use Rattle.model.specs.Topology.{Topology, IsWellFormed}
-use Rattle.model.specs.Deliveries.{Returns}
-use Rattle.model.specs.Placed.{waiting}
-use Rattle.depot.specs.Store.{Store, entries_of}
-use Rattle.depot.specs.Settled.{AreSettledBy, store_of}
+use Rattle.depot.proofs.Names.{◌≡◌, ℕ, [], length, drop, Topology, IsWellFormed, Returns, waiting, Store, entries_of, AreSettledBy, store_of}
 use Rattle.depot.proofs.settling.requeue_in.Given as goal
 
 -- once what is from here on is ready again, all is

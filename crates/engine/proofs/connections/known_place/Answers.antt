@@ -1,6 +1,4 @@
-use Rattle.std.proofs.Common.{ltb, rules}
-use Rattle.std.proofs.lemmas.List.Sorted.{IsPartitionPoint-from_clause, IsPartitionedBy-ltb}
-use Rattle.engine.specs.declared.connection.Connection.{Connection}
+use Rattle.engine.proofs.Names.{ltb, rules, IsPartitionPoint-from_clause, IsPartitionedBy-ltb, Connection}
 use Rattle.engine.proofs.Found.{never_less, first_there}
 use Rattle.engine.proofs.connections.known_place.Goals as goal
 

@@ -1,5 +1,4 @@
-use Rattle.std.proofs.Common.{rules}
-use Rattle.std.proofs.lemmas.List.Sorted.{answers_always}
+use Rattle.engine.proofs.Names.{rules, answers_always}
 use Rattle.engine.proofs.Found.{found, not_found}
 use Rattle.engine.proofs.connections.place_by_search.Goals as goal
 

@@ -1,4 +1,4 @@
-use Rattle.std.proofs.Common.{sym}
+use Rattle.engine.proofs.Names.{sym}
 use Rattle.engine.proofs.Swept.{swept_standing}
 use Rattle.engine.proofs.connections.sweep_after.Goals as goal
 

@@ -1,7 +1,4 @@
-use Rattle.std.proofs.Common.{◌≡◌}
-use Rattle.model.specs.Arrivals.{new_world}
-use Rattle.engine.specs.World.{world_of}
-use Rattle.engine.specs.InForce.{in_force}
+use Rattle.engine.proofs.Names.{◌≡◌, new_world, world_of, in_force}
 use Rattle.engine.proofs.Asked.{ok_map}
 use Rattle.engine.proofs.Certifying.{certified}
 use Rattle.engine.proofs.machines.run.Goals as goal

@@ -1,4 +1,4 @@
-use Rattle.std.proofs.Common.{refl, ◌∙◌}
+use Rattle.engine.proofs.Names.{refl, ◌∙◌}
 use Rattle.broker.specs.Turns.{broker_of}
 use Rattle.engine.proofs.Waiting.{same_later}
 use Rattle.engine.proofs.Asked.{unmoved}

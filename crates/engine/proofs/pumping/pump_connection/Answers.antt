@@ -5,7 +5,7 @@ use Rattle.engine.proofs.pumping.pump_connection.Goals as goal
 
 pub put_out-requires-clause-own : goal.put_out-requires-clause-own
 put_out-requires-clause-own c =
-    rw c.deref.ensures.value (delivery_sends (topology_kept c.args.broker.now) (broker_of c.args.broker.now) (broker_of c.pump.new.self) c.args.pick.connection c.in-Ok.step.sends.items c.in-Ok.step.notes.items
+    rw c.deref.ensures.value (delivery_sends (topology_kept c.args.broker.now) (broker_of c.args.broker.now) (broker_of c.pump.new.broker) c.args.pick.connection c.in-Ok.step.sends.items c.in-Ok.step.notes.items
     c.requires.carried c.in-Ok.ensures.ok (c.in-Ok.ensures.addressed c.requires.carried c.requires.named))
 
 pub returns-in-Ok-clause-ok : goal.returns-in-Ok-clause-ok
@@ -14,7 +14,7 @@ returns-in-Ok-clause-ok c =
     let sends = c.deref.ensures.value in
     record {
       sends = c.in-Ok.step.sends.items;
-      mid = broker_of c.pump.new.self;
+      mid = broker_of c.pump.new.broker;
       acts = c.in-Ok.ensures.ok;
       own = rw (← sends) c.put_out.ensures.own;
       bounded = rw (← max.value) max.most;
@@ -24,4 +24,4 @@ returns-in-Ok-clause-ok c =
     }
 
 pub returns-in-Ok-clause-later : goal.returns-in-Ok-clause-later
-returns-in-Ok-clause-later c = later_then c.args.broker.now c.pump.new.self c.put_out.new.broker c.in-Ok.ensures.later c.put_out.ensures.later
+returns-in-Ok-clause-later c = later_then c.args.broker.now c.pump.new.broker c.put_out.new.broker c.in-Ok.ensures.later c.put_out.ensures.later

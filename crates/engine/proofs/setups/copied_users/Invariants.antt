@@ -1,4 +1,4 @@
-use Rattle.std.proofs.Common.{◌≡◌, ◌++◌, drop}
+use Rattle.engine.proofs.Names.{◌≡◌, ◌++◌, drop}
 use Rattle.engine.proofs.setups.copied_users.Given as goal
 
 abbrev pub invariant-loop-user : goal.invariant-loop-user

@@ -1,12 +1,5 @@
-use Rattle.std.proofs.Common.{◌≡◌, ◌∙◌, ◌++◌, ℕ, List, Option, Some, None, refl, sym, ap, subst}
-use Rattle.std.specs.Prelude.{IfSome}
-use Rattle.model.specs.Arrivals.{IsSaid}
-use Rattle.model.specs.Spelling.{spelling}
-use Rattle.model.specs.declared.events.Event.{Event}
+use Rattle.engine.proofs.Names.{◌≡◌, ◌≤◌, ◌∙◌, ◌++◌, true, ℕ, List, Option, Some, None, refl, sym, ap, subst, IfSome, IsSaid, spelling, Event, IsAskedBy, rules_of, Performed, DidNext, brings_message, Connection}
 use Rattle.broker.specs.Turns.{topology_kept, broker_of}
-use Rattle.engine.specs.Performing.{IsAskedBy, rules_of}
-use Rattle.engine.specs.Turning.{Performed, DidNext}
-use Rattle.engine.specs.declared.connection.Connection.{Connection}
 use Rattle.engine.specs.declared.turning.Turn.TheVariants as turn
 use Rattle.engine.proofs.Turned.{performed_put, stays_refused}
 use Rattle.engine.proofs.Waiting.{back_then}
@@ -40,4 +33,6 @@ returns-in-Ok c =
       connection_kept = tt;
       topology = put.topology ∙ c.perform.ensures.topology;
       turn = put.turn ∙ c.perform.ensures.turn;
+      whole = subst (λ (k : Option Event). IfSome k (λ e. brings_message e ≡ true → 8 ≤ c.perform.new.spares)) (sym c.in-Some.is) c.in-Ok.ensures.whole;
+      last = tt;
     }

@@ -1,11 +1,5 @@
-use Rattle.std.proofs.Common.{◌≡◌, ◌∙◌, false, refl, sym, ap, rules}
-use Rattle.std.specs.Prelude.{IfOk, OnErr}
+use Rattle.engine.proofs.Names.{◌≡◌, ◌∙◌, false, refl, sym, ap, rules, IfOk, OnErr, is_ended, is_past_bound, rules_of, wire_in, Connection, stream_of}
 use Rattle.broker.specs.Turns.{topology_kept, broker_of}
-use Rattle.model.specs.Arrivals.{is_ended, is_past_bound}
-use Rattle.engine.specs.Performing.{rules_of}
-use Rattle.engine.specs.World.{wire_in}
-use Rattle.engine.specs.declared.connection.Connection.{Connection}
-use Rattle.assembly.specs.Held.{stream_of}
 use Rattle.engine.proofs.Asked.{ok_map, on_err, err_map, both_err}
 use Rattle.engine.proofs.Turned.{IsRead, next_known, took_next, idle_next, keeps_after, waits_next, reads_next}
 use Rattle.engine.proofs.Waiting.{next_leaves}

@@ -1,5 +1,4 @@
-use Rattle.std.proofs.Common.{◌≡◌, ◌++◌, drop, map}
-use Rattle.exchange_graph.specs.Fans.{fan_of}
+use Rattle.exchange_graph.proofs.Names.{◌≡◌, ◌++◌, drop, map, fan_of}
 use Rattle.exchange_graph.proofs.fans.all_fans.Given as goal
 
 abbrev pub invariant-loop-exchange : goal.invariant-loop-exchange

@@ -1,5 +1,4 @@
-use Rattle.std.proofs.Common.{◌≡◌, ◌++◌, drop}
-use Rattle.exchange_graph.specs.Fans.{ends_of}
+use Rattle.exchange_graph.proofs.Names.{◌≡◌, ◌++◌, drop, ends_of}
 use Rattle.exchange_graph.proofs.fans.list_all.Given as goal
 
 abbrev pub invariant-loop-way : goal.invariant-loop-way

@@ -1,5 +1,4 @@
-use Rattle.std.proofs.Common.{◌≡◌, ◌++◌, drop}
-use Rattle.exchange_graph.specs.Fans.{ends_at}
+use Rattle.exchange_graph.proofs.Names.{◌≡◌, ◌++◌, drop, ends_at}
 use Rattle.exchange_graph.proofs.fans.list_at.Given as goal
 
 abbrev pub invariant-loop-place : goal.invariant-loop-place

@@ -1,4 +1,4 @@
-use Rattle.std.proofs.lemmas.Result.{on_ok_weaker}
+use Rattle.exchange_graph.proofs.Names.{on_ok_weaker}
 use Rattle.exchange_graph.proofs.Passing.{topic_within, topic_passes}
 use Rattle.exchange_graph.proofs.fans.list_by_topic.Goals as goal
 

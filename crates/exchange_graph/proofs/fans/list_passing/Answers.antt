@@ -1,9 +1,5 @@
-use Rattle.std.proofs.Common.{List, sym, ◌∙◌, subst}
-use Rattle.std.proofs.lemmas.Result.{on_ok_weaker}
-use Rattle.model.specs.declared.topologies.ExchangeKind.TheVariants.{Direct}
-use Rattle.exchange_graph.specs.declared.ends.End.{End}
+use Rattle.exchange_graph.proofs.Names.{List, sym, ◌∙◌, subst, on_ok_weaker, Direct, End, ArePassing}
 use Rattle.exchange_graph.specs.declared.fans.Index.{Index}
-use Rattle.exchange_graph.specs.Fans.{ArePassing}
 use Rattle.exchange_graph.specs.Found.{IsIndex}
 use Rattle.exchange_graph.proofs.Passing.{passing_direct, passing_fanout}
 use Rattle.exchange_graph.proofs.fans.list_passing.Goals as goal

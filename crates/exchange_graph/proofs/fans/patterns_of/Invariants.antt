@@ -1,5 +1,4 @@
-use Rattle.std.proofs.Common.{◌≡◌, ◌++◌, drop}
-use Rattle.exchange_graph.specs.Fans.{patterns_of}
+use Rattle.exchange_graph.proofs.Names.{◌≡◌, ◌++◌, drop, patterns_of}
 use Rattle.exchange_graph.proofs.fans.patterns_of.Given as goal
 
 abbrev pub invariant-loop-way : goal.invariant-loop-way

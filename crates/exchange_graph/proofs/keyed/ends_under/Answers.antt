@@ -1,4 +1,4 @@
-use Rattle.std.proofs.Common.{sym, ◌∙◌}
+use Rattle.exchange_graph.proofs.Names.{sym, ◌∙◌}
 use Rattle.exchange_graph.proofs.Keying.{beside_none, beside_some}
 use Rattle.exchange_graph.proofs.keyed.ends_under.Goals as goal
 

@@ -1,7 +1,4 @@
-use Rattle.std.proofs.Common.{List, length, sym, ap, ◌∙◌, arith}
-use Rattle.model.specs.Words.{Text}
-use Rattle.exchange_graph.specs.declared.ends.End.{End}
-use Rattle.exchange_graph.specs.Keyed.{ends_under}
+use Rattle.exchange_graph.proofs.Names.{List, length, sym, ap, ◌∙◌, arith, Text, End, ends_under}
 use Rattle.exchange_graph.proofs.Keying.{none_put, put_all, put_more}
 use Rattle.exchange_graph.proofs.keyed.keyed.Goals as goal
 

@@ -1,7 +1,4 @@
-use Rattle.std.proofs.Common.{◌≡◌, ◌++◌, drop}
-use Rattle.model.specs.Words.{Text}
-use Rattle.exchange_graph.specs.Fans.{ends_by_key}
-use Rattle.exchange_graph.specs.Keyed.{IsEven, ends_under}
+use Rattle.exchange_graph.proofs.Names.{◌≡◌, ◌++◌, drop, Text, ends_by_key, IsEven, ends_under}
 use Rattle.exchange_graph.proofs.keyed.keyed.Given as goal
 
 abbrev pub invariant-loop-way : goal.invariant-loop-way

@@ -1,4 +1,4 @@
-use Rattle.std.proofs.Common.{refl, sym}
+use Rattle.exchange_graph.proofs.Names.{refl, sym}
 use Rattle.exchange_graph.proofs.Keying.{absent, puts_old}
 use Rattle.exchange_graph.proofs.keyed.put.Goals as goal
 

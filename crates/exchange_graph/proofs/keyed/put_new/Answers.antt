@@ -1,5 +1,4 @@
-use Rattle.std.proofs.Common.{List, [], ◌∷◌, ◌++◌, ap, ◌∙◌}
-use Rattle.exchange_graph.specs.declared.ends.End.{End}
+use Rattle.exchange_graph.proofs.Names.{List, [], ◌∷◌, ◌++◌, ap, ◌∙◌, End}
 use Rattle.exchange_graph.proofs.Keying.{entered, puts_new}
 use Rattle.exchange_graph.proofs.keyed.put_new.Goals as goal
 

@@ -1,6 +1,4 @@
-use Rattle.std.proofs.Common.{◌<◌, arith, length}
-use Rattle.exchange_graph.specs.declared.ends.End.TheVariants.{Onward}
-use Rattle.topology_drafts.proofs.Members.{in_get}
+use Rattle.exchange_graph.proofs.Names.{◌<◌, arith, length, Onward, in_get}
 use Rattle.exchange_graph.proofs.Marking.{marks_more}
 use Rattle.exchange_graph.proofs.marks.mark_all.Goals as goal
 

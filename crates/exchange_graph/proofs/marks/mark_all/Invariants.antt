@@ -1,5 +1,5 @@
+use Rattle.exchange_graph.proofs.Names.{MarksEnds}
 use Rattle.std.proofs.Common.{take}
-use Rattle.exchange_graph.specs.Marks.{MarksEnds}
 use Rattle.exchange_graph.proofs.marks.mark_all.Given as goal
 
 abbrev pub invariant-loop-end : goal.invariant-loop-end

@@ -1,5 +1,4 @@
-use Rattle.std.proofs.Common.{◌<◌, ℕ}
-use Rattle.exchange_graph.specs.Marks.{IsSet}
+use Rattle.exchange_graph.proofs.Names.{◌<◌, ℕ, IsSet}
 use Rattle.exchange_graph.proofs.marks.pending.Given as goal
 
 abbrev pub invariant-loop-place : goal.invariant-loop-place

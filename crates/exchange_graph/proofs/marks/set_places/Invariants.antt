@@ -1,5 +1,4 @@
-use Rattle.std.proofs.Common.{◌≡◌, ◌++◌, drop}
-use Rattle.exchange_graph.specs.Marks.{set_places}
+use Rattle.exchange_graph.proofs.Names.{◌≡◌, ◌++◌, drop, set_places}
 use Rattle.exchange_graph.proofs.marks.set_places.Given as goal
 
 abbrev pub invariant-loop-place : goal.invariant-loop-place

@@ -1,7 +1,4 @@
-use Rattle.std.proofs.Common.{List, Bool, false, length, replicate, refl, sym, ap, subst, ◌∙◌}
-use Rattle.std.proofs.lemmas.Result.{on_ok_weaker}
-use Rattle.model.specs.declared.topologies.DeclaredQueue.{DeclaredQueue}
-use Rattle.exchange_graph.specs.Marks.{AreFound}
+use Rattle.exchange_graph.proofs.Names.{List, Bool, false, length, replicate, refl, sym, ap, subst, ◌∙◌, on_ok_weaker, DeclaredQueue, AreFound}
 use Rattle.exchange_graph.proofs.Starting.{nothing_found, not_empty}
 use Rattle.exchange_graph.proofs.reach.find.Goals as goal
 

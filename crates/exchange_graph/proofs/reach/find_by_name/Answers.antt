@@ -1,7 +1,4 @@
-use Rattle.std.proofs.Common.{[], List, Bool, false, true, length, replicate, set, refl, sym, ap, subst, ◌∙◌}
-use Rattle.std.proofs.lemmas.Result.{on_ok_weaker}
-use Rattle.model.specs.declared.topologies.DeclaredQueue.{DeclaredQueue}
-use Rattle.exchange_graph.specs.Marks.{AreFound}
+use Rattle.exchange_graph.proofs.Names.{[], List, Bool, false, true, length, replicate, set, refl, sym, ap, subst, ◌∙◌, on_ok_weaker, DeclaredQueue, AreFound}
 use Rattle.exchange_graph.proofs.Starting.{default_one, default_none}
 use Rattle.exchange_graph.proofs.reach.find_by_name.Goals as goal
 

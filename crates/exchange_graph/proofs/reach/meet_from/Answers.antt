@@ -1,4 +1,4 @@
-use Rattle.std.proofs.Common.{length, refl}
+use Rattle.exchange_graph.proofs.Names.{length, refl}
 use Rattle.exchange_graph.proofs.Starting.{begins}
 use Rattle.exchange_graph.proofs.reach.meet_from.Goals as goal
 

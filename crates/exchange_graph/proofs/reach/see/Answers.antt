@@ -1,7 +1,4 @@
-use Rattle.std.proofs.Common.{List, Bool, false, length, replicate, refl, sym, ap, subst, ◌∙◌}
-use Rattle.std.proofs.lemmas.Result.{on_ok_weaker}
-use Rattle.model.specs.declared.topologies.Exchange.{Exchange}
-use Rattle.exchange_graph.specs.Marks.{AreSeen}
+use Rattle.exchange_graph.proofs.Names.{List, Bool, false, length, replicate, refl, sym, ap, subst, ◌∙◌, on_ok_weaker, Exchange, AreSeen}
 use Rattle.exchange_graph.proofs.Starting.{nothing_seen}
 use Rattle.exchange_graph.proofs.reach.see.Goals as goal
 

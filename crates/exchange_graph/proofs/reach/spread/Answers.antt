@@ -1,5 +1,4 @@
-use Rattle.std.proofs.Common.{◌<◌, List, Bool, sym, subst, arith}
-use Rattle.exchange_graph.specs.Marks.{unset}
+use Rattle.exchange_graph.proofs.Names.{◌<◌, List, Bool, sym, subst, arith, unset}
 use Rattle.exchange_graph.proofs.Marking.{unset_fewer}
 use Rattle.exchange_graph.proofs.Reached.{expanded, all_met}
 use Rattle.exchange_graph.proofs.reach.spread.Goals as goal

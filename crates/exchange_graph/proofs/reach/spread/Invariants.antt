@@ -1,4 +1,4 @@
-use Rattle.exchange_graph.specs.Marks.{Reaching, unset}
+use Rattle.exchange_graph.proofs.Names.{Reaching, unset}
 use Rattle.exchange_graph.proofs.reach.spread.Given as goal
 
 abbrev pub invariant-passes : goal.invariant-passes

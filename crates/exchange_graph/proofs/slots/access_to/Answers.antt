@@ -1,4 +1,4 @@
-use Rattle.std.proofs.Common.{◌∙◌, sym}
+use Rattle.exchange_graph.proofs.Names.{◌∙◌, sym}
 use Rattle.exchange_graph.proofs.Routing.{access_named}
 use Rattle.exchange_graph.proofs.slots.access_to.Goals as goal
 

@@ -1,4 +1,5 @@
-use Rattle.std.proofs.Common.{◌≡◌, None, replicate}
+use Rattle.exchange_graph.proofs.Names.{◌≡◌, replicate}
+use Rattle.std.proofs.Common.{None}
 use Rattle.exchange_graph.proofs.slots.empty_slots.Given as goal
 
 abbrev pub invariant-loop : goal.invariant-loop

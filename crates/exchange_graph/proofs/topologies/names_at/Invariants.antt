@@ -1,6 +1,4 @@
-use Rattle.std.proofs.Common.{◌≡◌, ◌++◌, drop}
-use Rattle.model.specs.Topology.{exchange_names}
-use Rattle.exchange_graph.specs.Targets.{names_at}
+use Rattle.exchange_graph.proofs.Names.{◌≡◌, ◌++◌, drop, exchange_names, names_at}
 use Rattle.exchange_graph.proofs.topologies.names_at.Given as goal
 
 abbrev pub invariant-loop-place : goal.invariant-loop-place

@@ -1,6 +1,5 @@
 -- What is left is values or pairs exactly where the whole is.
-use Rattle.std.proofs.Common.{sym, subst}
-use Rattle.field_table.specs.Reading.{HasValues, HasPairs}
+use Rattle.field_table.proofs.Names.{sym, subst, HasValues, HasPairs}
 use Rattle.field_table.proofs.Firsts.{no_leaf, first_is, means_some, unsound, values_end, values_onto, values_back, no_values_left, pairs_end, pairs_onto, pairs_back, no_pairs_left, is_nil, not_nil, when_true, when_false}
 use Rattle.field_table.proofs.checking.+check.Goals as goal
 

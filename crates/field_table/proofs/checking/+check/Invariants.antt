@@ -1,5 +1,4 @@
-use Rattle.std.proofs.Common.{◌+◌, ◌*◌, ◌↔◌, length}
-use Rattle.field_table.specs.Reading.{HasValues, HasPairs}
+use Rattle.field_table.proofs.Names.{◌+◌, ◌*◌, ◌↔◌, length, HasValues, HasPairs}
 use Rattle.field_table.proofs.checking.+check.Given as goal
 
 abbrev pub decreases-is_sound : goal.decreases-is_sound

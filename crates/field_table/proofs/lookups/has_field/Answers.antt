@@ -1,4 +1,4 @@
-use Rattle.std.proofs.Common.{sym}
+use Rattle.field_table.proofs.Names.{sym}
 use Rattle.field_table.proofs.Firsts.{is_nil, not_nil}
 use Rattle.field_table.proofs.Found.{seen_next, seen_end, seen_bad}
 use Rattle.field_table.proofs.lookups.has_field.Goals as goal

@@ -1,4 +1,4 @@
-use Rattle.std.proofs.Common.{length}
+use Rattle.field_table.proofs.Names.{length}
 use Rattle.field_table.proofs.Found.{Seen}
 use Rattle.field_table.proofs.lookups.has_field.Given as goal
 

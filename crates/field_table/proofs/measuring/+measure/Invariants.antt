@@ -1,6 +1,4 @@
-use Rattle.std.proofs.Common.{◌+◌, ◌*◌, drop}
-use Rattle.model.specs.Tables.{values_bytes, pairs_bytes, AreValues, ArePairs}
-use Rattle.field_table.specs.View.{array_view, pairs_view}
+use Rattle.field_table.proofs.Names.{◌+◌, ◌*◌, drop, values_bytes, pairs_bytes, AreValues, ArePairs, array_view, pairs_view}
 use Rattle.field_table.proofs.Loops.{IsMeasuredSoFar}
 use Rattle.field_table.proofs.measuring.+measure.Given as goal
 

@@ -1,10 +1,6 @@
 -- What is left is values or pairs where the whole is, and the whole is what was read and what is left.
-use Rattle.std.proofs.Common.{◌≡◌, sym, rules}
+use Rattle.field_table.proofs.Names.{◌≡◌, sym, rules, no_pairs, value, pair, field_view, entry_view, table_view, entries_view, pairs_then, the_lemmas, roll-FieldTable}
 use Rattle.std.proofs.lemmas.Result.{err_from_is_err_and}
-use Rattle.model.specs.Tables.{no_pairs, value, pair}
-use Rattle.field_table.specs.View.{field_view, entry_view, table_view, entries_view, pairs_then}
-use Rattle.field_table.specs.declared.fields.Field.{the_lemmas}
-use Rattle.field_table.specs.declared.fields.FieldTable.{roll-FieldTable}
 use Rattle.field_table.proofs.Firsts.{first_is, unsound, values_back, no_values_left, pairs_back, no_pairs_left, is_nil, not_nil}
 use Rattle.field_table.proofs.Views.{named, one_more_value, one_more_pair, then_values, then_pairs, refused_so}
 use Rattle.field_table.proofs.reading.+read.Goals as goal

@@ -1,6 +1,4 @@
-use Rattle.std.proofs.Common.{◌+◌, ◌*◌, length}
-use Rattle.field_table.specs.Reading.{SpellsValues, SpellsPairs, HasValues, HasPairs}
-use Rattle.field_table.specs.View.{fields_view, entries_view, values_then, pairs_then}
+use Rattle.field_table.proofs.Names.{◌+◌, ◌*◌, length, SpellsValues, SpellsPairs, HasValues, HasPairs, fields_view, entries_view, values_then, pairs_then}
 use Rattle.field_table.proofs.Loops.{IsReadSoFar}
 use Rattle.field_table.proofs.reading.+read.Given as goal
 

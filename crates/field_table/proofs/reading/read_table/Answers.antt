@@ -1,6 +1,4 @@
-use Rattle.std.proofs.Common.{◌≡◌, Some, sym, arith}
-use Rattle.model.specs.Grammar.{Long_text}
-use Rattle.field_table.specs.Arguments.{argument_at, a_long_text}
+use Rattle.field_table.proofs.Names.{◌≡◌, Some, sym, arith, Long_text, argument_at, a_long_text}
 use Rattle.field_table.proofs.Firsts.{is_nil}
 use Rattle.field_table.proofs.Views.{table_read, only_table}
 use Rattle.field_table.proofs.reading.read_table.Goals as goal

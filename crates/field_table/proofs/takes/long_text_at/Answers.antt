@@ -1,4 +1,4 @@
-use Rattle.model.specs.Grammar.{Long_text}
+use Rattle.field_table.proofs.Names.{Long_text}
 use Rattle.field_table.proofs.takes.long_text_at.Goals as goal
 
 pub returns : goal.returns

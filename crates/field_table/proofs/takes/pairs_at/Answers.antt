@@ -1,4 +1,4 @@
-use Rattle.model.specs.Grammar.{Field_table}
+use Rattle.field_table.proofs.Names.{Field_table}
 use Rattle.field_table.proofs.takes.pairs_at.Goals as goal
 
 pub returns : goal.returns

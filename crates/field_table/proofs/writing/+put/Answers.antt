@@ -1,8 +1,6 @@
 -- What was put and what is left is the whole; a name is put before its value.
-use Rattle.std.proofs.Common.{◌≡◌, ◌∷◌, subst, ap, length, length-append, arith, rules}
-use Rattle.model.specs.Tables.{Values, AreValues, ArePairs, letter, content, values_bytes}
-use Rattle.field_table.specs.View.{field_view, entry_view}
-use Rattle.field_table.specs.declared.fields.Field.{the_lemmas}
+use Rattle.field_table.proofs.Names.{◌≡◌, ◌∷◌, subst, ap, length, arith, rules, Values, AreValues, ArePairs, letter, content, values_bytes, field_view, entry_view, the_lemmas}
+use Rattle.std.proofs.Common.{length-append}
 use Rattle.field_table.proofs.Views.{named}
 use Rattle.field_table.proofs.Puts.{value_left, pair_left, value_put, pair_put, pair_len, entry_put}
 use Rattle.field_table.proofs.writing.+put.Goals as goal

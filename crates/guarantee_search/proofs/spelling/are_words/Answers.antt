@@ -1,5 +1,4 @@
-use Rattle.std.proofs.Common.{subst, sym, arith}
-use Rattle.guarantee_search.specs.Spellings.{IsFilled}
+use Rattle.guarantee_search.proofs.Names.{subst, sym, arith, IsFilled}
 use Rattle.guarantee_search.proofs.Wording.{filled_at}
 use Rattle.guarantee_search.proofs.spelling.are_words.Goals as goal
 

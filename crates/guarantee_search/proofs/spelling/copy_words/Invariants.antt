@@ -1,4 +1,4 @@
-use Rattle.std.proofs.Common.{◌≡◌, ◌++◌, drop}
+use Rattle.guarantee_search.proofs.Names.{◌≡◌, ◌++◌, drop}
 use Rattle.guarantee_search.proofs.spelling.copy_words.Given as goal
 
 abbrev pub invariant-loop-word : goal.invariant-loop-word

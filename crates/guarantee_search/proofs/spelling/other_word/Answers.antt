@@ -1,6 +1,4 @@
-use Rattle.std.proofs.Common.{ℕ, ◌+◌, ◌∷◌, List, length, subst, arith, below_more}
-use Rattle.std.specs.Fmt.{decimal}
-use Rattle.model.specs.Topology.{IsIn}
+use Rattle.guarantee_search.proofs.Names.{ℕ, ◌+◌, ◌∷◌, List, length, subst, arith, below_more, decimal, IsIn}
 use Rattle.guarantee_search.proofs.Wording.{numbered_word, all_named}
 use Rattle.guarantee_search.proofs.spelling.other_word.Goals as goal
 

@@ -1,6 +1,4 @@
-use Rattle.std.proofs.Common.{ℕ, ◌<◌, ◌∷◌}
-use Rattle.std.specs.Fmt.{decimal}
-use Rattle.model.specs.Topology.{IsIn}
+use Rattle.guarantee_search.proofs.Names.{ℕ, ◌<◌, ◌∷◌, decimal, IsIn}
 use Rattle.guarantee_search.proofs.spelling.other_word.Given as goal
 
 abbrev pub invariant-loop-number : goal.invariant-loop-number

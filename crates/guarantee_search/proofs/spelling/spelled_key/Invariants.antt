@@ -1,5 +1,4 @@
-use Rattle.std.proofs.Common.{◌≡◌, ◌≤◌, drop, length}
-use Rattle.guarantee_search.specs.Spellings.{spelled_key}
+use Rattle.guarantee_search.proofs.Names.{◌≡◌, ◌≤◌, drop, length, spelled_key}
 use Rattle.guarantee_search.proofs.spelling.spelled_key.Given as goal
 
 abbrev pub invariant-loop-left : goal.invariant-loop-left

@@ -1,9 +1,4 @@
-use Rattle.std.proofs.Common.{◌≡◌, ◌++◌, ◌∷◌, [], List, sym, subst, ap, ◌∙◌}
-use Rattle.std.specs.List.{AllByRecursion}
-use Rattle.model.specs.Words.{Text}
-use Rattle.model.specs.Topology.{IsIn}
-use Rattle.model.specs.Searches.{IsWord}
-use Rattle.guarantee_search.specs.Spellings.{IsFilled}
+use Rattle.guarantee_search.proofs.Names.{◌≡◌, ◌++◌, ◌∷◌, [], List, sym, subst, ap, ◌∙◌, AllByRecursion, Text, IsIn, IsWord, IsFilled}
 use Rattle.guarantee_search.proofs.Wording.{named_filled, spelled}
 use Rattle.guarantee_search.proofs.spelling.spellings.Goals as goal
 

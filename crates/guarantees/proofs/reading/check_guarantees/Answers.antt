@@ -1,7 +1,5 @@
-use Rattle.json_file.specs.declared.causes.FileCause.TheVariants.{Absent, Worded, TooMany}
-use Rattle.json_file.specs.declared.causes.FileCause.{FileCause}
+use Rattle.guarantees.proofs.Names.{Absent, Worded, TooMany, FileCause, AreClear}
 use Rattle.json_file.proofs.Order.{least}
-use Rattle.guarantees.specs.Causes.{AreClear}
 use Rattle.guarantees.proofs.Judging.{all_clear, below_counts, below_names, below_words}
 use Rattle.guarantees.proofs.reading.check_guarantees.Goals as goal
 

@@ -1,6 +1,5 @@
-use Rattle.std.proofs.Common.{◌<◌, List, ℕ, [], length, refl, subst}
+use Rattle.guarantees.proofs.Names.{◌<◌, List, ℕ, [], length, refl, subst, IsIn, queue_names}
 use Rattle.std.proofs.lemmas.List.{length-map}
-use Rattle.model.specs.Topology.{IsIn, queue_names}
 use Rattle.topology_drafts.proofs.Members.{in_get}
 use Rattle.guarantees.proofs.reading.is_queue.Goals as goal
 

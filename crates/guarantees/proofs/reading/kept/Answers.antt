@@ -1,8 +1,4 @@
-use Rattle.std.proofs.Common.{◌≡◌, ◌∷◌, [], ◌++◌, List, length, sym, ap, subst, ◌∙◌, append_assoc, append-nil, arith}
-use Rattle.std.specs.Prelude.{All}
-use Rattle.std.specs.Vec.Iter.{into_iter_items}
-use Rattle.model.specs.Guarantee.{Guarantee}
-use Rattle.guarantees.specs.Causes.{ArePatterns}
+use Rattle.guarantees.proofs.Names.{◌≡◌, ◌∷◌, [], ◌++◌, List, length, sym, ap, subst, ◌∙◌, append_assoc, append-nil, arith, All, into_iter_items, Guarantee, ArePatterns}
 use Rattle.guarantees.proofs.Keeping.{first_of, rest_of, nothing_left}
 use Rattle.guarantees.proofs.reading.kept.Goals as goal
 

@@ -1,4 +1,4 @@
-use Rattle.std.specs.Vec.Iter.{into_iter_items, into_iter_len}
+use Rattle.guarantees.proofs.Names.{into_iter_items, into_iter_len}
 use Rattle.guarantees.proofs.Keeping.{KeptSoFar}
 use Rattle.guarantees.proofs.reading.kept.Given as goal
 

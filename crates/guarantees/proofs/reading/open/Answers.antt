@@ -1,7 +1,6 @@
-use Rattle.std.proofs.lemmas.Result.{err_from_is_err_and}
+use Rattle.guarantees.proofs.Names.{err_from_is_err_and, unread}
 use Rattle.serde_json.specs.View.{view}
 use Rattle.guarantees.specs.Stated.{guarantees_at}
-use Rattle.json_file.proofs.Refused.{unread}
 use Rattle.guarantees.proofs.reading.open.Goals as goal
 
 pub returns-in_err-guarantees : goal.returns-in_err-guarantees

@@ -1,12 +1,5 @@
-use Rattle.std.proofs.Common.{List, sym, subst}
-use Rattle.std.proofs.lemmas.Result.{err_from_is_err_and}
-use Rattle.std.specs.Prelude.{All}
-use Rattle.model.specs.Guarantee.{Guarantee}
-use Rattle.json_file.specs.declared.causes.FileCause.TheVariants.{Worded}
-use Rattle.json_file.proofs.Refused.{refused_unread}
+use Rattle.guarantees.proofs.Names.{List, sym, subst, err_from_is_err_and, All, Guarantee, Worded, refused_unread, IsGuaranteeWorded, AreAccepted, AreClearFor}
 use Rattle.guarantees.specs.Stated.{guarantees_at}
-use Rattle.guarantees.specs.Causes.{IsGuaranteeWorded}
-use Rattle.guarantees.specs.Reads.{AreAccepted, AreClearFor}
 use Rattle.guarantees.proofs.Keeping.{all_worded}
 use Rattle.guarantees.proofs.Whole.{accepted, refused}
 use Rattle.guarantees.proofs.reading.read_guarantees.Goals as goal

@@ -1,7 +1,5 @@
 -- What the fields and the properties say tells what the payload says.
-use Rattle.std.proofs.Common.{◌∙◌}
-use Rattle.std.proofs.lemmas.List.{take_rest}
-use Rattle.model.specs.Headers.{no_header}
+use Rattle.headers.proofs.Names.{◌∙◌, take_rest, no_header}
 use Rattle.headers.proofs.Parts.{behind_size, not_header}
 use Rattle.headers.proofs.Told.{header_said, header_refused, header_only, header_none}
 use Rattle.headers.proofs.reading.read_header.Goals as goal

@@ -1,6 +1,4 @@
-use Rattle.std.proofs.Common.{subst, ℕ}
-use Rattle.std.proofs.Common.{Ok}
-use Rattle.model.specs.Headers.{SaysSize, size, no_header}
+use Rattle.headers.proofs.Names.{subst, ℕ, Ok, SaysSize, size, no_header}
 use Rattle.headers.proofs.reading.read_size.Goals as goal
 
 pub returns-in-None : goal.returns-in-None

@@ -1,4 +1,4 @@
-use Rattle.std.proofs.Common.{◌≡◌, subst, IfOk}
+use Rattle.headers.proofs.Names.{◌≡◌, subst, IfOk}
 use Rattle.model.specs.declared.contents.Fields.{Fields}
 use Rattle.headers.proofs.Spelled.{is_spelling, told}
 use Rattle.headers.proofs.telling.fields_of.Goals as goal

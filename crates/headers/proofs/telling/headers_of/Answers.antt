@@ -1,5 +1,4 @@
-use Rattle.std.proofs.Common.{◌∙◌, ap}
-use Rattle.model.specs.Headers.{properties_of}
+use Rattle.headers.proofs.Names.{◌∙◌, ap, properties_of}
 use Rattle.headers.proofs.Spelled.{is_spelling, told}
 use Rattle.headers.proofs.Parted.{its_pairs}
 use Rattle.headers.proofs.telling.headers_of.Goals as goal

@@ -1,5 +1,5 @@
 -- What spells properties is read.
-use Rattle.std.proofs.Common.{◌∙◌}
+use Rattle.headers.proofs.Names.{◌∙◌}
 use Rattle.headers.proofs.Parted.{no_some, some_is, parts_read}
 use Rattle.headers.proofs.telling.spelled_parts.Goals as goal
 

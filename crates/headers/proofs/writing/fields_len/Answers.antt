@@ -1,6 +1,5 @@
 -- A header is as long as its parts.
-use Rattle.std.proofs.Common.{◌+◌, ℕ, length, ap, ◌∙◌}
-use Rattle.headers.specs.Writing.{front_of, values}
+use Rattle.headers.proofs.Names.{◌+◌, ℕ, length, ap, ◌∙◌, front_of, values}
 use Rattle.headers.proofs.Laid.{front_fits, back_fits, both_fit, header_len}
 use Rattle.headers.proofs.writing.fields_len.Goals as goal
 

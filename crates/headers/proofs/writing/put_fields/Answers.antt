@@ -1,5 +1,5 @@
 -- What is put is the header, part by part.
-use Rattle.std.proofs.Common.{arith}
+use Rattle.headers.proofs.Names.{arith}
 use Rattle.headers.proofs.Laid.{front_fits, back_fits, header_len, put_parts}
 use Rattle.headers.proofs.writing.put_fields.Goals as goal
 

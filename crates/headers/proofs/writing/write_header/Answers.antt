@@ -1,6 +1,5 @@
 -- The room that is made is the header's.
-use Rattle.std.proofs.Common.{◌+◌, ◌<◌, ◌≤◌, ℕ, subst}
-use Rattle.std.specs.Prelude.{vec_len, vec_capacity}
+use Rattle.headers.proofs.Names.{◌+◌, ◌<◌, ◌≤◌, ℕ, subst, vec_len, vec_capacity}
 use Rattle.headers.proofs.writing.write_header.Goals as goal
 
 pub returns-in-Err-clause-full : goal.returns-in-Err-clause-full

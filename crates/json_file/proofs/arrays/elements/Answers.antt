@@ -1,4 +1,4 @@
-use Rattle.std.proofs.Common.{sym, ◌∙◌, arith}
+use Rattle.json_file.proofs.Names.{sym, ◌∙◌, arith}
 use Rattle.std.proofs.lemmas.Result.{err_from_is_err_and}
 use Rattle.json_file.proofs.Reading.{each_done, each_none, each_more, fails_then}
 use Rattle.json_file.proofs.arrays.elements.Goals as goal

@@ -1,5 +1,4 @@
-use Rattle.std.proofs.Common.{◌≡◌, drop}
-use Rattle.serde_json.specs.View.{items_view}
+use Rattle.json_file.proofs.Names.{◌≡◌, drop, items_view}
 use Rattle.json_file.specs.Members.{each}
 use Rattle.json_file.proofs.Reading.{with_front}
 use Rattle.json_file.proofs.arrays.elements.Given as goal

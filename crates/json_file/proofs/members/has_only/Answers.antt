@@ -1,5 +1,4 @@
-use Rattle.std.proofs.Common.{◌∙◌}
-use Rattle.serde_json.specs.View.{view}
+use Rattle.json_file.proofs.Names.{◌∙◌, view}
 use Rattle.json_file.proofs.Reading.{only_of}
 use Rattle.json_file.proofs.members.has_only.Goals as goal
 

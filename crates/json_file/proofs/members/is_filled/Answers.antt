@@ -1,4 +1,4 @@
-use Rattle.std.proofs.Common.{◌∙◌, sym, ap, Some, not, Bool}
+use Rattle.json_file.proofs.Names.{◌∙◌, sym, ap, Some, not, Bool}
 use Rattle.json_file.specs.Members.{is_filled}
 use Rattle.json_file.proofs.Reading.{fills_of}
 use Rattle.json_file.proofs.members.is_filled.Goals as goal

@@ -1,7 +1,4 @@
-use Rattle.std.proofs.Common.{refl}
-use Rattle.serving.specs.Wire.{Told}
-use Rattle.serving.specs.Story.{served}
-use Rattle.memory_wire.specs.Logs.{told_by, told_with}
+use Rattle.memory_wire.proofs.Names.{refl, Told, served, told_by, told_with}
 use Rattle.memory_wire.proofs.Telling.{tells_bytes}
 use Rattle.memory_wire.proofs.wires.serve_in_memory.Goals as goal
 

@@ -1,5 +1,5 @@
 -- The payload is refused where it is too short, and else is what its class, method and arguments say.
-use Rattle.model.specs.Grammar.{too_short}
+use Rattle.methods.proofs.Names.{too_short}
 use Rattle.methods.proofs.Whole.{tells, only}
 use Rattle.methods.proofs.reading.read_method.Goals as goal
 

@@ -1,8 +1,5 @@
 -- The ids and the arguments that are put are the method's.
-use Rattle.std.proofs.Common.{◌≡◌, ◌++◌, ◌∙◌, ℕ, List, length, append_assoc, ap, arith}
-use Rattle.std.specs.Int.{w16, to_be_bytes}
-use Rattle.model.specs.Grammar.{ids_of}
-use Rattle.model.specs.declared.methods.Method.{Method}
+use Rattle.methods.proofs.Names.{◌≡◌, ◌++◌, ◌∙◌, ℕ, List, length, append_assoc, ap, arith, w16, to_be_bytes, ids_of, Method}
 use Rattle.methods.proofs.Rows.{are}
 use Rattle.methods.proofs.writing.put_method.Goals as goal
 

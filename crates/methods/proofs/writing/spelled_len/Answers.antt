@@ -1,5 +1,5 @@
 -- A method is as long as its ids and its arguments.
-use Rattle.std.proofs.Common.{ℕ, List, length, ap, arith}
+use Rattle.methods.proofs.Names.{ℕ, List, length, ap, arith}
 use Rattle.methods.proofs.Rows.{are}
 use Rattle.methods.proofs.writing.spelled_len.Goals as goal
 

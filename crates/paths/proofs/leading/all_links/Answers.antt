@@ -1,5 +1,4 @@
-use Rattle.std.proofs.Common.{◌≡◌, ℕ, length, subst, arith}
-use Rattle.paths.specs.Leading.{AreLinked}
+use Rattle.paths.proofs.Names.{◌≡◌, ℕ, length, subst, arith, AreLinked}
 use Rattle.paths.proofs.Leads.{linked_none, linked_more}
 use Rattle.paths.proofs.leading.all_links.Goals as goal
 

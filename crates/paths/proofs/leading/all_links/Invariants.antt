@@ -1,4 +1,4 @@
-use Rattle.paths.specs.Leading.{AreLinked}
+use Rattle.paths.proofs.Names.{AreLinked}
 use Rattle.paths.proofs.leading.all_links.Given as goal
 
 abbrev pub invariant-loop-at : goal.invariant-loop-at

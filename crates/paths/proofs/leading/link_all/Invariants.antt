@@ -1,5 +1,4 @@
-use Rattle.std.proofs.Common.{take}
-use Rattle.paths.specs.Leading.{LinksAll}
+use Rattle.paths.proofs.Names.{take, LinksAll}
 use Rattle.paths.proofs.leading.link_all.Given as goal
 
 abbrev pub invariant-loop-visit : goal.invariant-loop-visit

@@ -1,9 +1,4 @@
-use Rattle.std.proofs.Common.{List, subst, sym}
-use Rattle.std.proofs.lemmas.Result.{on_ok_weaker}
-use Rattle.model.specs.Topology.{IsIn}
-use Rattle.paths.specs.declared.visits.Visit.{Visit}
-use Rattle.paths.specs.Stands.{IsStandThere}
-use Rattle.paths.specs.Leading.{LinksAll}
+use Rattle.paths.proofs.Names.{List, subst, sym, on_ok_weaker, IsIn, Visit, IsStandThere, LinksAll}
 use Rattle.paths.proofs.Leads.{front_linked}
 use Rattle.paths.proofs.leading.link_front.Goals as goal
 

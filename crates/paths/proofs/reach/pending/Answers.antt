@@ -1,6 +1,5 @@
-use Rattle.std.proofs.Common.{sym, ◌∙◌, refl, arith, ℕ, List, get_or}
-use Rattle.std.specs.Prelude.{slice_index_or, false}
-use Rattle.paths.specs.declared.reach.Hop.{Hop}
+use Rattle.paths.proofs.Names.{sym, ◌∙◌, refl, arith, ℕ, List, get_or, slice_index_or, Hop}
+use Rattle.std.specs.Prelude.{false}
 use Rattle.paths.proofs.Chains.{none_more, none_all, in_place, not_out, out, at_itself}
 use Rattle.paths.proofs.reach.pending.Goals as goal
 

@@ -1,7 +1,4 @@
-use Rattle.std.proofs.Common.{arith, subst, List}
-use Rattle.std.proofs.lemmas.List.{take_all}
-use Rattle.paths.specs.declared.keyed.KeyedPlace.{KeyedPlace}
-use Rattle.paths.specs.Keyed.{AreOneOn}
+use Rattle.paths.proofs.Names.{arith, subst, List, take_all, KeyedPlace, AreOneOn}
 use Rattle.paths.proofs.Among.{next_more}
 use Rattle.paths.proofs.walking.advance.Goals as goal
 

@@ -1,5 +1,4 @@
-use Rattle.std.proofs.Common.{take}
-use Rattle.paths.specs.Keyed.{AreOneOn}
+use Rattle.paths.proofs.Names.{take, AreOneOn}
 use Rattle.paths.proofs.walking.advance.Given as goal
 
 abbrev pub invariant-loop-stand : goal.invariant-loop-stand

@@ -1,9 +1,5 @@
-use Rattle.std.proofs.Common.{◌≡◌, true}
-use Rattle.std.proofs.lemmas.Result.{on_ok_weaker}
-use Rattle.std.specs.Prelude.{◌↔◌}
-use Rattle.paths.specs.declared.keyed.KeyedPlace.{KeyedPlace}
-use Rattle.paths.specs.declared.keyed.KeyedPlace.TheVariants.{Exchange, Queue}
-use Rattle.paths.specs.Keyed.{NextStand}
+use Rattle.paths.proofs.Names.{◌≡◌, true, on_ok_weaker, ◌↔◌, KeyedPlace, Queue, NextStand}
+use Rattle.paths.specs.declared.keyed.KeyedPlace.TheVariants.{Exchange}
 use Rattle.paths.proofs.Among.{add_none, add_same, dies_at, dies_nowhere}
 use Rattle.paths.proofs.walking.die.Goals as goal
 

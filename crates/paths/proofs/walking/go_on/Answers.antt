@@ -1,11 +1,6 @@
-use Rattle.std.proofs.Common.{◌≡◌, true, subst}
-use Rattle.std.proofs.lemmas.Result.{on_ok_weaker}
-use Rattle.std.specs.Prelude.{Decides, ◌⊎◌, ◌↔◌}
-use Rattle.model.specs.Words.{Text}
-use Rattle.exchange_graph.specs.Edges.{LeadsToQueue, LeadsOn}
-use Rattle.paths.specs.declared.keyed.KeyedPlace.{KeyedPlace}
-use Rattle.paths.specs.declared.keyed.KeyedPlace.TheVariants.{Exchange, Queue}
-use Rattle.paths.specs.Keyed.{NextStand}
+use Rattle.paths.proofs.Names.{◌≡◌, true, subst, on_ok_weaker, Decides, ◌↔◌, Text, LeadsToQueue, LeadsOn, KeyedPlace, Queue, NextStand}
+use Rattle.std.specs.Prelude.{◌⊎◌}
+use Rattle.paths.specs.declared.keyed.KeyedPlace.TheVariants.{Exchange}
 use Rattle.paths.proofs.Among.{add_both, on_or_into}
 use Rattle.paths.proofs.walking.go_on.Goals as goal
 

@@ -1,12 +1,6 @@
-use Rattle.std.proofs.Common.{◌≡◌, arith, subst, sym, ap, List, [], Bool, false, ◌∙◌}
-use Rattle.std.specs.Prelude.{◌↔◌, Decides, ◌&&◌}
-use Rattle.std.specs.List.{list_any}
-use Rattle.std.proofs.lemmas.List.{drop_all}
-use Rattle.std.proofs.lemmas.Slice.Eq.{bytes_eq-Decides}
-use Rattle.model.specs.Words.{Text}
-use Rattle.paths.specs.declared.keyed.KeyedPlace.{KeyedPlace}
+use Rattle.paths.proofs.Names.{◌≡◌, arith, subst, sym, ap, List, [], Bool, ◌∙◌, ◌↔◌, Decides, ◌&&◌, list_any, drop_all, bytes_eq-Decides, Text, KeyedPlace, AreOneOn, WalksOn, SomeGoesOn, is_queue}
+use Rattle.std.proofs.Common.{false}
 use Rattle.paths.specs.declared.keyed.KeyedPlace.TheVariants.{Exchange}
-use Rattle.paths.specs.Keyed.{AreOneOn, WalksOn, SomeGoesOn, is_queue}
 use Rattle.paths.proofs.Walks.{goes_more, goes_to_end}
 use Rattle.paths.proofs.walking.goes_on.Goals.{then-eq, else-eq}
 use Rattle.paths.proofs.walking.goes_on.Goals as goal

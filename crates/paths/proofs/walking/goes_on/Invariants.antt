@@ -1,7 +1,5 @@
-use Rattle.std.proofs.Common.{drop}
-use Rattle.std.specs.Prelude.{◌↔◌}
+use Rattle.paths.proofs.Names.{drop, ◌↔◌, WalksOn, SomeGoesOn}
 use Rattle.paths.specs.declared.keyed.KeyedPlace.TheVariants.{Exchange}
-use Rattle.paths.specs.Keyed.{WalksOn, SomeGoesOn}
 use Rattle.paths.proofs.walking.goes_on.Given as goal
 
 abbrev pub invariant-loop-next : goal.invariant-loop-next

@@ -1,6 +1,4 @@
-use Rattle.std.proofs.Common.{◌≤◌, ◌∙◌, ap, sym, subst, rules, List}
-use Rattle.std.proofs.lemmas.Fn.{filter_same}
-use Rattle.queue.specs.Blocks.{Stretch, parts, joined, last_room, is_in_use, AreFilled}
+use Rattle.queue.proofs.Names.{◌≤◌, ◌∙◌, ap, sym, subst, rules, List, filter_same, Stretch, parts, joined, last_room, is_in_use, AreFilled}
 use Rattle.queue.proofs.Filled.{filled_in_use}
 use Rattle.queue.proofs.Signed.{joined_in_use, room_in_use}
 use Rattle.queue.proofs.blocks.drop_given_back.Goals as goal

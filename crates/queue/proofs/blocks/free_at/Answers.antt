@@ -1,6 +1,4 @@
-use Rattle.std.proofs.Common.{rules, ap, length, ◌∙◌}
-use Rattle.model.specs.Entries.{is_under, freed}
-use Rattle.queue.specs.Line.{requeued}
+use Rattle.queue.proofs.Names.{rules, ap, length, ◌∙◌, is_under, freed, requeued}
 use Rattle.queue.proofs.Filled.{filled_kept}
 use Rattle.queue.proofs.Stood.{length-mapped}
 use Rattle.queue.proofs.Signed.{parts-written, room_kept}

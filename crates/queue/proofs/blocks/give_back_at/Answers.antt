@@ -1,4 +1,4 @@
-use Rattle.std.proofs.Common.{◌≡◌, length, arith, rules, vec_len}
+use Rattle.queue.proofs.Names.{◌≡◌, length, arith, rules, vec_len}
 use Rattle.queue.proofs.Signed.{parts-kept, room_inside}
 use Rattle.queue.proofs.blocks.give_back_at.Goals as goal
 

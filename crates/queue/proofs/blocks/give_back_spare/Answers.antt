@@ -1,4 +1,4 @@
-use Rattle.std.proofs.Common.{◌-◌, rules}
+use Rattle.queue.proofs.Names.{◌-◌, rules}
 use Rattle.queue.proofs.Signed.{parts-kept}
 use Rattle.queue.proofs.blocks.give_back_spare.Goals as goal
 

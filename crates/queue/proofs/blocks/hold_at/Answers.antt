@@ -1,6 +1,4 @@
-use Rattle.std.proofs.Common.{rules, ap, length, ◌∙◌}
-use Rattle.model.specs.Broker.{is_ready}
-use Rattle.model.specs.Entries.{change_first, held_as}
+use Rattle.queue.proofs.Names.{rules, ap, length, ◌∙◌, is_ready, change_first, held_as}
 use Rattle.queue.proofs.Filled.{filled_kept}
 use Rattle.queue.proofs.Counts.{length-changed-all}
 use Rattle.queue.proofs.Signed.{parts-written, room_kept}

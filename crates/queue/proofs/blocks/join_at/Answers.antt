@@ -1,7 +1,5 @@
-use Rattle.std.proofs.Common.{◌≡◌, ◌∙◌, ◌<◌, ◌+◌, ◌++◌, List, length, get_or, ap, subst, arith, rules, vec_len}
+use Rattle.queue.proofs.Names.{◌≡◌, ◌∙◌, ◌<◌, ◌+◌, ◌++◌, List, length, get_or, ap, subst, arith, rules, vec_len, Entry, Stretch, parts, joined, last_room}
 use Rattle.std.proofs.Math.ListN.{set}
-use Rattle.model.specs.declared.messages.Entry.{Entry}
-use Rattle.queue.specs.Blocks.{Stretch, parts, joined, last_room}
 use Rattle.queue.proofs.Removed.{entries_joined, room_joined, apart_there}
 use Rattle.queue.proofs.blocks.join_at.Goals as goal
 

@@ -1,5 +1,4 @@
-use Rattle.std.proofs.Common.{◌≡◌, List, length, subst, arith, rules, inl, inr, vec_len}
-use Rattle.queue.specs.Blocks.{Stretch, IsPair, AreNeeded}
+use Rattle.queue.proofs.Names.{◌≡◌, List, length, subst, arith, rules, inl, inr, vec_len, Stretch, IsPair, AreNeeded}
 use Rattle.queue.proofs.Filled.{filled_needed, filled_taken_in, filled_with_next}
 use Rattle.queue.proofs.blocks.join_near.Goals as goal
 

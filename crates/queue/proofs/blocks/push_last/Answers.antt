@@ -1,6 +1,4 @@
-use Rattle.std.proofs.Common.{◌≡◌, ◌∙◌, ◌<◌, ◌+◌, ◌-◌, ◌++◌, ◌∷◌, [], ℕ, rules, arith, length, ap, sym, subst, List, vec_len}
-use Rattle.model.specs.declared.messages.Entry.{Entry}
-use Rattle.model.specs.declared.messages.Mark.TheVariants.{Ready}
+use Rattle.queue.proofs.Names.{◌≡◌, ◌∙◌, ◌<◌, ◌+◌, ◌-◌, ◌++◌, ◌∷◌, [], ℕ, rules, arith, length, ap, sym, subst, List, vec_len, Entry, Ready}
 use Rattle.queue.proofs.Filled.{filled_last}
 use Rattle.queue.proofs.Signed.{parts-written, room_is, room_at_last, room_somewhere}
 use Rattle.queue.proofs.blocks.push_last.Goals as goal

@@ -1,8 +1,5 @@
-use Rattle.std.proofs.Common.{◌∙◌, rules, subst, sym, filter, not, List, true, ◌≡◌, ◌≤◌}
-use Rattle.model.specs.Entries.{is_held_as}
-use Rattle.model.specs.declared.messages.Entry.{Entry}
-use Rattle.queue.specs.Slots.{tally}
-use Rattle.queue.specs.Blocks.{some_pass}
+use Rattle.queue.proofs.Names.{◌∙◌, rules, subst, sym, filter, List, true, ◌≡◌, ◌≤◌, is_held_as, Entry, tally, some_pass}
+use Rattle.std.proofs.Common.{not}
 use Rattle.queue.proofs.Counts.{shorter}
 use Rattle.queue.proofs.Filled.{but_taken}
 use Rattle.queue.proofs.Joined.{once_left_out}

@@ -1,5 +1,4 @@
-use Rattle.std.proofs.Common.{◌≡◌, ◌≤◌, ◌<◌, ◌-◌, ℕ, true, rules, arith, length, sym, subst, vec_len}
-use Rattle.std.specs.Prelude.{IfOk, OnErr}
+use Rattle.queue.proofs.Names.{◌≡◌, ◌≤◌, ◌<◌, ◌-◌, ℕ, true, rules, arith, length, sym, subst, vec_len, IfOk, OnErr}
 use Rattle.queue.proofs.Signed.{parts-kept, room_is, room_at_last, last_place}
 use Rattle.queue.proofs.Filled.{filled_last}
 use Rattle.queue.proofs.blocks.reserve_last.Goals as goal

@@ -1,5 +1,4 @@
-use Rattle.std.proofs.Common.{◌≡◌, ◌∙◌, ◌+◌, ◌-◌, false, arith, length, sym}
-use Rattle.std.specs.Prelude.{◌==◌}
+use Rattle.queue.proofs.Names.{◌≡◌, ◌∙◌, ◌+◌, ◌-◌, false, arith, length, sym, ◌==◌}
 use Rattle.queue.proofs.Signed.{room_is, some_block}
 use Rattle.queue.proofs.blocks.room_of.Goals as goal
 

@@ -1,7 +1,4 @@
-use Rattle.std.proofs.Common.{ap, length, arith, inl, inr, List, find}
-use Rattle.std.proofs.lemmas.Bool.Decides.{leb_tells}
-use Rattle.model.specs.Entries.{is_held_as}
-use Rattle.model.specs.declared.messages.Entry.{Entry}
+use Rattle.queue.proofs.Names.{ap, length, arith, inl, inr, List, find, leb_tells, is_held_as, Entry}
 use Rattle.queue.proofs.Signed.{parts-past}
 use Rattle.queue.proofs.blocks.search.Goals as goal
 

@@ -1,6 +1,4 @@
-use Rattle.std.proofs.Common.{◌≡◌, ℕ, ◌<◌, [], get_or, find, None}
-use Rattle.model.specs.Entries.{is_held_as}
-use Rattle.queue.specs.Blocks.{parts}
+use Rattle.queue.proofs.Names.{◌≡◌, ℕ, ◌<◌, [], get_or, find, None, is_held_as, parts}
 use Rattle.queue.proofs.blocks.search.Given as goal
 
 -- in none of the blocks passed is a message held so

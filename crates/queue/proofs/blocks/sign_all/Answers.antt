@@ -1,4 +1,4 @@
-use Rattle.std.proofs.Common.{◌∙◌, arith}
+use Rattle.queue.proofs.Names.{◌∙◌, arith}
 use Rattle.queue.proofs.Signed.{signed_more, signed_done}
 use Rattle.queue.proofs.blocks.sign_all.Goals as goal
 

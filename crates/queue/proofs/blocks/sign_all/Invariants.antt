@@ -1,5 +1,4 @@
-use Rattle.std.proofs.Common.{◌≡◌}
-use Rattle.queue.specs.Blocks.{parts}
+use Rattle.queue.proofs.Names.{◌≡◌, parts}
 use Rattle.queue.proofs.Signed.{SignedBelow}
 use Rattle.queue.proofs.blocks.sign_all.Given as goal
 

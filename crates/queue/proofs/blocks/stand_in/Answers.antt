@@ -1,5 +1,4 @@
-use Rattle.std.proofs.Common.{◌<◌, ◌+◌, length, arith}
-use Rattle.queue.specs.Blocks.{stood_block}
+use Rattle.queue.proofs.Names.{◌<◌, ◌+◌, length, arith, stood_block}
 use Rattle.queue.proofs.Changing.{changed_next}
 use Rattle.queue.proofs.blocks.stand_in.Goals as goal
 

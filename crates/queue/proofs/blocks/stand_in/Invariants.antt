@@ -1,5 +1,4 @@
-use Rattle.std.proofs.Common.{◌≡◌, ◌++◌, map, take, drop}
-use Rattle.queue.specs.Blocks.{stood_block}
+use Rattle.queue.proofs.Names.{◌≡◌, ◌++◌, map, take, drop, stood_block}
 use Rattle.queue.proofs.blocks.stand_in.Given as goal
 
 -- those before the index are done

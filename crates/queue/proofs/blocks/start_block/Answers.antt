@@ -1,8 +1,4 @@
-use Rattle.std.proofs.Common.{◌≡◌, ◌≤◌, ◌-◌, ◌∙◌, ap, sym, subst, List, arith, rules, length, vec_len}
-use Rattle.model.specs.Entries.{is_held_as}
-use Rattle.model.specs.declared.messages.Entry.{Entry}
-use Rattle.queue.specs.Slots.{tally}
-use Rattle.queue.specs.Blocks.{AreFilledBut, Stretch, parts, joined, last_room, AreBlocksSigned}
+use Rattle.queue.proofs.Names.{◌≡◌, ◌≤◌, ◌-◌, ◌∙◌, ap, sym, subst, List, arith, rules, length, vec_len, is_held_as, Entry, tally, AreFilledBut, Stretch, parts, joined, last_room, AreBlocksSigned}
 use Rattle.queue.proofs.Joined.{joined_nothing}
 use Rattle.queue.proofs.Signed.{parts-end, room_at_end, signed_end}
 use Rattle.queue.proofs.Filled.{but_end}

@@ -1,8 +1,4 @@
-use Rattle.std.proofs.Common.{rules, subst, sym, List, true, ◌≡◌}
-use Rattle.model.specs.Broker.{is_ready}
-use Rattle.model.specs.Entries.{without_first}
-use Rattle.model.specs.declared.messages.Entry.{Entry}
-use Rattle.queue.specs.Blocks.{some_pass}
+use Rattle.queue.proofs.Names.{rules, subst, sym, List, true, ◌≡◌, is_ready, without_first, Entry, some_pass}
 use Rattle.queue.proofs.Counts.{shorter}
 use Rattle.queue.proofs.Filled.{but_taken}
 use Rattle.queue.proofs.Signed.{parts-written, part_of, room_kept}

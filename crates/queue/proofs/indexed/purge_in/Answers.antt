@@ -1,8 +1,5 @@
-use Rattle.std.proofs.Common.{◌≡◌, ℕ, ◌∙◌, ◌++◌, ◌∷◌, [], ◌<◌, sym, ap, arith, List, map, filter, not, None, find}
-use Rattle.model.specs.Broker.{is_ready}
-use Rattle.model.specs.declared.messages.Entry.{Entry}
-use Rattle.queue.specs.Line.{ready_count}
-use Rattle.model.specs.Entries.{number_of}
+use Rattle.queue.proofs.Names.{◌≡◌, ℕ, ◌∙◌, ◌++◌, ◌∷◌, [], ◌<◌, sym, ap, arith, List, map, filter, None, find, is_ready, Entry, ready_count, number_of}
+use Rattle.std.proofs.Common.{not}
 use Rattle.queue.proofs.Firsts.{rest_filtered}
 use Rattle.queue.proofs.Slotted.{purged_more, ready_less, none_left}
 use Rattle.queue.proofs.Purging.{purged_all}

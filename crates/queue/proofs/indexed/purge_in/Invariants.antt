@@ -1,7 +1,5 @@
-use Rattle.std.proofs.Common.{◌≡◌, ◌++◌, ◌+◌, ◌≤◌, map, filter, not, vec_len, vec_capacity}
-use Rattle.model.specs.Broker.{is_ready}
-use Rattle.queue.specs.Line.{ready_count}
-use Rattle.model.specs.Entries.{number_of}
+use Rattle.queue.proofs.Names.{◌≡◌, ◌++◌, ◌+◌, ◌≤◌, map, filter, vec_len, vec_capacity, is_ready, ready_count, number_of}
+use Rattle.std.proofs.Common.{not}
 use Rattle.queue.proofs.indexed.purge_in.Given as goal
 
 -- what was taken out, with what is still to be taken, is all that was ready; the rest is as it was

@@ -1,4 +1,4 @@
-use Rattle.std.proofs.Common.{◌≡◌, rules, arith, length, vec_len, vec_capacity}
+use Rattle.queue.proofs.Names.{◌≡◌, rules, arith, length, vec_len, vec_capacity}
 use Rattle.queue.proofs.Purging.{room_next}
 use Rattle.queue.proofs.lists.append_numbers.Goals as goal
 

@@ -1,6 +1,4 @@
-use Rattle.std.proofs.Common.{◌≡◌, ◌++◌, map, filter, drop, vec_capacity}
-use Rattle.model.specs.Broker.{is_ready}
-use Rattle.model.specs.Entries.{number_of}
+use Rattle.queue.proofs.Names.{◌≡◌, ◌++◌, map, filter, drop, vec_capacity, is_ready, number_of}
 use Rattle.queue.proofs.lists.append_numbers.Given as goal
 
 -- what was appended, with what is still to be, is all of it

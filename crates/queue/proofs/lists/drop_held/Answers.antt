@@ -1,7 +1,5 @@
-use Rattle.std.proofs.Common.{rules, not}
-use Rattle.std.proofs.lemmas.Fn.{filter_same}
-use Rattle.model.specs.declared.messages.Entry.{Entry}
-use Rattle.model.specs.Entries.{is_held_as}
+use Rattle.queue.proofs.Names.{rules, filter_same, Entry, is_held_as}
+use Rattle.std.proofs.Common.{not}
 use Rattle.queue.proofs.lists.drop_held.Goals as goal
 
 pub returns-clause-entries : goal.returns-clause-entries

@@ -1,7 +1,5 @@
-use Rattle.std.proofs.Common.{rules, not}
-use Rattle.std.proofs.lemmas.Fn.{filter_same}
-use Rattle.model.specs.Broker.{is_ready}
-use Rattle.model.specs.declared.messages.Entry.{Entry}
+use Rattle.queue.proofs.Names.{rules, filter_same, is_ready, Entry}
+use Rattle.std.proofs.Common.{not}
 use Rattle.queue.proofs.lists.drop_ready.Goals as goal
 
 pub returns-clause-entries : goal.returns-clause-entries

@@ -1,5 +1,4 @@
-use Rattle.std.proofs.Common.{◌<◌, ◌+◌, length, arith}
-use Rattle.model.specs.Entries.{freed, is_under}
+use Rattle.queue.proofs.Names.{◌<◌, ◌+◌, length, arith, freed, is_under}
 use Rattle.queue.proofs.Changing.{changed_next}
 use Rattle.queue.proofs.lists.free_all.Goals as goal
 

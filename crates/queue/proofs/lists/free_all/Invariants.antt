@@ -1,5 +1,4 @@
-use Rattle.std.proofs.Common.{◌≡◌, ◌++◌, map, take, drop}
-use Rattle.model.specs.Entries.{freed, is_under}
+use Rattle.queue.proofs.Names.{◌≡◌, ◌++◌, map, take, drop, freed, is_under}
 use Rattle.queue.proofs.lists.free_all.Given as goal
 
 -- those before the index are done

@@ -1,7 +1,5 @@
-use Rattle.std.proofs.Common.{◌≡◌, ◌∙◌, arith, ap, sym, is_some, set, length, vec_len, rules}
-use Rattle.model.specs.Broker.{is_ready}
-use Rattle.model.specs.declared.messages.Entry.{Entry}
-use Rattle.model.specs.Entries.{held_as}
+use Rattle.queue.proofs.Names.{◌≡◌, ◌∙◌, arith, ap, sym, is_some, length, vec_len, rules, is_ready, Entry, held_as}
+use Rattle.std.proofs.Common.{set}
 use Rattle.queue.proofs.Firsts.{first_in, nowhere_in}
 use Rattle.queue.proofs.lists.hold_first.Goals as goal
 

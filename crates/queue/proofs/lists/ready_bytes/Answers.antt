@@ -1,6 +1,4 @@
-use Rattle.std.proofs.Common.{arith, ap}
-use Rattle.std.proofs.lemmas.List.{drop_all}
-use Rattle.queue.specs.Blocks.{total, ready_size}
+use Rattle.queue.proofs.Names.{arith, ap, drop_all, total, ready_size}
 use Rattle.queue.proofs.Bytes.{total-ready, total-next}
 use Rattle.queue.proofs.lists.ready_bytes.Goals as goal
 

@@ -1,5 +1,4 @@
-use Rattle.std.proofs.Common.{◌≡◌, ◌≤◌, ◌+◌, ◌*◌, drop}
-use Rattle.queue.specs.Blocks.{total, ready_size}
+use Rattle.queue.proofs.Names.{◌≡◌, ◌≤◌, ◌+◌, ◌*◌, drop, total, ready_size}
 use Rattle.queue.proofs.lists.ready_bytes.Given as goal
 
 -- what is counted, with what is still to be, is all of it, and none counts for more than 64 bits

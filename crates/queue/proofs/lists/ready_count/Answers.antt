@@ -1,7 +1,6 @@
-use Rattle.std.proofs.Common.{rules, tests}
+use Rattle.queue.proofs.Names.{rules, tests, is_ready}
 use Rattle.std.proofs.lemmas.Iterator.{YieldsList-from_slice}
 use Rattle.std.proofs.lemmas.Iterator.Consumers.{YieldsList-from_filter, count_from_yields_List}
-use Rattle.model.specs.Broker.{is_ready}
 use Rattle.queue.proofs.lists.ready_count.Goals as goal
 
 pub returns : goal.returns

@@ -1,6 +1,5 @@
-use Rattle.std.proofs.Common.{◌∙◌, ap, not, filter}
-use Rattle.model.specs.declared.messages.Entry.{Entry}
-use Rattle.model.specs.Entries.{is_held_as}
+use Rattle.queue.proofs.Names.{◌∙◌, ap, filter, Entry, is_held_as}
+use Rattle.std.proofs.Common.{not}
 use Rattle.queue.proofs.Firsts.{rest_filtered}
 use Rattle.queue.proofs.lists.remove.Goals as goal
 

@@ -1,5 +1,4 @@
-use Rattle.std.proofs.Common.{◌<◌, ◌+◌, length, arith}
-use Rattle.model.specs.Reloading.{stood_now}
+use Rattle.queue.proofs.Names.{◌<◌, ◌+◌, length, arith, stood_now}
 use Rattle.queue.proofs.Changing.{changed_next}
 use Rattle.queue.proofs.lists.stand_all.Goals as goal
 

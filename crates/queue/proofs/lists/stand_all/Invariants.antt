@@ -1,5 +1,4 @@
-use Rattle.std.proofs.Common.{◌≡◌, ◌++◌, map, take, drop}
-use Rattle.model.specs.Reloading.{stood_now}
+use Rattle.queue.proofs.Names.{◌≡◌, ◌++◌, map, take, drop, stood_now}
 use Rattle.queue.proofs.lists.stand_all.Given as goal
 
 -- those before the index are done

@@ -1,5 +1,4 @@
-use Rattle.std.proofs.Common.{◌≡◌, ◌∙◌, ◌+◌, ◌++◌, arith, ap, sym, Some, ℕ, take, drop, length, vec_len, rules, suc}
-use Rattle.model.specs.Broker.{is_ready}
+use Rattle.queue.proofs.Names.{◌≡◌, ◌∙◌, ◌+◌, ◌++◌, arith, ap, sym, Some, ℕ, take, drop, length, vec_len, rules, suc, is_ready}
 use Rattle.queue.proofs.Firsts.{first_in, nowhere_in}
 use Rattle.queue.proofs.lists.take_first.Goals as goal
 

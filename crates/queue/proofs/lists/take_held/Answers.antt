@@ -1,5 +1,4 @@
-use Rattle.std.proofs.Common.{◌≡◌, ◌∙◌, ◌+◌, ◌++◌, arith, ap, sym, Some, ℕ, take, drop, length, vec_len, rules, suc}
-use Rattle.model.specs.Entries.{is_held_as}
+use Rattle.queue.proofs.Names.{◌≡◌, ◌∙◌, ◌+◌, ◌++◌, arith, ap, sym, Some, ℕ, take, drop, length, vec_len, rules, suc, is_held_as}
 use Rattle.queue.proofs.Firsts.{first_in, nowhere_in}
 use Rattle.queue.proofs.lists.take_held.Goals as goal
 

@@ -1,7 +1,4 @@
-use Rattle.std.proofs.Common.{◌∙◌, ◌≡◌, ap, length, rules, List, is_some, vec_len}
-use Rattle.std.proofs.lemmas.Fn.{filter_same}
-use Rattle.queue.specs.Slots.{contents, somes}
-use Rattle.queue.specs.declared.slots.Slot.{Slot}
+use Rattle.queue.proofs.Names.{◌∙◌, ◌≡◌, ap, length, rules, List, is_some, vec_len, filter_same, contents, somes, Slot}
 use Rattle.queue.proofs.Slotted.{length-dropped, somes-dropped}
 use Rattle.queue.proofs.slots.drop_empty.Goals as goal
 

@@ -1,6 +1,4 @@
-use Rattle.std.proofs.Common.{rules, None}
-use Rattle.model.specs.Entries.{freed_now}
-use Rattle.queue.specs.Slots.{changed}
+use Rattle.queue.proofs.Names.{rules, None, freed_now, changed}
 use Rattle.queue.proofs.Slotted.{contents-written}
 use Rattle.queue.proofs.slots.free_at.Goals as goal
 

@@ -1,6 +1,4 @@
-use Rattle.std.proofs.Common.{rules, None}
-use Rattle.model.specs.Entries.{held_as}
-use Rattle.queue.specs.Slots.{changed}
+use Rattle.queue.proofs.Names.{rules, None, held_as, changed}
 use Rattle.queue.proofs.Slotted.{contents-written}
 use Rattle.queue.proofs.slots.hold_at.Goals as goal
 

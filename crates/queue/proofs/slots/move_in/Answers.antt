@@ -1,7 +1,4 @@
-use Rattle.std.proofs.Common.{◌∙◌, ◌++◌, ap, List}
-use Rattle.model.specs.declared.messages.Entry.{Entry}
-use Rattle.queue.specs.Slots.{contents, somes}
-use Rattle.queue.specs.declared.slots.Slot.{Slot}
+use Rattle.queue.proofs.Names.{◌∙◌, ◌++◌, ap, List, Entry, contents, somes, Slot}
 use Rattle.queue.proofs.Slotted.{entries-both}
 use Rattle.queue.proofs.slots.move_in.Goals as goal
 

@@ -1,6 +1,4 @@
-use Rattle.std.proofs.Common.{length, arith, inl, inr}
-use Rattle.std.proofs.lemmas.Bool.Decides.{leb_tells}
-use Rattle.model.specs.Entries.{is_held_as}
+use Rattle.queue.proofs.Names.{length, arith, inl, inr, leb_tells, is_held_as}
 use Rattle.queue.proofs.Slotted.{contents-past}
 use Rattle.queue.proofs.slots.search.Goals as goal
 

@@ -1,6 +1,4 @@
-use Rattle.std.proofs.Common.{◌≡◌, ℕ, ◌<◌, get_or, false, None}
-use Rattle.model.specs.Entries.{is_held_as}
-use Rattle.queue.specs.Slots.{contents, slot_has}
+use Rattle.queue.proofs.Names.{◌≡◌, ℕ, ◌<◌, get_or, false, None, is_held_as, contents, slot_has}
 use Rattle.queue.proofs.slots.search.Given as goal
 
 -- none of those passed is held so

@@ -1,5 +1,4 @@
-use Rattle.std.proofs.Common.{◌≡◌}
-use Rattle.queue.specs.Slots.{contents}
+use Rattle.queue.proofs.Names.{◌≡◌, contents}
 use Rattle.queue.proofs.Slotted.{SignedBelow}
 use Rattle.queue.proofs.slots.sign_all.Given as goal
 

@@ -1,7 +1,4 @@
-use Rattle.std.proofs.Common.{◌∙◌, ◌<◌, ◌+◌, length, ap, sym, arith}
-use Rattle.model.specs.Reloading.{stood_now}
-use Rattle.queue.specs.Slots.{changed}
-use Rattle.queue.specs.declared.slots.Slot.{Slot}
+use Rattle.queue.proofs.Names.{◌∙◌, ◌<◌, ◌+◌, length, ap, sym, arith, stood_now, changed, Slot}
 use Rattle.queue.proofs.Stood.{slot_next}
 use Rattle.queue.proofs.slots.stand_in.Goals as goal
 

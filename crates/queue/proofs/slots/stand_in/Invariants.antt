@@ -1,6 +1,4 @@
-use Rattle.std.proofs.Common.{◌≡◌, ◌++◌, map, take, drop}
-use Rattle.model.specs.Reloading.{stood_now}
-use Rattle.queue.specs.Slots.{contents, changed}
+use Rattle.queue.proofs.Names.{◌≡◌, ◌++◌, map, take, drop, stood_now, contents, changed}
 use Rattle.queue.proofs.slots.stand_in.Given as goal
 
 -- those before the index are done

@@ -1,4 +1,4 @@
-use Rattle.std.proofs.Common.{rules, None}
+use Rattle.queue.proofs.Names.{rules, None}
 use Rattle.queue.proofs.Slotted.{contents-written}
 use Rattle.queue.proofs.slots.take_at.Goals as goal
 

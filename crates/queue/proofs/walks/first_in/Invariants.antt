@@ -1,6 +1,4 @@
-use Rattle.std.proofs.Common.{◌≡◌, ◌++◌, [], length}
-use Rattle.queue.specs.Slots.{contents, somes}
-use Rattle.queue.specs.Blocks.{parts, joined}
+use Rattle.queue.proofs.Names.{◌≡◌, ◌++◌, [], length, contents, somes, parts, joined}
 use Rattle.queue.proofs.walks.first_in.Given as goal
 
 -- nothing stands in the slots, and nothing stood in what was passed

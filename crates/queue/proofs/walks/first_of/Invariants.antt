@@ -1,5 +1,4 @@
-use Rattle.std.proofs.Common.{◌≡◌, length}
-use Rattle.queue.specs.Slots.{contents, somes}
+use Rattle.queue.proofs.Names.{◌≡◌, length, contents, somes}
 use Rattle.queue.proofs.walks.first_of.Given as goal
 
 -- nothing stood in those that were passed

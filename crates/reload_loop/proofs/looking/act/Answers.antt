@@ -1,7 +1,5 @@
-use Rattle.std.proofs.Common.{sym, subst}
-use Rattle.reload_loop.specs.declared.found.Found.{Found}
-use Rattle.reload_loop.specs.Looks.{IsFound, unchanged}
-use Rattle.reload_loop.proofs.Outcomes.{done_look, fault_look, refused_look, untouched}
+use Rattle.reload_loop.proofs.Imports.{sym, subst, Found, IsFound, unchanged}
+use Rattle.reload_loop.proofs.Outcomes.{judged_look, refused_look, untouched}
 use Rattle.reload_loop.proofs.looking.act.Goals as goal
 
 pub returns-in-Nothing-clause-looks : goal.returns-in-Nothing-clause-looks
@@ -15,9 +13,9 @@ returns-in-Refused-clause-looks g c = λ holds names is.
 pub returns-in-Ok-clause-looks : goal.returns-in-Ok-clause-looks
 returns-in-Ok-clause-looks g c = λ holds names is.
     let f = subst (λ (f : Found). IsFound holds names c.args.kept.now f) (sym c.in-Admitted.ensures.value) is in
-    done_look holds names _ _ _ _ _ c.in-Admitted.setup f.0 f.1.other f.1.states c.in-Ok.ensures.told
+    c.put_in_force.ensures.looks holds names f.0 f.1
 
 pub returns-in-Err-clause-looks : goal.returns-in-Err-clause-looks
 returns-in-Err-clause-looks g c = λ holds names is.
     let f = subst (λ (f : Found). IsFound holds names c.args.kept.now f) (sym c.in-Admitted.ensures.value) is in
-    fault_look holds names _ _ c.in-Admitted.read _ _ c.in-Admitted.setup c.in-Err.fault _ f.0 f.1.other f.1.states c.in-Err.ensures.told c.put_fault.ensures
+    judged_look holds names _ _ c.in-Admitted.read _ c.in-Admitted.setup c.in-Err.fault _ f.0 f.1 (rw c.machine.ensures at c.in-Err.ensures) c.put_fault.ensures

@@ -1,9 +1,6 @@
-use Rattle.std.proofs.Common.{Option, Some, None, Bor, ap, refl, ◌∙◌}
-use Rattle.model.specs.Words.{Text}
+use Rattle.reload_loop.proofs.Imports.{Option, Some, None, Bor, ap, refl, ◌∙◌, Text, asks_same, memory_told, asked_by, names_in, without, serves, reloads}
 use Rattle.server.specs.Stated.{file_named}
 use Rattle.server.proofs.Outcomes.{untouched, shows}
-use Rattle.server.proofs.Beginning.{asks_same, memory_told}
-use Rattle.reload_loop.specs.Program.{asked_by, names_in, without, serves, reloads}
 use Rattle.reload_loop.proofs.Reloading.{not_to_serve}
 use Rattle.reload_loop.proofs.program.program_with_sockets.Goals as goal
 

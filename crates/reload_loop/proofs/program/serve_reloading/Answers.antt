@@ -1,4 +1,4 @@
-use Rattle.reload_loop.specs.Program.{unserved, reloading}
+use Rattle.reload_loop.proofs.Imports.{unserved, reloading}
 use Rattle.reload_loop.proofs.Reloading.{serves_kept, serves_reloading}
 use Rattle.reload_loop.proofs.program.serve_reloading.Goals as goal
 

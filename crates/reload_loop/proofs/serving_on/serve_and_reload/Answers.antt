@@ -1,13 +1,5 @@
-use Rattle.std.proofs.Common.{◌∙◌, ◌&&◌, is_ok, Bool, List, Option, ap, refl, subst, arith}
-use Rattle.model.specs.Words.{Text}
-use Rattle.engine.specs.World.{world_of}
-use Rattle.server.specs.Files.{Known}
-use Rattle.serving.specs.Story.{served}
+use Rattle.reload_loop.proofs.Imports.{◌∙◌, ◌&&◌, is_ok, Bool, List, Option, ap, refl, subst, arith, Text, world_of, Known, served, change, names_of, Looks, last, more}
 use Rattle.serving.specs.declared.peers.Peer.{Peer}
-use Rattle.server.specs.Streams.{change}
-use Rattle.reload_loop.specs.Snapshots.{names_of}
-use Rattle.reload_loop.specs.Looks.{Looks}
-use Rattle.reload_loop.specs.ServesOn.{last, more}
 use Rattle.reload_loop.proofs.Outcomes.{same_holds}
 use Rattle.reload_loop.proofs.serving_on.serve_and_reload.Goals as goal
 

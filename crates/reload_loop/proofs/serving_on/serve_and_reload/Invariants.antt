@@ -1,14 +1,6 @@
+use Rattle.reload_loop.proofs.Imports.{Config, world_of, engine_lacks, AreKept, served, IsServed, names_of, WasFound, Standing, ServesOn, standing}
 use Rattle.std.specs.Prelude.{true}
-use Rattle.model.specs.State.{Config}
-use Rattle.engine.specs.World.{world_of}
-use Rattle.engine.specs.Wanting.{engine_lacks}
-use Rattle.server.specs.Files.{AreKept}
 use Rattle.serving.specs.Wire.{Told}
-use Rattle.serving.specs.Story.{served}
-use Rattle.serving.specs.Whole.{IsServed}
-use Rattle.reload_loop.specs.Snapshots.{names_of}
-use Rattle.reload_loop.specs.Looks.{WasFound}
-use Rattle.reload_loop.specs.ServesOn.{Standing, ServesOn, standing}
 use Rattle.reload_loop.proofs.serving_on.serve_and_reload.Given as goal
 
 abbrev pub invariant-loop-left : goal.invariant-loop-left

@@ -1,6 +1,4 @@
-use Rattle.std.proofs.Common.{subst, arith}
-use Rattle.model.specs.Topology.{queue_names}
-use Rattle.reloading.specs.Obstacles.{TellsQueues}
+use Rattle.reloading.proofs.Names.{subst, arith, queue_names, TellsQueues}
 use Rattle.reloading.proofs.First.{none_of_all, one_more, there_at, told_at}
 use Rattle.reloading.proofs.breaches.first_breach.Goals as goal
 

@@ -1,6 +1,4 @@
-use Rattle.model.specs.Topology.{queue_names}
-use Rattle.reloading.specs.First.{TellsNoneBelow}
-use Rattle.reloading.specs.Obstacles.{TellsQueues}
+use Rattle.reloading.proofs.Names.{queue_names, TellsNoneBelow, TellsQueues}
 use Rattle.reloading.proofs.breaches.first_breach.Given as goal
 
 abbrev pub invariant-loop-at : goal.invariant-loop-at

@@ -1,6 +1,4 @@
-use Rattle.std.proofs.Common.{◌+◌, length, ap, subst, arith}
-use Rattle.model.specs.Topology.{queue_names}
-use Rattle.reloading.specs.Obstacles.{TellsEntries}
+use Rattle.reloading.proofs.Names.{◌+◌, length, ap, subst, arith, queue_names, TellsEntries}
 use Rattle.reloading.proofs.First.{all_named, named_at, none_of_all, one_more, told_at}
 use Rattle.reloading.proofs.breaches.first_of_never.Goals as goal
 

@@ -1,7 +1,4 @@
-use Rattle.std.proofs.Common.{◌+◌}
-use Rattle.model.specs.Topology.{queue_names}
-use Rattle.reloading.specs.First.{TellsNoneBelow}
-use Rattle.reloading.specs.Obstacles.{TellsEntries}
+use Rattle.reloading.proofs.Names.{◌+◌, queue_names, TellsNoneBelow, TellsEntries}
 use Rattle.reloading.proofs.breaches.first_of_never.Given as goal
 
 abbrev pub invariant-loop-place : goal.invariant-loop-place

@@ -1,9 +1,4 @@
-use Rattle.std.proofs.Common.{◌∙◌, inl, inr, sym, subst}
-use Rattle.std.specs.Prelude.{Decides}
-use Rattle.std.proofs.lemmas.Bool.{false≢true}
-use Rattle.model.specs.Message.{Message}
-use Rattle.model.specs.Words.{Text}
-use Rattle.model.specs.Reloading.{Endangers}
+use Rattle.reloading.proofs.Names.{◌∙◌, inl, inr, sym, subst, Decides, false≢true, Message, Text, Endangers}
 use Rattle.reloading.proofs.First.{passed_more}
 use Rattle.reloading.proofs.Entries.{IsEndangered, entry_told}
 use Rattle.reloading.proofs.breaches.first_of_queue.Goals as goal

@@ -1,8 +1,4 @@
-use Rattle.std.proofs.Common.{◌<◌, length}
-use Rattle.model.specs.Message.{Message}
-use Rattle.model.specs.Topology.{IsIn}
-use Rattle.model.specs.Reloading.{Endangers}
-use Rattle.reloading.specs.Passed.{kept}
+use Rattle.reloading.proofs.Names.{◌<◌, length, Message, IsIn, Endangers, kept}
 use Rattle.reloading.proofs.First.{Passed}
 use Rattle.reloading.proofs.Entries.{IsEndangered}
 use Rattle.reloading.proofs.breaches.first_of_queue.Given as goal

@@ -1,7 +1,4 @@
-use Rattle.std.proofs.Common.{◌∙◌, subst}
-use Rattle.std.specs.Prelude.{IfOk}
-use Rattle.model.specs.Words.{Text}
-use Rattle.paths.specs.Leading.{AreLeading}
+use Rattle.reloading.proofs.Names.{◌∙◌, subst, IfOk, Text, AreLeading}
 use Rattle.reloading.proofs.breaches.leading_to.Goals as goal
 
 pub returns : goal.returns

@@ -1,4 +1,4 @@
-use Rattle.std.proofs.Common.{◌∙◌, sym}
+use Rattle.reloading.proofs.Names.{◌∙◌, sym}
 use Rattle.reloading.proofs.Leading.{fixed_at}
 use Rattle.reloading.proofs.dangers.fixes_key.Goals as goal
 

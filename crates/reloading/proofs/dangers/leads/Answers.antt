@@ -1,5 +1,4 @@
-use Rattle.std.proofs.lemmas.Bool.{false≢true}
-use Rattle.std.proofs.lemmas.Result.{IfOk-weaker}
+use Rattle.reloading.proofs.Names.{false≢true, IfOk-weaker}
 use Rattle.reloading.proofs.Leading.{route_tells}
 use Rattle.reloading.proofs.dangers.leads.Goals as goal
 

@@ -1,8 +1,4 @@
-use Rattle.std.proofs.Common.{◌∙◌, subst, sym}
-use Rattle.std.proofs.lemmas.Result.{IfOk-weaker}
-use Rattle.model.specs.Words.{Text}
-use Rattle.model.specs.Routing.{Later}
-use Rattle.paths.specs.Leading.{AreLeading}
+use Rattle.reloading.proofs.Names.{◌∙◌, subst, sym, IfOk-weaker, Text, Later, AreLeading}
 use Rattle.reloading.proofs.dangers.may_endanger.Goals as goal
 
 pub may_lead-requires : goal.may_lead-requires

@@ -1,6 +1,4 @@
-use Rattle.std.proofs.Common.{sym, ◌∙◌, []}
-use Rattle.std.proofs.lemmas.Bool.{false≢true}
-use Rattle.std.proofs.lemmas.Result.{IfOk-weaker}
+use Rattle.reloading.proofs.Names.{sym, ◌∙◌, [], false≢true, IfOk-weaker}
 use Rattle.reloading.proofs.Leading.{any_key, leads_nowhere}
 use Rattle.reloading.proofs.dangers.may_lead.Goals as goal
 

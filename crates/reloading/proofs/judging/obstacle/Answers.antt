@@ -1,10 +1,4 @@
-use Rattle.std.proofs.Common.{[], subst}
-use Rattle.std.proofs.lemmas.Result.{IfOk-weaker}
-use Rattle.model.specs.State.{Config}
-use Rattle.model.specs.Topology.{queue_names}
-use Rattle.model.specs.declared.obstacles.Obstacle.TheVariants.{InUse}
-use Rattle.reloading.specs.First.{TellsFirst}
-use Rattle.reloading.specs.Obstacles.{TellsQueue}
+use Rattle.reloading.proofs.Names.{[], subst, IfOk-weaker, Config, queue_names, InUse, TellsFirst, TellsQueue}
 use Rattle.reloading.specs.Wanting.{none_gone, long_name}
 use Rattle.reloading.proofs.Judged.{breach_judges, none_stranded, stranded_stands}
 use Rattle.reloading.proofs.Wanting.{on_err}

@@ -1,4 +1,4 @@
-use Rattle.std.proofs.Common.{◌<◌, length, arith}
+use Rattle.reloading.proofs.Names.{◌<◌, length, arith}
 use Rattle.reloading.proofs.Kept.{found_kept}
 use Rattle.reloading.proofs.passed.like_at.Goals as goal
 

@@ -1,7 +1,4 @@
-use Rattle.std.proofs.Common.{length, ap, subst, arith}
-use Rattle.model.specs.Topology.{queue_names}
-use Rattle.model.specs.declared.obstacles.Obstacle.TheVariants.{InUse}
-use Rattle.reloading.specs.Obstacles.{TellsQueue}
+use Rattle.reloading.proofs.Names.{length, ap, subst, arith, queue_names, InUse, TellsQueue}
 use Rattle.reloading.proofs.First.{all_named, named_at, none_of_all, one_more, told_at}
 use Rattle.reloading.proofs.Wanting.{on_err}
 use Rattle.reloading.proofs.stranded.first_stranded.Goals as goal

@@ -1,6 +1,4 @@
-use Rattle.model.specs.Topology.{queue_names}
-use Rattle.reloading.specs.First.{TellsNoneBelow}
-use Rattle.reloading.specs.Obstacles.{TellsQueue}
+use Rattle.reloading.proofs.Names.{queue_names, TellsNoneBelow, TellsQueue}
 use Rattle.reloading.proofs.stranded.first_stranded.Given as goal
 
 abbrev pub invariant-loop-place : goal.invariant-loop-place

@@ -1,6 +1,4 @@
-use Rattle.std.proofs.Common.{ap, refl}
-use Rattle.model.specs.Words.{Text}
-use Rattle.model.specs.declared.obstacles.Obstacle.TheVariants.{InUse}
+use Rattle.reloading.proofs.Names.{ap, refl, Text, InUse}
 use Rattle.reloading.proofs.Wanting.{on_err}
 use Rattle.reloading.proofs.stranded.gone_at.Goals as goal
 

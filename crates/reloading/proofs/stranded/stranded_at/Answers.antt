@@ -1,7 +1,4 @@
-use Rattle.std.proofs.Common.{◌∙◌, subst}
-use Rattle.std.proofs.lemmas.Result.{IfOk-weaker}
-use Rattle.model.specs.Words.{Text}
-use Rattle.model.specs.Topology.{IsIn, queue_names}
+use Rattle.reloading.proofs.Names.{◌∙◌, subst, IfOk-weaker, Text, IsIn, queue_names}
 use Rattle.reloading.proofs.First.{stranded_not}
 use Rattle.reloading.proofs.Judged.{gone_tells}
 use Rattle.reloading.proofs.Wanting.{on_err_too}

@@ -1,6 +1,5 @@
-use Rattle.std.proofs.Common.{sym, ◌∙◌}
+use Rattle.runs.proofs.Names.{sym, ◌∙◌, WorksAndTells, AnswersAndTells}
 use Rattle.model.specs.declared.events.Arrival.TheVariants as arrival
-use Rattle.runs.specs.Runs.{WorksAndTells, AnswersAndTells}
 use Rattle.runs.proofs.Onward.{on_ok, hears}
 use Rattle.runs.proofs.runs.hear.Goals as goal
 

@@ -1,5 +1,4 @@
-use Rattle.std.proofs.Common.{◌≡◌, List, ℕ, sym, ap, ◌∙◌}
-use Rattle.runs.specs.Told.{gathered}
+use Rattle.runs.proofs.Names.{◌≡◌, List, ℕ, sym, ap, ◌∙◌, gathered}
 use Rattle.runs.proofs.Onward.{loses}
 use Rattle.runs.proofs.runs.lose.Goals as goal
 

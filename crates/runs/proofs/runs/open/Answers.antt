@@ -1,8 +1,6 @@
-use Rattle.std.proofs.Common.{◌≡◌, Some, None}
+use Rattle.runs.proofs.Names.{◌≡◌, with_opened, OpensNew, AnswersAndTells}
+use Rattle.std.proofs.Common.{Some, None}
 use Rattle.model.specs.declared.events.Arrival.TheVariants as arrival
-use Rattle.runs.specs.Told.{with_opened}
-use Rattle.runs.specs.Opened.{OpensNew}
-use Rattle.runs.specs.Runs.{AnswersAndTells}
 use Rattle.runs.proofs.Onward.{on_ok, opens_new, opens_new_not}
 use Rattle.runs.proofs.runs.open.Goals as goal
 

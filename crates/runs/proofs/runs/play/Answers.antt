@@ -1,9 +1,4 @@
-use Rattle.std.proofs.Common.{map, [], ◌∷◌, ◌++◌, sym, subst, ap, ◌∙◌, arith, List, take}
-use Rattle.std.proofs.lemmas.List.{map-append, take_more}
-use Rattle.model.specs.State.{Config}
-use Rattle.model.specs.Arrivals.{told}
-use Rattle.model.specs.declared.events.Arrival.{Arrival}
-use Rattle.runs.specs.Runs.{PlaysAndTells}
+use Rattle.runs.proofs.Names.{map, [], ◌∷◌, ◌++◌, sym, subst, ap, ◌∙◌, arith, List, take, map-append, take_more, Config, told, Arrival, PlaysAndTells}
 use Rattle.runs.proofs.Onward.{plays_more, plays_none}
 use Rattle.runs.proofs.runs.play.Goals as goal
 

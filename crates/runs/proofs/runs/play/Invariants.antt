@@ -1,6 +1,4 @@
-use Rattle.std.proofs.Common.{map, take}
-use Rattle.model.specs.Arrivals.{told}
-use Rattle.runs.specs.Runs.{PlaysAndTells}
+use Rattle.runs.proofs.Names.{map, take, told, PlaysAndTells}
 use Rattle.runs.proofs.runs.play.Given as goal
 
 abbrev pub invariant-loop-arrival : goal.invariant-loop-arrival

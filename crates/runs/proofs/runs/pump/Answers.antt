@@ -1,7 +1,5 @@
-use Rattle.std.proofs.Common.{◌≡◌, ◌++◌}
+use Rattle.runs.proofs.Names.{◌≡◌, ◌++◌, Pumped, Idles, AnswersAndTells}
 use Rattle.model.specs.declared.events.Arrival.TheVariants as arrival
-use Rattle.runs.specs.Opened.{Pumped, Idles}
-use Rattle.runs.specs.Runs.{AnswersAndTells}
 use Rattle.runs.proofs.Onward.{on_ok, pumps, pumps_not}
 use Rattle.runs.proofs.runs.pump.Goals as goal
 

@@ -1,9 +1,5 @@
-use Rattle.std.proofs.Common.{◌≡◌, List, ◌++◌, Option, ap, sym, subst, ◌∙◌}
+use Rattle.runs.proofs.Names.{◌≡◌, List, ◌++◌, Option, ap, sym, subst, ◌∙◌, Note, TellsWhyNot, AnswersAndTells, Obstacle}
 use Rattle.model.specs.declared.events.Arrival.TheVariants as arrival
-use Rattle.model.specs.declared.notes.Note.{Note}
-use Rattle.runs.specs.Reloaded.{TellsWhyNot}
-use Rattle.runs.specs.Runs.{AnswersAndTells}
-use Rattle.model.specs.declared.obstacles.Obstacle.{Obstacle}
 use Rattle.runs.proofs.Onward.{on_ok, reloads_done, reloads_refused}
 use Rattle.runs.proofs.runs.reload.Goals as goal
 

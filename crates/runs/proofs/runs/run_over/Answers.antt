@@ -1,5 +1,4 @@
-use Rattle.std.proofs.Common.{map}
-use Rattle.model.specs.Arrivals.{told}
+use Rattle.runs.proofs.Names.{map, told}
 use Rattle.runs.proofs.Ending.{is_run}
 use Rattle.runs.proofs.runs.run_over.Goals as goal
 

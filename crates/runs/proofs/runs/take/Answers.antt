@@ -1,7 +1,5 @@
-use Rattle.std.proofs.Common.{◌≡◌, List, ℕ, sym, ap, take, ◌∙◌}
+use Rattle.runs.proofs.Names.{◌≡◌, List, ℕ, sym, ap, take, ◌∙◌, gathered, WorksAndTells, AnswersAndTells}
 use Rattle.model.specs.declared.events.Arrival.TheVariants as arrival
-use Rattle.runs.specs.Told.{gathered}
-use Rattle.runs.specs.Runs.{WorksAndTells, AnswersAndTells}
 use Rattle.runs.proofs.Onward.{on_ok, takes}
 use Rattle.runs.proofs.runs.take.Goals as goal
 

@@ -1,4 +1,4 @@
-use Rattle.runs.specs.Opened.{Did, DidNothing}
+use Rattle.runs.proofs.Names.{Did, DidNothing}
 use Rattle.runs.proofs.Onward.{so_far_not, so_far_more, so_far_ends}
 use Rattle.runs.proofs.runs.work.Goals as goal
 

@@ -1,6 +1,4 @@
-use Rattle.std.proofs.Common.{◌≡◌, ◌-◌, ◌++◌, ap, sym, ◌∙◌, slice_set, get_or, arith}
-use Rattle.model.specs.Arrivals.{Shown}
-use Rattle.runs.specs.Told.{gathered}
+use Rattle.runs.proofs.Names.{◌≡◌, ◌-◌, ◌++◌, ap, sym, ◌∙◌, slice_set, get_or, arith, Shown, gathered}
 use Rattle.runs.proofs.Onward.{on_ok}
 use Rattle.runs.proofs.Places.{gathered_some, gathered_past, gathered_is}
 use Rattle.runs.proofs.transcript.add_to.Goals as goal

@@ -1,6 +1,5 @@
-use Rattle.std.proofs.Common.{◌≡◌, ℕ, ◌+◌, ◌<◌, ◌≤◌, Some, slice_get}
-use Rattle.model.specs.Arrivals.{Shown}
-use Rattle.runs.specs.Told.{finished}
+use Rattle.runs.proofs.Names.{◌≡◌, ℕ, ◌+◌, ◌<◌, ◌≤◌, slice_get, Shown, finished}
+use Rattle.std.proofs.Common.{Some}
 use Rattle.runs.proofs.transcript.finish_all.Given as goal
 
 abbrev pub invariant-loop-i : goal.invariant-loop-i

@@ -1,5 +1,4 @@
-use Rattle.std.proofs.Common.{[], refl}
-use Rattle.server.specs.declared.refusals.CommandRefusal.TheVariants.{NotListening}
+use Rattle.server.proofs.Names.{[], refl, NotListening}
 use Rattle.server.specs.Program.{unheard}
 use Rattle.server.proofs.answering.answer.Goals as goal
 

@@ -1,5 +1,4 @@
-use Rattle.server.specs.Program.{unset}
-use Rattle.server.specs.Stated.{FailsToSetUp}
+use Rattle.server.proofs.Names.{unset, FailsToSetUp}
 use Rattle.server.proofs.Kept.{told_as, left_of_kept, wants, writes_then, unfiled, drafted}
 use Rattle.server.proofs.answering.check.Goals as goal
 

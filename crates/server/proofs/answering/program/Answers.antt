@@ -1,4 +1,4 @@
-use Rattle.std.proofs.Common.{refl}
+use Rattle.server.proofs.Names.{refl}
 use Rattle.server.proofs.Outcomes.{untouched, shows}
 use Rattle.server.proofs.answering.program.Goals as goal
 

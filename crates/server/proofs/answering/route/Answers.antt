@@ -1,5 +1,4 @@
-use Rattle.server.specs.Stated.{FailsToSetUp, unstated}
-use Rattle.server.specs.Program.{unset, unrouted}
+use Rattle.server.proofs.Names.{FailsToSetUp, unstated, unset, unrouted}
 use Rattle.server.proofs.Kept.{told_as}
 use Rattle.server.proofs.answering.route.Goals as goal
 

@@ -1,5 +1,5 @@
-use Rattle.server.specs.Stated.{FailsToSetUp}
-use Rattle.server.specs.Program.{unset, uncertified, wanting}
+use Rattle.server.proofs.Names.{FailsToSetUp, unset, uncertified}
+use Rattle.server.specs.Program.{wanting}
 use Rattle.server.proofs.Kept.{told_as, told_uncertified}
 use Rattle.server.proofs.answering.verify_files.Goals as goal
 

@@ -1,5 +1,5 @@
-use Rattle.std.proofs.Common.{refl}
-use Rattle.server.specs.Clients.{refused, unheard}
+use Rattle.server.proofs.Names.{refl, refused}
+use Rattle.server.specs.Clients.{unheard}
 use Rattle.server.proofs.Outcomes.{untouched}
 use Rattle.server.proofs.Beginning.{begins}
 use Rattle.server.proofs.clients.begin.Goals as goal

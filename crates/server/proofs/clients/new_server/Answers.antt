@@ -1,4 +1,4 @@
-use Rattle.server.specs.Program.{no_memory}
+use Rattle.server.proofs.Names.{no_memory}
 use Rattle.server.proofs.clients.new_server.Goals as goal
 
 pub returns-in-Err-new-clause-starts : goal.returns-in-Err-new-clause-starts

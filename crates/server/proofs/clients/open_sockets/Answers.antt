@@ -1,4 +1,5 @@
-use Rattle.server.specs.Clients.{shut, untold}
+use Rattle.server.proofs.Names.{shut}
+use Rattle.server.specs.Clients.{untold}
 use Rattle.server.proofs.Outcomes.{untouched}
 use Rattle.server.proofs.clients.open_sockets.Goals as goal
 

@@ -1,4 +1,4 @@
-use Rattle.std.proofs.Common.{refl}
+use Rattle.server.proofs.Names.{refl}
 use Rattle.server.proofs.Beginning.{serves_clients}
 use Rattle.server.proofs.clients.serve_clients.Goals as goal
 

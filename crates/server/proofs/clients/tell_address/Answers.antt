@@ -1,5 +1,5 @@
-use Rattle.std.proofs.Common.{◌∙◌}
-use Rattle.server.specs.Clients.{wanting, untaken}
+use Rattle.server.proofs.Names.{◌∙◌, untaken}
+use Rattle.server.specs.Clients.{wanting}
 use Rattle.server.proofs.Outcomes.{untouched}
 use Rattle.server.proofs.Beginning.{taken, not_taken}
 use Rattle.server.proofs.clients.tell_address.Goals as goal

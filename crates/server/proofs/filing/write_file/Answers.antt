@@ -1,4 +1,4 @@
-use Rattle.std.proofs.Common.{refl}
+use Rattle.server.proofs.Names.{refl}
 use Rattle.server.proofs.Kept.{left_of_kept}
 use Rattle.server.proofs.filing.write_file.Goals as goal
 

@@ -1,6 +1,4 @@
-use Rattle.std.proofs.Common.{◌∙◌, refl, sym}
-use Rattle.server.specs.Program.{doubtful, filed, unnamed}
-use Rattle.server.specs.Verdicts.{certificates_in}
+use Rattle.server.proofs.Names.{◌∙◌, refl, sym, doubtful, filed, unnamed, certificates_in}
 use Rattle.server.proofs.filing.write_out.Goals as goal
 
 pub returns-in-None : goal.returns-in-None

@@ -1,5 +1,4 @@
-use Rattle.std.proofs.Common.{◌∙◌, ◌++◌, ap, arith, refl}
-use Rattle.model.specs.Words.{Text}
+use Rattle.server.proofs.Names.{◌∙◌, ◌++◌, ap, arith, refl, Text}
 use Rattle.server.proofs.Verdicts.{told_nothing, told_more, told_all}
 use Rattle.server.proofs.judging.judge.Goals as goal
 

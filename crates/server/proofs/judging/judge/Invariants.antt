@@ -1,4 +1,4 @@
-use Rattle.std.proofs.Common.{◌≡◌, ◌+◌, take}
+use Rattle.server.proofs.Names.{◌≡◌, ◌+◌, take}
 use Rattle.server.proofs.Verdicts.{Told}
 use Rattle.server.proofs.judging.judge.Given as goal
 

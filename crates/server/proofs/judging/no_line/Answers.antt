@@ -1,8 +1,5 @@
-use Rattle.std.proofs.Common.{◌∙◌, ◌∷◌, ◌++◌, ap, sym}
-use Rattle.std.specs.Prelude.{codes, decimal}
+use Rattle.server.proofs.Names.{◌∙◌, ◌∷◌, ◌++◌, ap, sym, codes, decimal, Text, name_word}
 use Rattle.std.proofs.lemmas.Result.{IfOk-weaker}
-use Rattle.model.specs.Words.{Text}
-use Rattle.scripts.specs.Transcript.{name_word}
 use Rattle.server.proofs.Paths.{path_end}
 use Rattle.server.proofs.judging.no_line.Goals as goal
 

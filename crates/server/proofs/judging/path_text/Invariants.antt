@@ -1,6 +1,4 @@
-use Rattle.std.proofs.Common.{◌≡◌, ◌++◌, ◌∷◌, drop}
-use Rattle.std.specs.Prelude.{codes, string_bytes}
-use Rattle.server.specs.Verdicts.{names_text}
+use Rattle.server.proofs.Names.{◌≡◌, ◌++◌, ◌∷◌, drop, codes, string_bytes, names_text}
 use Rattle.server.proofs.judging.path_text.Given as goal
 
 abbrev pub invariant-loop-name : goal.invariant-loop-name

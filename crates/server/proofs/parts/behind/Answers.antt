@@ -1,4 +1,4 @@
-use Rattle.std.proofs.Common.{◌≡◌, List, ℕ, take, length, true, ap, ◌∙◌}
+use Rattle.server.proofs.Names.{◌≡◌, List, ℕ, take, length, true, ap, ◌∙◌}
 use Rattle.std.proofs.Math.Seq.{take-append_seam}
 use Rattle.std.specs.Cmp.Lexicographic.{bytes_decides}
 use Rattle.server.proofs.parts.behind.Goals as goal

@@ -1,4 +1,4 @@
-use Rattle.std.proofs.Common.{◌≤◌, length, arith}
+use Rattle.server.proofs.Names.{◌≤◌, length, arith}
 use Rattle.server.proofs.Kept.{place_few}
 use Rattle.server.proofs.replaying.admitted.Goals as goal
 

@@ -1,5 +1,4 @@
-use Rattle.std.proofs.Common.{◌∙◌}
-use Rattle.server.specs.Program.{no_room}
+use Rattle.server.proofs.Names.{◌∙◌, no_room}
 use Rattle.server.proofs.Reloads.{one_more, not_this}
 use Rattle.server.proofs.replaying.arrivals_of.Goals as goal
 

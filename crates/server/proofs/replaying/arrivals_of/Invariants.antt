@@ -1,6 +1,4 @@
-use Rattle.std.proofs.Common.{take}
-use Rattle.server.specs.Files.{AreKept}
-use Rattle.server.specs.Program.{AreSetUp}
+use Rattle.server.proofs.Names.{take, AreKept, AreSetUp}
 use Rattle.server.proofs.replaying.arrivals_of.Given as goal
 
 abbrev pub invariant-loop-one : goal.invariant-loop-one

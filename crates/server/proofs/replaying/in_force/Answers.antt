@@ -1,6 +1,5 @@
-use Rattle.server.specs.Stated.{FailsToSetUp}
+use Rattle.server.proofs.Names.{FailsToSetUp, not_set_up, not_certified, not_admitted}
 use Rattle.server.proofs.FilesKept.{certifies_kept, few_promised}
-use Rattle.server.specs.Program.{not_set_up, not_certified, not_admitted}
 use Rattle.server.proofs.Kept.{told_as, told_uncertified}
 use Rattle.server.proofs.replaying.in_force.Goals as goal
 

@@ -1,8 +1,5 @@
-use Rattle.std.proofs.Common.{[], inl, subst}
-use Rattle.model.specs.Words.{Text}
-use Rattle.server.specs.Files.{Known}
+use Rattle.server.proofs.Names.{[], inl, subst, Text, Known, AreSetUp, FailsToReload, unread_script, unloaded, no_run}
 use Rattle.server.specs.declared.refusals.CommandRefusal.TheVariants.{Memory}
-use Rattle.server.specs.Program.{AreSetUp, FailsToReload, unread_script, unloaded, no_run}
 use Rattle.server.proofs.Kept.{same_known}
 use Rattle.server.proofs.Outcomes.{untouched}
 use Rattle.server.proofs.replaying.played_file.Goals as goal

@@ -1,9 +1,5 @@
-use Rattle.std.proofs.Common.{subst}
-use Rattle.model.specs.Words.{Text}
-use Rattle.engine.specs.InForce.{in_force}
-use Rattle.server.specs.Files.{Known}
+use Rattle.server.proofs.Names.{subst, Text, in_force, Known, FailsToPlay, unforced, unplayed, replays}
 use Rattle.server.proofs.FilesKept.{kept_then}
-use Rattle.server.specs.Program.{FailsToPlay, unforced, unplayed, replays}
 use Rattle.server.proofs.Kept.{same_known, left_of_kept}
 use Rattle.server.proofs.replaying.replay.Goals as goal
 

@@ -1,4 +1,4 @@
-use Rattle.std.proofs.Common.{[]}
+use Rattle.server.proofs.Names.{[]}
 use Rattle.exchange_graph.proofs.Naming.{get_map}
 use Rattle.model.specs.declared.topologies.DeclaredQueue.{DeclaredQueue}
 use Rattle.server.proofs.routes.put_queue.Goals as goal

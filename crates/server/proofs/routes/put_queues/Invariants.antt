@@ -1,5 +1,4 @@
-use Rattle.std.proofs.Common.{◌≡◌, ◌++◌, drop}
-use Rattle.model.specs.Topology.{queue_names}
+use Rattle.server.proofs.Names.{◌≡◌, ◌++◌, drop, queue_names}
 use Rattle.exchange_graph.specs.Targets.{names_at}
 use Rattle.server.specs.Routes.{name_lines}
 use Rattle.server.proofs.routes.put_queues.Given as goal

@@ -1,5 +1,4 @@
-use Rattle.engine.specs.InForce.{in_force}
-use Rattle.server.specs.Program.{no_memory}
+use Rattle.server.proofs.Names.{in_force, no_memory}
 use Rattle.server.proofs.Judged.{judged_over}
 use Rattle.server.proofs.starting.started.Goals as goal
 

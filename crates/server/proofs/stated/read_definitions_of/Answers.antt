@@ -1,5 +1,4 @@
-use Rattle.model.specs.Words.{Text}
-use Rattle.json_file.specs.Files.{IsFreeOf}
+use Rattle.server.proofs.Names.{Text, IsFreeOf}
 use Rattle.definitions.specs.Causes.{IsClear}
 use Rattle.definitions.specs.File.{file_at}
 use Rattle.server.proofs.Causing.{has_bytes, refuses, why_of_cause}

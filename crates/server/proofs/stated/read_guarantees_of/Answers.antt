@@ -1,5 +1,4 @@
-use Rattle.model.specs.Words.{Text}
-use Rattle.json_file.specs.Files.{IsFreeOf}
+use Rattle.server.proofs.Names.{Text, IsFreeOf}
 use Rattle.guarantees.specs.Stated.{guarantees_at}
 use Rattle.guarantees.specs.Reads.{AreClearFor}
 use Rattle.server.proofs.Causing.{has_bytes, refuses, why_of_cause}

@@ -1,4 +1,4 @@
-use Rattle.server.specs.Stated.{unpromised, IsWhyUnpromised}
+use Rattle.server.proofs.Names.{unpromised, IsWhyUnpromised}
 use Rattle.server.proofs.FilesKept.{why_kept}
 use Rattle.server.proofs.stated.set_up.Goals as goal
 

@@ -1,4 +1,4 @@
-use Rattle.server.specs.Outcomes.{TellsOutcome}
+use Rattle.server.proofs.Names.{TellsOutcome}
 use Rattle.server.proofs.Verdicts.{found_next}
 use Rattle.server.proofs.verifying.own_outcomes.Goals as goal
 

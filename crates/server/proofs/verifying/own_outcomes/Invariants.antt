@@ -1,6 +1,4 @@
-use Rattle.std.proofs.Common.{take}
-use Rattle.server.specs.Verdicts.{EachWith}
-use Rattle.server.specs.Outcomes.{TellsOutcome}
+use Rattle.server.proofs.Names.{take, EachWith, TellsOutcome}
 use Rattle.server.proofs.verifying.own_outcomes.Given as goal
 
 abbrev pub invariant-loop-place : goal.invariant-loop-place

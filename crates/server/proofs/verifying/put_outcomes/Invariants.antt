@@ -1,5 +1,4 @@
-use Rattle.std.proofs.Common.{◌≡◌, ◌+◌, ◌++◌, drop}
-use Rattle.server.specs.Outcomes.{outcome_lines}
+use Rattle.server.proofs.Names.{◌≡◌, ◌+◌, ◌++◌, drop, outcome_lines}
 use Rattle.server.proofs.verifying.put_outcomes.Given as goal
 
 abbrev pub invariant-loop-outcome : goal.invariant-loop-outcome

@@ -1,6 +1,4 @@
-use Rattle.std.proofs.Common.{[], ◌∷◌, false, true}
-use Rattle.serving.specs.Wire.{Not_accepted, Accept_failed, Tells}
-use Rattle.serving.specs.Story.{TakesIn}
+use Rattle.serving.proofs.Names.{[], ◌∷◌, false, true, Not_accepted, Accept_failed, Tells, TakesIn}
 use Rattle.serving.proofs.Deeds.{met, turned_away, met_nothing, met_failure}
 use Rattle.serving.proofs.rounds.accept_one.Goals as goal
 

@@ -1,7 +1,4 @@
-use Rattle.std.proofs.Common.{◌≤◌, ◌∙◌, ℕ, false, sym, subst}
-use Rattle.std.specs.Prelude.{◌||◌}
-use Rattle.serving.specs.Story.{served}
-use Rattle.serving.specs.Fit.{most_peers}
+use Rattle.serving.proofs.Names.{◌≤◌, ◌∙◌, ℕ, false, sym, subst, ◌||◌, served, most_peers}
 use Rattle.serving.proofs.Onward.{or_false, serves_not}
 use Rattle.serving.proofs.Fits.{seated_on}
 use Rattle.serving.proofs.rounds.go_round.Goals as goal

@@ -1,6 +1,4 @@
-use Rattle.std.proofs.Common.{true, false, arith}
-use Rattle.serving.specs.Story.{served, PumpsOnce}
-use Rattle.serving.specs.Rounds.{most_pumps}
+use Rattle.serving.proofs.Names.{true, false, arith, served, PumpsOnce, most_pumps}
 use Rattle.serving.proofs.Pumping.{pumped_not, pumped_more, pumped_last, pumped_all}
 use Rattle.serving.proofs.rounds.pump_all.Goals as goal
 

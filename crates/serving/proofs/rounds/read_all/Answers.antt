@@ -1,8 +1,4 @@
-use Rattle.std.proofs.Common.{◌≡◌, ◌∙◌, ◌++◌, List, [], None, refl, sym, ap, subst, append-nil, count_by, drop, flat_map, slice_index_or}
-use Rattle.std.specs.Prelude.{is_some}
-use Rattle.serving.specs.Wire.{Ask}
-use Rattle.serving.specs.Story.{Serves, served}
-use Rattle.serving.specs.Rounds.{read_of, reads_due}
+use Rattle.serving.proofs.Names.{◌≡◌, ◌∙◌, ◌++◌, List, [], None, refl, sym, ap, subst, append-nil, count_by, drop, flat_map, slice_index_or, is_some, Ask, Serves, served, read_of, reads_due}
 use Rattle.serving.proofs.Onward.{serves_then}
 use Rattle.serving.proofs.Apart.{later_on, due_on}
 use Rattle.serving.proofs.Fits.{seated_on}

@@ -1,6 +1,4 @@
-use Rattle.std.proofs.Common.{◌∙◌, sym, subst, refl, List, Bool}
-use Rattle.serving.specs.Story.{At}
-use Rattle.serving.specs.Quiet.{AreQuiet}
+use Rattle.serving.proofs.Names.{◌∙◌, sym, subst, refl, List, Bool, At, AreQuiet}
 use Rattle.serving.proofs.Apart.{reads_behind}
 use Rattle.serving.proofs.Quieting.{quiet_idle, quiet_apart, still_marked}
 use Rattle.serving.proofs.rounds.read_slot.Goals as goal

@@ -1,4 +1,4 @@
-use Rattle.serving.specs.Story.{served}
+use Rattle.serving.proofs.Names.{served}
 use Rattle.serving.proofs.Onward.{rests_once, rests_not}
 use Rattle.serving.proofs.rounds.round.Goals as goal
 

@@ -1,6 +1,4 @@
-use Rattle.std.proofs.Common.{◌∙◌, ◌<◌, ◌≤◌, ℕ, List, Bool, false, length, refl, sym, ap, subst, inl, inr, slice_set, arith}
-use Rattle.std.proofs.lemmas.Bool.{cases_eq}
-use Rattle.serving.specs.Quiet.{IsOther, Wakes}
+use Rattle.serving.proofs.Names.{◌∙◌, ◌<◌, ◌≤◌, ℕ, List, Bool, false, length, refl, sym, ap, subst, inl, inr, slice_set, arith, cases_eq, IsOther, Wakes}
 use Rattle.serving.proofs.Fits.{slot_within}
 use Rattle.serving.proofs.Quieting.{woken, none_woken}
 use Rattle.serving.proofs.rounds.search.Goals as goal

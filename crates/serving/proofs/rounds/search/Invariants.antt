@@ -1,5 +1,4 @@
-use Rattle.std.proofs.Common.{◌≡◌, ◌<◌, ℕ}
-use Rattle.serving.specs.Quiet.{IsOther}
+use Rattle.serving.proofs.Names.{◌≡◌, ◌<◌, ℕ, IsOther}
 use Rattle.serving.proofs.rounds.search.Given as goal
 
 abbrev pub invariant-loop-slot : goal.invariant-loop-slot

@@ -1,8 +1,4 @@
-use Rattle.std.proofs.Common.{◌<◌, ◌≤◌, ◌+◌, ◌∙◌, ◌++◌, ℕ, [], List, None, length, refl, sym, subst, inl, inr, slice_index_or, arith}
-use Rattle.std.proofs.lemmas.Bool.{cases_eq}
-use Rattle.serving.specs.Wire.{Ask}
-use Rattle.serving.specs.Story.{Serves, served}
-use Rattle.serving.specs.Rounds.{HasEnded, write_of, writes_due}
+use Rattle.serving.proofs.Names.{◌<◌, ◌≤◌, ◌+◌, ◌∙◌, ◌++◌, ℕ, [], List, None, length, refl, sym, subst, inl, inr, slice_index_or, arith, cases_eq, Ask, Serves, served, HasEnded, write_of, writes_due}
 use Rattle.serving.proofs.Onward.{serves_not, serves_then}
 use Rattle.serving.proofs.Apart.{later_on, due_on}
 use Rattle.serving.proofs.Fits.{seated_on, slot_within}

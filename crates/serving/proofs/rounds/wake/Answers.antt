@@ -1,5 +1,4 @@
-use Rattle.std.proofs.Common.{List, Bool, sym, subst}
-use Rattle.serving.specs.Quiet.{Wakes}
+use Rattle.serving.proofs.Names.{List, Bool, sym, subst, Wakes}
 use Rattle.serving.proofs.Quieting.{woken}
 use Rattle.serving.proofs.rounds.wake.Goals as goal
 

@@ -1,6 +1,4 @@
-use Rattle.std.proofs.Common.{subst}
-use Rattle.model.specs.Arrivals.{World}
-use Rattle.model.specs.Headline.{IsSound}
+use Rattle.serving.proofs.Names.{subst, World, IsSound}
 use Rattle.serving.proofs.Keeping.{new_served}
 use Rattle.serving.proofs.servers.new_is_served.Goals as goal
 

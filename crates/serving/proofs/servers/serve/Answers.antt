@@ -1,4 +1,4 @@
-use Rattle.serving.specs.Story.{served}
+use Rattle.serving.proofs.Names.{served}
 use Rattle.serving.proofs.Keeping.{rounds_more, served_on}
 use Rattle.serving.proofs.Going.{rounds_go_on}
 use Rattle.serving.proofs.servers.serve.Goals as goal

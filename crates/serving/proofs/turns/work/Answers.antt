@@ -1,6 +1,4 @@
-use Rattle.std.proofs.Common.{[], ◌++◌}
-use Rattle.model.specs.Arrivals.{none_more}
-use Rattle.runs.specs.Opened.{Did}
+use Rattle.serving.proofs.Names.{[], ◌++◌, none_more, Did}
 use Rattle.runs.proofs.Onward.{works_one}
 use Rattle.serving.proofs.turns.work.Goals as goal
 

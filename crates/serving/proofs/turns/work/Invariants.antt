@@ -1,6 +1,4 @@
-use Rattle.std.proofs.Common.{List}
-use Rattle.model.specs.Run.{Happening}
-use Rattle.model.specs.Arrivals.{Works}
+use Rattle.serving.proofs.Names.{List, Happening, Works}
 use Rattle.serving.proofs.turns.work.Given as goal
 
 abbrev pub invariant-loop-turns : goal.invariant-loop-turns

@@ -1,5 +1,4 @@
-use Rattle.std.proofs.Common.{◌≡◌, ◌∙◌, ap, sym, ℕ, arith}
-use Rattle.model.specs.Opening.{opening_move}
+use Rattle.session.proofs.Names.{◌≡◌, ◌∙◌, ap, sym, ℕ, arith, opening_move}
 use Rattle.session.proofs.Table.{awaited_is}
 use Rattle.session.proofs.answers.answer_to.Goals as goal
 

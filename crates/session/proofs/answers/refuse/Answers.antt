@@ -1,9 +1,5 @@
-use Rattle.std.proofs.Common.{ap, ◌∙◌, [], ◌∷◌}
-use Rattle.model.specs.Grammar.{Ids}
-use Rattle.model.specs.Step.{connection_close}
-use Rattle.model.specs.Phases.{to_phase}
+use Rattle.session.proofs.Names.{ap, ◌∙◌, [], ◌∷◌, Ids, connection_close, to_phase, Send}
 use Rattle.model.specs.declared.events.Phase.TheVariants as phase
-use Rattle.model.specs.declared.events.Send.{Send}
 use Rattle.session.proofs.answers.refuse.Goals as goal
 
 pub returns-clause-is : goal.returns-clause-is

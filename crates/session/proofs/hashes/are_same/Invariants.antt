@@ -1,4 +1,4 @@
-use Rattle.std.proofs.Common.{◌≡◌, drop, ◌&&◌}
+use Rattle.session.proofs.Names.{◌≡◌, drop, ◌&&◌}
 use Rattle.std.specs.Str.{bytes_eq}
 use Rattle.session.proofs.hashes.are_same.Given as goal
 

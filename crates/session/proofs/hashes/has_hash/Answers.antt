@@ -1,4 +1,4 @@
-use Rattle.std.proofs.Common.{sym, arith}
+use Rattle.session.proofs.Names.{sym, arith}
 use Rattle.session.proofs.Hashing.{other_length}
 use Rattle.session.proofs.hashes.has_hash.Goals as goal
 

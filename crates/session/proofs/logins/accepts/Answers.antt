@@ -1,4 +1,5 @@
-use Rattle.std.proofs.Common.{◌≡◌, ◌∙◌, sym, codes, bytes_eq, not}
+use Rattle.session.proofs.Names.{◌≡◌, ◌∙◌, sym, codes, not}
+use Rattle.std.proofs.Common.{bytes_eq}
 use Rattle.session.proofs.Hashing.{is_login, no_login, same_text}
 use Rattle.session.proofs.logins.accepts.Goals as goal
 

@@ -1,6 +1,4 @@
-use Rattle.std.proofs.Common.{◌≡◌, drop, ◌||◌}
-use Rattle.std.specs.List.{list_any}
-use Rattle.session.specs.Tests.{is_user}
+use Rattle.session.proofs.Names.{◌≡◌, drop, ◌||◌, list_any, is_user}
 use Rattle.session.proofs.logins.is_known.Given as goal
 
 -- one of all is such where one so far is, or one of those that are left

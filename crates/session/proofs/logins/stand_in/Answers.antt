@@ -1,4 +1,4 @@
-use Rattle.std.proofs.Common.{◌≡◌, ◌∙◌, ap, arith, ℕ, List, length, codes}
+use Rattle.session.proofs.Names.{◌≡◌, ◌∙◌, ap, arith, ℕ, List, length, codes}
 use Rattle.session.proofs.Hashing.{other_length}
 use Rattle.session.proofs.logins.stand_in.Goals as goal
 

@@ -1,5 +1,4 @@
-use Rattle.std.proofs.Common.{◌≡◌, sym, ap, ◌∙◌, ◌∷◌, ◌==◌, length, arith, ℕ}
-use Rattle.std.proofs.lemmas.Bool.{eqb-true}
+use Rattle.session.proofs.Names.{◌≡◌, sym, ap, ◌∙◌, ◌∷◌, ◌==◌, length, arith, ℕ, eqb-true}
 use Rattle.session.proofs.Cutting.{no_second_nul, no_user, nul_in_password, cut_some}
 use Rattle.session.proofs.responses.read_response.Goals as goal
 

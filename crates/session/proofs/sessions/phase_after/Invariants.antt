@@ -1,5 +1,4 @@
-use Rattle.std.proofs.Common.{◌≡◌, ◌≤◌, length, drop}
-use Rattle.model.specs.Phases.{after_sends}
+use Rattle.session.proofs.Names.{◌≡◌, ◌≤◌, length, drop, after_sends}
 use Rattle.session.proofs.sessions.phase_after.Given as goal
 
 -- what stands from here on is counted in

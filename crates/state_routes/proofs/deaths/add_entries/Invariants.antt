@@ -1,5 +1,4 @@
-use Rattle.std.proofs.Common.{◌≡◌, ◌++◌, drop}
-use Rattle.state_routes.specs.Deaths.{entries}
+use Rattle.state_routes.proofs.Names.{◌≡◌, ◌++◌, drop, entries}
 use Rattle.state_routes.proofs.deaths.add_entries.Given as goal
 
 abbrev pub invariant-loop-binding : goal.invariant-loop-binding

@@ -1,5 +1,4 @@
-use Rattle.std.proofs.Common.{◌≡◌, ◌++◌, drop}
-use Rattle.state_routes.specs.Deaths.{links_in}
+use Rattle.state_routes.proofs.Names.{◌≡◌, ◌++◌, drop, links_in}
 use Rattle.state_routes.proofs.deaths.add_links.Given as goal
 
 abbrev pub invariant-loop-gate : goal.invariant-loop-gate

@@ -1,7 +1,4 @@
-use Rattle.std.proofs.Common.{List, [], subst, sym}
-use Rattle.model.specs.declared.topologies.Mode.{Mode}
-use Rattle.state_routes.specs.declared.gates.Gate.{Gate}
-use Rattle.state_routes.specs.Deaths.{AreEntered, IsEnd, dying, none}
+use Rattle.state_routes.proofs.Names.{List, [], subst, sym, Mode, Gate, AreEntered, IsEnd, dying, none}
 use Rattle.state_routes.proofs.deaths.counted_gates.Goals as goal
 
 pub returns-in-Reaches : goal.returns-in-Reaches

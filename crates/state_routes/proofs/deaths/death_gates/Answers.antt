@@ -1,5 +1,4 @@
-use Rattle.std.proofs.Common.{ap, length, arith}
-use Rattle.state_routes.specs.Deaths.{IsEnd}
+use Rattle.state_routes.proofs.Names.{ap, length, arith, IsEnd}
 use Rattle.paths.proofs.Traced.{get_there}
 use Rattle.state_routes.proofs.DeadLetters.{entered_more, entered_all}
 use Rattle.state_routes.proofs.deaths.death_gates.Goals as goal

@@ -1,4 +1,4 @@
-use Rattle.state_routes.specs.Deaths.{IsEnd}
+use Rattle.state_routes.proofs.Names.{IsEnd}
 use Rattle.state_routes.proofs.DeadLetters.{AreEnteredFrom}
 use Rattle.state_routes.proofs.deaths.death_gates.Given as goal
 

@@ -1,5 +1,4 @@
-use Rattle.std.proofs.Common.{[], arith}
-use Rattle.state_routes.specs.Deaths.{IsUnfixedEnd}
+use Rattle.state_routes.proofs.Names.{[], arith, IsUnfixedEnd}
 use Rattle.state_routes.proofs.DeadLetters.{entered_more, entered_all}
 use Rattle.state_routes.proofs.deaths.unfixed_gates.Goals as goal
 

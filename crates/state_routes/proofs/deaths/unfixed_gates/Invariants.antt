@@ -1,5 +1,4 @@
-use Rattle.std.proofs.Common.{[]}
-use Rattle.state_routes.specs.Deaths.{IsUnfixedEnd}
+use Rattle.state_routes.proofs.Names.{[], IsUnfixedEnd}
 use Rattle.state_routes.proofs.DeadLetters.{AreEnteredFrom}
 use Rattle.state_routes.proofs.deaths.unfixed_gates.Given as goal
 

@@ -1,4 +1,4 @@
-use Rattle.std.proofs.Common.{◌<◌, ◌∙◌, ℕ, sym, subst}
+use Rattle.state_routes.proofs.Names.{◌<◌, ◌∙◌, ℕ, sym, subst}
 use Rattle.state_routes.proofs.Leaving.{exits_put}
 use Rattle.state_routes.proofs.exits.exits_of.Goals as goal
 

@@ -1,5 +1,4 @@
-use Rattle.std.proofs.Common.{arith, subst, ℕ}
-use Rattle.state_routes.specs.Exits.{AreEmpty}
+use Rattle.state_routes.proofs.Names.{arith, subst, ℕ, AreEmpty}
 use Rattle.state_routes.proofs.Leaving.{none_yet, one_empty}
 use Rattle.state_routes.proofs.exits.no_exits.Goals as goal
 

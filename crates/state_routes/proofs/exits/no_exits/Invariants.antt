@@ -1,4 +1,4 @@
-use Rattle.state_routes.specs.Exits.{AreEmpty}
+use Rattle.state_routes.proofs.Names.{AreEmpty}
 use Rattle.state_routes.proofs.exits.no_exits.Given as goal
 
 abbrev pub invariant-loop-place : goal.invariant-loop-place

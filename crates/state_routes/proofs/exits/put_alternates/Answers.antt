@@ -1,6 +1,4 @@
-use Rattle.std.proofs.Common.{◌<◌, ℕ, arith, sym, subst, refl, get_or}
-use Rattle.paths.specs.declared.reach.Hop.{Hop}
-use Rattle.topology_drafts.proofs.Members.{in_get}
+use Rattle.state_routes.proofs.Names.{◌<◌, ℕ, arith, sym, subst, refl, get_or, Hop, in_get}
 use Rattle.state_routes.proofs.Leaving.{links_done, links_more, itself}
 use Rattle.state_routes.proofs.exits.put_alternates.Goals as goal
 

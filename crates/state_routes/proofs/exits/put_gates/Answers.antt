@@ -1,7 +1,4 @@
-use Rattle.std.proofs.Common.{◌<◌, ℕ, arith, sym, subst, refl, get_or}
-use Rattle.state_routes.specs.declared.gates.Gate.{Gate}
-use Rattle.state_routes.specs.declared.gates.Test.TheVariants.{Always}
-use Rattle.topology_drafts.proofs.Members.{in_get}
+use Rattle.state_routes.proofs.Names.{◌<◌, ℕ, arith, sym, subst, refl, get_or, Gate, Always, in_get}
 use Rattle.state_routes.proofs.Leaving.{gates_done, gates_more, itself}
 use Rattle.state_routes.proofs.exits.put_gates.Goals as goal
 

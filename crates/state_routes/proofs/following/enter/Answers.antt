@@ -1,4 +1,4 @@
-use Rattle.std.proofs.Common.{refl}
+use Rattle.state_routes.proofs.Names.{refl}
 use Rattle.state_routes.proofs.Spreading.{enters_new}
 use Rattle.state_routes.proofs.following.enter.Goals as goal
 

@@ -1,6 +1,4 @@
-use Rattle.std.proofs.Common.{◌<◌, ℕ, arith, sym, subst, get_or}
-use Rattle.paths.specs.declared.reach.Hop.{Hop}
-use Rattle.topology_drafts.proofs.Members.{in_get}
+use Rattle.state_routes.proofs.Names.{◌<◌, ℕ, arith, sym, subst, get_or, Hop, in_get}
 use Rattle.state_routes.proofs.Leaving.{itself}
 use Rattle.state_routes.proofs.Spreading.{enters_none, enters_more, enters_all}
 use Rattle.state_routes.proofs.following.enter_all.Goals as goal

@@ -1,5 +1,4 @@
-use Rattle.std.proofs.Common.{take}
-use Rattle.state_routes.specs.Following.{Enters}
+use Rattle.state_routes.proofs.Names.{take, Enters}
 use Rattle.state_routes.proofs.following.enter_all.Given as goal
 
 abbrev pub invariant-loop-link : goal.invariant-loop-link

@@ -1,6 +1,4 @@
-use Rattle.std.proofs.Common.{◌∙◌, arith, length}
-use Rattle.state_routes.specs.Exits.{exit_at, open_through}
-use Rattle.state_routes.specs.Gates.{open_ways}
+use Rattle.state_routes.proofs.Names.{◌∙◌, arith, length, exit_at, open_through, open_ways}
 use Rattle.state_routes.proofs.Spreading.{all_reached, fewer_left, none_left, place_within, spreads_on}
 use Rattle.state_routes.proofs.following.follow.Goals as goal
 

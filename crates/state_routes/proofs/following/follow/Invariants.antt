@@ -1,7 +1,4 @@
-use Rattle.std.proofs.Common.{◌≡◌, ◌+◌, length}
-use Rattle.exchange_graph.specs.Marks.{unset}
-use Rattle.state_routes.specs.Exits.{open_through}
-use Rattle.state_routes.specs.Following.{Spreads}
+use Rattle.state_routes.proofs.Names.{◌≡◌, ◌+◌, length, unset, open_through, Spreads}
 use Rattle.state_routes.proofs.following.follow.Given as goal
 
 abbrev pub invariant-places : goal.invariant-places

@@ -1,5 +1,4 @@
-use Rattle.std.proofs.Common.{length}
-use Rattle.state_routes.specs.Exits.{exit_at}
+use Rattle.state_routes.proofs.Names.{length, exit_at}
 use Rattle.state_routes.proofs.Spreading.{ends_within, enters_as, open_links_at}
 use Rattle.state_routes.proofs.following.leave.Goals as goal
 

@@ -1,6 +1,4 @@
-use Rattle.std.proofs.Common.{◌∙◌, ◌++◌, ◌∷◌, [], ℕ, List, ap, length, refl, set, false, true}
-use Rattle.std.specs.Prelude.{replicate}
-use Rattle.state_routes.specs.Exits.{open_through}
+use Rattle.state_routes.proofs.Names.{◌∙◌, ◌++◌, ◌∷◌, [], ℕ, List, ap, length, refl, set, false, true, replicate, open_through}
 use Rattle.state_routes.proofs.Spreading.{spreads_first}
 use Rattle.state_routes.proofs.following.reached_through.Goals as goal
 

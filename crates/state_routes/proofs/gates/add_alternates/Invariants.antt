@@ -1,5 +1,4 @@
-use Rattle.std.proofs.Common.{◌≡◌, ◌++◌, drop}
-use Rattle.state_routes.specs.Gates.{open_alternates}
+use Rattle.state_routes.proofs.Names.{◌≡◌, ◌++◌, drop, open_alternates}
 use Rattle.state_routes.proofs.gates.add_alternates.Given as goal
 
 abbrev pub invariant-loop-link : goal.invariant-loop-link

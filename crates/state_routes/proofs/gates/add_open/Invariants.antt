@@ -1,5 +1,4 @@
-use Rattle.std.proofs.Common.{◌≡◌, ◌++◌, drop}
-use Rattle.state_routes.specs.Gates.{open_links}
+use Rattle.state_routes.proofs.Names.{◌≡◌, ◌++◌, drop, open_links}
 use Rattle.state_routes.proofs.gates.add_open.Given as goal
 
 abbrev pub invariant-loop-gate : goal.invariant-loop-gate

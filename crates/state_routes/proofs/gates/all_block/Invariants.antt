@@ -1,5 +1,4 @@
-use Rattle.std.proofs.Common.{◌≡◌, drop}
-use Rattle.state_routes.specs.Gates.{all_block}
+use Rattle.state_routes.proofs.Names.{◌≡◌, drop, all_block}
 use Rattle.state_routes.proofs.gates.all_block.Given as goal
 
 abbrev pub invariant-loop-gate : goal.invariant-loop-gate

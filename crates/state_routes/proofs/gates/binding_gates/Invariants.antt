@@ -1,5 +1,4 @@
-use Rattle.std.proofs.Common.{◌≡◌, ◌++◌, drop}
-use Rattle.state_routes.specs.Gates.{binding_gates}
+use Rattle.state_routes.proofs.Names.{◌≡◌, ◌++◌, drop, binding_gates}
 use Rattle.state_routes.proofs.gates.binding_gates.Given as goal
 
 abbrev pub invariant-loop-binding : goal.invariant-loop-binding

@@ -1,5 +1,4 @@
-use Rattle.std.proofs.Common.{◌≡◌, ◌+◌, drop}
-use Rattle.state_routes.specs.Gates.{tracked_place}
+use Rattle.state_routes.proofs.Names.{◌≡◌, ◌+◌, drop, tracked_place}
 use Rattle.state_routes.proofs.gates.tracked_place.Given as goal
 
 abbrev pub invariant-loop-pattern : goal.invariant-loop-pattern

@@ -1,5 +1,4 @@
-use Rattle.std.proofs.Common.{◌≡◌, ◌++◌, drop}
-use Rattle.state_routes.specs.Nodes.{alternate_links}
+use Rattle.state_routes.proofs.Names.{◌≡◌, ◌++◌, drop, alternate_links}
 use Rattle.state_routes.proofs.nodes.alternate_links.Given as goal
 
 abbrev pub invariant-loop-exchange : goal.invariant-loop-exchange

@@ -1,6 +1,4 @@
-use Rattle.std.proofs.Common.{◌∙◌, List, length, ap}
-use Rattle.std.specs.Str.{bytes_eq}
-use Rattle.model.specs.declared.topologies.Exchange.{Exchange}
+use Rattle.state_routes.proofs.Names.{◌∙◌, List, length, ap, bytes_eq, Exchange}
 use Rattle.exchange_graph.proofs.Indices.{place_if_some, place_if_none}
 use Rattle.state_routes.proofs.nodes.exchange_place.Goals as goal
 

@@ -1,5 +1,4 @@
-use Rattle.std.proofs.Common.{◌≡◌, ◌++◌, drop}
-use Rattle.state_routes.specs.Nodes.{links_of}
+use Rattle.state_routes.proofs.Names.{◌≡◌, ◌++◌, drop, links_of}
 use Rattle.state_routes.proofs.nodes.links_of.Given as goal
 
 abbrev pub invariant-loop-binding : goal.invariant-loop-binding

@@ -1,5 +1,4 @@
-use Rattle.std.proofs.Common.{◌∙◌, List, ℕ, [], ◌∷◌, ◌++◌, sym, ap, subst, arith}
-use Rattle.state_routes.specs.Placing.{RiseBelow}
+use Rattle.state_routes.proofs.Names.{◌∙◌, List, ℕ, [], ◌∷◌, ◌++◌, sym, ap, subst, arith, RiseBelow}
 use Rattle.state_routes.proofs.Placing.{begun, are_places}
 use Rattle.state_routes.proofs.places.places_of.Goals as goal
 

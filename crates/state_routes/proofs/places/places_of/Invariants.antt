@@ -1,4 +1,4 @@
-use Rattle.state_routes.specs.Placing.{RiseBelow}
+use Rattle.state_routes.proofs.Names.{RiseBelow}
 use Rattle.state_routes.proofs.places.places_of.Given as goal
 
 abbrev pub invariant-loop-place : goal.invariant-loop-place

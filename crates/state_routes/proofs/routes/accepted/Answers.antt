@@ -1,6 +1,4 @@
-use Rattle.std.proofs.Common.{◌∙◌, ◌++◌, ◌∷◌, [], List, Bool, sym, ap, append_assoc, drop, arith, ◌+◌, length}
-use Rattle.model.specs.Tracking.{Tracked}
-use Rattle.state_routes.specs.Gates.{accepted}
+use Rattle.state_routes.proofs.Names.{◌∙◌, ◌++◌, ◌∷◌, [], List, Bool, sym, ap, append_assoc, drop, arith, ◌+◌, length, Tracked, accepted}
 use Rattle.state_routes.proofs.Sure.{accepted_more}
 use Rattle.state_routes.proofs.routes.accepted.Goals as goal
 

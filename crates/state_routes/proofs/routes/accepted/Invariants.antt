@@ -1,5 +1,4 @@
-use Rattle.std.proofs.Common.{◌≡◌, ◌++◌, drop}
-use Rattle.state_routes.specs.Gates.{accepted}
+use Rattle.state_routes.proofs.Names.{◌≡◌, ◌++◌, drop, accepted}
 use Rattle.state_routes.proofs.routes.accepted.Given as goal
 
 abbrev pub invariant-loop-place : goal.invariant-loop-place

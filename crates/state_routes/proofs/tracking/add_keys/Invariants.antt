@@ -1,5 +1,4 @@
-use Rattle.std.proofs.Common.{◌≡◌, drop}
-use Rattle.state_routes.specs.Collected.{keys_onto}
+use Rattle.state_routes.proofs.Names.{◌≡◌, drop, keys_onto}
 use Rattle.state_routes.proofs.tracking.add_keys.Given as goal
 
 abbrev pub invariant-loop-binding : goal.invariant-loop-binding

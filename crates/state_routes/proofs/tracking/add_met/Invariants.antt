@@ -1,5 +1,4 @@
-use Rattle.std.proofs.Common.{◌≡◌, drop}
-use Rattle.state_routes.specs.Collected.{met_onto}
+use Rattle.state_routes.proofs.Names.{◌≡◌, drop, met_onto}
 use Rattle.state_routes.proofs.tracking.add_met.Given as goal
 
 abbrev pub invariant-loop-exchange : goal.invariant-loop-exchange

@@ -1,5 +1,4 @@
-use Rattle.std.proofs.Common.{◌≡◌, drop}
-use Rattle.state_routes.specs.Collected.{names_onto}
+use Rattle.state_routes.proofs.Names.{◌≡◌, drop, names_onto}
 use Rattle.state_routes.proofs.tracking.add_names.Given as goal
 
 abbrev pub invariant-loop-queue : goal.invariant-loop-queue

@@ -1,5 +1,4 @@
-use Rattle.std.proofs.Common.{◌≡◌, drop}
-use Rattle.state_routes.specs.Collected.{topics_onto}
+use Rattle.state_routes.proofs.Names.{◌≡◌, drop, topics_onto}
 use Rattle.state_routes.proofs.tracking.add_topics.Given as goal
 
 abbrev pub invariant-loop-text : goal.invariant-loop-text

@@ -1,10 +1,4 @@
-use Rattle.std.proofs.Common.{List, [], ◌+◌, ◌++◌, length, ap, subst, ◌∙◌}
-use Rattle.model.specs.declared.topologies.Exchange.{Exchange}
-use Rattle.model.specs.declared.topologies.DeclaredQueue.{DeclaredQueue}
-use Rattle.paths.specs.declared.reach.Hop.{Hop}
-use Rattle.state_routes.specs.declared.gates.Gate.{Gate}
-use Rattle.state_routes.specs.Nodes.{any_links}
-use Rattle.state_routes.specs.Deaths.{AreEntered, IsUnfixedEnd, links_in}
+use Rattle.state_routes.proofs.Names.{List, [], ◌+◌, ◌++◌, length, ap, subst, ◌∙◌, Exchange, DeclaredQueue, Hop, Gate, any_links, AreEntered, IsUnfixedEnd, links_in}
 use Rattle.state_routes.proofs.Collecting.{within_as}
 use Rattle.state_routes.proofs.tracking.met.Goals as goal
 

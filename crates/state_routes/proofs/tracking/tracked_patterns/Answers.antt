@@ -1,4 +1,4 @@
-use Rattle.std.proofs.Common.{◌∙◌}
+use Rattle.state_routes.proofs.Names.{◌∙◌}
 use Rattle.state_routes.proofs.Collecting.{tracked_from, some_tracked}
 use Rattle.state_routes.proofs.Fitting.{patterns_from}
 use Rattle.state_routes.proofs.tracking.tracked_patterns.Goals as goal

@@ -1,5 +1,4 @@
-use Rattle.std.proofs.Common.{◌≡◌, ◌<◌, drop}
-use Rattle.topic_match.specs.Nodes.{mixed}
+use Rattle.topic_match.proofs.Names.{◌≡◌, ◌<◌, drop, mixed}
 use Rattle.topic_match.proofs.children.mixed.Given as goal
 
 abbrev pub invariant-loop-byte : goal.invariant-loop-byte

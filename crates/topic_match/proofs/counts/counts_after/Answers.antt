@@ -1,4 +1,4 @@
-use Rattle.std.proofs.Common.{rules}
+use Rattle.topic_match.proofs.Names.{rules}
 use Rattle.topic_match.proofs.Counting.{counts_first, counts_more}
 use Rattle.topic_match.proofs.counts.counts_after.Goals as goal
 

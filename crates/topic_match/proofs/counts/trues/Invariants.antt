@@ -1,5 +1,4 @@
-use Rattle.std.proofs.Common.{◌≡◌, ◌+◌, ◌≤◌, drop}
-use Rattle.topic_match.specs.Counts.{trues}
+use Rattle.topic_match.proofs.Names.{◌≡◌, ◌+◌, ◌≤◌, drop, trues}
 use Rattle.topic_match.proofs.counts.trues.Given as goal
 
 abbrev pub invariant-loop-told : goal.invariant-loop-told

@@ -1,4 +1,4 @@
-use Rattle.topic_match.specs.Exits.{AreExits}
+use Rattle.topic_match.proofs.Names.{AreExits}
 use Rattle.topic_match.proofs.exits.exits_of.Given as goal
 
 abbrev pub invariant-loop-place : goal.invariant-loop-place

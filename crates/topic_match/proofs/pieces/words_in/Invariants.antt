@@ -1,8 +1,4 @@
-use Rattle.std.proofs.Common.{◌≡◌, ◌++◌}
-use Rattle.std.specs.Prelude.{option_copied}
-use Rattle.model.specs.Words.{pieces}
-use Rattle.model.specs.Parts.{parts_left}
-use Rattle.model.proofs.Left.{left}
+use Rattle.topic_match.proofs.Names.{◌≡◌, ◌++◌, option_copied, pieces, parts_left, left}
 use Rattle.topic_match.proofs.pieces.words_in.Given as goal
 
 abbrev pub invariant-pieces : goal.invariant-pieces

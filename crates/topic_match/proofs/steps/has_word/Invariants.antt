@@ -1,6 +1,4 @@
-use Rattle.std.proofs.Common.{take}
-use Rattle.model.specs.Topology.{IsIn}
-use Rattle.model.specs.declared.texts.Token.TheVariants.{Word}
+use Rattle.topic_match.proofs.Names.{take, IsIn, Word}
 use Rattle.topic_match.proofs.steps.has_word.Given as goal
 
 abbrev pub invariant-loop-place : goal.invariant-loop-place

@@ -1,8 +1,4 @@
-use Rattle.std.proofs.Common.{◌++◌, ◌∷◌, [], List, ap, ◌∙◌, subst}
-use Rattle.std.specs.Prelude.{Decides}
-use Rattle.model.specs.Topology.{IsIn}
-use Rattle.model.specs.declared.texts.Token.{Token}
-use Rattle.model.specs.declared.texts.Token.TheVariants.{Word}
+use Rattle.topic_match.proofs.Names.{◌++◌, ◌∷◌, [], List, ap, ◌∙◌, subst, Decides, IsIn, Token, Word}
 use Rattle.topic_match.proofs.Stepping.{steps_same, steps_more}
 use Rattle.topic_match.proofs.steps.steps_of.Goals as goal
 

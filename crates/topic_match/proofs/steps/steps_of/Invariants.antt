@@ -1,5 +1,4 @@
-use Rattle.std.proofs.Common.{take}
-use Rattle.topic_match.specs.Walks.{AreSteps}
+use Rattle.topic_match.proofs.Names.{take, AreSteps}
 use Rattle.topic_match.proofs.steps.steps_of.Given as goal
 
 abbrev pub invariant-loop-word : goal.invariant-loop-word

@@ -1,4 +1,4 @@
-use Rattle.std.proofs.Common.{arith}
+use Rattle.topic_match.proofs.Names.{arith}
 use Rattle.topic_match.proofs.Counting.{none_first}
 use Rattle.topic_match.proofs.tries.first_counts.Goals as goal
 

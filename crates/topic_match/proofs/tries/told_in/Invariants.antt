@@ -1,5 +1,4 @@
-use Rattle.std.proofs.Common.{◌≡◌, ◌+◌, ◌*◌, ◌≤◌, drop}
-use Rattle.topic_match.specs.Walks.{told_in}
+use Rattle.topic_match.proofs.Names.{◌≡◌, ◌+◌, ◌*◌, ◌≤◌, drop, told_in}
 use Rattle.topic_match.proofs.tries.told_in.Given as goal
 
 -- what is told of one node has 64 bits, and so has the number of nodes

@@ -1,4 +1,4 @@
-use Rattle.std.proofs.Common.{arith}
+use Rattle.topic_match.proofs.Names.{arith}
 use Rattle.topic_match.proofs.Walking.{added_skip, added_more, added_here, found_step, found_none}
 use Rattle.topic_match.proofs.walks.+walk.Goals as goal
 
@@ -18,5 +18,5 @@ loop-place-preserved t c =
 
 pub returns : goal.returns
 returns t c =
-    added_here c.args.patterns.now c.args.links.now.nodes.now c.args.links.now.chains.now c.args.words.now c.args.steps.now c.args.from c.loop-place.place c.args.met.now.items c.loop-place.met.items c.push.new.self.items
+    added_here c.args.patterns.now c.args.links.now.nodes.now c.args.links.now.slots.now c.args.words.now c.args.steps.now c.args.from c.loop-place.place c.args.met.now.items c.loop-place.met.items c.push.new.self.items
     (omega (arith, c.loop-place-test.false, c.loop-place.auto.place-end)) c.requires.linked c.requires.within c.requires.counted c.requires.taken c.in_ok-push.ensures.items c.loop-place.invariant

@@ -1,8 +1,4 @@
-use Rattle.std.proofs.Common.{◌≡◌, ◌++◌, ℕ, List, Option, Result, Ok, Err, sym, subst}
-use Rattle.std.specs.Prelude.{OnOk, OnErr}
-use Rattle.model.specs.Commands.{Stream}
-use Rattle.assembly.specs.Held.{stream}
-use Rattle.assembly.specs.Onward.{IsBrokenBy}
+use Rattle.assembly.proofs.Imports.{◌≡◌, ◌++◌, ℕ, List, Option, Result, Ok, Err, sym, subst, OnOk, OnErr, Stream, stream, IsBrokenBy}
 use Rattle.assembly.specs.Unread.{Waiting}
 use Rattle.assembly.proofs.Breaks.{broken_more}
 use Rattle.assembly.proofs.streams.Stream.feed.Goals as goal

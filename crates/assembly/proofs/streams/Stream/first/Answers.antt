@@ -1,5 +1,4 @@
-use Rattle.std.proofs.Common.{◌≡◌, ap, refl, ◌∙◌, true}
-use Rattle.assembly.specs.Held.{Held}
+use Rattle.assembly.proofs.Imports.{◌≡◌, ap, refl, ◌∙◌, true, Held}
 use Rattle.assembly.proofs.Onwards.{first_given, first_missing}
 use Rattle.assembly.proofs.streams.Stream.first.Goals as goal
 

@@ -1,5 +1,4 @@
-use Rattle.std.proofs.Common.{sym, ◌∙◌}
-use Rattle.assembly.specs.Held.{stream}
+use Rattle.assembly.proofs.Imports.{sym, ◌∙◌, stream}
 use Rattle.assembly.proofs.Breaks.{broken_stops}
 use Rattle.assembly.proofs.streams.Stream.next.Goals as goal
 

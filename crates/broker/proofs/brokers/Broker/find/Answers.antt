@@ -1,16 +1,8 @@
-use Rattle.std.proofs.Common.{ℕ, refl, sym, subst}
-use Rattle.std.specs.Prelude.{IfSome}
-use Rattle.model.specs.Consuming.{CanDeliver}
-use Rattle.broker.specs.Rounds.{Rounds, HasConsumer}
+use Rattle.broker.proofs.Names.{ℕ, refl, sym, subst, IfSome, CanDeliver, Rounds, HasConsumer, WithTurn, with_turn, Kept, Pick, IsPick, IsPickFrom, pick_from, LinesStay, IsToldInTurn}
 use Rattle.broker.specs.Turns as seen
-use Rattle.broker.specs.Turns.{WithTurn, with_turn}
-use Rattle.commands.specs.State.{Kept, broker_of, topology_kept}
-use Rattle.commands.specs.declared.picks.Pick.{Pick}
-use Rattle.commands.specs.Picked.{IsPick, IsPickFrom}
-use Rattle.commands.proofs.Picking.{pick_from}
+use Rattle.commands.specs.State.{broker_of, topology_kept}
 use Rattle.broker.proofs.Outcomes.{if_some}
 use Rattle.broker.proofs.Joined.{holds, serves, serves_kept, notes_keep, running_still}
-use Rattle.broker.specs.Waiting.{LinesStay, IsToldInTurn}
 use Rattle.broker.proofs.Staying.{own_picked, listed_same}
 use Rattle.broker.proofs.Nearer.{told_first, lines_stay}
 use Rattle.broker.proofs.brokers.Broker.find.Goals as goal

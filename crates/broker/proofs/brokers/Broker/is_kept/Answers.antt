@@ -1,5 +1,4 @@
-use Rattle.std.proofs.Common.{subst}
-use Rattle.broker.specs.Waiting.{WaitersAreConsumers}
+use Rattle.broker.proofs.Names.{subst, WaitersAreConsumers}
 use Rattle.broker.proofs.Turning.{waiters_own}
 use Rattle.broker.proofs.brokers.Broker.is_kept.Goals as goal
 

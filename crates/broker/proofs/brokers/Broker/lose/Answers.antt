@@ -1,11 +1,6 @@
-use Rattle.std.proofs.Common.{[], refl, subst}
-use Rattle.model.specs.declared.events.Event.TheVariants.{Lose}
-use Rattle.commands.specs.State.{Kept, broker_of, topology_kept}
-use Rattle.broker.specs.Rounds.{Rounds}
-use Rattle.commands.proofs.Ending.{loss_ended}
+use Rattle.broker.proofs.Names.{[], refl, subst, Lose, Kept, Rounds, loss_ended, WithTurn, with_turn, NoneIsLater}
+use Rattle.commands.specs.State.{broker_of, topology_kept}
 use Rattle.broker.proofs.Joined.{holds, was_there, serves, serves_asleep, serves_kept, running_but}
-use Rattle.broker.specs.Turns.{WithTurn, with_turn}
-use Rattle.broker.specs.Waiting.{NoneIsLater}
 use Rattle.broker.proofs.Staying.{others_stay, own_left, listed_left, none_listed}
 use Rattle.broker.proofs.Turning.{none_later, round_same, round_left}
 use Rattle.broker.proofs.brokers.Broker.lose.Goals as goal

@@ -1,14 +1,7 @@
-use Rattle.std.proofs.Common.{◌≡◌, ◌∙◌, ◌≤◌, ℕ, List, Some, length, refl, sym, ap, subst, arith}
-use Rattle.std.specs.Prelude.{is_some, count_by}
-use Rattle.std.proofs.lemmas.Bool.{false≢true}
-use Rattle.model.specs.Topology.{Topology, IsIn}
-use Rattle.model.specs.Agreement.{IsAgreed}
-use Rattle.model.specs.Broker.{Broker, Channel}
-use Rattle.model.specs.Entries.{is_held_as}
-use Rattle.model.specs.Step.{Is}
-use Rattle.model.specs.declared.messages.Entry.{Entry}
-use Rattle.commands.specs.State.{Kept, broker_of, topology_kept, nothing}
-use Rattle.broker.specs.Rounds.{Rounds, Lists, listed_on, AreItsListings, HasNoList}
+use Rattle.broker.proofs.Names.{◌∙◌, ◌≤◌, ℕ, List, Some, length, refl, sym, ap, subst, arith, is_some, false≢true, Topology, IsIn, IsAgreed, Broker, Channel, is_held_as, Is, Entry, Kept, Rounds, Lists, listed_on, AreItsListings, HasNoList}
+use Rattle.std.proofs.Common.{◌≡◌}
+use Rattle.std.specs.Prelude.{count_by}
+use Rattle.commands.specs.State.{broker_of, topology_kept, nothing}
 use Rattle.broker.proofs.Joined.{serves, serves_none}
 use Rattle.broker.proofs.Reloading.{own_empty}
 use Rattle.broker.proofs.Rising.{rises_none}

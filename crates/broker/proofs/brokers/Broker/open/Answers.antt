@@ -1,12 +1,7 @@
-use Rattle.std.proofs.Common.{[], refl, sym, subst}
-use Rattle.model.specs.Step.{Acts}
+use Rattle.broker.proofs.Names.{[], refl, sym, subst, Acts, Rounds, IsServing, Kept, opening_runs, WithTurn, with_turn, NoneIsLater}
 use Rattle.model.specs.declared.events.Event.TheVariants.{Running}
-use Rattle.broker.specs.Rounds.{Rounds, IsServing}
-use Rattle.commands.specs.State.{Kept, broker_of, topology_kept}
-use Rattle.commands.proofs.Ending.{opening_runs}
+use Rattle.commands.specs.State.{broker_of, topology_kept}
 use Rattle.broker.proofs.Joined.{holds, was_there, serves, serves_asleep, serves_kept, running_still}
-use Rattle.broker.specs.Turns.{WithTurn, with_turn}
-use Rattle.broker.specs.Waiting.{NoneIsLater}
 use Rattle.broker.proofs.Staying.{others_stay, own_left, listed_left, none_listed}
 use Rattle.broker.proofs.Turning.{none_later, round_same, round_left}
 use Rattle.broker.proofs.brokers.Broker.open.Goals as goal

@@ -1,12 +1,6 @@
-use Rattle.std.proofs.Common.{[], refl, subst}
-use Rattle.model.specs.declared.events.Event.TheVariants.{Pause}
-use Rattle.broker.specs.Rounds.{Rounds}
-use Rattle.commands.specs.State.{Kept, broker_of, topology_kept}
-use Rattle.commands.proofs.Ending.{pause_runs}
-use Rattle.commands.proofs.Remaining.{same_stay}
+use Rattle.broker.proofs.Names.{[], refl, subst, Pause, Rounds, Kept, pause_runs, same_stay, WithTurn, with_turn, NoneIsLater}
+use Rattle.commands.specs.State.{broker_of, topology_kept}
 use Rattle.broker.proofs.Joined.{holds, was_there, serves, serves_asleep, running_still}
-use Rattle.broker.specs.Turns.{WithTurn, with_turn}
-use Rattle.broker.specs.Waiting.{NoneIsLater}
 use Rattle.broker.proofs.Staying.{own_stays, listed_stays}
 use Rattle.broker.proofs.Turning.{none_later, round_same}
 use Rattle.broker.proofs.brokers.Broker.pause.Goals as goal

@@ -1,7 +1,5 @@
-use Rattle.std.proofs.Common.{◌∙◌, inl, refl, sym, ap, subst}
-use Rattle.commands.specs.Picked.{IsPick}
-use Rattle.broker.specs.Turns.{WithTurn, broker_of}
-use Rattle.broker.specs.Waiting.{AllStand}
+use Rattle.broker.proofs.Names.{◌∙◌, inl, refl, sym, ap, subst, IsPick, WithTurn, AllStand}
+use Rattle.broker.specs.Turns.{broker_of}
 use Rattle.broker.proofs.Joined.{holds}
 use Rattle.broker.proofs.Turning.{all_stand}
 use Rattle.broker.proofs.brokers.Broker.pick.Goals as goal

@@ -1,13 +1,7 @@
-use Rattle.std.proofs.Common.{None, refl, sym, subst}
-use Rattle.model.specs.declared.events.Event.TheVariants.{Deliver}
-use Rattle.commands.specs.Picked.{IsPick}
-use Rattle.broker.specs.Rounds.{Rounds, IsServing}
+use Rattle.broker.proofs.Names.{None, refl, sym, subst, Deliver, IsPick, Rounds, IsServing, WithTurn, with_turn, Kept, delivery_runs, NoneIsLater}
 use Rattle.broker.specs.Turns as seen
-use Rattle.broker.specs.Turns.{WithTurn, with_turn}
-use Rattle.commands.specs.State.{Kept, broker_of, topology_kept}
-use Rattle.commands.proofs.Ending.{delivery_runs}
+use Rattle.commands.specs.State.{broker_of, topology_kept}
 use Rattle.broker.proofs.Joined.{holds, was_there, serves, serves_asleep, running_still}
-use Rattle.broker.specs.Waiting.{NoneIsLater}
 use Rattle.broker.proofs.Staying.{delivery_stays, own_stays, listed_stays}
 use Rattle.broker.proofs.Turning.{none_later, round_same}
 use Rattle.broker.proofs.Waits.{serves_soon}

@@ -1,14 +1,7 @@
-use Rattle.std.proofs.Common.{◌≡◌, ◌∙◌, ℕ, List, None, length, sym, ap, subst}
-use Rattle.model.specs.Topology.{Topology, queue_names}
-use Rattle.model.specs.Reloading.{NoneIsStranded}
-use Rattle.depot.specs.Moving.{AreMoved}
-use Rattle.depot.proofs.Naming.{names-length}
-use Rattle.commands.specs.State.{Kept, broker_of, topology_kept, names_of}
-use Rattle.broker.specs.Rounds.{Rounds}
-use Rattle.broker.specs.Moving.{ArePlacesApart, RoundsAreMoved, LinesCome, ListsAreMoved}
+use Rattle.broker.proofs.Names.{◌∙◌, ℕ, List, None, length, sym, ap, subst, Topology, queue_names, NoneIsStranded, AreMoved, names-length, Kept, names_of, Rounds, ArePlacesApart, RoundsAreMoved, LinesCome, ListsAreMoved, WithTurn, with_turn, LinesMove}
+use Rattle.std.proofs.Common.{◌≡◌}
+use Rattle.commands.specs.State.{broker_of, topology_kept}
 use Rattle.broker.specs.Turns as seen
-use Rattle.broker.specs.Turns.{WithTurn, with_turn}
-use Rattle.broker.specs.Waiting.{LinesMove}
 use Rattle.broker.proofs.Reloading.{places_apart, serves_moved, lines_moved}
 use Rattle.broker.proofs.brokers.Broker.reload.Goals as goal
 

@@ -1,13 +1,6 @@
-use Rattle.std.proofs.Common.{[], refl, subst}
-use Rattle.std.proofs.lemmas.Bool.{eqb-true}
-use Rattle.model.specs.declared.events.Event.TheVariants.{Resume}
-use Rattle.commands.specs.State.{Kept, broker_of, topology_kept}
-use Rattle.broker.specs.Rounds.{Rounds}
-use Rattle.commands.proofs.Ending.{resume_runs}
-use Rattle.commands.proofs.Remaining.{same_stay}
+use Rattle.broker.proofs.Names.{[], refl, subst, eqb-true, Resume, Kept, Rounds, resume_runs, same_stay, WithTurn, with_turn, NoneIsLater}
+use Rattle.commands.specs.State.{broker_of, topology_kept}
 use Rattle.broker.proofs.Joined.{Holds, holds, was_there, serves, serves_still, serves_kept, notes_keep, keeps_all, running_still}
-use Rattle.broker.specs.Turns.{WithTurn, with_turn}
-use Rattle.broker.specs.Waiting.{NoneIsLater}
 use Rattle.broker.proofs.Staying.{own_same, own_stays, listed_same, listed_stays}
 use Rattle.broker.proofs.Turning.{none_later, round_same}
 use Rattle.broker.proofs.brokers.Broker.resume.Goals as goal

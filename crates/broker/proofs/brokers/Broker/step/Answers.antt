@@ -1,15 +1,9 @@
-use Rattle.std.proofs.Common.{◌∙◌, ℕ, sym, ap, subst}
-use Rattle.broker.specs.Rounds.{Rounds, IsServing}
-use Rattle.commands.specs.Ended.{TellsEnd, TellsStay}
-use Rattle.commands.specs.State.{Kept, broker_of}
-use Rattle.commands.specs.declared.acted.Ends.{Ends}
-use Rattle.replies.specs.Sent.{connection_of_event}
+use Rattle.broker.proofs.Names.{◌∙◌, ℕ, sym, ap, subst, Rounds, IsServing, TellsEnd, TellsStay, Kept, Ends, connection_of_event, WithTurn, with_turn, NobodyIsPutBack}
+use Rattle.commands.specs.State.{broker_of}
 use Rattle.broker.proofs.Outcomes.{on_err}
 use Rattle.broker.proofs.Joined.{holds}
 use Rattle.broker.proofs.Staying.{listed_same}
 use Rattle.broker.proofs.Stepped.{goes, serving_on, round_then, has_ended, own_held, serving_held, own_left_then, serving_left}
-use Rattle.broker.specs.Turns.{WithTurn, with_turn}
-use Rattle.broker.specs.Waiting.{NobodyIsPutBack}
 use Rattle.broker.proofs.Turning.{same_turns, none_back, round_left, waiters_own}
 use Rattle.broker.proofs.brokers.Broker.step.Goals as goal
 

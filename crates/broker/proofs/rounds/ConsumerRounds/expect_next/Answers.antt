@@ -1,6 +1,5 @@
-use Rattle.std.proofs.Common.{refl, sym, subst}
+use Rattle.broker.proofs.Names.{refl, sym, subst, Rounds, round_at, AllListedAreThere, IsInItsRound, GoesOn}
 use Rattle.commands.specs.State.{broker_of}
-use Rattle.broker.specs.Rounds.{Rounds, round_at, AllListedAreThere, IsInItsRound, GoesOn}
 use Rattle.broker.proofs.Orders.{goes_on}
 use Rattle.broker.proofs.Sleeping.{joined_more, joined_woken}
 use Rattle.broker.proofs.Takers.{newest_last}

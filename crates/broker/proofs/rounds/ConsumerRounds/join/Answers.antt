@@ -1,6 +1,5 @@
-use Rattle.std.proofs.Common.{◌∙◌, sym, subst}
+use Rattle.broker.proofs.Names.{◌∙◌, sym, subst, Rounds, round_at, ListsItsOwn, IsInItsRound, AllAddTheirOwn}
 use Rattle.commands.specs.State.{broker_of}
-use Rattle.broker.specs.Rounds.{Rounds, round_at, ListsItsOwn, IsInItsRound, AllAddTheirOwn}
 use Rattle.broker.proofs.Sleeping.{joined_more}
 use Rattle.broker.proofs.Sleepers.{lists_own}
 use Rattle.broker.proofs.rounds.ConsumerRounds.join.Goals as goal

@@ -1,6 +1,5 @@
-use Rattle.std.proofs.Common.{sym, subst}
+use Rattle.broker.proofs.Names.{sym, subst, Rounds, IsInItsRound, KeepLists, ListingsLeave, LeaveLines}
 use Rattle.commands.specs.State.{broker_of}
-use Rattle.broker.specs.Rounds.{Rounds, IsInItsRound, KeepLists, ListingsLeave, LeaveLines}
 use Rattle.broker.proofs.Stepped.{lists_kept}
 use Rattle.broker.proofs.rounds.ConsumerRounds.leave.Goals as goal
 

@@ -1,6 +1,5 @@
-use Rattle.std.proofs.Common.{◌+◌, length, refl, sym, ap, subst, arith}
+use Rattle.broker.proofs.Names.{◌+◌, length, refl, sym, ap, subst, arith, Rounds, AllAreNoted, IsNoted, IsInItsRound, PicksFirst, GoesOn}
 use Rattle.commands.specs.State.{broker_of, topology_kept}
-use Rattle.broker.specs.Rounds.{Rounds, AllAreNoted, IsNoted, IsInItsRound, PicksFirst, GoesOn}
 use Rattle.broker.proofs.rounds.ConsumerRounds.pick.Goals as goal
 
 pub returns-in_err-found-clause-none : goal.returns-in_err-found-clause-none

@@ -1,6 +1,4 @@
-use Rattle.std.proofs.Common.{sym, ap, subst}
-use Rattle.broker.specs.Rounds.{Rounds, Lists}
-use Rattle.broker.specs.Moving.{all_moved, ListsAreMoved}
+use Rattle.broker.proofs.Names.{sym, ap, subst, Rounds, Lists, all_moved, ListsAreMoved}
 use Rattle.broker.proofs.Moving.{lists_moved}
 use Rattle.broker.proofs.rounds.ConsumerRounds.take_over.Goals as goal
 

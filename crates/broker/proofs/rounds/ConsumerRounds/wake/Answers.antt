@@ -1,5 +1,4 @@
-use Rattle.std.proofs.Common.{refl, sym, subst}
-use Rattle.broker.specs.Rounds.{Rounds, IsNoted, IsInItsRound, GoesOn}
+use Rattle.broker.proofs.Names.{refl, sym, subst, Rounds, IsNoted, IsInItsRound, GoesOn}
 use Rattle.broker.proofs.Sleepers.{wake_joined, wake_others}
 use Rattle.broker.proofs.Orders.{goes_on}
 use Rattle.broker.proofs.rounds.ConsumerRounds.wake.Goals as goal

@@ -1,8 +1,4 @@
-use Rattle.std.proofs.Common.{◌∙◌, refl, ap, sym}
-use Rattle.std.specs.Prelude.{◌==◌, ◌&&◌}
-use Rattle.std.proofs.lemmas.Bool.{eqb-true}
-use Rattle.model.specs.declared.events.Event.{Event}
-use Rattle.broker.specs.Rounds.{wakes, wakes_on}
+use Rattle.broker.proofs.Names.{◌∙◌, refl, ap, sym, ◌==◌, ◌&&◌, eqb-true, Event, wakes, wakes_on}
 use Rattle.broker.proofs.Waking.{both}
 use Rattle.broker.proofs.rounds.ConsumerRounds.wake_for.Goals as goal
 

@@ -1,6 +1,4 @@
-use Rattle.std.proofs.Common.{◌∙◌, sym}
-use Rattle.std.specs.Prelude.{◌==◌}
-use Rattle.std.proofs.lemmas.Bool.{eqb-true, eq-eqb, false≢true}
+use Rattle.broker.proofs.Names.{◌∙◌, sym, ◌==◌, eqb-true, eq-eqb, false≢true}
 use Rattle.broker.proofs.Found.{gone_of, kept_of, taken_of}
 use Rattle.broker.proofs.rounds.finding.is_of.Goals as goal
 

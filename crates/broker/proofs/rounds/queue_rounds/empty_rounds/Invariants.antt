@@ -1,5 +1,5 @@
-use Rattle.std.proofs.Common.{◌≡◌, ℕ, [], length}
-use Rattle.broker.specs.Rounds.{round_at}
+use Rattle.broker.proofs.Names.{ℕ, [], length, round_at}
+use Rattle.std.proofs.Common.{◌≡◌}
 use Rattle.broker.proofs.rounds.queue_rounds.empty_rounds.Given as goal
 
 -- so many stand there, with no waiter

@@ -1,8 +1,6 @@
-use Rattle.std.proofs.Common.{◌≡◌, ◌∙◌, ◌+◌, ℕ, inl, inr, refl, subst, arith}
-use Rattle.std.proofs.lemmas.Bool.Decides.{leb_tells}
-use Rattle.commands.specs.Picked.{IsPickFrom}
+use Rattle.broker.proofs.Names.{◌∙◌, ◌+◌, ℕ, inl, inr, refl, subst, arith, leb_tells, IsPickFrom, rounds_of, listing, IsInItsRound}
+use Rattle.std.proofs.Common.{◌≡◌}
 use Rattle.commands.specs.State.{broker_of}
-use Rattle.broker.specs.Rounds.{rounds_of, listing, IsInItsRound}
 use Rattle.broker.proofs.Sleepers.{more_on}
 use Rattle.broker.proofs.Marked.{marked_by}
 use Rattle.broker.proofs.Orders.{picks_since}

@@ -1,5 +1,5 @@
-use Rattle.std.proofs.Common.{◌≡◌, ◌≤◌, ◌-◌, length}
-use Rattle.broker.specs.Rounds.{rounds_of, QueuesAreMarked, KeepsWaiters, ListsMore, NoneBetween, SameOrders}
+use Rattle.broker.proofs.Names.{◌≤◌, ◌-◌, length, rounds_of, QueuesAreMarked, KeepsWaiters, ListsMore, NoneBetween, SameOrders}
+use Rattle.std.proofs.Common.{◌≡◌}
 use Rattle.commands.specs.State.{topology_kept}
 use Rattle.broker.proofs.rounds.queue_rounds.first_between.Given as goal
 

@@ -1,6 +1,4 @@
-use Rattle.std.proofs.Common.{◌<◌, inl, inr, refl, arith}
-use Rattle.std.proofs.lemmas.Bool.Decides.{leb_tells}
-use Rattle.broker.specs.Rounds.{rounds_of, NoneBetween, NonePassed, PicksFrom}
+use Rattle.broker.proofs.Names.{◌<◌, inl, inr, refl, arith, leb_tells, rounds_of, NoneBetween, NonePassed, PicksFrom}
 use Rattle.broker.proofs.Orders.{queues_on, queues_back, picks_since}
 use Rattle.broker.proofs.Outcomes.{if_some, if_both}
 use Rattle.broker.proofs.Takers.{picked_of}

@@ -1,7 +1,4 @@
-use Rattle.std.proofs.Common.{[], sym, subst}
-use Rattle.std.proofs.lemmas.List.{get_or-set_same}
-use Rattle.channels.proofs.Setting.{same_default}
-use Rattle.broker.specs.Rounds.{Waiters, round_at, IsAwake, KeepsRound, LeaveLine}
+use Rattle.broker.proofs.Names.{[], sym, subst, get_or-set_same, same_default, Waiters, round_at, IsAwake, KeepsRound, LeaveLine}
 use Rattle.broker.proofs.Marked.{keep_set}
 use Rattle.broker.proofs.Moving.{marked_moved}
 use Rattle.broker.proofs.rounds.queue_rounds.leave_at.Goals as goal

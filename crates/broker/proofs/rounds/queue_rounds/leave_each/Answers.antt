@@ -1,7 +1,5 @@
-use Rattle.std.proofs.Common.{◌≡◌, ◌∙◌, ◌+◌, ℕ, [], length, filter, inl, inr, sym, ap, subst, arith}
-use Rattle.std.proofs.lemmas.Bool.Decides.{leb_tells}
-use Rattle.std.proofs.lemmas.List.{get_or_past}
-use Rattle.broker.specs.Rounds.{Waiters, round_at, order, remains, LeaveLine}
+use Rattle.broker.proofs.Names.{◌∙◌, ◌+◌, ℕ, [], length, filter, inl, inr, sym, ap, subst, arith, leb_tells, get_or_past, Waiters, round_at, order, remains, LeaveLine}
+use Rattle.std.proofs.Common.{◌≡◌}
 use Rattle.broker.proofs.rounds.queue_rounds.leave_each.Goals as goal
 
 pub loop-queue-preserved : goal.loop-queue-preserved

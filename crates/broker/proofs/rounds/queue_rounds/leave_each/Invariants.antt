@@ -1,5 +1,5 @@
-use Rattle.std.proofs.Common.{◌≡◌, ◌<◌, ◌≤◌, ℕ}
-use Rattle.broker.specs.Rounds.{round_at, QueuesAreMarked, KeepRounds, LeaveLine}
+use Rattle.broker.proofs.Names.{◌<◌, ◌≤◌, ℕ, round_at, QueuesAreMarked, KeepRounds, LeaveLine}
+use Rattle.std.proofs.Common.{◌≡◌}
 use Rattle.broker.proofs.rounds.queue_rounds.leave_each.Given as goal
 
 -- they left the rounds before this place, and those from it on are as they were

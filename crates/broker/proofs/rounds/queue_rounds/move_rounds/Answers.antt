@@ -1,9 +1,5 @@
-use Rattle.std.proofs.Common.{◌≡◌, ◌∙◌, ◌<◌, ℕ, [], length, get_or, inl, inr, sym, ap, subst, arith}
-use Rattle.std.proofs.lemmas.List.{get_or-set_other}
-use Rattle.channels.specs.Moving.{place_now}
-use Rattle.channels.proofs.Setting.{same_default}
-use Rattle.broker.specs.Rounds.{Waiters, round_at, order}
-use Rattle.broker.specs.Moving.{IsMoved, ArePlacesApart}
+use Rattle.broker.proofs.Names.{◌∙◌, ◌<◌, ℕ, [], length, get_or, inl, inr, sym, ap, subst, arith, get_or-set_other, place_now, same_default, Waiters, round_at, order, IsMoved, ArePlacesApart}
+use Rattle.std.proofs.Common.{◌≡◌}
 use Rattle.broker.proofs.Moving.{one_moved}
 use Rattle.broker.proofs.rounds.queue_rounds.move_rounds.Goals as goal
 

@@ -1,7 +1,5 @@
-use Rattle.std.proofs.Common.{◌≡◌, ◌<◌, ◌≤◌, ℕ, length}
-use Rattle.channels.specs.Moving.{place_now}
-use Rattle.broker.specs.Rounds.{round_at, QueuesAreMarked}
-use Rattle.broker.specs.Moving.{IsMoved, LinesCome}
+use Rattle.broker.proofs.Names.{◌<◌, ◌≤◌, ℕ, length, place_now, round_at, QueuesAreMarked, IsMoved, LinesCome}
+use Rattle.std.proofs.Common.{◌≡◌}
 use Rattle.broker.proofs.rounds.queue_rounds.move_rounds.Given as goal
 
 -- the rounds before this place are moved, and those from it on are as they were

@@ -1,6 +1,4 @@
-use Rattle.std.proofs.Common.{◌+◌, ℕ, Option, sym, subst, arith}
-use Rattle.depot.specs.Store.{HasReady}
-use Rattle.broker.specs.Rounds.{IsNextMarked}
+use Rattle.broker.proofs.Names.{◌+◌, ℕ, Option, sym, subst, arith, HasReady, IsNextMarked}
 use Rattle.broker.proofs.Marked.{none_passed}
 use Rattle.broker.proofs.rounds.queue_rounds.next_both.Goals as goal
 

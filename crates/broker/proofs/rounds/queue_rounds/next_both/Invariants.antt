@@ -1,6 +1,5 @@
-use Rattle.std.proofs.Common.{◌≤◌, ◌-◌, length}
+use Rattle.broker.proofs.Names.{◌≤◌, ◌-◌, length, NoneMarked}
 use Rattle.commands.specs.State.{topology_kept}
-use Rattle.broker.specs.Rounds.{NoneMarked}
 use Rattle.broker.proofs.rounds.queue_rounds.next_both.Given as goal
 
 -- from no marked queue before the next a delivery can be made

@@ -1,8 +1,5 @@
-use Rattle.std.proofs.Common.{◌∙◌, [], set, refl, sym, ap, subst}
-use Rattle.std.proofs.lemmas.List.{get_or-set_same}
+use Rattle.broker.proofs.Names.{◌∙◌, [], set, refl, sym, ap, subst, get_or-set_same, same_default, Waiters, order, IsAwake, IsInRound, GoesLast, KeepsIn}
 use Rattle.commands.specs.State.{broker_of}
-use Rattle.channels.proofs.Setting.{same_default}
-use Rattle.broker.specs.Rounds.{Waiters, order, IsAwake, IsInRound, GoesLast, KeepsIn}
 use Rattle.broker.proofs.Marked.{marked_less, marked_set, keeps_set}
 use Rattle.broker.proofs.Orders.{picks_in, orders_set}
 use Rattle.broker.proofs.rounds.queue_rounds.pick_at.Goals as goal

@@ -1,7 +1,4 @@
-use Rattle.std.proofs.Common.{[], sym, subst}
-use Rattle.std.proofs.lemmas.List.{get_or-set_same}
-use Rattle.channels.proofs.Setting.{same_default}
-use Rattle.broker.specs.Rounds.{Waiters, HasRoom, IsAwake, Wakens}
+use Rattle.broker.proofs.Names.{[], sym, subst, get_or-set_same, same_default, Waiters, HasRoom, IsAwake, Wakens}
 use Rattle.broker.proofs.Marked.{marked_still, waken_set}
 use Rattle.broker.proofs.Outcomes.{on_ok}
 use Rattle.broker.proofs.rounds.queue_rounds.reserve_at.Goals as goal

@@ -1,7 +1,4 @@
-use Rattle.std.proofs.Common.{◌∙◌, [], sym, ap, subst}
-use Rattle.std.proofs.lemmas.List.{get_or-set_same}
-use Rattle.broker.specs.Rounds.{Waiters, order, IsAwake}
-use Rattle.broker.specs.Moving.{IsMoved}
+use Rattle.broker.proofs.Names.{◌∙◌, [], sym, ap, subst, get_or-set_same, Waiters, order, IsAwake, IsMoved}
 use Rattle.broker.proofs.Moving.{marked_moved, either_set}
 use Rattle.broker.proofs.rounds.queue_rounds.take_round.Goals as goal
 

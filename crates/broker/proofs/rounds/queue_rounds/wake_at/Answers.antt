@@ -1,6 +1,4 @@
-use Rattle.std.proofs.Common.{[], sym, subst}
-use Rattle.channels.proofs.Setting.{same_default}
-use Rattle.broker.specs.Rounds.{Waiters, Wakens}
+use Rattle.broker.proofs.Names.{[], sym, subst, same_default, Waiters, Wakens}
 use Rattle.broker.proofs.Marked.{marked_more, marked_set, waken_set}
 use Rattle.broker.proofs.rounds.queue_rounds.wake_at.Goals as goal
 

@@ -1,8 +1,5 @@
-use Rattle.std.proofs.Common.{◌≡◌, ◌∙◌, ◌≤◌, ◌+◌, ◌⊎◌, ℕ, List, length, min, vec_len, refl, sym, ap, subst, arith, rules}
-use Rattle.std.specs.Prelude.{insert}
-use Rattle.broker.specs.declared.rounds.waiters.Waiter.{Waiter}
-use Rattle.broker.specs.Lines.{turned}
-use Rattle.broker.specs.Rounds.{round_of, picks, awake_waiter, KeepsRound}
+use Rattle.broker.proofs.Names.{◌∙◌, ◌≤◌, ◌+◌, ℕ, List, length, min, vec_len, refl, sym, ap, subst, arith, rules, insert, Waiter, turned, round_of, picks, awake_waiter, KeepsRound}
+use Rattle.std.proofs.Common.{◌≡◌, ◌⊎◌}
 use Rattle.broker.proofs.Inserting.{comes_last, did_insert, picks_inserted, keeps_inserted}
 use Rattle.broker.proofs.Picks.{picks_length}
 use Rattle.broker.proofs.rounds.round.add_waiter.Goals as goal

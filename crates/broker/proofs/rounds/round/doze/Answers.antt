@@ -1,8 +1,4 @@
-use Rattle.std.proofs.Common.{◌∙◌, get_or, false, refl, sym, inr}
-use Rattle.std.proofs.lemmas.Bool.{false≢true}
-use Rattle.channels.proofs.Setting.{same_default}
-use Rattle.broker.specs.declared.rounds.waiters.Waiter.{Waiter}
-use Rattle.broker.specs.Rounds.{asleep_waiter}
+use Rattle.broker.proofs.Names.{◌∙◌, get_or, false, refl, sym, inr, false≢true, same_default, Waiter, asleep_waiter}
 use Rattle.broker.proofs.Picks.{picks_set}
 use Rattle.broker.proofs.Sleeping.{rested, set_less}
 use Rattle.broker.proofs.rounds.round.doze.Goals as goal

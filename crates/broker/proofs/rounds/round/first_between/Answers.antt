@@ -1,8 +1,4 @@
-use Rattle.std.proofs.Common.{◌∙◌, get_or, false, sym, subst, arith}
-use Rattle.channels.proofs.Setting.{same_default}
-use Rattle.commands.specs.Picked.{IsPickFrom}
-use Rattle.broker.specs.declared.rounds.waiters.Waiter.{Waiter}
-use Rattle.broker.specs.Rounds.{round_of, listing, FindsWaiter}
+use Rattle.broker.proofs.Names.{◌∙◌, get_or, false, sym, subst, arith, same_default, IsPickFrom, Waiter, round_of, listing, FindsWaiter}
 use Rattle.broker.proofs.Sleepers.{more_on}
 use Rattle.broker.proofs.Found.{able_found, none_found}
 use Rattle.broker.proofs.Sleeping.{none_gap, none_more, rested_on, rested_gap}

@@ -1,6 +1,5 @@
-use Rattle.std.proofs.Common.{◌≡◌, ◌<◌, ◌≤◌, ◌-◌, ℕ, length}
-use Rattle.marks.specs.Places.{bit_of}
-use Rattle.broker.specs.Rounds.{round_of, picks, StaysAt, KeepsIn, ListsMore, NoneAwake}
+use Rattle.broker.proofs.Names.{◌<◌, ◌≤◌, ◌-◌, ℕ, length, bit_of, round_of, picks, StaysAt, KeepsIn, ListsMore, NoneAwake}
+use Rattle.std.proofs.Common.{◌≡◌}
 use Rattle.broker.proofs.rounds.round.first_between.Given as goal
 
 -- no delivery can be made to those before the next that were awake, and those behind are as they were

@@ -1,6 +1,4 @@
-use Rattle.std.proofs.Common.{◌<◌, length, inl, inr, refl, arith}
-use Rattle.std.proofs.lemmas.Bool.Decides.{leb_tells}
-use Rattle.broker.specs.Rounds.{round_of, NoneAwake, NoneAwakePassed}
+use Rattle.broker.proofs.Names.{◌<◌, length, inl, inr, refl, arith, leb_tells, round_of, NoneAwake, NoneAwakePassed}
 use Rattle.broker.proofs.Orders.{none_on, none_back}
 use Rattle.broker.proofs.Outcomes.{if_both}
 use Rattle.broker.proofs.Sleeping.{none_round}

@@ -1,7 +1,5 @@
-use Rattle.std.proofs.Common.{◌≡◌, ◌∙◌, ◌≤◌, List, length, filter, take, count_by, vec_len, sym, ap, subst, arith, rules}
-use Rattle.std.proofs.lemmas.List.Sums.{length-filter, count_by-le-length}
-use Rattle.broker.specs.declared.rounds.waiters.Waiter.{Waiter}
-use Rattle.broker.specs.Rounds.{round_of, remains, has_remained, KeepsRound}
+use Rattle.broker.proofs.Names.{◌∙◌, ◌≤◌, List, length, filter, take, vec_len, sym, ap, subst, arith, rules, length-filter, count_by-le-length, Waiter, round_of, remains, has_remained, KeepsRound}
+use Rattle.std.proofs.Common.{◌≡◌, count_by}
 use Rattle.broker.proofs.Later.{filter_full, order_swept, of_remains}
 use Rattle.broker.proofs.Picks.{apart_swept}
 use Rattle.broker.proofs.Sleeping.{swept}

@@ -1,4 +1,4 @@
-use Rattle.std.proofs.Common.{◌∙◌, sym}
+use Rattle.broker.proofs.Names.{◌∙◌, sym}
 use Rattle.broker.proofs.Among.{not_found}
 use Rattle.broker.proofs.rounds.round.place_of.Goals as goal
 

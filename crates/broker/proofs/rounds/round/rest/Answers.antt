@@ -1,9 +1,4 @@
-use Rattle.std.proofs.Common.{◌∙◌, get_or, sym, ap, subst, false}
-use Rattle.std.proofs.lemmas.Bool.{false≢true}
-use Rattle.channels.proofs.Setting.{same_default}
-use Rattle.broker.specs.declared.rounds.finding.Found.{Found}
-use Rattle.broker.specs.declared.rounds.waiters.Waiter.{Waiter}
-use Rattle.broker.specs.Rounds.{is_able, FindsWaiter}
+use Rattle.broker.proofs.Names.{◌∙◌, get_or, sym, ap, subst, false, false≢true, same_default, Found, Waiter, is_able, FindsWaiter}
 use Rattle.broker.proofs.Sleeping.{passed_over, set_less}
 use Rattle.broker.proofs.Takers.{of_has}
 use Rattle.broker.proofs.rounds.round.rest.Goals as goal

@@ -1,6 +1,4 @@
-use Rattle.std.proofs.Common.{get_or, false}
-use Rattle.channels.proofs.Setting.{same_default}
-use Rattle.broker.specs.declared.rounds.waiters.Waiter.{Waiter}
+use Rattle.broker.proofs.Names.{get_or, false, same_default, Waiter}
 use Rattle.broker.proofs.Sleeping.{roused}
 use Rattle.broker.proofs.rounds.round.rouse.Goals as goal
 

@@ -1,7 +1,4 @@
-use Rattle.std.proofs.Common.{List, set, get_or, ap, ◌∙◌, arith, false}
-use Rattle.channels.proofs.Moving.{one_changed}
-use Rattle.broker.specs.declared.rounds.waiters.Waiter.{Waiter}
-use Rattle.broker.specs.Rounds.{awake_waiter}
+use Rattle.broker.proofs.Names.{List, set, get_or, ap, ◌∙◌, arith, false, one_changed, Waiter, awake_waiter}
 use Rattle.broker.proofs.rounds.round.rouse_each.Goals as goal
 
 pub loop-waiter-preserved : goal.loop-waiter-preserved

@@ -1,7 +1,5 @@
+use Rattle.broker.proofs.Names.{changed_to, Waiter, awake_waiter}
 use Rattle.std.proofs.Common.{◌≡◌}
-use Rattle.channels.proofs.Moving.{changed_to}
-use Rattle.broker.specs.declared.rounds.waiters.Waiter.{Waiter}
-use Rattle.broker.specs.Rounds.{awake_waiter}
 use Rattle.broker.proofs.rounds.round.rouse_each.Given as goal
 
 -- those before the index are awake

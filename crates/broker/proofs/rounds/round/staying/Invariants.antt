@@ -1,5 +1,5 @@
-use Rattle.std.proofs.Common.{◌≡◌, ◌≤◌, take, count_by}
-use Rattle.broker.specs.Rounds.{has_remained}
+use Rattle.broker.proofs.Names.{◌≤◌, take, has_remained}
+use Rattle.std.proofs.Common.{◌≡◌, count_by}
 use Rattle.broker.proofs.rounds.round.staying.Given as goal
 
 -- those before the index are counted

@@ -1,6 +1,4 @@
-use Rattle.std.proofs.Common.{rules}
-use Rattle.std.proofs.lemmas.Fn.{filter_same}
-use Rattle.broker.specs.Rounds.{has_remained}
+use Rattle.broker.proofs.Names.{rules, filter_same, has_remained}
 use Rattle.broker.proofs.rounds.round.sweep.Goals as goal
 
 pub returns-clause-waiters : goal.returns-clause-waiters

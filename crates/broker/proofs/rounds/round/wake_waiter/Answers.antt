@@ -1,5 +1,4 @@
-use Rattle.std.proofs.Common.{refl, subst}
-use Rattle.broker.specs.Rounds.{round_of, asleep_waiter, IsAwakeAt}
+use Rattle.broker.proofs.Names.{refl, subst, round_of, asleep_waiter, IsAwakeAt}
 use Rattle.broker.proofs.Picks.{no_pick}
 use Rattle.broker.proofs.rounds.round.wake_waiter.Goals as goal
 

@@ -1,4 +1,4 @@
-use Rattle.broker.specs.Rounds.{listings_on}
+use Rattle.broker.proofs.Names.{listings_on}
 use Rattle.broker.proofs.Listed.{more_grown, more_then}
 use Rattle.broker.proofs.rounds.sleepers.grow.Goals as goal
 

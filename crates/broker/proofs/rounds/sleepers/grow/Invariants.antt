@@ -1,5 +1,4 @@
-use Rattle.std.proofs.Common.{◌-◌, ℕ, vec_len}
-use Rattle.broker.specs.Rounds.{listings_on, SleepMore}
+use Rattle.broker.proofs.Names.{◌-◌, ℕ, vec_len, listings_on, SleepMore}
 use Rattle.broker.proofs.rounds.sleepers.grow.Given as goal
 
 -- what is listed stays

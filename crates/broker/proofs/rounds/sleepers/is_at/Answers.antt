@@ -1,7 +1,4 @@
-use Rattle.std.proofs.Common.{◌∙◌, sym, ap, arith}
-use Rattle.std.proofs.lemmas.Bool.{false≢true}
-use Rattle.channels.proofs.Setting.{same_default}
-use Rattle.broker.specs.Rounds.{listing, is_listing}
+use Rattle.broker.proofs.Names.{◌∙◌, sym, ap, arith, false≢true, same_default, listing, is_listing}
 use Rattle.broker.proofs.Listed.{one_listing, same_listing}
 use Rattle.broker.proofs.rounds.sleepers.is_at.Goals as goal
 

@@ -1,8 +1,5 @@
-use Rattle.std.proofs.Common.{◌∙◌, inl, inr, refl, sym, ap}
+use Rattle.broker.proofs.Names.{◌∙◌, inl, inr, refl, sym, ap, option_copied_mut, IsIn, Listing, listing, NumbersRise}
 use Rattle.std.specs.Prelude.{◌≡◌, ◌⊎◌}
-use Rattle.std.specs.Option.{option_copied_mut}
-use Rattle.model.specs.Topology.{IsIn}
-use Rattle.broker.specs.Rounds.{Listing, listing, NumbersRise}
 use Rattle.broker.proofs.Sleepers.{noted_written, written_each}
 use Rattle.broker.proofs.rounds.sleepers.join_listing.Goals as goal
 

@@ -1,7 +1,4 @@
-use Rattle.std.proofs.Common.{[], List, sym, subst}
-use Rattle.model.specs.Topology.{IsIn}
-use Rattle.channels.proofs.Setting.{same_default}
-use Rattle.broker.specs.Rounds.{Listing, Listings, listing, listings_of, HasListRoom, AreBelow, AddsListing}
+use Rattle.broker.proofs.Names.{[], List, sym, subst, IsIn, same_default, Listing, Listings, listing, listings_of, HasListRoom, AreBelow, AddsListing}
 use Rattle.broker.proofs.Among.{at_end}
 use Rattle.broker.proofs.Listed.{on_same, adds_on, adds_end}
 use Rattle.broker.proofs.rounds.sleepers.join_on.Goals as goal

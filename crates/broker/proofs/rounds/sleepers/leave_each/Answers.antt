@@ -1,8 +1,5 @@
-use Rattle.std.proofs.Common.{◌≡◌, ◌∙◌, ◌+◌, ℕ, [], length, filter, get_or, set, inl, inr, sym, ap, subst, arith}
-use Rattle.std.proofs.lemmas.Bool.Decides.{leb_tells}
-use Rattle.std.proofs.lemmas.List.{get_or-set_other}
-use Rattle.channels.proofs.Setting.{same_default}
-use Rattle.broker.specs.Rounds.{Listings, listings_of, listings_on, is_listed_there, KeepsListings}
+use Rattle.broker.proofs.Names.{◌∙◌, ◌+◌, ℕ, [], length, filter, get_or, set, inl, inr, sym, ap, subst, arith, leb_tells, get_or-set_other, same_default, Listings, listings_of, listings_on, is_listed_there, KeepsListings}
+use Rattle.std.proofs.Common.{◌≡◌}
 use Rattle.broker.proofs.Listed.{on_same, on_each, past_end, keeps_same, keeps_then}
 use Rattle.broker.proofs.rounds.sleepers.leave_each.Goals as goal
 

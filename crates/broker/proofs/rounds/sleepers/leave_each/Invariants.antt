@@ -1,5 +1,5 @@
-use Rattle.std.proofs.Common.{◌≡◌, ◌<◌, ◌≤◌, ℕ, filter}
-use Rattle.broker.specs.Rounds.{listings_on, is_listed_there, KeepListingsOn}
+use Rattle.broker.proofs.Names.{◌<◌, ◌≤◌, ℕ, filter, listings_on, is_listed_there, KeepListingsOn}
+use Rattle.std.proofs.Common.{◌≡◌}
 use Rattle.broker.proofs.rounds.sleepers.leave_each.Given as goal
 
 -- they left the lists before this place, and those from it on are as they were

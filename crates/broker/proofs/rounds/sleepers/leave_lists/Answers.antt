@@ -1,9 +1,5 @@
-use Rattle.std.proofs.Common.{◌∙◌, true, List, sym, ap, subst}
-use Rattle.std.specs.Prelude.{◌≡◌, ◌==◌}
-use Rattle.std.specs.Option.{option_copied_mut}
-use Rattle.std.proofs.lemmas.Bool.{false≢true}
-use Rattle.model.specs.Topology.{IsIn}
-use Rattle.broker.specs.Rounds.{Listing, listings_on, is_listed_there, NumbersRise}
+use Rattle.broker.proofs.Names.{◌∙◌, true, List, sym, ap, subst, ◌==◌, option_copied_mut, false≢true, IsIn, Listing, listings_on, is_listed_there, NumbersRise}
+use Rattle.std.specs.Prelude.{◌≡◌}
 use Rattle.broker.proofs.Lining.{filter_in}
 use Rattle.broker.proofs.Rising.{rises_swept}
 use Rattle.broker.proofs.Sleepers.{written_each}

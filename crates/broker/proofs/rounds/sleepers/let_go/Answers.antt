@@ -1,6 +1,5 @@
-use Rattle.std.proofs.Common.{◌≡◌, ◌∙◌, ◌≤◌, length, filter, vec_len, refl, ap, arith, rules}
-use Rattle.std.proofs.lemmas.List.Sums.{length-filter, count_by-le-length}
-use Rattle.broker.specs.Rounds.{listings_of, is_listed_there}
+use Rattle.broker.proofs.Names.{◌∙◌, ◌≤◌, length, filter, vec_len, refl, ap, arith, rules, length-filter, count_by-le-length, listings_of, is_listed_there}
+use Rattle.std.proofs.Common.{◌≡◌}
 use Rattle.broker.proofs.Later.{filter_full}
 use Rattle.broker.proofs.Listed.{kept_swept, kept_all}
 use Rattle.broker.proofs.rounds.sleepers.let_go.Goals as goal

@@ -1,6 +1,4 @@
-use Rattle.std.proofs.Common.{◌∙◌, List, set, sym, ap, subst}
-use Rattle.std.proofs.lemmas.List.{set-get_or}
-use Rattle.broker.specs.Rounds.{listings_of, Listing, listing, IsAsleepIn}
+use Rattle.broker.proofs.Names.{◌∙◌, List, set, sym, ap, subst, set-get_or, listings_of, Listing, listing, IsAsleepIn}
 use Rattle.broker.proofs.Listed.{asleep_more}
 use Rattle.broker.proofs.rounds.sleepers.mark_in.Goals as goal
 

@@ -1,7 +1,4 @@
-use Rattle.std.proofs.Common.{[], List, sym, subst, arith}
-use Rattle.model.specs.Topology.{IsIn}
-use Rattle.channels.proofs.Setting.{same_default}
-use Rattle.broker.specs.Rounds.{listings_of, Listing, Listings, listing, listings_on, IsAsleepIn, SleepMore}
+use Rattle.broker.proofs.Names.{[], List, sym, subst, arith, IsIn, same_default, listings_of, Listing, Listings, listing, listings_on, IsAsleepIn, SleepMore}
 use Rattle.broker.proofs.Listed.{on_same, on_each, past_end, more_same}
 use Rattle.broker.proofs.rounds.sleepers.mark_on.Goals as goal
 

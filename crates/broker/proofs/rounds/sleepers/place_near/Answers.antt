@@ -1,6 +1,6 @@
-use Rattle.std.proofs.Common.{ltb, ltb-true, ltb-false, rules}
+use Rattle.broker.proofs.Names.{ltb, ltb-false, rules, Listing, number_of}
+use Rattle.std.proofs.Common.{ltb-true}
 use Rattle.std.proofs.lemmas.List.Sorted.{IsPartitionPoint-from_clause, IsPartitionedBy-ltb}
-use Rattle.broker.specs.Rounds.{Listing, number_of}
 use Rattle.broker.proofs.Rising.{never_less}
 use Rattle.broker.proofs.rounds.sleepers.place_near.Goals as goal
 

@@ -1,6 +1,4 @@
-use Rattle.std.proofs.Common.{◌∙◌, List, Option, sym, ap, subst}
-use Rattle.std.specs.Option.{option_copied_mut}
-use Rattle.broker.specs.Rounds.{Listing, Listings, listings_on, channels_of, AreBelow}
+use Rattle.broker.proofs.Names.{◌∙◌, List, Option, sym, ap, subst, option_copied_mut, Listing, Listings, listings_on, channels_of, AreBelow}
 use Rattle.broker.proofs.Outcomes.{on_ok}
 use Rattle.broker.proofs.Sleepers.{written_here}
 use Rattle.broker.proofs.rounds.sleepers.reserve_listing.Goals as goal

@@ -1,6 +1,4 @@
-use Rattle.std.proofs.Common.{[], sym, subst}
-use Rattle.channels.proofs.Setting.{same_default}
-use Rattle.broker.specs.Rounds.{listings_of, Listings, listings_on, HasListRoom, SleepMore}
+use Rattle.broker.proofs.Names.{[], sym, subst, same_default, listings_of, Listings, listings_on, HasListRoom, SleepMore}
 use Rattle.broker.proofs.Listed.{on_same, on_each, more_same}
 use Rattle.broker.proofs.Outcomes.{on_ok}
 use Rattle.broker.proofs.rounds.sleepers.reserve_on.Goals as goal

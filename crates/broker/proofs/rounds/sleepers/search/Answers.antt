@@ -1,6 +1,4 @@
-use Rattle.std.proofs.Common.{◌∙◌}
-use Rattle.channels.proofs.Setting.{same_default}
-use Rattle.broker.specs.Rounds.{listing}
+use Rattle.broker.proofs.Names.{◌∙◌, same_default, listing}
 use Rattle.broker.proofs.Rising.{none_near}
 use Rattle.broker.proofs.rounds.sleepers.search.Goals as goal
 

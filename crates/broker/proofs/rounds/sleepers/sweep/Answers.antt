@@ -1,6 +1,4 @@
-use Rattle.std.proofs.Common.{rules}
-use Rattle.std.proofs.lemmas.Fn.{filter_same}
-use Rattle.broker.specs.Rounds.{is_listed_there}
+use Rattle.broker.proofs.Names.{rules, filter_same, is_listed_there}
 use Rattle.broker.proofs.rounds.sleepers.sweep.Goals as goal
 
 pub returns-clause-listed : goal.returns-clause-listed

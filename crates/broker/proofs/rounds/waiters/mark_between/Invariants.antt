@@ -1,5 +1,5 @@
-use Rattle.std.proofs.Common.{◌≡◌, ◌<◌, ◌≤◌, ℕ, length}
-use Rattle.marks.specs.Places.{bit_of}
+use Rattle.broker.proofs.Names.{◌<◌, ◌≤◌, ℕ, length, bit_of}
+use Rattle.std.proofs.Common.{◌≡◌}
 use Rattle.broker.proofs.rounds.waiters.mark_between.Given as goal
 
 -- those before this place are in the set, and so are those that were

@@ -1,5 +1,4 @@
-use Rattle.std.proofs.lemmas.Result.{err_from_is_err_and}
-use Rattle.serde_json.specs.View.{view}
+use Rattle.certificate.proofs.Names.{err_from_is_err_and, view}
 use Rattle.json_file.proofs.Refused.{unread}
 use Rattle.certificate.specs.Stated.{certificates_stated}
 use Rattle.certificate.proofs.certificates.Certificate.read.Goals as goal

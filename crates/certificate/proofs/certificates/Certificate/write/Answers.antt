@@ -1,7 +1,5 @@
-use Rattle.std.proofs.Common.{◌∙◌, List, ℕ, ap, subst, string_bytes, IsUtf8}
-use Rattle.std.specs.Global.{Vec}
-use Rattle.serde_json.specs.Data.{Data, array}
-use Rattle.serde_json.specs.View.{items_of, view}
+use Rattle.certificate.proofs.Names.{◌∙◌, List, ℕ, ap, subst, string_bytes, Vec, Data, array, items_of, view}
+use Rattle.std.proofs.Common.{IsUtf8}
 use Rattle.certificate.proofs.Spelling.{written}
 use Rattle.certificate.proofs.certificates.Certificate.write.Goals as goal
 

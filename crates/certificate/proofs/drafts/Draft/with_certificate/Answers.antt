@@ -1,6 +1,4 @@
-use Rattle.std.proofs.Common.{subst}
-use Rattle.certificate.specs.Drafts.{IsDraft}
-use Rattle.certificate.specs.declared.drafts.Draft.{Draft}
+use Rattle.certificate.proofs.Names.{subst, IsDraft, Draft}
 use Rattle.certificate.proofs.Drafting.{fails_still}
 use Rattle.certificate.proofs.drafts.Draft.with_certificate.Goals as goal
 

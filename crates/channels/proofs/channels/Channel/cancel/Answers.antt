@@ -1,7 +1,5 @@
-use Rattle.std.proofs.Common.{◌∙◌, ap, List}
+use Rattle.channels.proofs.Imports.{◌∙◌, ap, List, Given, Open, open_in}
 use Rattle.model.specs.Broker as seen
-use Rattle.channels.specs.Deliveries.{Given}
-use Rattle.channels.specs.Open.{Open, open_in}
 use Rattle.channels.proofs.Seating.{without_tagged}
 use Rattle.channels.proofs.channels.Channel.cancel.Goals as goal
 

@@ -1,8 +1,5 @@
-use Rattle.std.proofs.Common.{◌∙◌, refl, sym, ap, subst, Some}
+use Rattle.channels.proofs.Imports.{◌∙◌, refl, sym, ap, subst, Some, Text, Given, AddsConsumer, JudgesSeat, MaySeat, Open, IsConsumerSeated}
 use Rattle.std.proofs.lemmas.Result.{err_from_is_err_and}
-use Rattle.model.specs.Words.{Text}
-use Rattle.channels.specs.Deliveries.{Given, AddsConsumer, JudgesSeat, MaySeat}
-use Rattle.channels.specs.Open.{Open, IsConsumerSeated}
 use Rattle.channels.proofs.Seating.{named_free, named_refused, named_seated, unnamed_seats}
 use Rattle.channels.proofs.channels.Channel.consume.Goals as goal
 

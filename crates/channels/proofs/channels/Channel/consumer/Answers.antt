@@ -1,5 +1,4 @@
-use Rattle.std.proofs.Common.{◌∙◌, ap, sym, subst}
-use Rattle.channels.specs.Open.{Open, IsOne}
+use Rattle.channels.proofs.Imports.{◌∙◌, ap, sym, subst, Open, IsOne}
 use Rattle.channels.proofs.Numbering.{tells_one}
 use Rattle.channels.proofs.channels.Channel.consumer.Goals as goal
 

@@ -1,5 +1,4 @@
-use Rattle.std.proofs.Common.{◌≡◌, ◌-◌, ◌∙◌, ap, arith}
-use Rattle.channels.specs.Deliveries.{Given, with_given}
+use Rattle.channels.proofs.Imports.{◌≡◌, ◌-◌, ◌∙◌, ap, arith, Given, with_given}
 use Rattle.channels.proofs.channels.Channel.give.Goals as goal
 
 pub returns : goal.returns

@@ -1,5 +1,4 @@
-use Rattle.std.proofs.Common.{◌∙◌, sym}
-use Rattle.channels.specs.Open.{Open}
+use Rattle.channels.proofs.Imports.{◌∙◌, sym, Open}
 use Rattle.channels.proofs.Seating.{any_tagged}
 use Rattle.channels.proofs.channels.Channel.has_tagged.Goals as goal
 

@@ -1,4 +1,4 @@
-use Rattle.channels.specs.Open.{Open}
+use Rattle.channels.proofs.Imports.{Open}
 use Rattle.channels.proofs.Numbering.{are_below}
 use Rattle.channels.proofs.channels.Channel.next_number.Goals as goal
 

@@ -1,7 +1,4 @@
-use Rattle.std.proofs.Common.{◌∙◌, sym, subst}
-use Rattle.model.specs.Words.{Text}
-use Rattle.channels.specs.Deliveries.{JudgesSeat}
-use Rattle.channels.specs.Open.{Open}
+use Rattle.channels.proofs.Imports.{◌∙◌, sym, subst, Text, JudgesSeat, Open}
 use Rattle.channels.proofs.Seating.{named_judged, unnamed_judged}
 use Rattle.channels.proofs.channels.Channel.refusal.Goals as goal
 

@@ -1,4 +1,4 @@
-use Rattle.channels.specs.Open.{Open}
+use Rattle.channels.proofs.Imports.{Open}
 use Rattle.channels.proofs.Numbering.{tells}
 use Rattle.channels.proofs.channels.Channel.taker.Goals as goal
 

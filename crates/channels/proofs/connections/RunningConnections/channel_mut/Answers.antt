@@ -1,6 +1,4 @@
-use Rattle.std.proofs.Common.{sym, ap, ◌∙◌, refl}
-use Rattle.std.specs.Option.{option_copied_mut}
-use Rattle.channels.specs.RunningConnections.{with_channel_in}
+use Rattle.channels.proofs.Imports.{sym, ap, ◌∙◌, refl, option_copied_mut, with_channel_in}
 use Rattle.channels.proofs.Setting.{set_same, found_channel, found_written}
 use Rattle.channels.proofs.connections.RunningConnections.channel_mut.Goals as goal
 

@@ -1,11 +1,7 @@
-use Rattle.std.proofs.Common.{◌∙◌, ℕ, List, Option, ap, sym, subst, Some}
-use Rattle.std.specs.Prelude.{IsSome}
-use Rattle.std.proofs.lemmas.Bool.{false≢true}
-use Rattle.std.specs.Option.{option_copied_mut}
+use Rattle.channels.proofs.Imports.{◌∙◌, ℕ, List, Option, ap, sym, subst, Some, IsSome, false≢true, option_copied_mut, Running, running_in, HasPlacesBelow}
 use Rattle.channels.proofs.Outcomes.{on_err}
 use Rattle.channels.proofs.Setting.{set_same}
 use Rattle.channels.proofs.Places.{places_found, places_written}
-use Rattle.channels.specs.RunningConnections.{Running, running_in, HasPlacesBelow}
 use Rattle.channels.proofs.connections.RunningConnections.open_channel.Goals.{in-Some, in-None}
 use Rattle.channels.proofs.connections.RunningConnections.open_channel.Goals as goal
 

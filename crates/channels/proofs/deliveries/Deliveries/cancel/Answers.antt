@@ -1,6 +1,4 @@
-use Rattle.std.proofs.Common.{sym, subst, not}
-use Rattle.channels.specs.Seats.{AreNumbered, is_named}
-use Rattle.channels.specs.declared.consumers.Consumer.{Consumer}
+use Rattle.channels.proofs.Imports.{sym, subst, not, AreNumbered, is_named, Consumer}
 use Rattle.channels.proofs.Numbering.{numbered_filter}
 use Rattle.channels.proofs.deliveries.Deliveries.cancel.Goals as goal
 

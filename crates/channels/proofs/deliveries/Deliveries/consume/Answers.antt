@@ -1,8 +1,4 @@
-use Rattle.std.proofs.Common.{◌≡◌, ◌+◌, ◌++◌, ◌∷◌, [], refl, sym, ap, subst, ◌∙◌}
-use Rattle.model.specs.Prefetch.{is_to, count_to}
-use Rattle.channels.specs.Outstanding.{taker_of}
-use Rattle.channels.specs.Seats.{Seated, SeatsAreCounted, AreNumbered}
-use Rattle.channels.specs.declared.consumers.Consumer.{Consumer}
+use Rattle.channels.proofs.Imports.{◌≡◌, ◌+◌, ◌++◌, ◌∷◌, [], refl, sym, ap, subst, ◌∙◌, is_to, count_to, taker_of, Seated, SeatsAreCounted, AreNumbered, Consumer}
 use Rattle.channels.proofs.Marking.{counted_waiting}
 use Rattle.channels.proofs.Numbering.{numbered_push}
 use Rattle.channels.proofs.deliveries.Deliveries.consume.Goals as goal

@@ -1,9 +1,5 @@
-use Rattle.std.proofs.Common.{◌<◌, ℕ, sym, subst, List}
-use Rattle.model.specs.Settling.{kept}
-use Rattle.channels.specs.Outstanding.{tag_of}
-use Rattle.channels.specs.Seats.{SeatsAreCounted, AreNumbered, AreParts}
+use Rattle.channels.proofs.Imports.{◌<◌, ℕ, sym, subst, List, kept, tag_of, SeatsAreCounted, AreNumbered, AreParts, Delivery}
 use Rattle.channels.proofs.Counting.{taken_parts}
-use Rattle.model.specs.declared.deliveries.Delivery.{Delivery}
 use Rattle.channels.proofs.deliveries.Deliveries.forget_span.Goals as goal
 
 pub invariant_of-self : goal.invariant_of-self

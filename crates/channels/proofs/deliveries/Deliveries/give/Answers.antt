@@ -1,7 +1,5 @@
-use Rattle.std.proofs.Common.{◌<◌, ℕ, List, ap, sym, subst, arith, length, length-append}
-use Rattle.std.specs.List.{All}
+use Rattle.channels.proofs.Imports.{◌<◌, ℕ, List, ap, sym, subst, arith, length, length-append, All, Delivery}
 use Rattle.channels.proofs.Counting.{counts_small}
-use Rattle.model.specs.declared.deliveries.Delivery.{Delivery}
 use Rattle.channels.proofs.deliveries.Deliveries.give.Goals as goal
 
 pub count_in-requires-clause-each : goal.count_in-requires-clause-each

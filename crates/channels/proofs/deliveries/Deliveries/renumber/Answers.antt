@@ -1,6 +1,4 @@
-use Rattle.std.proofs.Common.{◌<◌, ℕ, sym, subst, List}
-use Rattle.channels.specs.Seats.{SeatsAreCounted, AreNumbered}
-use Rattle.model.specs.declared.deliveries.Delivery.{Delivery}
+use Rattle.channels.proofs.Imports.{◌<◌, ℕ, sym, subst, List, SeatsAreCounted, AreNumbered, Delivery}
 use Rattle.channels.proofs.Moving.{moved_numbered}
 use Rattle.channels.proofs.deliveries.Deliveries.renumber.Goals as goal
 

@@ -1,6 +1,5 @@
-use Rattle.std.proofs.Common.{◌≡◌, ◌∙◌, sym, subst}
+use Rattle.channels.proofs.Imports.{◌≡◌, ◌∙◌, sym, subst, Given, taker_among, consumer_at}
 use Rattle.std.specs.Prelude.{option_map}
-use Rattle.channels.specs.Deliveries.{Given, taker_among, consumer_at}
 use Rattle.channels.proofs.Numbering.{taker_left}
 use Rattle.channels.proofs.deliveries.Deliveries.taker.Goals as goal
 

@@ -1,7 +1,4 @@
-use Rattle.std.proofs.Common.{◌+◌, ◌*◌, ◌≤◌, ap, subst, arith, drop, length, length-drop, List}
-use Rattle.model.specs.Settling.{Rises}
-use Rattle.channels.specs.Outstanding.{OutstandingList, tag_of}
-use Rattle.model.specs.declared.deliveries.Delivery.{Delivery}
+use Rattle.channels.proofs.Imports.{◌+◌, ◌*◌, ◌≤◌, ap, subst, arith, drop, length, length-drop, List, Rises, OutstandingList, tag_of, Delivery}
 use Rattle.channels.proofs.Settlement.{waiting_rises}
 use Rattle.channels.proofs.pending.Unsettled.all.Goals as goal
 

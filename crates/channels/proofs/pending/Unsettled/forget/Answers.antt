@@ -1,6 +1,4 @@
-use Rattle.std.proofs.Common.{◌-◌, ap, arith, drop, length, length-drop, List, ℕ}
-use Rattle.model.specs.Placed.{waiting}
-use Rattle.model.specs.declared.deliveries.Delivery.{Delivery}
+use Rattle.channels.proofs.Imports.{◌-◌, ap, arith, drop, length, length-drop, List, ℕ, waiting, Delivery}
 use Rattle.channels.proofs.Marking.{fewer_wait, kept_closed, few_closed}
 use Rattle.channels.proofs.pending.Unsettled.forget.Goals as goal
 

@@ -1,7 +1,4 @@
-use Rattle.std.proofs.Common.{◌<◌, ◌++◌, ◌∷◌, [], ◌∙◌, sym, ap, subst, arith, drop, List, ℕ}
-use Rattle.channels.specs.Outstanding.{OutstandingList}
-use Rattle.model.specs.Placed.{waiting}
-use Rattle.model.specs.declared.deliveries.Delivery.{Delivery}
+use Rattle.channels.proofs.Imports.{◌<◌, ◌++◌, ◌∷◌, [], ◌∙◌, sym, ap, subst, arith, drop, List, ℕ, OutstandingList, waiting, Delivery}
 use Rattle.channels.proofs.Runs.{drop_push}
 use Rattle.channels.proofs.Marking.{kept_pushed, waiting_pushed}
 use Rattle.channels.proofs.pending.Unsettled.push.Goals as goal

@@ -1,9 +1,4 @@
-use Rattle.std.proofs.Common.{◌∙◌, map, drop, length, sym, ap, subst, arith, List}
-use Rattle.std.proofs.lemmas.List.{length-map}
-use Rattle.channels.specs.Outstanding.{OutstandingList, AreInOrder}
-use Rattle.model.specs.Placed.{waiting}
-use Rattle.channels.specs.Moving.{outstanding_moved}
-use Rattle.model.specs.declared.deliveries.Delivery.{Delivery}
+use Rattle.channels.proofs.Imports.{◌∙◌, map, drop, length, sym, ap, subst, arith, List, length-map, OutstandingList, AreInOrder, waiting, outstanding_moved, Delivery}
 use Rattle.channels.proofs.Moving.{drop_moved, moved_order, moved_waiting}
 use Rattle.channels.proofs.pending.Unsettled.renumber.Goals as goal
 

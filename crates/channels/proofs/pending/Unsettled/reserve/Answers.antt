@@ -1,6 +1,4 @@
-use Rattle.std.proofs.Common.{◌∙◌, sym, ap, subst, arith, drop, length, length-drop, List, inl, inr}
-use Rattle.channels.specs.Outstanding.{AreKept}
-use Rattle.model.specs.declared.deliveries.Delivery.{Delivery}
+use Rattle.channels.proofs.Imports.{◌∙◌, sym, ap, subst, arith, drop, length, length-drop, List, inl, inr, AreKept, Delivery}
 use Rattle.channels.proofs.Marking.{fewer_wait, kept_closed, on_ok}
 use Rattle.channels.proofs.pending.Unsettled.reserve.Goals as goal
 

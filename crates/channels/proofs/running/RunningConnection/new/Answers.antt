@@ -1,4 +1,4 @@
-use Rattle.std.proofs.Common.{[], arith}
+use Rattle.channels.proofs.Imports.{[], arith}
 use Rattle.channels.proofs.Opening.{opened_at, opened_len}
 use Rattle.channels.proofs.running.RunningConnection.new.Goals as goal
 

@@ -1,6 +1,5 @@
-use Rattle.std.proofs.Common.{◌≡◌, ◌∙◌, ap, subst, List, count_by}
-use Rattle.channels.specs.Seats.{Seated, takes_from}
-use Rattle.channels.specs.declared.consumers.CountedConsumer.{CountedConsumer}
+use Rattle.channels.proofs.Imports.{◌≡◌, ◌∙◌, ap, subst, List, Seated, takes_from, CountedConsumer}
+use Rattle.std.proofs.Common.{count_by}
 use Rattle.channels.proofs.Counting.{counted_of}
 use Rattle.channels.proofs.seats.Seats.count_from.Goals as goal
 

@@ -1,10 +1,4 @@
-use Rattle.std.proofs.Common.{◌≡◌, cond, ◌∙◌, ◌++◌, ◌∷◌, ◌<◌, [], sym, ap, subst, ℕ, List, ◌+◌, map}
-use Rattle.std.specs.List.{All}
-use Rattle.model.specs.Prefetch.{is_delivery, count_to, count_given}
-use Rattle.model.specs.declared.messages.Taker.{Taker}
-use Rattle.channels.specs.Outstanding.{taker_of}
-use Rattle.channels.specs.Seats.{Seated, SeatsAreCounted, consumers_of, counts_of, counted_in}
-use Rattle.channels.specs.declared.consumers.Consumer.{Consumer}
+use Rattle.channels.proofs.Imports.{◌≡◌, cond, ◌∙◌, ◌++◌, ◌∷◌, ◌<◌, [], sym, ap, subst, ℕ, List, ◌+◌, map, All, is_delivery, count_to, count_given, Taker, taker_of, Seated, SeatsAreCounted, consumers_of, counts_of, counted_in, Consumer}
 use Rattle.channels.proofs.Counting.{same_consumers, new_counts, in_consumer, step_in, one_more, held_small}
 use Rattle.channels.proofs.seats.Seats.count_in.Goals as goal
 

@@ -1,9 +1,4 @@
-use Rattle.std.proofs.Common.{◌≡◌, refl, ◌∙◌, sym, ap, subst, arith, List, ◌+◌, map}
-use Rattle.model.specs.Prefetch.{is_delivery, count_to, count_given}
-use Rattle.channels.specs.Outstanding.{taker_of}
-use Rattle.model.specs.Placed.{waiting}
-use Rattle.channels.specs.Seats.{Seated, SeatsAreCounted, consumers_of, counts_of, counted_out}
-use Rattle.channels.specs.declared.consumers.Consumer.{Consumer}
+use Rattle.channels.proofs.Imports.{◌≡◌, refl, ◌∙◌, sym, ap, subst, arith, List, ◌+◌, map, is_delivery, count_to, count_given, taker_of, waiting, Seated, SeatsAreCounted, consumers_of, counts_of, counted_out, Consumer}
 use Rattle.channels.proofs.Counting.{same_consumers, new_counts, step_out}
 use Rattle.channels.proofs.Marking.{counted_waiting}
 use Rattle.channels.proofs.seats.Seats.count_out.Goals as goal

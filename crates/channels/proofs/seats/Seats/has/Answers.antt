@@ -1,7 +1,4 @@
-use Rattle.std.proofs.Common.{◌≡◌, ◌∙◌, ap, subst, List}
-use Rattle.std.specs.List.{list_any}
-use Rattle.channels.specs.Seats.{Seated, is_named, has_name}
-use Rattle.channels.specs.declared.consumers.CountedConsumer.{CountedConsumer}
+use Rattle.channels.proofs.Imports.{◌≡◌, ◌∙◌, ap, subst, List, list_any, Seated, is_named, has_name, CountedConsumer}
 use Rattle.channels.proofs.Counting.{any_named}
 use Rattle.channels.proofs.seats.Seats.has.Goals as goal
 

@@ -1,9 +1,5 @@
-use Rattle.std.proofs.Common.{◌≡◌, ◌∙◌, ap, subst, List, find}
+use Rattle.channels.proofs.Imports.{◌≡◌, ◌∙◌, ap, subst, List, find, Seated, SeatsAreCounted, is_numbered, may_held, may_of, Consumer, CountedConsumer}
 use Rattle.std.specs.Prelude.{◌==◌}
-use Rattle.channels.specs.Seats.{Seated, SeatsAreCounted, is_numbered, may_held}
-use Rattle.channels.specs.Deliveries.{may_of}
-use Rattle.channels.specs.declared.consumers.Consumer.{Consumer}
-use Rattle.channels.specs.declared.consumers.CountedConsumer.{CountedConsumer}
 use Rattle.channels.proofs.Counting.{may_kept}
 use Rattle.channels.proofs.seats.Seats.may_take.Goals as goal
 

@@ -1,8 +1,5 @@
-use Rattle.std.proofs.Common.{◌≡◌, ◌∙◌, ap, subst, List, find}
+use Rattle.channels.proofs.Imports.{◌≡◌, ◌∙◌, ap, subst, List, find, Seated, is_numbered, Consumer, CountedConsumer}
 use Rattle.std.specs.Prelude.{◌==◌, option_map}
-use Rattle.channels.specs.Seats.{Seated, is_numbered}
-use Rattle.channels.specs.declared.consumers.Consumer.{Consumer}
-use Rattle.channels.specs.declared.consumers.CountedConsumer.{CountedConsumer}
 use Rattle.channels.proofs.Numbering.{seat_is}
 use Rattle.channels.proofs.seats.Seats.numbered.Goals as goal
 

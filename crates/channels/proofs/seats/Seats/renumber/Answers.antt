@@ -1,6 +1,4 @@
-use Rattle.std.proofs.Common.{◌∙◌, refl, sym, ap, subst, map}
-use Rattle.channels.specs.Seats.{Seated, SeatsAreCounted, consumers_of, counts_of}
-use Rattle.channels.specs.Moving.{consumer_moved}
+use Rattle.channels.proofs.Imports.{◌∙◌, refl, sym, ap, subst, map, Seated, SeatsAreCounted, consumers_of, counts_of, consumer_moved}
 use Rattle.channels.proofs.Moving.{moved_consumers, moved_counts, moved_counted}
 use Rattle.channels.proofs.seats.Seats.renumber.Goals as goal
 

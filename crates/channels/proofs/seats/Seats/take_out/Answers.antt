@@ -1,9 +1,5 @@
-use Rattle.std.proofs.Common.{◌≡◌, ◌∙◌, sym, ap, subst, List, map, filter, not}
-use Rattle.model.specs.Prefetch.{count_to}
-use Rattle.channels.specs.Outstanding.{taker_of}
-use Rattle.channels.specs.Seats.{Seated, SeatsAreCounted, consumers_of, counts_of, is_named, has_name}
-use Rattle.channels.specs.declared.consumers.Consumer.{Consumer}
-use Rattle.channels.specs.declared.consumers.CountedConsumer.{CountedConsumer}
+use Rattle.channels.proofs.Imports.{◌≡◌, ◌∙◌, sym, ap, subst, List, map, not, count_to, taker_of, Seated, SeatsAreCounted, consumers_of, counts_of, is_named, has_name, Consumer, CountedConsumer}
+use Rattle.std.proofs.Common.{filter}
 use Rattle.channels.proofs.Counting.{seats_filtered, counts_filtered}
 use Rattle.channels.proofs.seats.Seats.take_out.Goals as goal
 

@@ -1,9 +1,5 @@
-use Rattle.std.proofs.Common.{◌≡◌, ◌∙◌, ap, subst, List, find}
+use Rattle.channels.proofs.Imports.{◌≡◌, ◌∙◌, ap, subst, List, find, Seated, SeatsAreCounted, is_numbered, taker_held, taker_among, Consumer, CountedConsumer}
 use Rattle.std.specs.Prelude.{◌==◌, option_map}
-use Rattle.channels.specs.Seats.{Seated, SeatsAreCounted, is_numbered, taker_held}
-use Rattle.channels.specs.Deliveries.{taker_among}
-use Rattle.channels.specs.declared.consumers.Consumer.{Consumer}
-use Rattle.channels.specs.declared.consumers.CountedConsumer.{CountedConsumer}
 use Rattle.channels.proofs.Counting.{taker_kept}
 use Rattle.channels.proofs.seats.Seats.taker.Goals as goal
 

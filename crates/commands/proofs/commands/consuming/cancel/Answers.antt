@@ -1,9 +1,4 @@
-use Rattle.std.proofs.Common.{◌≡◌, ◌∙◌, ap, refl, sym, subst}
-use Rattle.model.specs.Words.{Text}
-use Rattle.model.specs.Topology.{queue_names}
-use Rattle.model.specs.Consuming.{without_consumer}
-use Rattle.channels.specs.Placed.{IsPlaced}
-use Rattle.commands.specs.Commands.{seen}
+use Rattle.commands.proofs.Names.{◌≡◌, ◌∙◌, ap, refl, sym, subst, Text, queue_names, without_consumer, IsPlaced, seen}
 use Rattle.commands.proofs.Placing.{placed_cancelled}
 use Rattle.commands.proofs.Consuming.{cancelled}
 use Rattle.commands.proofs.commands.consuming.cancel.Goals as goal

@@ -1,11 +1,5 @@
-use Rattle.std.proofs.Common.{◌≡◌, ◌<◌, ◌∙◌, None, Some, length, sym, subst}
-use Rattle.std.proofs.lemmas.Result.{err_from_is_err_and}
-use Rattle.model.specs.Words.{Text}
-use Rattle.model.specs.Topology.{Topology, queue_names}
-use Rattle.model.specs.Step.{Performs, refusal_of_consume}
-use Rattle.model.specs.declared.methods.Method.TheVariants.{BasicConsume}
-use Rattle.commands.specs.Judged.{IsQueuePlace, refusal_seen}
-use Rattle.commands.specs.Commands.{seen, state_of}
+use Rattle.commands.proofs.Names.{◌≡◌, ◌<◌, ◌∙◌, None, sym, subst, err_from_is_err_and, Text, Topology, queue_names, Performs, refusal_of_consume, BasicConsume, IsQueuePlace, refusal_seen, seen, state_of}
+use Rattle.std.proofs.Common.{Some, length}
 use Rattle.commands.proofs.Placing.{placed_seated}
 use Rattle.commands.proofs.Consuming.{consumed, seat_free, tag_short, unseated}
 use Rattle.commands.proofs.commands.consuming.consume.Goals as goal

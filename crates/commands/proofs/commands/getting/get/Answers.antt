@@ -1,18 +1,5 @@
-use Rattle.std.proofs.Common.{◌≡◌, ◌-◌, ◌∙◌, ◌∷◌, ◌++◌, [], ℕ, List, None, Some, ap, sym, subst}
-use Rattle.std.specs.Prelude.{option_map}
-use Rattle.std.proofs.lemmas.Result.{err_from_is_err_and}
-use Rattle.model.specs.Words.{Text}
-use Rattle.model.specs.Topology.{Topology, queue_names}
-use Rattle.model.specs.Deliveries.{first_ready, ready_in, delivery_notes}
-use Rattle.model.specs.declared.events.Send.{Send}
-use Rattle.model.specs.declared.notes.Note.{Note}
-use Rattle.replies.specs.Sent.{AreAddressed}
-use Rattle.model.specs.Step.{refusal_in}
-use Rattle.model.specs.declared.messages.Entry.{Entry}
-use Rattle.exchange_graph.specs.Marks.{queue_name}
-use Rattle.depot.specs.Store.{entries_named}
-use Rattle.commands.specs.Judged.{IsQueuePlace}
-use Rattle.commands.specs.Commands.{seen, state_of}
+use Rattle.commands.proofs.Names.{◌≡◌, ◌-◌, ◌∙◌, ◌∷◌, ◌++◌, [], ℕ, List, None, ap, sym, subst, option_map, err_from_is_err_and, Text, Topology, queue_names, first_ready, ready_in, delivery_notes, Send, Note, AreAddressed, refusal_in, Entry, queue_name, entries_named, IsQueuePlace, seen, state_of}
+use Rattle.std.proofs.Common.{Some}
 use Rattle.commands.proofs.Getting.{gotten, first_carried, first_named, there}
 use Rattle.commands.proofs.commands.getting.get.Goals as goal
 

@@ -1,11 +1,4 @@
-use Rattle.std.proofs.Common.{◌∷◌, [], ◌∙◌, sym, ap, subst}
-use Rattle.model.specs.Topology.{queue_names}
-use Rattle.model.specs.Step.{limited, reply}
-use Rattle.model.specs.declared.events.Send.{Send}
-use Rattle.model.specs.declared.methods.Method.TheVariants.{BasicQosOk}
-use Rattle.channels.specs.Placed.{IsPlaced, TakeWithin}
-use Rattle.model.specs.Placed.{AreWithin}
-use Rattle.commands.specs.Commands.{seen}
+use Rattle.commands.proofs.Names.{◌∷◌, [], ◌∙◌, sym, ap, subst, queue_names, limited, reply, Send, BasicQosOk, IsPlaced, TakeWithin, AreWithin, seen}
 use Rattle.commands.proofs.Placing.{same_limited, same_consumers_limited}
 use Rattle.commands.proofs.Stepping.{limited_is}
 use Rattle.commands.proofs.Turning.{does_here}

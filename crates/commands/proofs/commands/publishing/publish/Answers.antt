@@ -1,14 +1,5 @@
-use Rattle.std.proofs.Common.{◌≡◌, ◌+◌, ◌++◌, ◌∙◌, ap, refl, sym, subst, ℕ, List, Option}
-use Rattle.std.specs.Prelude.{is_some, ◌&&◌}
-use Rattle.std.proofs.lemmas.Result.{err_from_is_err_and}
-use Rattle.model.specs.Step.{IsPublish, content_or_none, next_of, answer_of, confirm_sends, confirm_notes, returned_notes}
-use Rattle.model.specs.declared.contents.Content.{Content}
-use Rattle.model.specs.declared.events.Send.{Send}
-use Rattle.model.specs.declared.notes.Note.{Note}
-use Rattle.depot.specs.Publishing.{Publishes}
-use Rattle.channels.specs.Placed.{IsPlaced}
-use Rattle.replies.specs.Sent.{AreAddressed, return_if, sent_back}
-use Rattle.commands.specs.Commands.{seen, state_of}
+use Rattle.commands.proofs.Names.{◌≡◌, ◌+◌, ◌++◌, ◌∙◌, ap, refl, sym, subst, ℕ, List, Option, is_some, err_from_is_err_and, IsPublish, content_or_none, next_of, answer_of, confirm_sends, confirm_notes, returned_notes, Content, Send, Note, Publishes, IsPlaced, AreAddressed, return_if, sent_back, seen, state_of}
+use Rattle.std.specs.Prelude.{◌&&◌}
 use Rattle.commands.proofs.Publishing.{publish_here, back_own, content_used}
 use Rattle.commands.proofs.commands.publishing.publish.Goals as goal
 

@@ -1,7 +1,4 @@
-use Rattle.std.proofs.Common.{refl, sym, ap, subst}
-use Rattle.model.specs.Step.{started, select_sends}
-use Rattle.channels.specs.Placed.{IsPlaced}
-use Rattle.commands.specs.Commands.{seen}
+use Rattle.commands.proofs.Names.{refl, sym, ap, subst, started, select_sends, IsPlaced, seen}
 use Rattle.commands.proofs.Turning.{does_here}
 use Rattle.commands.proofs.commands.publishing.select.Goals as goal
 

@@ -1,15 +1,6 @@
-use Rattle.std.proofs.Common.{◌≡◌, ◌∙◌, ap, sym, subst, ℕ, None}
-use Rattle.model.specs.Words.{Text}
-use Rattle.model.specs.Topology.{Topology}
-use Rattle.model.specs.Deliveries.{ready_in}
-use Rattle.model.specs.Step.{purge_sends, refusal_in}
-use Rattle.model.specs.declared.messages.Entry.{Entry}
-use Rattle.depot.specs.Store.{entries_named, queue_at}
-use Rattle.depot.specs.Purging.{IsPurgedBy}
-use Rattle.commands.specs.Judged.{IsQueuePlace}
+use Rattle.commands.proofs.Names.{◌≡◌, ◌∙◌, ap, sym, subst, ℕ, None, Text, Topology, ready_in, purge_sends, refusal_in, Entry, entries_named, queue_at, IsPurgedBy, IsQueuePlace, List}
 use Rattle.commands.proofs.Purging.{purged_is}
 use Rattle.commands.proofs.commands.purging.purge.Goals as goal
-use Rattle.std.proofs.Common.{List}
 
 pub returns-clause-commands : goal.returns-clause-commands
 returns-clause-commands c =

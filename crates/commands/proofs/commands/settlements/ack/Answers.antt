@@ -1,8 +1,4 @@
-use Rattle.std.proofs.Common.{sym, []}
-use Rattle.model.specs.Topology.{queue_names}
-use Rattle.model.specs.Placed.{waiting}
-use Rattle.model.specs.Deliveries.{Leaves}
-use Rattle.model.specs.declared.notes.Cause.TheVariants.{Acked}
+use Rattle.commands.proofs.Names.{sym, [], queue_names, waiting, Leaves, Acked}
 use Rattle.commands.proofs.Settling.{all_within, settles, stays_placed}
 use Rattle.commands.proofs.commands.settlements.ack.Goals as goal
 

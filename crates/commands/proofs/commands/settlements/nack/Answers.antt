@@ -1,7 +1,4 @@
-use Rattle.std.proofs.Common.{sym, []}
-use Rattle.model.specs.Topology.{queue_names}
-use Rattle.model.specs.Placed.{waiting}
-use Rattle.model.specs.Deliveries.{Rejects}
+use Rattle.commands.proofs.Names.{sym, [], queue_names, waiting, Rejects}
 use Rattle.commands.proofs.Settling.{all_within, all_rise, settles, stays_placed}
 use Rattle.commands.proofs.commands.settlements.nack.Goals as goal
 

@@ -1,7 +1,4 @@
-use Rattle.std.proofs.Common.{◌≡◌, ◌∷◌, ◌∙◌, sym, ap, []}
-use Rattle.model.specs.Step.{reply}
-use Rattle.model.specs.declared.events.Send.{Send}
-use Rattle.model.specs.declared.methods.Method.TheVariants.{BasicRecoverOk}
+use Rattle.commands.proofs.Names.{◌≡◌, ◌∷◌, ◌∙◌, sym, ap, [], reply, Send, BasicRecoverOk}
 use Rattle.commands.proofs.commands.settlements.recover.Goals as goal
 
 pub returns-clause-commands : goal.returns-clause-commands

@@ -1,6 +1,4 @@
-use Rattle.std.proofs.Common.{[], refl}
-use Rattle.model.specs.Placed.{waiting}
-use Rattle.model.specs.Deliveries.{Returns}
+use Rattle.commands.proofs.Names.{[], refl, waiting, Returns}
 use Rattle.commands.proofs.Settling.{all_within, settles, stays_placed}
 use Rattle.commands.proofs.commands.settlements.requeue.Goals as goal
 

@@ -1,7 +1,4 @@
-use Rattle.std.proofs.Common.{◌∙◌, ap}
-use Rattle.model.specs.Entries.{by_channel}
-use Rattle.model.specs.Placed.{waiting}
-use Rattle.commands.specs.State.{Kept, topology_kept}
+use Rattle.commands.proofs.Names.{◌∙◌, ap, by_channel, waiting, Kept, topology_kept}
 use Rattle.commands.proofs.Freed.{channel_is_freed, held_within}
 use Rattle.commands.proofs.Placing.{placed_put, placed_new}
 use Rattle.commands.proofs.Stepping.{IsFreed, cleared_is}

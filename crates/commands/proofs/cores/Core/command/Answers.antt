@@ -1,11 +1,6 @@
-use Rattle.std.proofs.Common.{◌≡◌, sym, subst, Some, Result, Ok}
-use Rattle.commands.specs.declared.refusals.Stop.{Stop}
-use Rattle.commands.specs.Commands.{AnswersOn, IsNotPerformed, UnlessPerformed}
-use Rattle.commands.specs.declared.commands.Done.{Done}
-use Rattle.commands.specs.declared.commands.Done.TheVariants.{Left, Performed}
-use Rattle.commands.specs.declared.acted.Acted.{Acted}
-use Rattle.commands.specs.Ended.{TellsEnd, TellsStayOn}
-use Rattle.commands.specs.State.{broker_of}
+use Rattle.commands.proofs.Names.{◌≡◌, sym, subst, Result, Ok, Stop, AnswersOn, IsNotPerformed, UnlessPerformed, Done, Performed, Acted, TellsEnd, TellsStayOn, broker_of}
+use Rattle.std.proofs.Common.{Some}
+use Rattle.commands.specs.declared.commands.Done.TheVariants.{Left}
 use Rattle.commands.proofs.Ending.{leaving_runs}
 use Rattle.commands.proofs.Remaining.{performed_tells}
 use Rattle.commands.proofs.Commanding.{left_can, left_done, left_own}

@@ -1,11 +1,6 @@
-use Rattle.std.proofs.Common.{◌≡◌, ◌∙◌, refl, sym, ap, subst, Some, None}
-use Rattle.std.specs.Option.{option_copied_mut}
-use Rattle.model.specs.Sending.{AreCarried}
-use Rattle.channels.specs.RunningConnections.{running_in, channel_in, with_channel_in}
-use Rattle.commands.specs.State.{Kept, broker_of, topology_kept}
-use Rattle.commands.specs.Commands.{AnswersOn}
+use Rattle.commands.proofs.Names.{◌≡◌, ◌∙◌, refl, sym, ap, subst, None, option_copied_mut, AreCarried, running_in, channel_in, with_channel_in, Kept, broker_of, topology_kept, AnswersOn, AllRunStill}
+use Rattle.std.proofs.Common.{Some}
 use Rattle.commands.proofs.Lending.{can_command, there_in, is_lent, answers_on, answers_none, lent_placed, lent_same, running_same, still_agreed, still_placed, unless, always}
-use Rattle.commands.specs.Ended.{AllRunStill}
 use Rattle.commands.proofs.Ending.{same_run}
 use Rattle.commands.proofs.cores.Core.decide.Goals as goal
 

@@ -1,14 +1,6 @@
-use Rattle.std.proofs.Common.{◌≡◌, ◌∙◌, None, Some, ap, sym, subst}
-use Rattle.std.specs.Prelude.{option_map, is_some}
-use Rattle.std.specs.Option.{option_copied_mut}
-use Rattle.std.proofs.lemmas.Bool.{false≢true}
-use Rattle.std.proofs.lemmas.Result.{IfOk-weaker}
-use Rattle.model.specs.Naming.{AreNamed}
-use Rattle.model.specs.Sending.{AreCarried}
-use Rattle.channels.specs.Open.{open_in}
-use Rattle.channels.specs.RunningConnections.{channel_of}
+use Rattle.commands.proofs.Names.{◌≡◌, ◌∙◌, None, ap, sym, subst, option_map, is_some, option_copied_mut, false≢true, IfOk-weaker, AreNamed, AreCarried, open_in, channel_of, Kept, broker_of, names_of, topology_kept}
+use Rattle.std.proofs.Common.{Some}
 use Rattle.channels.proofs.Outcomes.{on_err}
-use Rattle.commands.specs.State.{Kept, broker_of, names_of, topology_kept}
 use Rattle.commands.proofs.Stepping.{kept_there}
 use Rattle.commands.proofs.Delivered.{picked_there}
 use Rattle.commands.proofs.Lending.{side_of, can_command, still_agreed, delivered_on, put_placed, put_stays}

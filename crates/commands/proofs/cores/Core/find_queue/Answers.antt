@@ -1,8 +1,4 @@
-use Rattle.std.proofs.Common.{subst, sym}
-use Rattle.std.specs.Prelude.{IfOk}
-use Rattle.model.specs.Step.{Finds}
-use Rattle.commands.specs.Judged.{IsQueuePlace}
-use Rattle.commands.specs.State.{Kept, broker_of, topology_kept}
+use Rattle.commands.proofs.Names.{subst, sym, IfOk, Finds, IsQueuePlace, Kept, broker_of, topology_kept}
 use Rattle.commands.proofs.Declaring.{found_is}
 use Rattle.commands.proofs.Outcomes.{both_ok}
 use Rattle.commands.proofs.cores.Core.find_queue.Goals as goal

@@ -1,9 +1,5 @@
-use Rattle.std.proofs.Common.{sym, subst, None, refl}
-use Rattle.commands.specs.Commands.{CanFinish}
-use Rattle.commands.specs.declared.acted.Acted.{Acted}
+use Rattle.commands.proofs.Names.{sym, subst, None, refl, CanFinish, Acted, TellsStayOn, broker_of, topology_kept}
 use Rattle.commands.specs.declared.commands.asking.Left.{Left}
-use Rattle.commands.specs.Ended.{TellsStayOn}
-use Rattle.commands.specs.State.{broker_of, topology_kept}
 use Rattle.commands.proofs.Remaining.{answered_tells, emptied_tells}
 use Rattle.commands.proofs.cores.Core.finish.Goals as goal
 

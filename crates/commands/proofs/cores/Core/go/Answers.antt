@@ -1,7 +1,5 @@
-use Rattle.std.proofs.Common.{◌∙◌, ap}
+use Rattle.commands.proofs.Names.{◌∙◌, ap, by_connection, Kept, topology_kept}
 use Rattle.std.specs.Option.{option_copied}
-use Rattle.model.specs.Entries.{by_connection}
-use Rattle.commands.specs.State.{Kept, topology_kept}
 use Rattle.commands.proofs.Freed.{connection_is_freed, within_at}
 use Rattle.commands.proofs.Placing.{placed_gone}
 use Rattle.commands.proofs.Stepping.{IsFreed, gone_is}

@@ -1,7 +1,6 @@
-use Rattle.std.proofs.Common.{◌≡◌, ◌∙◌, ap, sym, Some}
+use Rattle.commands.proofs.Names.{◌≡◌, ◌∙◌, ap, sym, running_in, Kept, names_of}
+use Rattle.std.proofs.Common.{Some}
 use Rattle.std.specs.Option.{option_copied}
-use Rattle.channels.specs.RunningConnections.{running_in}
-use Rattle.commands.specs.State.{Kept, names_of}
 use Rattle.commands.proofs.Stepping.{large_judged}
 use Rattle.commands.proofs.cores.Core.judge_large.Goals as goal
 

@@ -1,6 +1,5 @@
-use Rattle.std.proofs.Common.{◌∙◌, ap, refl, length}
-use Rattle.model.specs.Topology.{queue_names}
-use Rattle.depot.specs.Store.{Store, entries_named}
+use Rattle.commands.proofs.Names.{◌∙◌, ap, refl, queue_names, Store, entries_named}
+use Rattle.std.proofs.Common.{length}
 use Rattle.commands.proofs.Stepping.{listed_none}
 use Rattle.commands.proofs.cores.Core.new.Goals as goal
 

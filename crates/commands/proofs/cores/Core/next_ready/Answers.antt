@@ -1,6 +1,4 @@
-use Rattle.std.proofs.Common.{subst}
-use Rattle.commands.specs.Picked.{IsNextPicked}
-use Rattle.commands.specs.State.{Kept}
+use Rattle.commands.proofs.Names.{subst, IsNextPicked, Kept}
 use Rattle.commands.proofs.Picking.{next_is}
 use Rattle.commands.proofs.cores.Core.next_ready.Goals as goal
 

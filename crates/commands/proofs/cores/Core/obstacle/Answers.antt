@@ -1,8 +1,4 @@
-use Rattle.std.proofs.Common.{◌∙◌, ap, subst}
-use Rattle.depot.specs.Store.{queue_at}
-use Rattle.channels.specs.Counting.{is_consumed}
-use Rattle.reloading.specs.LiveQueues.{ShowsQueues}
-use Rattle.commands.specs.State.{Kept, broker_of, topology_kept}
+use Rattle.commands.proofs.Names.{◌∙◌, ap, subst, queue_at, is_consumed, ShowsQueues, Kept, broker_of, topology_kept}
 use Rattle.commands.proofs.LiveQueues.{standing, judged, wanted}
 use Rattle.commands.proofs.cores.Core.obstacle.Goals as goal
 

@@ -1,8 +1,5 @@
-use Rattle.std.proofs.Common.{◌≡◌, ◌∙◌, ap, refl}
+use Rattle.commands.proofs.Names.{◌≡◌, ◌∙◌, ap, refl, by_connection, running_in, Kept, topology_kept}
 use Rattle.std.specs.Option.{option_copied}
-use Rattle.model.specs.Entries.{by_connection}
-use Rattle.channels.specs.RunningConnections.{running_in}
-use Rattle.commands.specs.State.{Kept, topology_kept}
 use Rattle.commands.proofs.Freed.{connection_is_freed, within_at}
 use Rattle.commands.proofs.Placing.{placed_opened}
 use Rattle.commands.proofs.Stepping.{IsFreed, opened_is}

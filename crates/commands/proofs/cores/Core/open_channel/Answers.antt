@@ -1,9 +1,7 @@
-use Rattle.std.proofs.Common.{◌≡◌, ◌∙◌, ap, refl, subst, [], ◌∷◌, Some}
-use Rattle.model.specs.Broker.{Channel, new_channel}
-use Rattle.model.specs.Step.{Is, with_channel}
-use Rattle.model.specs.declared.events.Send.{Send}
-use Rattle.channels.specs.Open.{Open, open_in}
-use Rattle.commands.specs.State.{Kept, broker_of, topology_kept, names_of}
+use Rattle.commands.proofs.Names.{◌≡◌, ◌∙◌, ap, refl, subst, [], ◌∷◌, Channel, new_channel, Is, Send, open_in, Kept, broker_of, topology_kept, names_of}
+use Rattle.std.proofs.Common.{Some}
+use Rattle.model.specs.Step.{with_channel}
+use Rattle.channels.specs.Open.{Open}
 use Rattle.commands.proofs.Stepping.{put_is, running_there}
 use Rattle.commands.proofs.Placing.{placed_put, placed_new, placed_some}
 use Rattle.commands.proofs.cores.Core.open_channel.Goals as goal

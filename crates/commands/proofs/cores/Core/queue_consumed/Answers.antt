@@ -1,10 +1,6 @@
-use Rattle.std.proofs.Common.{◌≡◌, ◌∙◌, ◌<◌, length, sym, subst}
-use Rattle.std.specs.Prelude.{IfSome, IfNone}
-use Rattle.std.proofs.lemmas.Option.{same_Some}
-use Rattle.model.specs.Topology.{Topology, IsIn, queue_names}
-use Rattle.exchange_graph.specs.Marks.{queue_name}
+use Rattle.commands.proofs.Names.{◌≡◌, ◌∙◌, ◌<◌, sym, subst, IfSome, IfNone, same_Some, Topology, IsIn, queue_names, queue_name, Kept, topology_kept}
+use Rattle.std.proofs.Common.{length}
 use Rattle.commands.specs.Seats.{IsConsumed}
-use Rattle.commands.specs.State.{Kept, topology_kept}
 use Rattle.commands.proofs.Picking.{place_of_name}
 use Rattle.commands.proofs.cores.Core.queue_consumed.Goals as goal
 

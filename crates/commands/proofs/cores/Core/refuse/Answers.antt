@@ -1,8 +1,5 @@
-use Rattle.std.proofs.Common.{sym, subst, Some, true, refl}
-use Rattle.model.specs.Broker.{new_channel}
-use Rattle.commands.specs.declared.acted.Acted.{Acted}
-use Rattle.commands.specs.Ended.{TellsStayOn}
-use Rattle.commands.specs.State.{broker_of}
+use Rattle.commands.proofs.Names.{sym, subst, true, refl, new_channel, Acted, TellsStayOn, broker_of}
+use Rattle.std.proofs.Common.{Some}
 use Rattle.commands.proofs.Remaining.{emptied_tells}
 use Rattle.commands.proofs.cores.Core.refuse.Goals as goal
 

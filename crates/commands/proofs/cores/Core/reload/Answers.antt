@@ -1,10 +1,4 @@
-use Rattle.std.proofs.Common.{◌≡◌, ◌∙◌, ℕ, List, map, sym, ap, subst}
-use Rattle.model.specs.Topology.{Topology, queue_names}
-use Rattle.model.specs.Reloading.{stood_now}
-use Rattle.depot.specs.Store.{Store, entries_named}
-use Rattle.depot.specs.Moving.{GoneAreEmpty}
-use Rattle.channels.specs.ConnectionsMoving.{connections_moved}
-use Rattle.commands.specs.State.{Kept, topology_kept}
+use Rattle.commands.proofs.Names.{◌≡◌, ◌∙◌, ℕ, List, map, sym, ap, subst, Topology, queue_names, stood_now, Store, entries_named, GoneAreEmpty, connections_moved, Kept, topology_kept}
 use Rattle.commands.proofs.Reloading.{can_reload, gone_empty, placed_moved, all_stood}
 use Rattle.commands.proofs.cores.Core.reload.Goals as goal
 

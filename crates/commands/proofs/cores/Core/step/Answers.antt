@@ -1,4 +1,4 @@
-use Rattle.std.proofs.lemmas.Result.{IfOk-weaker}
+use Rattle.commands.proofs.Names.{IfOk-weaker}
 use Rattle.commands.proofs.cores.Core.step.Goals as goal
 
 pub returns-in-Command-clause-addressed : goal.returns-in-Command-clause-addressed

@@ -1,9 +1,6 @@
-use Rattle.std.proofs.Common.{◌≡◌, ◌∙◌, ap, refl, sym, subst, Some, None}
+use Rattle.commands.proofs.Names.{◌≡◌, ◌∙◌, ap, refl, sym, subst, None, running_in, TellsTaking, Kept, From, Nothing}
+use Rattle.std.proofs.Common.{Some}
 use Rattle.std.specs.Option.{option_copied}
-use Rattle.channels.specs.RunningConnections.{running_in}
-use Rattle.commands.specs.Picked.{TellsTaking}
-use Rattle.commands.specs.State.{Kept}
-use Rattle.commands.specs.declared.picks.Taking.TheVariants.{From, Nothing}
 use Rattle.commands.proofs.Delivered.{takes_from, keeps_one, tells_is}
 use Rattle.commands.proofs.cores.Core.taking.Goals as goal
 

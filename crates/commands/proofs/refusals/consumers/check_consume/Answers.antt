@@ -1,6 +1,4 @@
-use Rattle.std.proofs.Common.{◌∙◌}
-use Rattle.std.proofs.lemmas.Result.{err_from_is_err_and}
-use Rattle.channels.specs.Open.{open_in}
+use Rattle.commands.proofs.Names.{◌∙◌, err_from_is_err_and, open_in}
 use Rattle.commands.proofs.Consumes.{seat}
 use Rattle.commands.proofs.refusals.consumers.check_consume.Goals as goal
 

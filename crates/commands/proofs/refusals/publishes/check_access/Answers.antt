@@ -1,4 +1,5 @@
-use Rattle.exchange_graph.specs.declared.routes.Access.TheVariants.{Open, Internal, Absent}
+use Rattle.commands.proofs.Names.{Internal, Absent}
+use Rattle.exchange_graph.specs.declared.routes.Access.TheVariants.{Open}
 use Rattle.commands.proofs.Exchanges.{refused_by}
 use Rattle.commands.proofs.refusals.publishes.check_access.Goals as goal
 

@@ -1,9 +1,5 @@
-use Rattle.std.proofs.Common.{◌≡◌, ◌∙◌, ap, sym, Option, None}
-use Rattle.std.proofs.lemmas.Result.{err_from_is_err_and}
-use Rattle.model.specs.Topology.{Topology, queue_names}
-use Rattle.model.specs.Step.{Refusal, or_else, refusal_to, refusal_of_count}
-use Rattle.exchange_graph.specs.Routers.{access_to}
-use Rattle.channels.specs.Open.{open_in}
+use Rattle.commands.proofs.Names.{◌≡◌, ◌∙◌, ap, sym, Option, None, err_from_is_err_and, Topology, queue_names, or_else, refusal_to, refusal_of_count, access_to, open_in}
+use Rattle.model.specs.Step.{Refusal}
 use Rattle.commands.proofs.Judging.{publish_is}
 use Rattle.commands.proofs.refusals.publishes.check_publish.Goals as goal
 

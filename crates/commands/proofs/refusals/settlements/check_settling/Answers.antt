@@ -1,5 +1,4 @@
-use Rattle.std.proofs.Common.{subst, sym}
-use Rattle.channels.specs.Spans.{settled_by, IsSpan, TellsSpan}
+use Rattle.commands.proofs.Names.{subst, sym, settled_by, IsSpan, TellsSpan}
 use Rattle.commands.proofs.Settlements.{accepted, refused}
 use Rattle.commands.proofs.refusals.settlements.check_settling.Goals as goal
 

@@ -1,9 +1,4 @@
-use Rattle.std.proofs.Common.{◌≡◌, None, refl}
-use Rattle.std.proofs.lemmas.Result.{err_from_is_err_and}
-use Rattle.std.specs.Prelude.{codes}
-use Rattle.serde_json.specs.View.{view}
-use Rattle.json_file.specs.Members.{text_member}
-use Rattle.json_file.proofs.Reading.{fails_then}
+use Rattle.definitions.proofs.Imports.{◌≡◌, None, refl, err_from_is_err_and, codes, view, text_member, fails_then}
 use Rattle.definitions.specs.Shape.{binding_entry_at}
 use Rattle.definitions.proofs.shape.BindingEntryFromValue.read.Goals as goal
 

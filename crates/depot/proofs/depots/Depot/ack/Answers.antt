@@ -1,15 +1,4 @@
-use Rattle.std.proofs.Common.{◌≡◌, ◌∙◌, ◌++◌, true, ap, sym, subst, arith, get_or, rules, length, List}
-use Rattle.model.specs.Words.{Text}
-use Rattle.model.specs.Topology.{Topology, IsWellFormed}
-use Rattle.model.specs.Deliveries.{Leaves, left_note}
-use Rattle.model.specs.Placed.{is_waiting, waiting, AreWithin}
-use Rattle.model.specs.declared.messages.Entry.{Entry}
-use Rattle.model.specs.declared.notes.Cause.TheVariants.{Acked}
-use Rattle.model.specs.declared.notes.Note.{Note}
-use Rattle.exchange_graph.specs.Marks.{queue_name}
-use Rattle.depot.specs.Dying.{given_at}
-use Rattle.depot.specs.Store.{Store, entries_of, IsStoreWhole}
-use Rattle.depot.specs.Settled.{AreSettledBy, IsApart, store_of}
+use Rattle.depot.proofs.Names.{◌≡◌, ◌∙◌, ◌++◌, true, ap, sym, subst, arith, get_or, rules, length, List, Text, Topology, IsWellFormed, Leaves, left_note, is_waiting, waiting, AreWithin, Entry, Acked, Note, queue_name, given_at, Store, entries_of, IsStoreWhole, AreSettledBy, IsApart, store_of}
 use Rattle.depot.proofs.Changes.{entries_of-length}
 use Rattle.depot.proofs.Rejected.{apart_by}
 use Rattle.depot.proofs.Settled.{one_left}

@@ -1,6 +1,5 @@
-use Rattle.std.proofs.Common.{◌∙◌, ap, sym, Bor, Option, option_map, find}
-use Rattle.model.specs.Broker.{is_ready}
-use Rattle.model.specs.declared.messages.Entry.{Entry}
+use Rattle.depot.proofs.Names.{◌∙◌, ap, sym, Bor, Option, is_ready, Entry}
+use Rattle.std.proofs.Common.{option_map, find}
 use Rattle.depot.proofs.Absent.{absent}
 use Rattle.depot.proofs.depots.Depot.first_ready.Goals as goal
 

@@ -1,7 +1,4 @@
-use Rattle.std.proofs.Common.{◌∙◌, sym, ap, length}
-use Rattle.std.proofs.lemmas.List.{length-map, length-replicate}
-use Rattle.model.specs.Topology.{Topology}
-use Rattle.queue.specs.Line.{Line}
+use Rattle.depot.proofs.Names.{◌∙◌, sym, ap, length, length-map, length-replicate, Topology, Line}
 use Rattle.depot.proofs.depots.Depot.new.Goals as goal
 
 pub invariant_of-result : goal.invariant_of-result

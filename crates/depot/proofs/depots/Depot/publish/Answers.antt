@@ -1,12 +1,5 @@
-use Rattle.std.proofs.Common.{◌≡◌, ◌+◌, ◌<◌, ◌++◌, ◌∷◌, [], ◌∙◌, ap, sym, refl, arith, rules, List, length, get_or}
-use Rattle.model.specs.Words.{Text}
-use Rattle.model.specs.Topology.{Topology}
-use Rattle.model.specs.declared.notes.Note.{Note}
+use Rattle.depot.proofs.Names.{◌≡◌, ◌+◌, ◌<◌, ◌++◌, ◌∷◌, [], ◌∙◌, ap, sym, refl, arith, rules, List, length, get_or, Text, Topology, Note, PlannedTurn, Store, entries_of, store_of, TurnOutcome, is_refusal, turn_at}
 use Rattle.model.specs.declared.notes.Way.TheVariants as way
-use Rattle.depot.specs.declared.turns.PlannedTurn.{PlannedTurn}
-use Rattle.depot.specs.Store.{Store, entries_of}
-use Rattle.depot.specs.Settled.{store_of}
-use Rattle.depot.specs.Turns.{TurnOutcome, is_refusal, turn_at}
 use Rattle.depot.proofs.Alone.{one_enters, one_target, targets_here}
 use Rattle.depot.proofs.Changes.{entries_of-length}
 use Rattle.depot.proofs.Lending.{lent_entries, outcome_there, entered_there, on_err}

@@ -1,15 +1,5 @@
-use Rattle.std.proofs.Common.{◌≡◌, ◌<◌, ◌++◌, ◌∙◌, List, ap, sym, subst, refl, length, get_or, set, filter, not, IfOk, OnErr, arith}
-use Rattle.model.specs.Topology.{Topology, IsWellFormed}
-use Rattle.model.specs.Words.{Text}
-use Rattle.model.specs.Broker.{is_ready}
-use Rattle.model.specs.Deliveries.{ready_in, purge_notes}
-use Rattle.model.specs.declared.messages.Entry.{Entry}
-use Rattle.exchange_graph.specs.Marks.{queue_name}
-use Rattle.queue.specs.Line.{Line, ready_count}
-use Rattle.depot.specs.Store.{Store, IsStoreWhole, queue_at, entries_of}
-use Rattle.depot.specs.Settled.{store_of}
-use Rattle.depot.specs.Turns.{no_line}
-use Rattle.depot.specs.Purging.{IsPurgedBy}
+use Rattle.depot.proofs.Names.{◌≡◌, ◌<◌, ◌++◌, ◌∙◌, List, ap, sym, subst, refl, length, get_or, set, filter, IfOk, OnErr, arith, Topology, IsWellFormed, Text, is_ready, ready_in, purge_notes, Entry, queue_name, Line, ready_count, Store, IsStoreWhole, queue_at, entries_of, store_of, no_line, IsPurgedBy}
+use Rattle.std.proofs.Common.{not}
 use Rattle.depot.proofs.Changes.{entries_of-length, changed_write}
 use Rattle.depot.proofs.Lending.{lent_entries, lent_queue}
 use Rattle.depot.proofs.Planned.{name_there}

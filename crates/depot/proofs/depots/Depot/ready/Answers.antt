@@ -1,10 +1,5 @@
-use Rattle.std.proofs.Common.{◌≡◌, ap, sym, subst, ◌∙◌, arith, Some, option_map, position}
-use Rattle.std.specs.Str.{bytes_eq}
-use Rattle.model.specs.Topology.{Topology}
-use Rattle.model.specs.Broker.{queue_named}
-use Rattle.model.specs.declared.topologies.DeclaredQueue.{DeclaredQueue}
-use Rattle.queue.specs.Line.{ready_count}
-use Rattle.depot.specs.Store.{Store, entries_named, queue_at, entries_of}
+use Rattle.depot.proofs.Names.{◌≡◌, ap, sym, subst, ◌∙◌, arith, Some, bytes_eq, Topology, queue_named, DeclaredQueue, ready_count, Store, entries_named, queue_at, entries_of}
+use Rattle.std.proofs.Common.{option_map, position}
 use Rattle.depot.proofs.Changes.{entries_of-length}
 use Rattle.depot.proofs.Naming.{ready_none, ready_some}
 use Rattle.depot.proofs.depots.Depot.ready.Goals as goal

@@ -1,10 +1,5 @@
-use Rattle.std.proofs.Common.{◌≡◌, sym, subst, refl, length, arith, OnOk}
-use Rattle.model.specs.Topology.{IsWellFormed}
+use Rattle.depot.proofs.Names.{◌≡◌, sym, subst, refl, length, arith, OnOk, IsWellFormed, Store, IsStoreWhole, entries_of, AreSettledBy, IsApart, waiting, AreWithin, Rejects}
 use Rattle.model.specs.Deliveries as given
-use Rattle.depot.specs.Store.{Store, IsStoreWhole, entries_of}
-use Rattle.depot.specs.Settled.{AreSettledBy, IsApart}
-use Rattle.model.specs.Placed.{waiting, AreWithin}
-use Rattle.depot.specs.Dying.{Rejects}
 use Rattle.depot.proofs.Changes.{entries_of-length}
 use Rattle.depot.proofs.Rejected.{rejecting, on_ok}
 use Rattle.depot.proofs.depots.Depot.reject.Goals as goal

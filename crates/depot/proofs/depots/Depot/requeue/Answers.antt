@@ -1,9 +1,4 @@
-use Rattle.std.proofs.Common.{[], subst}
-use Rattle.model.specs.Deliveries.{Returns}
-use Rattle.model.specs.Topology.{IsWellFormed}
-use Rattle.model.specs.Placed.{waiting}
-use Rattle.depot.specs.Store.{Store, entries_of}
-use Rattle.depot.specs.Settled.{AreSettledBy, store_of}
+use Rattle.depot.proofs.Names.{[], subst, Returns, IsWellFormed, waiting, Store, entries_of, AreSettledBy, store_of}
 use Rattle.depot.proofs.depots.Depot.requeue.Goals as goal
 
 pub returns : goal.returns

@@ -1,7 +1,5 @@
-use Rattle.std.proofs.Common.{◌∙◌, ◌++◌, List, ap, sym, subst, find}
-use Rattle.model.specs.Broker.{is_ready}
-use Rattle.model.specs.declared.messages.Entry.{Entry}
-use Rattle.depot.specs.Givings.{CanGive, TellsArrival, given_notes, given_so}
+use Rattle.depot.proofs.Names.{◌∙◌, ◌++◌, List, ap, sym, subst, is_ready, Entry, CanGive, TellsArrival, given_notes, given_so}
+use Rattle.std.proofs.Common.{find}
 use Rattle.depot.proofs.Lending.{lent_queue, store_changed}
 use Rattle.depot.proofs.depots.Depot.take_at.Goals as goal
 

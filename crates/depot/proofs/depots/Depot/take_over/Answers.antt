@@ -1,8 +1,5 @@
-use Rattle.std.proofs.Common.{◌≡◌, ◌∙◌, [], length, map, replicate, ap, sym, subst}
-use Rattle.model.specs.Topology.{Topology, AreApart, queue_names}
-use Rattle.model.specs.Reloading.{stood_now}
-use Rattle.depot.specs.Store.{Store, entries_named, entries_of}
-use Rattle.depot.specs.Moving.{AreMoved, GoneAreEmpty}
+use Rattle.depot.proofs.Names.{◌≡◌, ◌∙◌, [], length, map, ap, sym, subst, Topology, AreApart, queue_names, stood_now, Store, entries_named, entries_of, AreMoved, GoneAreEmpty}
+use Rattle.std.proofs.Common.{replicate}
 use Rattle.depot.proofs.Changes.{entries_of-length}
 use Rattle.depot.proofs.Moved.{store_taken}
 use Rattle.depot.proofs.depots.Depot.take_over.Goals as goal

@@ -1,9 +1,4 @@
-use Rattle.std.proofs.Common.{◌∙◌, List, refl, ap, subst, arith, length}
-use Rattle.std.proofs.lemmas.List.{get_or_default}
-use Rattle.queue.specs.Line.{Line}
-use Rattle.depot.specs.Store.{entries_of}
-use Rattle.depot.specs.Signs.{AreSignedBut}
-use Rattle.depot.specs.Turns.{no_line}
+use Rattle.depot.proofs.Names.{◌∙◌, List, refl, ap, subst, arith, length, get_or_default, Line, entries_of, AreSignedBut, no_line}
 use Rattle.depot.proofs.Signing.{lent_written}
 use Rattle.depot.proofs.queues.Queues.queue_mut.Goals as goal
 

@@ -1,8 +1,4 @@
-use Rattle.std.proofs.Common.{List, ap, sym, subst, arith, length}
-use Rattle.std.proofs.lemmas.List.{take_at}
-use Rattle.queue.specs.Line.{Line}
-use Rattle.depot.specs.Store.{entries_of}
-use Rattle.depot.specs.Signs.{AreSignedBut}
+use Rattle.depot.proofs.Names.{List, ap, sym, subst, arith, length, take_at, Line, entries_of, AreSignedBut}
 use Rattle.depot.proofs.queues.Queues.take_over.Goals as goal
 
 pub invariant_of-self : goal.invariant_of-self

@@ -1,6 +1,4 @@
-use Rattle.std.proofs.Common.{◌≡◌, get_or, set, length, refl, sym, Some}
-use Rattle.engine.specs.World.{Parts}
-use Rattle.engine.specs.Engines.{IsConnectionPlace}
+use Rattle.engine.proofs.Names.{◌≡◌, get_or, set, length, refl, sym, Some, Parts, IsConnectionPlace}
 use Rattle.engine.proofs.Swept.{connections_fed, connections_err, connections_over, connections_full}
 use Rattle.engine.proofs.Tooks.{fed_engine, fed_ok, fed_err, fed_over, fed_full, hears_none}
 use Rattle.engine.proofs.engines.Engine.feed.Goals as goal

@@ -1,7 +1,6 @@
-use Rattle.std.proofs.Common.{subst}
+use Rattle.engine.proofs.Names.{subst, Parts, world_of}
 use Rattle.model.specs.Tracing.{AreKept, AreSafe, NoneStood}
 use Rattle.laws.proofs.Keeping.{kept_are_safe}
-use Rattle.engine.specs.World.{Parts, world_of}
 use Rattle.engine.proofs.engines.Engine.is_safe.Goals as goal
 
 pub returns-clause-kept : goal.returns-clause-kept

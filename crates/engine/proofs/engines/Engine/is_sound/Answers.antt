@@ -1,6 +1,4 @@
-use Rattle.std.proofs.Common.{subst}
-use Rattle.model.specs.Headline.{IsSound}
-use Rattle.engine.specs.World.{Parts, world_of}
+use Rattle.engine.proofs.Names.{subst, IsSound, Parts, world_of}
 use Rattle.engine.proofs.Tooks.{sound}
 use Rattle.engine.proofs.engines.Engine.is_sound.Goals as goal
 

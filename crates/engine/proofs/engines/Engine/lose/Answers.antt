@@ -1,8 +1,5 @@
-use Rattle.std.proofs.Common.{refl, subst, Some}
-use Rattle.engine.specs.World.{Parts}
-use Rattle.engine.specs.Engines.{IsConnectionPlace}
+use Rattle.engine.proofs.Names.{refl, subst, Some, Parts, IsConnectionPlace, KeepsTurns}
 use Rattle.engine.proofs.Tooks.{loses, loses_engine}
-use Rattle.engine.specs.Waiting.{KeepsTurns}
 use Rattle.engine.proofs.Waiting.{turns_same}
 use Rattle.engine.proofs.engines.Engine.lose.Goals as goal
 

@@ -1,10 +1,5 @@
-use Rattle.std.proofs.Common.{refl, subst, ◌+◌, Some}
-use Rattle.std.proofs.lemmas.Result.{err_from_is_err_and}
-use Rattle.model.specs.Commands.{opened_stream}
+use Rattle.engine.proofs.Names.{refl, subst, ◌+◌, Some, err_from_is_err_and, opened_stream, IsOpened, Parts, world_of, OpenedNew}
 use Rattle.model.specs.declared.events.Event.TheVariants as event
-use Rattle.runs.specs.Opened.{IsOpened}
-use Rattle.engine.specs.World.{Parts, world_of}
-use Rattle.engine.specs.Opening.{OpenedNew}
 use Rattle.engine.proofs.Openings.{opens_new, refused_so}
 use Rattle.engine.proofs.Tooks.{world_stays}
 use Rattle.engine.proofs.engines.Engine.open.Goals as goal

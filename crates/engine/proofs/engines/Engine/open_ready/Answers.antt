@@ -1,14 +1,8 @@
-use Rattle.std.proofs.Common.{refl, ap, subst, ◌+◌, Some}
-use Rattle.std.proofs.lemmas.Result.{err_from_is_err_and}
-use Rattle.model.specs.Commands.{running_stream}
+use Rattle.engine.proofs.Names.{refl, ap, subst, ◌+◌, Some, err_from_is_err_and, running_stream, IsOpened, Parts, world_of, OpenedReady, KeepsTurns}
 use Rattle.model.specs.declared.events.Event.TheVariants as event
 use Rattle.broker.specs.Turns.{broker_of}
-use Rattle.runs.specs.Opened.{IsOpened}
-use Rattle.engine.specs.World.{Parts, world_of}
-use Rattle.engine.specs.Opening.{OpenedReady}
 use Rattle.engine.proofs.Openings.{opens_ready, refused_so, refused_memory}
 use Rattle.engine.proofs.Tooks.{world_stays}
-use Rattle.engine.specs.Waiting.{KeepsTurns}
 use Rattle.engine.proofs.Waiting.{turns_same, turns_if}
 use Rattle.engine.proofs.engines.Engine.open_ready.Goals as goal
 

@@ -1,17 +1,6 @@
-use Rattle.std.proofs.Common.{ℕ, List, Ok, Err, set, refl, sym, subst}
-use Rattle.model.specs.Consuming.{CanDeliver}
-use Rattle.model.specs.Naming.{AreNamed}
-use Rattle.model.specs.Arrivals.{Same}
-use Rattle.model.specs.declared.notes.Note.{Note}
-use Rattle.commands.specs.State.{Kept, topology_kept, broker_of}
-use Rattle.commands.specs.Picked.{IsPick}
-use Rattle.broker.specs.Turns.{WithTurn}
-use Rattle.runs.specs.Opened.{Idles}
-use Rattle.engine.specs.World.{Parts, world_of}
-use Rattle.engine.specs.Engines.{HasConnection}
-use Rattle.engine.specs.Pumping.{IsPump}
-use Rattle.engine.specs.Waiting.{ServesOne, TellsOne, TellsNobody}
-use Rattle.engine.specs.declared.connection.Connection.{Connection}
+use Rattle.engine.proofs.Names.{ℕ, List, set, refl, sym, subst, CanDeliver, AreNamed, Same, Note, Kept, IsPick, WithTurn, Idles, Parts, world_of, HasConnection, IsPump, ServesOne, TellsOne, TellsNobody, Connection}
+use Rattle.std.proofs.Common.{Ok, Err}
+use Rattle.commands.specs.State.{topology_kept, broker_of}
 use Rattle.engine.proofs.Asked.{on_err}
 use Rattle.engine.proofs.Delivered.{picked_there, picked_engine, picked_none, pumped_at}
 use Rattle.engine.proofs.Waiting.{tells_one, serves_one}

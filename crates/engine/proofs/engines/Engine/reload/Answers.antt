@@ -1,13 +1,6 @@
-use Rattle.std.proofs.Common.{◌∙◌, ap, subst}
+use Rattle.engine.proofs.Names.{◌∙◌, ap, subst, err_from_is_err_and, Topology, MayWant, LinesMove, IsPutInForce, TellsReload, IsMemory, in_force, Parts, world_of}
 use Rattle.std.specs.Prelude.{Ok, Err}
-use Rattle.std.proofs.lemmas.Result.{err_from_is_err_and}
-use Rattle.model.specs.Topology.{Topology}
-use Rattle.reloading.specs.Wanting.{MayWant}
 use Rattle.broker.specs.Turns.{topology_kept, broker_of}
-use Rattle.broker.specs.Waiting.{LinesMove}
-use Rattle.runs.specs.Reloaded.{IsPutInForce, TellsReload, IsMemory}
-use Rattle.engine.specs.InForce.{in_force}
-use Rattle.engine.specs.World.{Parts, world_of}
 use Rattle.engine.proofs.Putting.{takes, offered_sound, put_world, put_engine, refused_is, refused_engine, refused_told, tells_offered}
 use Rattle.engine.proofs.engines.Engine.reload.Goals as goal
 

@@ -1,6 +1,4 @@
-use Rattle.std.proofs.Common.{Some, sym, ◌∙◌}
-use Rattle.engine.specs.World.{Parts}
-use Rattle.engine.specs.Engines.{IsConnectionPlace}
+use Rattle.engine.proofs.Names.{Some, sym, ◌∙◌, Parts, IsConnectionPlace}
 use Rattle.engine.proofs.Tooks.{runs_at}
 use Rattle.engine.proofs.engines.Engine.runs.Goals as goal
 

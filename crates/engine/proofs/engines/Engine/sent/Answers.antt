@@ -1,8 +1,5 @@
-use Rattle.std.proofs.Common.{refl, sym, subst, Some}
+use Rattle.engine.proofs.Names.{refl, sym, subst, Some, Parts, IsConnectionPlace, KeepsTurns}
 use Rattle.broker.specs.Turns.{topology_kept, broker_of}
-use Rattle.engine.specs.World.{Parts}
-use Rattle.engine.specs.Engines.{IsConnectionPlace}
-use Rattle.engine.specs.Waiting.{KeepsTurns}
 use Rattle.engine.proofs.Swept.{connections_sent}
 use Rattle.engine.proofs.Tooks.{sends, sends_engine}
 use Rattle.engine.proofs.Waiting.{turns_same}

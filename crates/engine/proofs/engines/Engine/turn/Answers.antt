@@ -1,10 +1,5 @@
-use Rattle.std.proofs.Common.{◌≡◌, get_or, refl, sym, subst, Some}
-use Rattle.std.specs.Prelude.{IfOk, OnErr}
+use Rattle.engine.proofs.Names.{◌≡◌, get_or, refl, sym, subst, Some, IfOk, OnErr, Parts, world_of, IsConnectionPlace, TurnLeaves, rules_of}
 use Rattle.broker.specs.Turns.{topology_kept, broker_of}
-use Rattle.engine.specs.World.{Parts, world_of}
-use Rattle.engine.specs.Engines.{IsConnectionPlace}
-use Rattle.engine.specs.Waiting.{TurnLeaves}
-use Rattle.engine.specs.Performing.{rules_of}
 use Rattle.engine.proofs.Swept.{connections_took, stands_after}
 use Rattle.engine.proofs.Tooks.{took, took_engine, not_there}
 use Rattle.engine.proofs.Waiting.{leaves_at, leaves_here}

@@ -1,9 +1,5 @@
-use Rattle.std.proofs.Common.{[], Option, refl, sym, subst}
-use Rattle.model.specs.declared.obstacles.Obstacle.{Obstacle}
-use Rattle.reloading.specs.Obstacles.{Judges}
-use Rattle.reloading.specs.Wanting.{none_gone}
+use Rattle.engine.proofs.Names.{[], Option, refl, sym, subst, Obstacle, Judges, none_gone, TellsNotPut}
 use Rattle.broker.specs.Turns.{topology_kept, broker_of}
-use Rattle.engine.specs.Putting.{TellsNotPut}
 use Rattle.engine.proofs.Putting.{nothing_stands, told_is_no_memory}
 use Rattle.engine.proofs.engines.putting.put.Goals as goal
 

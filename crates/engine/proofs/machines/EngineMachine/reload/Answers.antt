@@ -1,6 +1,4 @@
-use Rattle.std.proofs.Common.{sym, subst}
-use Rattle.model.specs.State.{Config}
-use Rattle.reloading.specs.Wanting.{MayWant}
+use Rattle.engine.proofs.Names.{sym, subst, Config, MayWant}
 use Rattle.broker.specs.Turns.{topology_kept, broker_of}
 use Rattle.engine.proofs.machines.EngineMachine.reload.Goals as goal
 

@@ -1,5 +1,4 @@
-use Rattle.std.proofs.Common.{◌≡◌, ◌++◌, drop}
-use Rattle.exchange_graph.specs.Fans.{ways_from}
+use Rattle.exchange_graph.proofs.Names.{◌≡◌, ◌++◌, drop, ways_from}
 use Rattle.exchange_graph.proofs.places.NamedLists.ways_from.Given as goal
 
 abbrev pub invariant-loop-binding : goal.invariant-loop-binding

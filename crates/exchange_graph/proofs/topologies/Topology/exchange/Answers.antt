@@ -1,6 +1,5 @@
-use Rattle.std.proofs.Common.{◌≡◌, sym, Some, None, position}
-use Rattle.std.specs.Str.{bytes_eq}
-use Rattle.model.specs.declared.topologies.Exchange.{Exchange}
+use Rattle.exchange_graph.proofs.Names.{◌≡◌, sym, bytes_eq, Exchange}
+use Rattle.std.proofs.Common.{Some, None, position}
 use Rattle.exchange_graph.proofs.Indices.{found_if_some, found_if_none}
 use Rattle.exchange_graph.proofs.topologies.Topology.exchange.Goals as goal
 

@@ -1,8 +1,5 @@
-use Rattle.std.proofs.Common.{◌≡◌, ◌∙◌, ap, position}
-use Rattle.std.specs.Str.{bytes_eq}
-use Rattle.model.specs.Words.{Text}
-use Rattle.model.specs.declared.topologies.Exchange.{Exchange}
-use Rattle.topology_drafts.proofs.Entering.{same_place}
+use Rattle.exchange_graph.proofs.Names.{◌≡◌, ◌∙◌, ap, bytes_eq, Text, Exchange, same_place}
+use Rattle.std.proofs.Common.{position}
 use Rattle.exchange_graph.proofs.Indices.{within_if_some}
 use Rattle.exchange_graph.proofs.Naming.{named_if_some, absent_if_none}
 use Rattle.exchange_graph.proofs.topologies.Topology.exchange_at.Goals as goal

@@ -1,4 +1,4 @@
-use Rattle.std.proofs.lemmas.Result.{on_ok_weaker}
+use Rattle.exchange_graph.proofs.Names.{on_ok_weaker}
 use Rattle.exchange_graph.proofs.Stepping.{steps_at}
 use Rattle.exchange_graph.proofs.topologies.Topology.find_steps.Goals as goal
 

@@ -1,6 +1,4 @@
-use Rattle.std.proofs.Common.{subst}
-use Rattle.exchange_graph.specs.Fans.{AreSteps}
-use Rattle.model.specs.Words.{Text}
+use Rattle.exchange_graph.proofs.Names.{subst, AreSteps, Text}
 use Rattle.exchange_graph.proofs.Edging.{no_queue, no_fan, by_name, nothing, steps_in}
 use Rattle.exchange_graph.proofs.Starting.{not_empty}
 use Rattle.exchange_graph.proofs.topologies.Topology.leads_in.Goals as goal

@@ -1,6 +1,4 @@
-use Rattle.std.proofs.Common.{subst}
-use Rattle.exchange_graph.specs.Fans.{AreSteps}
-use Rattle.model.specs.Words.{Text}
+use Rattle.exchange_graph.proofs.Names.{subst, AreSteps, Text}
 use Rattle.exchange_graph.proofs.Edging.{no_source, no_target, steps_on}
 use Rattle.exchange_graph.proofs.topologies.Topology.leads_on.Goals as goal
 

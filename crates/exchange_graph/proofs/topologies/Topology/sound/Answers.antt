@@ -1,5 +1,4 @@
-use Rattle.std.proofs.Common.{◌∙◌, ap, sym}
-use Rattle.model.specs.Topology.{exchange_names, queue_names}
+use Rattle.exchange_graph.proofs.Names.{◌∙◌, ap, sym, exchange_names, queue_names}
 use Rattle.exchange_graph.proofs.topologies.Topology.sound.Goals as goal
 
 pub of-requires : goal.of-requires

@@ -1,7 +1,4 @@
-use Rattle.std.proofs.Common.{ℕ, List, Bool, sym, ap, subst, ◌∙◌}
-use Rattle.std.proofs.lemmas.Result.{IfOk-weaker}
-use Rattle.exchange_graph.specs.Marks.{set_places}
-use Rattle.exchange_graph.specs.Targets.{AreTargets}
+use Rattle.exchange_graph.proofs.Names.{ℕ, List, Bool, sym, ap, subst, ◌∙◌, IfOk-weaker, set_places, AreTargets}
 use Rattle.exchange_graph.proofs.Picking.{targets_of}
 use Rattle.exchange_graph.proofs.topologies.Topology.targets.Goals as goal
 

@@ -1,11 +1,4 @@
-use Rattle.std.proofs.Common.{◌≡◌, ℕ, List, Bool, [], ◌∷◌, sym, ap, subst, ◌∙◌}
-use Rattle.std.proofs.lemmas.Result.{IfOk-weaker}
-use Rattle.model.specs.Words.{Text}
-use Rattle.model.specs.Routing.{Leads, Picks, of_key}
-use Rattle.model.specs.Topology.{Topology, exchange_names}
-use Rattle.model.specs.declared.topologies.Exchange.{Exchange}
-use Rattle.exchange_graph.specs.Targets.{AreVisited, names_at}
-use Rattle.exchange_graph.specs.Marks.{set_places}
+use Rattle.exchange_graph.proofs.Names.{◌≡◌, ℕ, List, Bool, [], ◌∷◌, sym, ap, subst, ◌∙◌, IfOk-weaker, Text, Leads, Picks, of_key, Topology, exchange_names, Exchange, AreVisited, names_at, set_places}
 use Rattle.exchange_graph.proofs.Picking.{seen_picked, seen_within}
 use Rattle.topic_match.proofs.Taken.{is_none}
 use Rattle.exchange_graph.proofs.Starting.{not_empty}

@@ -1,8 +1,4 @@
-use Rattle.std.proofs.Common.{◌∙◌, List, false, refl, subst}
-use Rattle.std.specs.Prelude.{Decides}
-use Rattle.std.specs.List.{AllByRecursion}
-use Rattle.model.specs.Words.{Text, words, tokens, Matches}
-use Rattle.guarantees.specs.Covering.{KeepsIn}
+use Rattle.guarantees.proofs.Names.{◌∙◌, List, false, refl, subst, Decides, AllByRecursion, Text, words, tokens, Matches, KeepsIn}
 use Rattle.guarantees.proofs.Coverings.{covers_by, same_by}
 use Rattle.guarantees.proofs.promises.Guarantee.covers.Goals as goal
 

@@ -1,8 +1,4 @@
-use Rattle.std.proofs.Common.{◌∷◌, [], subst}
-use Rattle.serving.specs.Wire.{Follows}
-use Rattle.serving.specs.Answered.{accept_call}
-use Rattle.memory_wire.specs.Logs.{told_by}
-use Rattle.memory_wire.specs.declared.logs.Log.{Log}
+use Rattle.memory_wire.proofs.Names.{◌∷◌, [], subst, Follows, accept_call, told_by, Log}
 use Rattle.memory_wire.proofs.Telling.{tells_one, accepted_lt}
 use Rattle.memory_wire.proofs.wires.MemoryWireWire.accept.Goals as goal
 

@@ -1,8 +1,4 @@
-use Rattle.std.proofs.Common.{◌∷◌, [], length, subst, arith}
-use Rattle.serving.specs.Wire.{Follows}
-use Rattle.serving.specs.Answered.{read_call}
-use Rattle.memory_wire.specs.Logs.{told_by}
-use Rattle.memory_wire.specs.declared.logs.Log.{Log}
+use Rattle.memory_wire.proofs.Names.{◌∷◌, [], length, subst, arith, Follows, read_call, told_by, Log}
 use Rattle.memory_wire.proofs.Telling.{tells_one, not_read}
 use Rattle.memory_wire.proofs.wires.MemoryWireWire.read.Goals as goal
 

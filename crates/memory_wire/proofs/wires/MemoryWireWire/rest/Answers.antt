@@ -1,6 +1,4 @@
-use Rattle.std.proofs.Common.{refl, arith}
-use Rattle.serving.specs.Wire.{Rested}
-use Rattle.memory_wire.specs.Logs.{told_by}
+use Rattle.memory_wire.proofs.Names.{refl, arith, Rested, told_by}
 use Rattle.memory_wire.proofs.Telling.{tells_one}
 use Rattle.memory_wire.proofs.wires.MemoryWireWire.rest.Goals as goal
 

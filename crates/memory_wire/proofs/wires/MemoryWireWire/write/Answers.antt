@@ -1,6 +1,4 @@
-use Rattle.std.proofs.Common.{arith}
-use Rattle.serving.specs.Answered.{write_call}
-use Rattle.memory_wire.specs.Logs.{told_by}
+use Rattle.memory_wire.proofs.Names.{arith, write_call, told_by}
 use Rattle.memory_wire.proofs.Telling.{tells_one, not_write}
 use Rattle.memory_wire.proofs.wires.MemoryWireWire.write.Goals as goal
 

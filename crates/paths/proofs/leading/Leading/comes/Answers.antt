@@ -1,9 +1,4 @@
-use Rattle.std.proofs.Common.{List, Bool, subst, sym}
-use Rattle.std.specs.Prelude.{Decides}
-use Rattle.model.specs.Topology.{IsIn}
-use Rattle.paths.specs.declared.visits.Visit.{Visit}
-use Rattle.paths.specs.Stands.{IsStandThere}
-use Rattle.paths.specs.Leading.{AreLeading, SomeLeads}
+use Rattle.paths.proofs.Names.{List, Bool, subst, sym, Decides, IsIn, Visit, IsStandThere, AreLeading, SomeLeads}
 use Rattle.paths.proofs.Leads.{some_tells}
 use Rattle.paths.proofs.leading.Leading.comes.Goals as goal
 

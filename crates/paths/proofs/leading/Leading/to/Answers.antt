@@ -1,6 +1,4 @@
-use Rattle.std.proofs.Common.{◌≡◌, ◌+◌, ℕ, List, ap, length, subst, sym}
-use Rattle.paths.specs.declared.reach.Hop.{Hop}
-use Rattle.paths.specs.Reach.{AreReached, LinksAreWithin}
+use Rattle.paths.proofs.Names.{◌≡◌, ◌+◌, ℕ, List, ap, length, subst, sym, Hop, AreReached, LinksAreWithin}
 use Rattle.paths.proofs.Leads.{are_leading, links_within}
 use Rattle.paths.proofs.leading.Leading.to.Goals as goal
 

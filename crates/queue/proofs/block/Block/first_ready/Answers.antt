@@ -1,10 +1,4 @@
-use Rattle.std.proofs.Common.{◌≡◌, ◌∙◌, sym, ap, subst, List, Option, None, find, get_or}
-use Rattle.std.specs.Prelude.{option_map}
-use Rattle.model.specs.Broker.{is_ready}
-use Rattle.model.specs.declared.messages.Entry.{Entry}
-use Rattle.queue.specs.Slots.{contents}
-use Rattle.queue.specs.declared.slots.Slot.{Slot}
-use Rattle.queue.specs.Blocks.{Stretch}
+use Rattle.queue.proofs.Names.{◌≡◌, ◌∙◌, sym, ap, subst, List, Option, None, find, get_or, option_map, is_ready, Entry, contents, Slot, Stretch}
 use Rattle.queue.proofs.Places.{find_at, none_found}
 use Rattle.queue.proofs.Slotted.{first_by_marks, none_by_marks}
 use Rattle.queue.proofs.block.Block.first_ready.Goals as goal

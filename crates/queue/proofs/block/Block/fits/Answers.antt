@@ -1,6 +1,4 @@
-use Rattle.std.proofs.Common.{◌≡◌, ◌≤◌, ap, arith, rules, length, vec_len, vec_capacity}
-use Rattle.std.proofs.lemmas.Bool.{leb-true}
-use Rattle.queue.specs.Blocks.{Stretch}
+use Rattle.queue.proofs.Names.{◌≡◌, ◌≤◌, ap, arith, rules, length, vec_len, vec_capacity, leb-true, Stretch}
 use Rattle.queue.proofs.Slotted.{live_most, contents-length}
 use Rattle.queue.proofs.block.Block.fits.Goals as goal
 

@@ -1,6 +1,4 @@
-use Rattle.std.proofs.Common.{◌≡◌, sym, ap, subst, true, false, find, is_some}
-use Rattle.model.specs.Broker.{is_ready}
-use Rattle.queue.specs.Blocks.{Stretch}
+use Rattle.queue.proofs.Names.{◌≡◌, sym, ap, subst, true, false, find, is_some, is_ready, Stretch}
 use Rattle.queue.proofs.Places.{some_at, none_found}
 use Rattle.queue.proofs.Slotted.{first_by_marks, none_by_marks}
 use Rattle.queue.proofs.block.Block.has_ready.Goals as goal

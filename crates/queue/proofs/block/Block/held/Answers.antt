@@ -1,10 +1,4 @@
-use Rattle.std.proofs.Common.{◌≡◌, ◌∙◌, sym, ap, subst, List, true, Option, None, find, get_or}
-use Rattle.std.specs.Prelude.{option_map}
-use Rattle.model.specs.declared.messages.Entry.{Entry}
-use Rattle.model.specs.Entries.{is_held_as}
-use Rattle.queue.specs.Slots.{contents, slot_has}
-use Rattle.queue.specs.declared.slots.Slot.{Slot}
-use Rattle.queue.specs.Blocks.{Stretch}
+use Rattle.queue.proofs.Names.{◌≡◌, ◌∙◌, sym, ap, subst, List, true, Option, None, find, get_or, option_map, Entry, is_held_as, contents, slot_has, Slot, Stretch}
 use Rattle.queue.proofs.Places.{find_at, none_found, only_first}
 use Rattle.queue.proofs.Slotted.{only_held}
 use Rattle.queue.proofs.Places.{NonePasses}

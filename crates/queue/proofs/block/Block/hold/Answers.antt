@@ -1,8 +1,4 @@
-use Rattle.std.proofs.Common.{◌≡◌, ◌∙◌, sym, ap, subst, true, false, None, find, is_some}
-use Rattle.model.specs.Broker.{is_ready}
-use Rattle.model.specs.Entries.{is_held_as, held_as, change_first}
-use Rattle.queue.specs.Slots.{contents, somes}
-use Rattle.queue.specs.Blocks.{Stretch}
+use Rattle.queue.proofs.Names.{◌≡◌, ◌∙◌, sym, ap, subst, true, false, None, find, is_some, is_ready, is_held_as, held_as, change_first, contents, somes, Stretch}
 use Rattle.queue.proofs.Places.{change_at, some_at, none_found, none_changed}
 use Rattle.queue.proofs.Slotted.{first_by_marks, none_by_marks, hold_shows, same_bits}
 use Rattle.queue.proofs.block.Block.hold.Goals as goal

@@ -1,7 +1,4 @@
-use Rattle.std.proofs.Common.{◌≡◌, ℕ, ◌∙◌, ◌<◌, ◌∷◌, ◌++◌, [], sym, ap, refl, subst, arith, rules, length, Some, vec_len}
-use Rattle.model.specs.declared.messages.Mark.TheVariants.{Ready}
-use Rattle.queue.specs.Slots.{contents, somes, BitTurned}
-use Rattle.queue.specs.Blocks.{Stretch}
+use Rattle.queue.proofs.Names.{◌≡◌, ℕ, ◌∙◌, ◌<◌, ◌∷◌, ◌++◌, [], sym, ap, refl, subst, arith, rules, length, Some, vec_len, Ready, contents, somes, BitTurned, Stretch}
 use Rattle.queue.proofs.Places.{somes-append}
 use Rattle.queue.proofs.Slotted.{same_bits, push_shows, live_most, contents-length}
 use Rattle.queue.proofs.block.Block.push.Goals as goal

@@ -1,10 +1,4 @@
-use Rattle.std.proofs.Common.{◌≡◌, ◌∙◌, sym, ap, subst, List, true, false, Option, None, find, is_some, get_or}
-use Rattle.model.specs.declared.messages.Entry.{Entry}
-use Rattle.queue.specs.Line.{requeued}
-use Rattle.model.specs.Entries.{is_under, is_held_as}
-use Rattle.queue.specs.Slots.{contents, somes, slot_has}
-use Rattle.queue.specs.declared.slots.Slot.{Slot}
-use Rattle.queue.specs.Blocks.{Stretch}
+use Rattle.queue.proofs.Names.{◌≡◌, ◌∙◌, sym, ap, subst, List, true, false, Option, None, find, is_some, get_or, Entry, requeued, is_under, is_held_as, contents, somes, slot_has, Slot, Stretch}
 use Rattle.queue.proofs.Places.{some_at, none_found, none_mapped, only_first, only_mapped}
 use Rattle.queue.proofs.Slotted.{release_shows, only_held, same_bits, freed_same, slot_freed}
 use Rattle.std.proofs.Math.ListN.{set}

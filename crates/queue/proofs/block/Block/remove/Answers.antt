@@ -1,9 +1,5 @@
-use Rattle.std.proofs.Common.{◌≡◌, ◌∙◌, sym, ap, subst, arith, List, true, not, filter, Option, None, find, get_or}
-use Rattle.model.specs.declared.messages.Entry.{Entry}
-use Rattle.model.specs.Entries.{is_held_as}
-use Rattle.queue.specs.Slots.{contents, somes, slot_has}
-use Rattle.queue.specs.declared.slots.Slot.{Slot}
-use Rattle.queue.specs.Blocks.{Stretch}
+use Rattle.queue.proofs.Names.{◌≡◌, ◌∙◌, sym, ap, subst, arith, List, true, filter, Option, None, find, get_or, Entry, is_held_as, contents, somes, slot_has, Slot, Stretch}
+use Rattle.std.proofs.Common.{not}
 use Rattle.queue.proofs.Places.{find_at, none_found, none_left_out, only_first, only_left_out}
 use Rattle.queue.proofs.Slotted.{remove_shows, held_least, only_held, same_bits}
 use Rattle.queue.proofs.Places.{NonePasses}

@@ -1,5 +1,4 @@
-use Rattle.std.proofs.Common.{◌≤◌, arith, ap, vec_capacity}
-use Rattle.queue.specs.Blocks.{Stretch}
+use Rattle.queue.proofs.Names.{◌≤◌, arith, ap, vec_capacity, Stretch}
 use Rattle.queue.proofs.block.Block.reserve.Goals as goal
 
 pub returns-in_err-grow-in-Some-clause-slots : goal.returns-in_err-grow-in-Some-clause-slots

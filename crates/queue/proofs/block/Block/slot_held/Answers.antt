@@ -1,8 +1,4 @@
-use Rattle.std.proofs.Common.{◌≡◌, ◌≤◌, sym, subst, List, find, is_some}
-use Rattle.model.specs.Entries.{is_held_as}
-use Rattle.queue.specs.Blocks.{Stretch}
-use Rattle.queue.specs.Slots.{contents, somes, tally}
-use Rattle.queue.specs.declared.slots.Slot.{Slot}
+use Rattle.queue.proofs.Names.{◌≡◌, ◌≤◌, sym, subst, List, find, is_some, is_held_as, Stretch, contents, somes, tally, Slot}
 use Rattle.queue.proofs.Slotted.{held_told}
 use Rattle.queue.proofs.block.Block.slot_held.Goals as goal
 

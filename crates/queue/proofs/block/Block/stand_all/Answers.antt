@@ -1,10 +1,4 @@
-use Rattle.std.proofs.Common.{◌≡◌, ◌∙◌, ◌-◌, ℕ, List, Option, drop, length, ap, map, vec_len, vec_capacity}
-use Rattle.std.proofs.lemmas.List.{take_at}
-use Rattle.model.specs.Reloading.{stood_now}
-use Rattle.model.specs.declared.messages.Entry.{Entry}
-use Rattle.queue.specs.Blocks.{Stretch, stood_block}
-use Rattle.queue.specs.Slots.{changed, contents, somes}
-use Rattle.queue.specs.declared.slots.Slot.{Slot}
+use Rattle.queue.proofs.Names.{◌≡◌, ◌∙◌, ◌-◌, ℕ, List, Option, drop, length, ap, map, vec_len, vec_capacity, take_at, stood_now, Entry, Stretch, stood_block, changed, contents, somes, Slot}
 use Rattle.queue.proofs.Stood.{somes-changed, stood_shows}
 use Rattle.queue.proofs.block.Block.stand_all.Goals as goal
 

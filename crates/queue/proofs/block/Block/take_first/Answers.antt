@@ -1,9 +1,4 @@
-use Rattle.std.proofs.Common.{◌≡◌, ◌∙◌, sym, ap, subst, arith, Option, None, find}
-use Rattle.model.specs.Broker.{is_ready}
-use Rattle.model.specs.declared.messages.Entry.{Entry}
-use Rattle.model.specs.Entries.{without_first}
-use Rattle.queue.specs.Slots.{contents, somes}
-use Rattle.queue.specs.Blocks.{Stretch}
+use Rattle.queue.proofs.Names.{◌≡◌, ◌∙◌, sym, ap, subst, arith, Option, None, find, is_ready, Entry, without_first, contents, somes, Stretch}
 use Rattle.queue.proofs.Places.{remove_at, find_at, none_found, none_removed}
 use Rattle.queue.proofs.Slotted.{first_by_marks, none_by_marks, take_shows, ready_least, same_bits}
 use Rattle.queue.proofs.block.Block.take_first.Goals as goal

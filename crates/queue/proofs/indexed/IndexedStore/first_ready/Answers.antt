@@ -1,9 +1,4 @@
-use Rattle.std.proofs.Common.{◌≡◌, ◌∙◌, [], sym, ap, subst, List, Option, None, find, get_or}
-use Rattle.std.specs.Prelude.{option_map}
-use Rattle.model.specs.Broker.{is_ready}
-use Rattle.model.specs.declared.messages.Entry.{Entry}
-use Rattle.queue.specs.Line.{Line}
-use Rattle.queue.specs.Blocks.{Stretch, parts}
+use Rattle.queue.proofs.Names.{◌≡◌, ◌∙◌, [], sym, ap, subst, List, Option, None, find, get_or, option_map, is_ready, Entry, Line, Stretch, parts}
 use Rattle.queue.proofs.Joined.{joined_found, joined_none}
 use Rattle.queue.proofs.Signed.{first_signed, none_signed}
 use Rattle.queue.proofs.indexed.IndexedStore.first_ready.Goals as goal

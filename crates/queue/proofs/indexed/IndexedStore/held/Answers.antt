@@ -1,9 +1,4 @@
-use Rattle.std.proofs.Common.{◌≡◌, ◌∙◌, [], sym, ap, subst, List, true, Option, None, find, get_or}
-use Rattle.std.specs.Prelude.{option_map}
-use Rattle.model.specs.declared.messages.Entry.{Entry}
-use Rattle.model.specs.Entries.{is_held_as}
-use Rattle.queue.specs.Line.{Line}
-use Rattle.queue.specs.Blocks.{Stretch, parts, some_pass}
+use Rattle.queue.proofs.Names.{◌≡◌, ◌∙◌, [], sym, ap, subst, List, true, Option, None, find, get_or, option_map, Entry, is_held_as, Line, Stretch, parts, some_pass}
 use Rattle.queue.proofs.Joined.{joined_found}
 use Rattle.queue.proofs.Calls.{NoneIn, nothing_found, held_first}
 use Rattle.queue.proofs.indexed.IndexedStore.held.Goals as goal

@@ -1,10 +1,4 @@
-use Rattle.std.proofs.Common.{◌≡◌, ◌∙◌, [], sym, ap, subst, arith, rules, length, false, List, None, find, get_or, is_some, vec_len}
-use Rattle.model.specs.Broker.{is_ready, body_bytes}
-use Rattle.model.specs.Entries.{is_held_as, held_as, change_first}
-use Rattle.model.specs.declared.messages.Entry.{Entry}
-use Rattle.queue.specs.Line.{Line}
-use Rattle.queue.specs.Slots.{num, BitTurned}
-use Rattle.queue.specs.Blocks.{Stretch, parts, joined, some_pass, size_of}
+use Rattle.queue.proofs.Names.{◌≡◌, ◌∙◌, [], sym, ap, subst, arith, rules, length, false, List, None, find, get_or, is_some, vec_len, is_ready, body_bytes, is_held_as, held_as, change_first, Entry, Line, num, BitTurned, Stretch, parts, joined, some_pass, size_of}
 use Rattle.queue.proofs.Filled.{bounded}
 use Rattle.queue.proofs.Joined.{FirstIn, first_within, joined_found, joined_changed, joined_none, none_changed_in}
 use Rattle.queue.proofs.Signed.{first_signed, none_signed, signed_now, parts-length}

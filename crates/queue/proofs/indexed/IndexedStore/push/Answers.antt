@@ -1,10 +1,5 @@
-use Rattle.std.proofs.Common.{◌≡◌, ◌∙◌, ◌<◌, ◌+◌, ◌∷◌, ◌++◌, [], ℕ, sym, ap, refl, subst, arith, rules, length, get_or, List, Bool, vec_len}
-use Rattle.model.specs.declared.messages.Mark.TheVariants.{Ready}
-use Rattle.model.specs.declared.messages.Entry.{Entry}
+use Rattle.queue.proofs.Names.{◌≡◌, ◌∙◌, ◌<◌, ◌+◌, ◌∷◌, ◌++◌, [], ℕ, sym, ap, refl, subst, arith, rules, length, get_or, List, Bool, vec_len, Ready, Entry, Line, num, BitTurned, parts, joined, AreBlocksSigned, IsCounted}
 use Rattle.model.specs.declared.contents.Content.{Content}
-use Rattle.queue.specs.Line.{Line}
-use Rattle.queue.specs.Slots.{num, BitTurned}
-use Rattle.queue.specs.Blocks.{parts, joined, AreBlocksSigned, IsCounted}
 use Rattle.queue.proofs.Filled.{bounded}
 use Rattle.queue.proofs.Joined.{joined_end}
 use Rattle.queue.proofs.Signed.{signed_at, ready_at_end, parts-length}

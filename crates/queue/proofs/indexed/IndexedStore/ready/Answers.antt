@@ -1,6 +1,4 @@
-use Rattle.std.proofs.Common.{◌≡◌, ◌∙◌, subst}
-use Rattle.model.specs.Broker.{is_ready}
-use Rattle.queue.specs.Line.{Line, ready_count}
+use Rattle.queue.proofs.Names.{◌≡◌, ◌∙◌, subst, is_ready, Line, ready_count}
 use Rattle.queue.proofs.Places.{tally-filter}
 use Rattle.queue.proofs.indexed.IndexedStore.ready.Goals as goal
 

@@ -1,7 +1,4 @@
-use Rattle.std.proofs.Common.{◌≡◌, ◌∙◌, subst}
-use Rattle.model.specs.Broker.{ready_bytes}
-use Rattle.queue.specs.Line.{Line}
-use Rattle.queue.specs.Blocks.{parts, joined}
+use Rattle.queue.proofs.Names.{◌≡◌, ◌∙◌, subst, ready_bytes, Line, parts, joined}
 use Rattle.queue.proofs.Bytes.{total-ready}
 use Rattle.queue.proofs.indexed.IndexedStore.ready_bytes.Goals as goal
 

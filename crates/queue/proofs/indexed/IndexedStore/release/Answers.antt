@@ -1,10 +1,4 @@
-use Rattle.std.proofs.Common.{◌≡◌, ◌∙◌, [], sym, ap, refl, subst, arith, rules, length, List, true, false, find, is_some, get_or, vec_len}
-use Rattle.model.specs.Broker.{is_ready, body_bytes}
-use Rattle.model.specs.Entries.{is_under, is_held_as}
-use Rattle.model.specs.declared.messages.Entry.{Entry}
-use Rattle.queue.specs.Line.{Line, requeued}
-use Rattle.queue.specs.Slots.{num, BitTurned}
-use Rattle.queue.specs.Blocks.{Stretch, parts, joined, some_pass, size_of}
+use Rattle.queue.proofs.Names.{◌≡◌, ◌∙◌, [], sym, ap, refl, subst, arith, rules, length, List, true, false, find, is_some, get_or, vec_len, is_ready, body_bytes, is_under, is_held_as, Entry, Line, requeued, num, BitTurned, Stretch, parts, joined, some_pass, size_of}
 use Rattle.queue.proofs.Filled.{bounded}
 use Rattle.queue.proofs.Joined.{first_within, joined_found}
 use Rattle.queue.proofs.Signed.{signed_now, parts-length}

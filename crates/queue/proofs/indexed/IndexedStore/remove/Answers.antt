@@ -1,8 +1,5 @@
-use Rattle.std.proofs.Common.{◌≡◌, ◌∙◌, ◌-◌, [], refl, sym, ap, subst, arith, rules, length, List, Option, true, None, find, filter, not, get_or, vec_len}
-use Rattle.model.specs.Entries.{is_held_as}
-use Rattle.model.specs.declared.messages.Entry.{Entry}
-use Rattle.queue.specs.Line.{Line}
-use Rattle.queue.specs.Blocks.{Stretch, parts, joined, some_pass, AreBlocksSigned, IsCounted}
+use Rattle.queue.proofs.Names.{◌≡◌, ◌∙◌, ◌-◌, [], refl, sym, ap, subst, arith, rules, length, List, Option, true, None, find, filter, get_or, vec_len, is_held_as, Entry, Line, Stretch, parts, joined, some_pass, AreBlocksSigned, IsCounted}
+use Rattle.std.proofs.Common.{not}
 use Rattle.queue.proofs.Filled.{bounded}
 use Rattle.queue.proofs.Joined.{first_within, joined_found, part_once}
 use Rattle.queue.proofs.Signed.{parts-length}

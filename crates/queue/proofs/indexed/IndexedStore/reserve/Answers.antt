@@ -1,6 +1,4 @@
-use Rattle.std.proofs.Common.{sym, subst, arith, List}
-use Rattle.model.specs.declared.messages.Entry.{Entry}
-use Rattle.queue.specs.Blocks.{IsCounted}
+use Rattle.queue.proofs.Names.{sym, subst, arith, List, Entry, IsCounted}
 use Rattle.queue.proofs.Filled.{bounded, filled_most}
 use Rattle.queue.proofs.indexed.IndexedStore.reserve.Goals as goal
 

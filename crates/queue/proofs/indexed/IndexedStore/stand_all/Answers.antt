@@ -1,8 +1,4 @@
-use Rattle.std.proofs.Common.{◌≡◌, ◌∙◌, List, arith, drop, length, ap, map}
-use Rattle.std.proofs.lemmas.List.{take_at}
-use Rattle.model.specs.Reloading.{stood_now}
-use Rattle.queue.specs.Line.{Line}
-use Rattle.queue.specs.Blocks.{Stretch, parts, joined, stood_block}
+use Rattle.queue.proofs.Names.{◌≡◌, ◌∙◌, List, arith, drop, length, ap, map, take_at, stood_now, Line, Stretch, parts, joined, stood_block}
 use Rattle.queue.proofs.Filled.{bounded, filled_stood}
 use Rattle.queue.proofs.Stood.{stood_counted}
 use Rattle.queue.proofs.Signed.{joined_stood, room_stood, signed_stood}

@@ -1,9 +1,4 @@
-use Rattle.std.proofs.Common.{◌≡◌, ◌∙◌, ◌-◌, [], refl, sym, ap, subst, arith, rules, length, List, Option, None, find, get_or, vec_len}
-use Rattle.model.specs.Broker.{is_ready, body_bytes}
-use Rattle.model.specs.Entries.{without_first}
-use Rattle.model.specs.declared.messages.Entry.{Entry}
-use Rattle.queue.specs.Line.{Line}
-use Rattle.queue.specs.Blocks.{Stretch, parts, joined, size_of, AreBlocksSigned, IsCounted}
+use Rattle.queue.proofs.Names.{◌≡◌, ◌∙◌, ◌-◌, [], refl, sym, ap, subst, arith, rules, length, List, Option, None, find, get_or, vec_len, is_ready, body_bytes, without_first, Entry, Line, Stretch, parts, joined, size_of, AreBlocksSigned, IsCounted}
 use Rattle.queue.proofs.Filled.{bounded}
 use Rattle.queue.proofs.Joined.{FirstIn, first_within, joined_found, joined_without, joined_none, none_without_in}
 use Rattle.queue.proofs.Signed.{first_signed, none_signed, parts-length}

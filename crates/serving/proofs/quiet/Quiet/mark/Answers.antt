@@ -1,4 +1,4 @@
-use Rattle.std.proofs.Common.{◌≡◌, ◌∙◌, length, arith}
+use Rattle.serving.proofs.Names.{◌≡◌, ◌∙◌, length, arith}
 use Rattle.serving.proofs.Loudness.{loud_put}
 use Rattle.serving.proofs.quiet.Quiet.mark.Goals as goal
 

@@ -1,5 +1,4 @@
-use Rattle.std.proofs.Common.{◌≡◌, ◌∙◌, List, Bool, length, max, sym, ap, subst}
-use Rattle.serving.specs.Quiet.{IsNextLoud}
+use Rattle.serving.proofs.Names.{◌≡◌, ◌∙◌, List, Bool, length, max, sym, ap, subst, IsNextLoud}
 use Rattle.serving.proofs.Loudness.{next_in, next_behind}
 use Rattle.serving.proofs.quiet.Quiet.next_loud.Goals as goal
 

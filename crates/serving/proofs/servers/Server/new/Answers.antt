@@ -1,6 +1,4 @@
-use Rattle.std.proofs.Common.{◌≡◌, ◌∙◌, List, [], Option, sym, subst}
-use Rattle.serving.specs.Fit.{IsFit}
-use Rattle.serving.specs.declared.peers.Peer.{Peer}
+use Rattle.serving.proofs.Names.{◌≡◌, ◌∙◌, List, [], Option, sym, subst, IsFit, Peer}
 use Rattle.serving.proofs.Fits.{fit_none}
 use Rattle.serving.proofs.Quieting.{none_quiet, none_ended}
 use Rattle.serving.proofs.servers.Server.new.Goals as goal

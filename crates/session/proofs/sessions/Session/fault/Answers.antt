@@ -1,6 +1,4 @@
-use Rattle.std.proofs.Common.{refl, sym, ap, ◌∙◌, [], ◌∷◌}
-use Rattle.model.specs.Phases.{Move}
-use Rattle.model.specs.declared.events.Send.{Send}
+use Rattle.session.proofs.Names.{refl, sym, ap, ◌∙◌, [], ◌∷◌, Move, Send}
 use Rattle.session.proofs.Faults.{faulted_elsewhere}
 use Rattle.session.proofs.sessions.Session.fault.Goals as goal
 

@@ -1,9 +1,4 @@
-use Rattle.std.proofs.Common.{◌≡◌, ◌∙◌, List, [], ◌∷◌, ◌++◌, sym, ap, subst}
-use Rattle.std.proofs.lemmas.Bool.{false≢true}
-use Rattle.model.specs.Words.{Text}
-use Rattle.model.specs.Topology.{IsIn}
-use Rattle.model.specs.Tracking.{Tracked, once_more, same_tracked}
-use Rattle.state_routes.specs.Keys.{AreKeysOf, texts_by, with_text}
+use Rattle.state_routes.proofs.Names.{◌≡◌, ◌∙◌, List, [], ◌∷◌, ◌++◌, sym, ap, subst, false≢true, Text, IsIn, Tracked, once_more, same_tracked, AreKeysOf, texts_by, with_text}
 use Rattle.state_routes.proofs.Keying.{grows, one_known, pattern, stays}
 use Rattle.state_routes.proofs.patterns.Patterns.add.Goals as goal
 

@@ -1,6 +1,4 @@
-use Rattle.std.proofs.Common.{◌∙◌, ◌+◌, List, length, ap}
-use Rattle.model.specs.declared.topologies.Exchange.{Exchange}
-use Rattle.state_routes.specs.Nodes.{alternate_links}
+use Rattle.state_routes.proofs.Names.{◌∙◌, ◌+◌, List, length, ap, Exchange, alternate_links}
 use Rattle.state_routes.proofs.Sure.{alternates_below, bounded_as, gates_as, gates_below, known_as}
 use Rattle.state_routes.proofs.routes.Routes.new.Goals as goal
 

@@ -1,6 +1,4 @@
-use Rattle.std.proofs.Common.{◌∙◌, List, sym, subst}
-use Rattle.std.proofs.lemmas.List.{take_at}
-use Rattle.broker.specs.Rounds.{Waiters, round_at, HasRoom, KeepRounds, AllAddTheirOwn}
+use Rattle.broker.proofs.Names.{◌∙◌, List, sym, subst, take_at, Waiters, round_at, HasRoom, KeepRounds, AllAddTheirOwn}
 use Rattle.broker.proofs.rounds.queue_rounds.QueueRounds.join.Goals as goal
 
 pub join_at-requires-clause-room : goal.join_at-requires-clause-room

@@ -1,6 +1,4 @@
-use Rattle.std.proofs.Common.{◌∙◌, List, sym, subst}
-use Rattle.std.proofs.lemmas.List.{take_at}
-use Rattle.broker.specs.Rounds.{Waiters, KeepRounds, LeaveLines}
+use Rattle.broker.proofs.Names.{◌∙◌, List, sym, subst, take_at, Waiters, KeepRounds, LeaveLines}
 use Rattle.broker.proofs.rounds.queue_rounds.QueueRounds.leave.Goals as goal
 
 pub returns-clause-kept : goal.returns-clause-kept

@@ -1,4 +1,4 @@
-use Rattle.std.proofs.Common.{arith}
+use Rattle.broker.proofs.Names.{arith}
 use Rattle.broker.proofs.Marked.{marked_empty}
 use Rattle.broker.proofs.rounds.queue_rounds.QueueRounds.new.Goals as goal
 

@@ -1,8 +1,5 @@
-use Rattle.std.proofs.Common.{◌∙◌, List, length, sym, ap, subst, arith}
-use Rattle.std.specs.Prelude.{IfSome}
-use Rattle.std.proofs.lemmas.List.{take_at}
+use Rattle.broker.proofs.Names.{◌∙◌, List, length, sym, ap, subst, arith, IfSome, take_at, Waiters, rounds_of, IsInItsRound, KeepsWaiters, NonePassed, PicksFrom, SameOrders}
 use Rattle.commands.specs.State.{broker_of}
-use Rattle.broker.specs.Rounds.{Waiters, rounds_of, IsInItsRound, KeepsWaiters, NonePassed, PicksFrom, SameOrders}
 use Rattle.broker.proofs.rounds.queue_rounds.QueueRounds.pick.Goals as goal
 
 pub returns-clause-none : goal.returns-clause-none

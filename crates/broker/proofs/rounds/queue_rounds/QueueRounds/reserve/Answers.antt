@@ -1,6 +1,4 @@
-use Rattle.std.proofs.Common.{◌∙◌, List, sym, subst}
-use Rattle.std.proofs.lemmas.List.{take_at}
-use Rattle.broker.specs.Rounds.{Waiters, round_at, HasRoom, AllWaken, QueuesAreMarked}
+use Rattle.broker.proofs.Names.{◌∙◌, List, sym, subst, take_at, Waiters, round_at, HasRoom, AllWaken, QueuesAreMarked}
 use Rattle.broker.proofs.Outcomes.{on_ok}
 use Rattle.broker.proofs.rounds.queue_rounds.QueueRounds.reserve.Goals as goal
 

@@ -1,7 +1,4 @@
-use Rattle.std.proofs.Common.{◌∙◌, List, sym, subst}
-use Rattle.std.proofs.lemmas.List.{take_at}
-use Rattle.broker.specs.Rounds.{Waiters}
-use Rattle.broker.specs.Moving.{RoundsAreMoved, LinesCome}
+use Rattle.broker.proofs.Names.{◌∙◌, List, sym, subst, take_at, Waiters, RoundsAreMoved, LinesCome}
 use Rattle.broker.proofs.rounds.queue_rounds.QueueRounds.take_over.Goals as goal
 
 pub returns-clause-moved : goal.returns-clause-moved

@@ -1,6 +1,4 @@
-use Rattle.std.proofs.Common.{◌∙◌, List, sym, subst}
-use Rattle.std.proofs.lemmas.List.{take_at}
-use Rattle.broker.specs.Rounds.{Waiters, round_at, IsAwake, IsAsleep}
+use Rattle.broker.proofs.Names.{◌∙◌, List, sym, subst, take_at, Waiters, round_at, IsAwake, IsAsleep}
 use Rattle.broker.proofs.rounds.queue_rounds.QueueRounds.wake.Goals as goal
 
 pub returns-then-queue-len-clause-woken : goal.returns-then-queue-len-clause-woken

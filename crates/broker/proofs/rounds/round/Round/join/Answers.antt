@@ -1,12 +1,5 @@
-use Rattle.std.proofs.Common.{◌∙◌, ◌++◌, List, [], ◌∷◌, length, drop, inl, inr, sym, ap, subst, arith}
-use Rattle.std.specs.Prelude.{vec_capacity}
-use Rattle.std.proofs.lemmas.List.{take_at}
-use Rattle.model.specs.Topology.{IsIn}
+use Rattle.broker.proofs.Names.{◌∙◌, ◌++◌, List, [], ◌∷◌, length, drop, inl, inr, sym, ap, subst, arith, vec_capacity, take_at, IsIn, Pick, Waiter, turned, AreDistinct, Waiters, round_of, picks, order, IsInRound}
 use Rattle.commands.specs.State.{broker_of}
-use Rattle.commands.specs.declared.picks.Pick.{Pick}
-use Rattle.broker.specs.declared.rounds.waiters.Waiter.{Waiter}
-use Rattle.broker.specs.Lines.{turned, AreDistinct}
-use Rattle.broker.specs.Rounds.{Waiters, round_of, picks, order, IsInRound}
 use Rattle.broker.proofs.Inserting.{awake_in, distinct_list}
 use Rattle.broker.proofs.Lining.{distinct_end}
 use Rattle.broker.proofs.Sleeping.{joined_woken}

@@ -1,6 +1,5 @@
-use Rattle.std.proofs.Common.{◌∙◌, filter, sym, ap, subst}
+use Rattle.broker.proofs.Names.{◌∙◌, filter, sym, ap, subst, Waiters, order, remains, IsInRound}
 use Rattle.commands.specs.State.{broker_of}
-use Rattle.broker.specs.Rounds.{Waiters, order, remains, IsInRound}
 use Rattle.broker.proofs.rounds.round.Round.leave.Goals as goal
 
 pub returns-clause-kept : goal.returns-clause-kept

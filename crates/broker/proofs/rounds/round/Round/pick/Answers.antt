@@ -1,11 +1,4 @@
-use Rattle.std.proofs.Common.{◌∙◌, ◌+◌, ◌++◌, List, [], ◌∷◌, length, take, drop, arith, get_or, refl, sym, ap, subst}
-use Rattle.std.specs.Prelude.{vec_capacity}
-use Rattle.std.proofs.lemmas.List.{take_at}
-use Rattle.commands.specs.Picked.{IsPickFrom}
-use Rattle.commands.specs.declared.picks.Pick.{Pick}
-use Rattle.broker.specs.declared.rounds.waiters.Waiter.{Waiter}
-use Rattle.broker.specs.Lines.{turned, AreDistinct}
-use Rattle.broker.specs.Rounds.{Waiters, round_of, picks, order, IsAwake, KeepsIn, NoneAwake, NoneAwakePassed, GoesLast}
+use Rattle.broker.proofs.Names.{◌∙◌, ◌+◌, ◌++◌, List, [], ◌∷◌, length, take, drop, arith, get_or, refl, sym, ap, subst, vec_capacity, take_at, IsPickFrom, Pick, Waiter, turned, AreDistinct, Waiters, round_of, picks, order, IsAwake, KeepsIn, NoneAwake, NoneAwakePassed, GoesLast}
 use Rattle.broker.proofs.Orders.{goes_last}
 use Rattle.broker.proofs.Picks.{picks_at}
 use Rattle.broker.proofs.Sleeping.{none_in_round, none_awake}

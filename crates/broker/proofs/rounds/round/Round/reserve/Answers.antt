@@ -1,6 +1,4 @@
-use Rattle.std.proofs.Common.{refl, sym, subst}
-use Rattle.std.specs.Prelude.{vec_capacity}
-use Rattle.broker.specs.Rounds.{Waiters, IsAwake, Wakens}
+use Rattle.broker.proofs.Names.{refl, sym, subst, vec_capacity, Waiters, IsAwake, Wakens}
 use Rattle.broker.proofs.Outcomes.{on_both}
 use Rattle.broker.proofs.Sleeping.{awake_bits, waken_bits}
 use Rattle.broker.proofs.rounds.round.Round.reserve.Goals as goal

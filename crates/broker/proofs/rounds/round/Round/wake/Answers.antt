@@ -1,8 +1,4 @@
-use Rattle.std.proofs.Common.{◌∙◌, List, inl, inr, sym, ap, subst}
-use Rattle.std.specs.Prelude.{vec_capacity}
-use Rattle.std.proofs.lemmas.List.{take_at}
-use Rattle.broker.specs.declared.rounds.waiters.Waiter.{Waiter}
-use Rattle.broker.specs.Rounds.{Waiters, round_of, picks, IsAwake, IsAsleep}
+use Rattle.broker.proofs.Names.{◌∙◌, List, inl, inr, sym, ap, subst, vec_capacity, take_at, Waiter, Waiters, round_of, picks, IsAwake, IsAsleep}
 use Rattle.broker.proofs.rounds.round.Round.wake.Goals as goal
 
 pub returns-clause-wakens : goal.returns-clause-wakens

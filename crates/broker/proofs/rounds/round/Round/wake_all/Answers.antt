@@ -1,10 +1,4 @@
-use Rattle.std.proofs.Common.{◌∙◌, List, length, sym, ap, subst, arith}
-use Rattle.std.proofs.lemmas.List.{take_at}
-use Rattle.commands.specs.declared.picks.Pick.{Pick}
-use Rattle.broker.specs.declared.rounds.waiters.Waiter.{Waiter}
-use Rattle.broker.specs.Lines.{turned, AreDistinct}
-use Rattle.broker.specs.Rounds.{Waiters, round_of, picks, order, IsAwake}
-use Rattle.broker.specs.Moving.{StandsIn}
+use Rattle.broker.proofs.Names.{◌∙◌, List, length, sym, ap, subst, arith, take_at, Pick, Waiter, turned, AreDistinct, Waiters, round_of, picks, order, IsAwake, StandsIn}
 use Rattle.broker.proofs.Moving.{all_roused}
 use Rattle.broker.proofs.Picks.{picks_awake}
 use Rattle.broker.proofs.rounds.round.Round.wake_all.Goals as goal

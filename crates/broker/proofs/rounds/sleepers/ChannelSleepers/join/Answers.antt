@@ -1,6 +1,4 @@
-use Rattle.std.proofs.Common.{◌∷◌, [], List, length, sym, ap, subst, arith}
-use Rattle.std.proofs.lemmas.List.{length-append}
-use Rattle.broker.specs.Rounds.{Listing, Listings, listings_of, number_of, NumbersRise, AreBelow, IsAsleepIn}
+use Rattle.broker.proofs.Names.{◌∷◌, [], List, length, sym, ap, subst, arith, length-append, Listing, Listings, listings_of, number_of, NumbersRise, AreBelow, IsAsleepIn}
 use Rattle.broker.proofs.Listed.{asleep_pushed}
 use Rattle.broker.proofs.Rising.{rises_end}
 use Rattle.broker.proofs.rounds.sleepers.ChannelSleepers.join.Goals as goal

@@ -1,5 +1,4 @@
-use Rattle.std.proofs.Common.{List, sym, subst}
-use Rattle.broker.specs.Rounds.{Listing, is_listed_there, NumbersRise}
+use Rattle.broker.proofs.Names.{List, sym, subst, Listing, is_listed_there, NumbersRise}
 use Rattle.broker.proofs.Rising.{rises_swept}
 use Rattle.broker.proofs.rounds.sleepers.ChannelSleepers.leave.Goals as goal
 

@@ -1,7 +1,4 @@
-use Rattle.std.proofs.Common.{◌∙◌, List, length, sym, ap, subst, arith}
-use Rattle.std.proofs.lemmas.List.{take_at}
-use Rattle.model.specs.Topology.{IsIn}
-use Rattle.broker.specs.Rounds.{listings_of, Listing, Listings, listing, NumbersRise, IsAsleepIn}
+use Rattle.broker.proofs.Names.{◌∙◌, List, length, sym, ap, subst, arith, take_at, IsIn, listings_of, Listing, Listings, listing, NumbersRise, IsAsleepIn}
 use Rattle.broker.proofs.rounds.sleepers.ChannelSleepers.mark.Goals as goal
 
 pub mark_in-requires-clause-noted : goal.mark_in-requires-clause-noted

@@ -1,7 +1,4 @@
-use Rattle.std.proofs.Common.{◌∙◌, List, length, map, sym, ap, subst, arith}
-use Rattle.std.proofs.lemmas.List.{take_at, length-map}
-use Rattle.broker.specs.Moving.{listing_moved}
-use Rattle.broker.specs.Rounds.{Listing, NumbersRise}
+use Rattle.broker.proofs.Names.{◌∙◌, List, length, map, sym, ap, subst, arith, take_at, length-map, listing_moved, Listing, NumbersRise}
 use Rattle.broker.proofs.Rising.{rises_moved}
 use Rattle.broker.proofs.rounds.sleepers.ChannelSleepers.relocate.Goals as goal
 

@@ -1,6 +1,4 @@
-use Rattle.std.proofs.Common.{◌∙◌, List, ap, sym, subst}
-use Rattle.marks.specs.Places.{bit_of}
-use Rattle.broker.specs.Rounds.{Listing, Listings, NumbersRise}
+use Rattle.broker.proofs.Names.{◌∙◌, List, ap, sym, subst, bit_of, Listing, Listings, NumbersRise}
 use Rattle.broker.proofs.Listed.{sleep_grown}
 use Rattle.broker.proofs.rounds.sleepers.ChannelSleepers.reserve.Goals as goal
 

@@ -1,6 +1,4 @@
-use Rattle.std.proofs.Common.{◌∙◌, List, sym, subst}
-use Rattle.std.proofs.lemmas.List.{take_at}
-use Rattle.broker.specs.Rounds.{Listings, listings_on, SleepMore}
+use Rattle.broker.proofs.Names.{◌∙◌, List, sym, subst, take_at, Listings, listings_on, SleepMore}
 use Rattle.broker.proofs.Listed.{more_then}
 use Rattle.broker.proofs.rounds.sleepers.ConnectionSleepers.reserve.Goals as goal
 

@@ -1,6 +1,4 @@
-use Rattle.std.proofs.Common.{◌∙◌, List, sym, subst}
-use Rattle.std.proofs.lemmas.List.{take_at}
-use Rattle.broker.specs.Rounds.{Listings, IsListedOn}
+use Rattle.broker.proofs.Names.{◌∙◌, List, sym, subst, take_at, Listings, IsListedOn}
 use Rattle.broker.proofs.rounds.sleepers.ConnectionSleepers.wake.Goals as goal
 
 pub returns-clause-others : goal.returns-clause-others

@@ -1,7 +1,4 @@
-use Rattle.std.proofs.Common.{List, get_or, set, ap, ◌∙◌, arith}
-use Rattle.channels.proofs.Moving.{one_changed}
-use Rattle.broker.specs.Moving.{listings_moved}
-use Rattle.broker.specs.Rounds.{Listings}
+use Rattle.broker.proofs.Names.{List, get_or, set, ap, ◌∙◌, arith, one_changed, listings_moved, Listings}
 use Rattle.broker.proofs.rounds.sleepers.moving.move_each.Goals as goal
 
 pub loop-channel-preserved : goal.loop-channel-preserved

@@ -1,6 +1,5 @@
+use Rattle.broker.proofs.Names.{changed_to, listings_moved}
 use Rattle.std.proofs.Common.{◌≡◌}
-use Rattle.channels.proofs.Moving.{changed_to}
-use Rattle.broker.specs.Moving.{listings_moved}
 use Rattle.broker.proofs.rounds.sleepers.moving.move_each.Given as goal
 
 -- those before the index are moved

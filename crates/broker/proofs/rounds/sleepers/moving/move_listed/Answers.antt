@@ -1,7 +1,4 @@
-use Rattle.std.proofs.Common.{List, get_or, set, ap, ◌∙◌, arith}
-use Rattle.channels.proofs.Moving.{one_changed}
-use Rattle.broker.specs.Moving.{listing_moved}
-use Rattle.broker.specs.Rounds.{Listing}
+use Rattle.broker.proofs.Names.{List, get_or, set, ap, ◌∙◌, arith, one_changed, listing_moved, Listing}
 use Rattle.broker.proofs.rounds.sleepers.moving.move_listed.Goals as goal
 
 pub loop-one-preserved : goal.loop-one-preserved

@@ -1,6 +1,4 @@
-use Rattle.std.proofs.Common.{rules}
-use Rattle.std.proofs.lemmas.Map.Made.{map_same_pairs}
-use Rattle.broker.specs.Moving.{channels_moved}
+use Rattle.broker.proofs.Names.{rules, map_same_pairs, channels_moved}
 use Rattle.broker.proofs.rounds.sleepers.moving.move_sleepers.Goals as goal
 
 pub returns : goal.returns

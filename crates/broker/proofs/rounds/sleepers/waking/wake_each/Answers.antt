@@ -1,8 +1,5 @@
-use Rattle.std.proofs.Common.{◌≡◌, ◌∙◌, ◌+◌, [], List, length, get_or, inl, inr, refl, sym, ap, subst, arith}
-use Rattle.std.proofs.lemmas.Bool.Decides.{leb_tells}
-use Rattle.std.proofs.lemmas.List.{get_or-set_other}
-use Rattle.channels.proofs.Setting.{same_default}
-use Rattle.broker.specs.Rounds.{listings_of, Listing, Listings, listings_on, IsAsleepIn}
+use Rattle.broker.proofs.Names.{◌∙◌, ◌+◌, [], List, length, get_or, inl, inr, refl, sym, ap, subst, arith, leb_tells, get_or-set_other, same_default, listings_of, Listing, Listings, listings_on, IsAsleepIn}
+use Rattle.std.proofs.Common.{◌≡◌}
 use Rattle.broker.proofs.Listed.{on_each, past_end}
 use Rattle.broker.proofs.Sleeping.{waken_on, woken_still, woken_one}
 use Rattle.broker.proofs.rounds.sleepers.waking.wake_each.Goals as goal

@@ -1,5 +1,5 @@
-use Rattle.std.proofs.Common.{◌≡◌, ◌<◌, ◌≤◌, ℕ, length}
-use Rattle.broker.specs.Rounds.{listings_on, AllWaken, WakesListed}
+use Rattle.broker.proofs.Names.{◌<◌, ◌≤◌, ℕ, length, listings_on, AllWaken, WakesListed}
+use Rattle.std.proofs.Common.{◌≡◌}
 use Rattle.broker.proofs.rounds.sleepers.waking.wake_each.Given as goal
 
 -- those that slept on the channels before this place are awake, and those behind are listed as they were

@@ -1,6 +1,5 @@
-use Rattle.std.proofs.Common.{◌≡◌, ◌∙◌, ◌+◌, ℕ, inl, inr, sym, ap, subst, arith, get_or}
-use Rattle.std.proofs.lemmas.Bool.Decides.{leb_tells}
-use Rattle.broker.specs.Rounds.{listings_of, Listings, IsWoken}
+use Rattle.broker.proofs.Names.{◌∙◌, ◌+◌, ℕ, inl, inr, sym, ap, subst, arith, get_or, leb_tells, listings_of, Listings, IsWoken}
+use Rattle.std.proofs.Common.{◌≡◌}
 use Rattle.broker.proofs.Listed.{woken_gap}
 use Rattle.broker.proofs.Sleeping.{waken_on, woken_still, woken_one}
 use Rattle.broker.proofs.rounds.sleepers.waking.wake_listed.Goals as goal

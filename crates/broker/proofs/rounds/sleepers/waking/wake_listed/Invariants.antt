@@ -1,6 +1,5 @@
-use Rattle.std.proofs.Common.{◌≡◌, ◌<◌, ◌≤◌, ◌-◌, ℕ, length}
-use Rattle.marks.specs.Places.{bit_of}
-use Rattle.broker.specs.Rounds.{Listing, IsAsleepAt, IsWoken, AllWaken}
+use Rattle.broker.proofs.Names.{◌<◌, ◌≤◌, ◌-◌, ℕ, length, bit_of, Listing, IsAsleepAt, IsWoken, AllWaken}
+use Rattle.std.proofs.Common.{◌≡◌}
 use Rattle.broker.proofs.rounds.sleepers.waking.wake_listed.Given as goal
 
 -- those before the next that slept are awake, and the bits of those behind are as they were

@@ -1,0 +1,63 @@
+-- The names that several files of these proofs use.
+pub use Rattle.broker.specs.Lines.{AreDistinct, IsPassed, ahead, standing, turned}
+pub use Rattle.broker.specs.Moving.{AllRoused, ArePlacesApart, IsMoved, IsOfEither, LinesCome, ListsAreMoved, RoundsAreMoved, StandsIn, all_awake, all_moved, channels_moved, listing_moved, listings_moved}
+pub use Rattle.broker.specs.Rounds.{AddsItsOwn, AddsListing, AddsOne, AllAddTheirOwn, AllAreConsumers, AllAreEmpty, AllAreInRounds, AllAreNoted, AllListedAreThere, AllRun, AllWaken, AreBelow, AreItsConsumers, AreItsListings, Dozes, FallsAsleep, FindsWaiter, GoesLast, GoesOn, HasConsumer, HasJoined, HasListRoom, HasNoList, HasRoom, IsAsleep, IsAsleepAt, IsAsleepIn, IsAt, IsAwake, IsAwakeAt, IsExpected, IsInItsRound, IsInRound, IsItsOwn, IsListed, IsListedAt, IsListedOn, IsNextMarked, IsNoted, IsServing, IsWoken, KeepListingsOn, KeepLists, KeepRounds, KeepsAll, KeepsIn, KeepsListings, KeepsRound, KeepsWaiters, LeaveLine, LeaveLines, Listing, Listings, ListingsLeave, Lists, ListsItsOwn, ListsMore, ListsOneMore, ListsRunning, ListsStay, MakesNoList, NoneAwake, NoneAwakePassed, NoneBetween, NoneInRound, NoneMarked, NonePassed, NotesStay, NumbersRise, PicksFirst, PicksFrom, QueuesAreMarked, Rounds, SameListed, SameOrders, SleepMore, StaysAt, Waiters, Wakens, WakesListed, WakesWaiter, asleep_waiter, awake_waiter, channels_of, has_remained, has_taker, is_able, is_consumer, is_listed_there, is_listing, is_numbered_of, is_of, is_on_channel, is_waiter_of, listed_on, listing, listings_of, listings_on, number_of, order, picks, remains, round_at, round_of, rounds_of, takes_from, wakes, wakes_on}
+pub use Rattle.broker.specs.Turns.{WithTurn, with_turn}
+pub use Rattle.broker.specs.Waiting.{AllStand, CanGive, IsFirst, IsServedSoon, IsToldInTurn, LinesMove, LinesStay, NobodyIsPutBack, NobodyWaits, NoneIsLater, QueueWaits, ServesSoon, Stands, WaitersAreConsumers, Waits, ahead_at, line_at, owed, queues, standing_at}
+pub use Rattle.broker.specs.declared.rounds.finding.Found.{Found}
+pub use Rattle.broker.specs.declared.rounds.waiters.Waiter.{Waiter}
+pub use Rattle.channels.proofs.Moving.{changed_to, one_changed}
+pub use Rattle.channels.proofs.Setting.{same_default}
+pub use Rattle.channels.specs.Consumers.{consumer_numbered, next_number}
+pub use Rattle.channels.specs.Moving.{place_now}
+pub use Rattle.channels.specs.Open.{consumer_in, open_in}
+pub use Rattle.channels.specs.RunningConnections.{channel_at, channel_in, channel_of, connection_at, limits_of, running_in}
+pub use Rattle.commands.proofs.Ending.{delivery_runs, loss_ended, opening_runs, pause_runs, resume_runs}
+pub use Rattle.commands.proofs.Picking.{pick_from, same_place}
+pub use Rattle.commands.proofs.Remaining.{one_stays, same_stay}
+pub use Rattle.commands.proofs.Stepping.{seen_there}
+pub use Rattle.commands.specs.Ended.{AllConsumersStay, AllRunStill, TellsEnd, TellsStay}
+pub use Rattle.commands.specs.Picked.{CannotTake, IsKeptAs, IsPick, IsPickFrom, TakesAs}
+pub use Rattle.commands.specs.Seats.{IsConsumed, IsNewest, consumed, has_consumer, next_seat, seat_of}
+pub use Rattle.commands.specs.State.{ArePlaced, Kept, names_of}
+pub use Rattle.commands.specs.declared.acted.Ends.{Ends}
+pub use Rattle.commands.specs.declared.picks.Pick.{Pick}
+pub use Rattle.depot.proofs.Naming.{is_in, names-length}
+pub use Rattle.depot.specs.Moving.{AreMoved, goes}
+pub use Rattle.depot.specs.Store.{HasReady, IsStoreWhole, queue_at}
+pub use Rattle.exchange_graph.specs.Marks.{queue_name}
+pub use Rattle.laws.proofs.Counts.{count-append, count-cons, count-map}
+pub use Rattle.laws.specs.Consumers.{ConsumersAreMade, IsMadeBy, WasConsumer}
+pub use Rattle.marks.specs.Places.{Differs, bit_of}
+pub use Rattle.model.specs.Agreement.{IsAgreed}
+pub use Rattle.model.specs.Broker.{Broker, Channel, Connection, Outstanding, is_ready, with_one, with_pair, with_row}
+pub use Rattle.model.specs.Consuming.{CanDeliver, MayTake, consumer_of, may_take, taker_of}
+pub use Rattle.model.specs.Deliveries.{channel_after, first_ready, outstanding_after}
+pub use Rattle.model.specs.Entries.{by_channel, is_held_as}
+pub use Rattle.model.specs.Grammar.{Ids, ids_of}
+pub use Rattle.model.specs.Reloading.{NoneIsStranded, by_consumer, stood_now, with_all_stood}
+pub use Rattle.model.specs.Step.{Acts, Decides, Does, Gets, Ignored, Is, IsDelivery, Of_channel, Of_connection, OnConnection, OnLarge, Performs, Refusal, Refuses, channel_or_new, channels_up_to, empty_publish, paused, refusal, refusal_of_large, with_channel, with_freed}
+pub use Rattle.model.specs.Topology.{AreApart, IsIn, Topology, queue_names}
+pub use Rattle.model.specs.Words.{Text}
+pub use Rattle.model.specs.declared.contents.Content.{Content}
+pub use Rattle.model.specs.declared.events.Event.{Event}
+pub use Rattle.model.specs.declared.events.Event.TheVariants.{Command, Deliver, Fault, First, Lose, Pause, Resume, TooLarge}
+pub use Rattle.model.specs.declared.events.Send.{Send}
+pub use Rattle.model.specs.declared.messages.Entry.{Entry}
+pub use Rattle.model.specs.declared.methods.Method.{Method}
+pub use Rattle.model.specs.declared.methods.Method.TheVariants.{BasicAck, BasicCancel, BasicConsume, BasicGet, BasicNack, BasicPublish, BasicQos, BasicRecover, BasicReject, ChannelClose, ChannelCloseOk, ChannelFlow, ChannelOpen, ConfirmSelect, ConnectionClose, ExchangeDeclare, QueueDeclare, QueuePurge}
+pub use Rattle.model.specs.declared.notes.Note.{Note}
+pub use Rattle.replies.specs.Sent.{connection_of_event}
+pub use Rattle.std.proofs.Common.{Bool, Err, List, None, Ok, Option, Result, Some, [], ap, arith, cond, drop, false, filter, find, get_or, if◌then◌else◌, inl, inr, length, ltb, ltb-false, map, min, refl, rules, set, subst, suc, sym, take, true, vec_len, zero, ℕ, ◌*◌, ◌++◌, ◌+◌, ◌-◌, ◌<◌, ◌∙◌, ◌∷◌, ◌≤◌}
+pub use Rattle.std.proofs.lemmas.Bool.{eq-eqb, eqb-true, false≢true, lt-ltb}
+pub use Rattle.std.proofs.lemmas.Bool.Decides.{leb_tells}
+pub use Rattle.std.proofs.lemmas.Fn.{filter_same}
+pub use Rattle.std.proofs.lemmas.List.{append-nil, drop_all, drop_at, drop_min, get_or-append-add, get_or-map, get_or-set_other, get_or-set_same, get_or_past, length-append, length-drop, length-map, length-set, length-take, set-get_or, take-append-drop, take_all, take_at, take_min}
+pub use Rattle.std.proofs.lemmas.List.Elements.{filter-append}
+pub use Rattle.std.proofs.lemmas.List.Sums.{count_by-le-length, length-filter}
+pub use Rattle.std.proofs.lemmas.Map.Made.{lookup-map_values, map_same_pairs}
+pub use Rattle.std.proofs.lemmas.Option.{same_Some}
+pub use Rattle.std.specs.List.{AllWithin, list_any, position_from}
+pub use Rattle.std.specs.Map.{lookup, set_value}
+pub use Rattle.std.specs.Option.{option_copied_mut}
+pub use Rattle.std.specs.Prelude.{IfSome, IsOk, OnErr, OnOk, insert, is_ok, is_some, nat_eq, nat_lt, not, option_map, vec_capacity, ◌&&◌, ◌==◌, ◌||◌}

@@ -1,0 +1,28 @@
+//! What stands against a reload, asked before it is done.
+
+use crate::engines::Engine;
+use crate::setups::Setup;
+use model::Obstacle;
+use std::alloc::{AllocError, Global};
+
+impl Engine {
+    ghost use Rattle.std.specs.Prelude.{IfOk, OnErr};
+    ghost use Rattle.engine.specs.World.{world_of};
+    ghost use Rattle.engine.specs.Offered.{TellsWhatStands};
+    ghost use Rattle.engine.specs.Wanting.{engine_lacks};
+    ghost use Rattle.runs.specs.Wants.{To_reload};
+
+    /// Returns the first thing that stands against a reload to `setup`, with which [`Engine::reload`] would refuse it now, or `None` if
+    /// nothing does. Changes nothing, and copies nothing of `setup`.
+    ///
+    /// Fails only if an allocation fails, which may be only if no queue in use is gone, or the first that is has a name of more than 22
+    /// bytes.
+    pub fn obstacle(&self, alloc: Global, setup: &Setup) -> Result<Option<Obstacle>, AllocError>
+        ensures told { IfOk result (TellsWhatStands (world_of self.now) setup.now) }
+        ensures wants { OnErr result (engine_lacks (world_of self.now) (To_reload setup.now)) }
+    {
+        let checked = setup.checked();
+        self.broker
+            .obstacle(alloc, checked.topology(), checked.guarantees())
+    }
+}

@@ -1,0 +1,204 @@
+//! Calls that retry with the memory of the reserve.
+//!
+//! The spare storages of the outputs are the reserve. If an allocation fails, they are freed, and the call is made again. Only a command that
+//! brings a message in, which a publish does, leaves them alone: it is performed only while the reserve is whole.
+
+ghost use Rattle.std.specs.Prelude.{◌≡◌, ◌≤◌, ◌<◌, None, IsOk, IfOk, OnOk, OnErr, length, true, false};
+ghost use Rattle.model.specs.Arrivals.{IsSaid};
+ghost use Rattle.model.specs.Commands.{heard};
+ghost use Rattle.model.specs.Naming.{AreNamed};
+ghost use Rattle.model.specs.Sending.{AreCarried, AreOwn, most_sent};
+ghost use Rattle.model.specs.Step.{Acts};
+ghost use Rattle.model.specs.declared.events.Event.TheVariants as event_is;
+ghost use Rattle.assembly.specs.Held.{stream_of};
+ghost use Rattle.assembly.specs.Onward.{YieldsNext, broken_by};
+ghost use Rattle.broker.specs.Turns.{topology_kept, broker_of};
+ghost use Rattle.broker.specs.Waiting.{NobodyIsPutBack, NoneIsLater, ServesSoon};
+ghost use Rattle.commands.specs.Judged.{IsAsked};
+ghost use Rattle.commands.specs.Picked.{IsPick};
+ghost use Rattle.replies.specs.Sent.{AreAddressed, connection_of_event};
+ghost use Rattle.engine.specs.Performing.{IsAskedBy, ByPhase};
+ghost use Rattle.engine.specs.Wanting.{brings_message as brings, IsFreed, IsHeld};
+
+use crate::performing;
+use assembly::{Fault, Stream};
+use broker::{Broker, Pick, Step};
+use model::{Command, Event, User};
+use outputs::{Output, Spares};
+use session::Session;
+use std::alloc::{AllocError, Global};
+
+/// Returns whether `event` is a command with a content, which a publish is.
+fn brings_message(event: &Event) -> bool
+    ensures { result ≡ brings event.now }
+{
+    matches!(
+        event,
+        Event::Command {
+            content: Some(_),
+            ..
+        }
+    )
+}
+
+/// Makes the reserve whole, unless `event` is a command without a content. Fails only if an allocation fails.
+pub(crate) fn hold_for(spares: &mut Spares, event: &Event) -> Result<(), AllocError>
+    ensures whole { OnOk result (brings event.now ≡ true → IsHeld spares.new) }
+    ensures only { OnErr result (brings event.now ≡ true) }
+{
+    if brings_message(event) {
+        return spares.hold();
+    }
+    Ok(())
+}
+
+/// Frees the reserve for `event`, so that it can be performed again. Fails exactly if that is a command with a content, and changes nothing
+/// then.
+fn release_for(spares: &mut Spares, event: &Event) -> Result<(), AllocError>
+    ensures left { OnOk result (IsFreed spares.new) }
+    ensures other { OnOk result (brings event.now ≡ false) }
+    ensures only { OnErr result (brings event.now ≡ true) }
+{
+    if brings_message(event) {
+        return Err(AllocError);
+    }
+    spares.release();
+    Ok(())
+}
+
+/// Appends `bytes` to the unread input of `stream`, if necessary with the memory of the reserve. If that fails, nothing has changed, and at
+/// most 2 storages are spare.
+pub(crate) fn feed(spares: &mut Spares, stream: &mut Stream, bytes: &[u8]) -> Result<(), AllocError>
+    ensures ok { OnOk result (stream_of stream.new ≡ heard (stream_of stream.old) bytes.now) }
+    ensures err { OnErr result (stream.new ≡ stream.old) }
+    ensures full { OnErr result (stream.old.room < length bytes.now) }
+    ensures fault { stream.new.fault ≡ stream.old.fault }
+    ensures last { OnErr result (IsFreed spares.new) }
+{
+    match stream.feed(bytes) {
+        Err(_) => {
+            spares.release();
+            stream.feed(bytes)
+        }
+        fed => fed,
+    }
+}
+
+/// Reads the next command of `stream`, if necessary with the memory of the reserve.
+pub(crate) fn next(spares: &mut Spares, stream: &mut Stream) -> Result<Option<Command>, Fault>
+    ensures yields { YieldsNext (stream_of stream.old) result (stream_of stream.new) }
+    ensures keeps { stream.new.fault ≡ broken_by result }
+{
+    match stream.next() {
+        Err(Fault::Memory) => {
+            spares.release();
+            stream.next()
+        }
+        next => next,
+    }
+}
+
+/// Makes room in `output` for what one event sends, if necessary with the memory of the reserve. If that fails, at most 2 storages are spare.
+pub(crate) fn make_room(spares: &mut Spares, output: &mut Output) -> Result<(), AllocError>
+    ensures bytes { output.new.bytes ≡ output.old.bytes }
+    ensures ok { OnOk result (most_sent ≤ output.new.room) }
+    ensures full { OnErr result (output.old.room < most_sent) }
+    ensures enough { output.old.storage ≡ 0 → 0 < spares.old → IsOk result }
+    ensures last { OnErr result (IsFreed spares.new) }
+{
+    match spares.make_room(output) {
+        Err(_) => {
+            spares.release();
+            spares.make_room(output)
+        }
+        made => made,
+    }
+}
+
+/// Makes the delivery `pick`, if necessary with the memory of the reserve. If that fails, nothing is delivered, and at most 2 storages are
+/// spare.
+pub(crate) fn pump(
+    alloc: Global,
+    spares: &mut Spares,
+    broker: &mut Broker,
+    pick: Pick,
+) -> Result<Step, AllocError>
+    requires { IsPick (broker_of broker.old) pick }
+    ensures ok { IfOk result (λ s. Acts (topology_kept broker.old) (broker_of broker.old)
+        (event_is.Deliver pick.connection) s.sends.items s.notes.items (broker_of broker.new)) }
+    ensures addressed { IfOk result (λ s. AreCarried (broker_of broker.old)
+        → AreNamed (topology_kept broker.old) (broker_of broker.old) → AreAddressed pick.connection s.sends.items) }
+    ensures over { OnOk result (broker.new.turn ≡ None) }
+    ensures later { OnOk result (NoneIsLater broker.old broker.new) }
+    ensures soon { OnOk result (ServesSoon broker.old pick) }
+    ensures topology { topology_kept broker.new ≡ topology_kept broker.old }
+    ensures err { OnErr result (broker.new ≡ broker.old) }
+    ensures last { OnErr result (IsFreed spares.new) }
+{
+    match broker.pump(alloc, pick) {
+        Err(_) => {
+            spares.release();
+            broker.pump(alloc, pick)
+        }
+        pumped => pumped,
+    }
+}
+
+/// Performs `event`, if necessary with the memory of the reserve. If that fails, nothing has changed, and at most 2 storages are spare. A
+/// command with a content leaves the reserve alone.
+pub(crate) fn step(
+    alloc: Global,
+    broker: &mut Broker,
+    spares: &mut Spares,
+    event: &Event,
+) -> Result<Step, AllocError>
+    requires asked { IsAsked event.now }
+    ensures ok { IfOk result (λ s. Acts (topology_kept broker.old) (broker_of broker.old) event.now s.sends.items s.notes.items (broker_of broker.new)) }
+    ensures addressed { IfOk result (λ s. IsSaid event.now → AreCarried (broker_of broker.old) → AreAddressed (connection_of_event event.now) s.sends.items) }
+    ensures topology { topology_kept broker.new ≡ topology_kept broker.old }
+    ensures turn { broker.new.turn ≡ broker.old.turn }
+    ensures later { OnOk result (NobodyIsPutBack broker.old broker.new) }
+    ensures err { OnErr result (broker.new ≡ broker.old) }
+    ensures whole { OnOk result (brings event.now ≡ true → spares.new ≡ spares.old) }
+    ensures last { OnErr result (brings event.now ≡ false → IsFreed spares.new) }
+{
+    match broker.step(alloc, event) {
+        Err(_) => {
+            release_for(spares, event)?;
+            broker.step(alloc, event)
+        }
+        stepped => stepped,
+    }
+}
+
+/// Answers an event of the connection `c`, which does not run, if necessary with the memory of the reserve. If that fails, nothing has
+/// changed, and at most 2 storages are spare. A command with a content leaves the reserve alone.
+pub(crate) fn by_phase(
+    c: u64,
+    alloc: Global,
+    users: &[User],
+    broker: &mut Broker,
+    session: &mut Session,
+    spares: &mut Spares,
+    event: &Event,
+) -> Result<Step, AllocError>
+    requires asked { IsAskedBy c event.now }
+    ensures ok { IfOk result (λ d. ByPhase users.now c session.old.phase (broker_of broker.old)
+        session.old event.now d.sends.items d.notes.items (broker_of broker.new) session.new) }
+    ensures own { IfOk result (λ d. AreOwn c d.sends.items) }
+    ensures broker_kept { OnErr result (broker.new ≡ broker.old) }
+    ensures session_kept { OnErr result (session.new ≡ session.old) }
+    ensures topology { topology_kept broker.new ≡ topology_kept broker.old }
+    ensures turn { broker.new.turn ≡ broker.old.turn }
+    ensures later { OnOk result (NobodyIsPutBack broker.old broker.new) }
+    ensures whole { OnOk result (brings event.now ≡ true → spares.new ≡ spares.old) }
+    ensures last { OnErr result (brings event.now ≡ false → IsFreed spares.new) }
+{
+    match performing::by_phase(c, alloc, users, broker, session, event) {
+        Err(_) => {
+            release_for(spares, event)?;
+            performing::by_phase(c, alloc, users, broker, session, event)
+        }
+        answered => answered,
+    }
+}

@@ -1,0 +1,141 @@
+//! Certificates that are written to a file, and what is told of that file.
+
+use certificate::{Certificate, Draft, Form, Unwritten};
+use model::{Text, limits};
+use scenario_parts::files::{CERTIFICATES, DEFINITIONS, GUARANTEES};
+use scenario_parts::{Unmet, expect, expect_bytes, expect_number, value_of};
+use server::{Files, NotWritten, Unread, program};
+use std::alloc::{AllocError, Global};
+
+/// A disk with definitions and guarantees, that takes one more file.
+#[derive(Drop)]
+struct OpenDisk {
+    /// The name of the file that was written last, and its bytes.
+    written: Option<(String, Vec<u8>)>,
+    alloc: Global,
+}
+
+impl OpenDisk {
+    /// The bytes of the file of this name, where it is there.
+    fn bytes(&self, name: &str) -> Option<&[u8]> {
+        match (name, &self.written) {
+            ("definitions", _) => Some(DEFINITIONS),
+            ("guarantees", _) => Some(GUARANTEES),
+            (name, Some((written, bytes))) if written.as_str() == name => Some(bytes.as_slice()),
+            _ => None,
+        }
+    }
+}
+
+impl Files for OpenDisk {
+    ghost use Rattle.server.specs.Files.{Unknown};
+
+    ghost holds = { λ _ _. Unknown };
+
+    fn read(&mut self, alloc: Global, name: &str) -> Result<Vec<u8>, Unread> {
+        let Some(bytes) = self.bytes(name) else {
+            return Err(Unread::Failed);
+        };
+        match Vec::from_slice(alloc, bytes) {
+            Ok(bytes) if bytes.len() <= limits::FILE_BYTES => Ok(bytes),
+            Ok(_) => Err(Unread::TooLong),
+            Err(_) => Err(Unread::Memory),
+        }
+    }
+
+    fn write(&mut self, name: &str, bytes: &[u8]) -> Result<(), NotWritten> {
+        let name = String::from_str(self.alloc, name);
+        let bytes = Vec::from_slice(self.alloc, bytes);
+        match (name, bytes) {
+            (Ok(name), Ok(bytes)) => {
+                self.written = Some((name, bytes));
+                Ok(())
+            }
+            _ => Err(NotWritten),
+        }
+    }
+}
+
+/// Expects that these words print this and no complaint, with status 0.
+fn expect_printed(
+    alloc: Global,
+    disk: &mut OpenDisk,
+    words: &[&'static str],
+    printed: &[u8],
+) -> Result<(), Unmet> {
+    let mut out: Vec<u8> = Vec::new(alloc);
+    let mut err: Vec<u8> = Vec::new(alloc);
+    let status = program(alloc, words, disk, &mut out, &mut err);
+    expect_number("the status", u64::from(status), 0)?;
+    expect("there is no complaint", err.is_empty())?;
+    expect_bytes("the output", out.as_slice(), printed)
+}
+
+/// `check --out` writes the certificates of all guarantees, and `verify` accepts what was written.
+pub(crate) fn certificates_that_are_written_are_accepted(alloc: Global) -> Result<(), Unmet> {
+    let mut disk = OpenDisk {
+        written: None,
+        alloc,
+    };
+    let check = [
+        "warren",
+        "check",
+        "definitions",
+        "guarantees",
+        "--out",
+        "certificates",
+    ];
+    expect_printed(alloc, &mut disk, check.as_slice(), b"1 yes states 5\n")?;
+    let written = value_of("the file", disk.bytes("certificates").ok_or(NotWritten))?;
+    expect_bytes("the file", written, CERTIFICATES)?;
+    let verify = [
+        "warren",
+        "verify",
+        "definitions",
+        "guarantees",
+        "certificates",
+    ];
+    expect_printed(alloc, &mut disk, verify.as_slice(), b"1 ok\n")
+}
+
+/// How many states the large certificate has.
+const STATES: u32 = 8_192;
+
+/// How many bytes it has in a file: 82 before its states, 2 behind them, and between these 321 for each, with a comma between two.
+const LARGE: u64 = 2_637_907;
+
+/// A certificate of 8,192 states with 64 numbers of four digits.
+fn large(alloc: Global) -> Result<Certificate, AllocError> {
+    let mut states = Vec::new(alloc);
+    for _ in 0..STATES {
+        states.push(vec![in alloc; 1_000_u64; 64]?)?;
+    }
+    Ok(Certificate::new(
+        Form::Whole,
+        Text::short(b"X"),
+        Text::short(b"reaches"),
+        Text::short(b"#"),
+        Text::short(b"audit"),
+        states,
+    ))
+}
+
+/// The file of so many of this certificate.
+fn file_of(alloc: Global, certificate: &Certificate, count: u8) -> Result<Vec<u8>, Unwritten> {
+    let mut draft = Draft::new(alloc);
+    for _ in 0..count {
+        draft = draft.with_certificate(alloc, certificate);
+    }
+    draft.finished()
+}
+
+/// A file of certificates that would be too long to be read back is given up.
+pub(crate) fn a_file_past_the_limit_is_given_up(alloc: Global) -> Result<(), Unmet> {
+    let certificate = value_of("the certificate", large(alloc))?;
+    let six = value_of("the file of six", file_of(alloc, &certificate, 6))?;
+    expect_number("its length", six.len() as u64, 6 * LARGE + 7)?;
+    expect(
+        "seven have no file",
+        matches!(file_of(alloc, &certificate, 7), Err(Unwritten::TooLong)),
+    )
+}

@@ -1,0 +1,196 @@
+//! `serve`, over sockets of the system.
+
+ghost use Rattle.std.specs.Prelude.{⊤};
+
+use crate::disk::ScenarioDisk;
+use reload_loop::program_with_sockets;
+use scenario_parts::{
+    Closed, Unmet, Watched, expect, expect_bytes, expect_number, expect_opened_and_acked,
+    opening_and_publish, value_of,
+};
+use server::{Ended, Listener, Listening};
+use sockets::Sockets;
+use std::alloc::Global;
+use std::io;
+use std::io::{Read as _, Write, Write as _};
+use std::net::{Net, SocketAddr, TcpStream};
+
+/// What opens sockets of the system, at which a client comes at once that writes an opening and a publish.
+#[derive(Drop)]
+struct Visited<N: Net> {
+    net: N,
+    client: Option<N::Stream>,
+    /// How often sockets were asked for.
+    asked: u64,
+}
+
+/// A client at these sockets, that has written all it will.
+fn visit<N: Net>(net: &N, alloc: Global, sockets: &Sockets) -> Result<N::Stream, Unmet> {
+    let address = value_of("Sockets::local_addr", sockets.local_addr())?;
+    let mut client = value_of("TcpStream::connect", TcpStream::connect(net, address))?;
+    let bytes = opening_and_publish(alloc)?;
+    value_of("write_all", client.write_all(bytes.as_slice()))?;
+    Ok(client)
+}
+
+impl<N: Net> Listener for Visited<N> {
+    type Sockets = Watched<Sockets>;
+
+    ghost listens = { λ _ _ _. ⊤ };
+
+    fn listen(&mut self, alloc: Global, address: &str) -> Option<Listening<Watched<Sockets>>> {
+        self.asked = self.asked.saturating_add(1);
+        let address = address.parse::<SocketAddr>().ok()?;
+        let sockets = Sockets::bind(&self.net, alloc, address).ok()?;
+        self.client = visit(&self.net, alloc, &sockets).ok();
+        let address = sockets.local_addr().ok()?;
+        Some(Listening {
+            sockets: Watched::new(sockets),
+            address: format!(in alloc; "{address}").ok()?,
+        })
+    }
+}
+
+/// The words that ask to serve over this definitions file at this address, for 16 turns.
+fn words(alloc: Global, definitions: &str, address: &str) -> Result<Vec<String>, Unmet> {
+    let mut words = Vec::new(alloc);
+    for word in [
+        "warren",
+        "serve",
+        definitions,
+        "guarantees",
+        "certificates",
+        "--listen",
+        address,
+        "--turns",
+        "16",
+    ] {
+        let word = value_of("String::from_str", String::from_str(alloc, word))?;
+        value_of("Vec::push", words.push(word))?;
+    }
+    Ok(words)
+}
+
+/// An address of this machine with a port that is free.
+const FREE: &str = "127.0.0.1:0";
+
+/// What came of serving.
+#[derive(Drop)]
+struct ServeOutcome<N: Net> {
+    ended: Ended<Watched<Sockets>>,
+    listener: Visited<N>,
+    err: Vec<u8>,
+}
+
+/// Calls the program to serve over this definitions file at this address.
+fn serve<'a, N: Net, O: Write>(
+    net: &'a N,
+    alloc: Global,
+    definitions: &str,
+    address: &str,
+    out: &mut O,
+) -> Result<ServeOutcome<&'a N>, Unmet> {
+    let mut listener = Visited {
+        net,
+        client: None,
+        asked: 0,
+    };
+    let mut disk = ScenarioDisk { script: b"[" };
+    let mut err: Vec<u8> = Vec::new(alloc);
+    let words = words(alloc, definitions, address)?;
+    let ended = program_with_sockets(
+        alloc,
+        words.as_slice(),
+        &mut listener,
+        &mut disk,
+        out,
+        &mut err,
+    );
+    Ok(ServeOutcome {
+        ended,
+        listener,
+        err,
+    })
+}
+
+/// Expects that no client was served, with this status, and that sockets were asked for so often.
+fn expect_unserved<N: Net>(served: &ServeOutcome<N>, status: u64, asked: u64) -> Result<(), Unmet> {
+    expect_number("the status", u64::from(served.ended.status), status)?;
+    expect("no client was served", served.ended.service.is_none())?;
+    expect_number(
+        "how often sockets were asked for",
+        served.listener.asked,
+        asked,
+    )
+}
+
+/// A client of `serve` is answered: where it may come is told, and as many turns are served as were asked for.
+pub(crate) fn serve_tells_where_it_listens_and_ends_after_its_turns<N: Net>(
+    net: &N,
+    alloc: Global,
+) -> Result<(), Unmet> {
+    let mut out: Vec<u8> = Vec::new(alloc);
+    let ServeOutcome {
+        ended,
+        mut listener,
+        err,
+    } = serve(net, alloc, "definitions", FREE, &mut out)?;
+    let Ended { service, status } = ended;
+    expect_number("the status", u64::from(status), 0)?;
+    expect("there is no complaint", err.is_empty())?;
+    let service = value_of("serve", service.ok_or(()))?;
+    expect_number("the number of turns", service.sockets.accepts, 16)?;
+    let address = value_of("Sockets::local_addr", service.sockets.sockets.local_addr())?;
+    let line = value_of(
+        "format",
+        format!(in alloc; "warren: listening on {address}\n"),
+    )?;
+    expect_bytes("the output", out.as_slice(), line.as_bytes())?;
+    drop(service);
+    let mut client = value_of("the client", listener.client.take().ok_or(()))?;
+    let mut answer: Vec<u8> = Vec::new(alloc);
+    value_of("read_to_end", client.read_to_end(&mut answer))?;
+    expect_opened_and_acked(alloc, answer.as_slice())
+}
+
+/// Where a file is refused, no socket is opened.
+pub(crate) fn serve_judges_its_files_before_it_listens<N: Net>(
+    net: &N,
+    alloc: Global,
+) -> Result<(), Unmet> {
+    let mut out: Vec<u8> = Vec::new(alloc);
+    let served = serve(net, alloc, "script", FREE, &mut out)?;
+    expect_unserved(&served, 3, 0)?;
+    expect("there is no output", out.is_empty())?;
+    expect_bytes(
+        "the complaint",
+        served.err.as_slice(),
+        b"warren: script: refused 1\n",
+    )
+}
+
+/// At what is no address no client can come.
+pub(crate) fn serve_tells_that_it_cannot_listen<N: Net>(
+    net: &N,
+    alloc: Global,
+) -> Result<(), Unmet> {
+    let mut out: Vec<u8> = Vec::new(alloc);
+    let served = serve(net, alloc, "definitions", "nowhere", &mut out)?;
+    expect_unserved(&served, 4, 1)?;
+    expect("there is no output", out.is_empty())?;
+    expect_bytes(
+        "the complaint",
+        served.err.as_slice(),
+        b"warren: cannot listen\n",
+    )
+}
+
+/// Where it cannot be told where clients may come, none is served.
+pub(crate) fn serve_ends_where_its_address_is_not_taken<N: Net>(
+    net: &N,
+    alloc: Global,
+) -> Result<(), Unmet> {
+    let served = serve(net, alloc, "definitions", FREE, &mut Closed)?;
+    expect_unserved(&served, 4, 1)?;
+    expect("there is no complaint", served.err.is_empty())
+}

@@ -1,0 +1,19 @@
+-- The names that several files of these proofs use.
+pub use Rattle.engine.specs.Wanting.{engine_lacks}
+pub use Rattle.engine.specs.World.{world_of}
+pub use Rattle.model.specs.Arrivals.{Same, World, new_world}
+pub use Rattle.model.specs.State.{Config}
+pub use Rattle.model.specs.Words.{Text}
+pub use Rattle.reload_loop.specs.Looks.{IsFaultTold, IsFound, IsFoundAgain, IsOffered, IsWhyNotPut, JudgesOffer, Looks, WasFound, done, refused, stopped, unchanged, wanting}
+pub use Rattle.reload_loop.specs.Program.{AsksToServe, IsEvery, IsNotServe, ServesReloading, asked_by, names_in, reloading, reloads, serves, unserved, without}
+pub use Rattle.reload_loop.specs.ServesOn.{ServesOn, Standing, last, more, standing}
+pub use Rattle.reload_loop.specs.Snapshots.{AllRead, AreHeld, AreSame, IsHeld, IsReadFrom, IsSameText, IsSlotOf, Snap, WasRead, known_in, names_of}
+pub use Rattle.reload_loop.specs.declared.found.Found.{Found}
+pub use Rattle.scripts.specs.FileNames.{FileNames}
+pub use Rattle.server.proofs.Beginning.{asked_once, asks_same, memory_told}
+pub use Rattle.server.specs.Files.{Absent, AreKept, HasText, Holds, Known, Unknown}
+pub use Rattle.server.specs.Streams.{OutputStream, change}
+pub use Rattle.serving.specs.Story.{Served, served}
+pub use Rattle.serving.specs.Whole.{IsServed}
+pub use Rattle.std.proofs.Common.{Bool, Bor, Decides, List, None, Option, Some, [], ap, arith, false, is_ok, refl, subst, sym, ℕ, ◌&&◌, ◌∙◌, ◌≡◌}
+pub use Rattle.std.specs.Prelude.{Err, Ok}

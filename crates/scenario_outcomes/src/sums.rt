@@ -1,0 +1,30 @@
+//! The lines and the count of the scenarios that ran. Start with [`Sums`].
+
+use crate::expectations::Unmet;
+use std::io;
+
+/// The number of scenarios that ran, and how many of them failed.
+#[derive(Clone, Copy, Drop)]
+pub struct Sums {
+    pub scenarios: u64,
+    pub failed: u64,
+}
+
+impl Sums {
+    /// Counts a scenario and prints its line: its name with `ok`, or with the expectation that was not met.
+    pub fn tell(
+        &mut self,
+        rt: &HostRuntime,
+        name: &str,
+        outcome: Result<(), Unmet>,
+    ) -> io::Result<()> {
+        self.scenarios = self.scenarios.saturating_add(1);
+        match outcome {
+            Ok(()) => println!(rt; "{name}: ok"),
+            Err(unmet) => {
+                self.failed = self.failed.saturating_add(1);
+                println!(rt; "{name}: {unmet}")
+            }
+        }
+    }
+}

@@ -1,0 +1,98 @@
+//! Clients whose connections ran and are closed: how long their sockets stay.
+
+use crate::served::Served;
+use scenario_parts::{
+    ACKED, OPENED, OPENING, PUBLISH, Unmet, earliest_end, expect_bytes, expect_number, expect_past,
+    value_of,
+};
+use std::alloc::Global;
+use std::io::{self, Read as _, Write as _};
+use std::net::{Net, OpenStream as _};
+use std::time::Duration;
+
+/// How many milliseconds clients have, who log in within as many first.
+const TIME: u64 = 1_000;
+
+/// How many rounds in vain are enough, whatever else the machine does.
+const PATIENCE: u32 = 1_000;
+
+/// Rounds enough for what a client wrote. Those in which nothing comes wait.
+const TURNS: u64 = 4;
+
+/// connection.open of a connection that is open, which is refused with connection.close and code 503.
+const SECOND_OPEN: &[u8] = b"\x01\x00\x00\x00\x00\x00\x08\x00\x0a\x00\x28\x01/\x00\x00\xce";
+
+/// connection.close-ok.
+const CLOSE_OK: &[u8] = b"\x01\x00\x00\x00\x00\x00\x04\x00\x0a\x00\x33\xce";
+
+/// Serves a client until it has been answered as much as this, and expects that it was answered this. It never waits.
+fn expect_answer<S: io::Read>(
+    alloc: Global,
+    served: &mut Served,
+    client: &mut S,
+    expected: &[u8],
+) -> Result<(), Unmet> {
+    let mut answer: Vec<u8> = Vec::new(alloc);
+    for _ in 0..PATIENCE {
+        served.serve(alloc, 1);
+        let read = client.read_to_end(&mut answer);
+        if read.is_ok() || answer.len() >= expected.len() {
+            break;
+        }
+    }
+    expect_bytes("the answer", answer.as_slice(), expected)
+}
+
+/// A client that has logged in, and never waits.
+fn logged_in<N: Net>(net: &N, alloc: Global, served: &mut Served) -> Result<N::Stream, Unmet> {
+    let mut client = served.connect(net)?;
+    value_of("set_nonblocking", client.set_nonblocking(true))?;
+    value_of("write_all", client.write_all(OPENING))?;
+    expect_answer(alloc, served, &mut client, OPENED)?;
+    Ok(client)
+}
+
+/// Writes what a client sends, and serves it.
+fn say<S: io::Write>(
+    alloc: Global,
+    served: &mut Served,
+    client: &mut S,
+    bytes: &[u8],
+) -> Result<(), Unmet> {
+    value_of("write_all", client.write_all(bytes))?;
+    served.serve(alloc, TURNS);
+    Ok(())
+}
+
+/// Expects that one socket more is closed in the end.
+fn expect_closed(alloc: Global, served: &mut Served) -> Result<(), Unmet> {
+    let before = served.sockets.closes;
+    for _ in 0..PATIENCE {
+        if served.sockets.closes > before {
+            return Ok(());
+        }
+        served.serve(alloc, 1);
+    }
+    Err(Unmet::Claim("a client that never answers connection.close is ended"))
+}
+
+/// Of two clients that are sent connection.close one answers, and is ended at once. The other does not, and is ended once its time is
+/// over. A third one, whose connection runs, is served after that.
+pub(crate) fn a_client_that_never_answers_a_close_is_ended(
+    rt: &HostRuntime,
+    alloc: Global,
+) -> Result<(), Unmet> {
+    let mut served = Served::with_patience(rt, alloc, Duration::from_millis(TIME))?;
+    let mut runs = logged_in(rt, alloc, &mut served)?;
+    let mut answers = logged_in(rt, alloc, &mut served)?;
+    let mut mute = logged_in(rt, alloc, &mut served)?;
+    say(alloc, &mut served, &mut answers, SECOND_OPEN)?;
+    say(alloc, &mut served, &mut answers, CLOSE_OK)?;
+    let earliest = earliest_end(rt, TIME)?;
+    say(alloc, &mut served, &mut mute, SECOND_OPEN)?;
+    expect_number("the number of closed sockets", served.sockets.closes, 1)?;
+    expect_closed(alloc, &mut served)?;
+    expect_past(rt, earliest)?;
+    value_of("write_all", runs.write_all(PUBLISH))?;
+    expect_answer(alloc, &mut served, &mut runs, ACKED)
+}

@@ -1,0 +1,53 @@
+//! A socket of the system that has no room, beside another that speaks.
+
+use crate::silent::{fill, got_in_the_end, listening, met, read_all};
+use scenario_outcomes::{Unmet, expect, expect_number, value_of};
+use serving::{Wire as _, Write};
+use sockets::Sockets;
+use std::alloc::Global;
+use std::io;
+use std::io::Write as _;
+use std::net::Net;
+
+/// How often the socket is filled. One of these times the system may tell of its room late, on a machine that does other work.
+const TIMES: u32 = 4;
+
+/// Whether a socket that has room again takes a write in the first round behind a rest, which also tells of another socket. So no socket
+/// is asked for the sake of its turn, but in each 16th round.
+fn is_written_at_once<S: io::Write>(
+    sockets: &mut Sockets,
+    full: u64,
+    speaker: &mut S,
+    speaking: u64,
+) -> Result<bool, Unmet> {
+    value_of("write_all", speaker.write_all(b"one"))?;
+    sockets.rest();
+    sockets.accept();
+    let is_written = matches!(sockets.write(full, b"three"), Write::Took(5));
+    let count = got_in_the_end(sockets, speaking)?;
+    expect_number("the number of bytes", count as u64, 3)?;
+    Ok(is_written)
+}
+
+/// A socket that was full is written to once its client has read, though another speaks all the time: it waits for no turn of its own.
+pub(crate) fn a_socket_with_room_is_written_to_beside_one_that_speaks<N: Net>(
+    net: &N,
+    alloc: Global,
+) -> Result<(), Unmet> {
+    let mut sockets = listening(net, alloc)?;
+    let (mut reader, full) = met(net, &mut sockets)?;
+    let (mut speaker, speaking) = met(net, &mut sockets)?;
+    let mut at_once = 0_u32;
+    for _ in 0..TIMES {
+        let taken = fill(&mut sockets, full)?;
+        read_all(&mut reader, taken)?;
+        if is_written_at_once(&mut sockets, full, &mut speaker, speaking)? {
+            at_once = at_once.saturating_add(1);
+            read_all(&mut reader, 5)?;
+        }
+    }
+    expect(
+        "it is written to at once each time but one",
+        at_once.saturating_add(1) >= TIMES,
+    )
+}

@@ -1,0 +1,101 @@
+//! Sockets of the system whose connections ran and are closed: how long they stay.
+
+use crate::silent::{met, round};
+use scenario_outcomes::{Unmet, earliest_end, expect, expect_past, value_of};
+use serving::{Read, Wire as _, Write};
+use sockets::Sockets;
+use std::alloc::Global;
+use std::net::SocketAddr;
+use std::time::Duration;
+
+/// How many milliseconds a socket has that was bidden farewell.
+const TIME: u64 = 200;
+
+/// How many rounds in vain are enough, whatever else the machine does.
+const PATIENCE: u32 = 1_000;
+
+/// How many writes fill a socket that nobody reads, whatever room the system gives it.
+const MOST_WRITES: u32 = 100_000;
+
+/// Sockets that listen at a port that is free, and have this patience.
+fn listening(rt: &HostRuntime, alloc: Global) -> Result<Sockets, Unmet> {
+    let address = value_of("parse", "127.0.0.1:0".parse::<SocketAddr>())?;
+    let sockets = value_of("Sockets::bind", Sockets::bind(rt, alloc, address))?;
+    Ok(sockets.with_patience(rt, Duration::from_millis(TIME)))
+}
+
+/// Expects that reads of a socket fail in the end, in rounds that rest.
+fn expect_no_read(sockets: &mut Sockets, socket: u64) -> Result<(), Unmet> {
+    for _ in 0..PATIENCE {
+        match round(sockets, socket) {
+            Read::Failed => return Ok(()),
+            Read::Wait => sockets.rest(),
+            _ => return Err(Unmet::Call("read")),
+        }
+    }
+    Err(Unmet::Claim("a socket that was bidden farewell is ended"))
+}
+
+/// A socket that was welcomed and then bidden farewell is ended once its time is over that began with the farewell, and not before.
+/// One that was welcomed is not.
+pub(crate) fn a_socket_that_was_bidden_farewell_is_ended(
+    rt: &HostRuntime,
+    alloc: Global,
+) -> Result<(), Unmet> {
+    let mut sockets = listening(rt, alloc)?;
+    let (_parted, parted_socket) = met(rt, &mut sockets)?;
+    let (_welcome, welcome_socket) = met(rt, &mut sockets)?;
+    sockets.welcome(parted_socket);
+    sockets.welcome(welcome_socket);
+    let earliest = earliest_end(rt, TIME)?;
+    let waits = matches!(round(&mut sockets, parted_socket), Read::Wait);
+    expect("a socket that was welcomed is not ended", waits)?;
+    sockets.farewell(parted_socket);
+    expect_no_read(&mut sockets, parted_socket)?;
+    expect_past(rt, earliest)?;
+    let waits = matches!(round(&mut sockets, welcome_socket), Read::Wait);
+    expect("a socket that was bidden no farewell is not ended", waits)
+}
+
+/// Writes to a socket until it takes no more.
+fn fill(sockets: &mut Sockets, socket: u64) -> Result<(), Unmet> {
+    let bytes = [0u8; 4096];
+    for _ in 0..MOST_WRITES {
+        match sockets.write(socket, &bytes) {
+            Write::Took(_) => {}
+            Write::Wait => return Ok(()),
+            Write::Failed => return Err(Unmet::Call("write")),
+        }
+    }
+    Err(Unmet::Claim("a socket that nobody reads is full"))
+}
+
+/// Expects that writes to a full socket fail in the end, in rounds that rest.
+fn expect_no_write(sockets: &mut Sockets, socket: u64) -> Result<(), Unmet> {
+    let bytes = [0u8; 4096];
+    for _ in 0..PATIENCE {
+        sockets.accept();
+        match sockets.write(socket, &bytes) {
+            Write::Failed => return Ok(()),
+            // the system may find room late
+            Write::Wait | Write::Took(_) => sockets.rest(),
+        }
+    }
+    Err(Unmet::Claim("a full socket that was bidden farewell is ended"))
+}
+
+/// A socket that takes nothing is ended too once its time is over: a server writes to it, and reads no more.
+pub(crate) fn a_full_socket_that_was_bidden_farewell_is_ended(
+    rt: &HostRuntime,
+    alloc: Global,
+) -> Result<(), Unmet> {
+    let mut sockets = listening(rt, alloc)?;
+    let (_client, socket) = met(rt, &mut sockets)?;
+    sockets.welcome(socket);
+    fill(&mut sockets, socket)?;
+    let earliest = earliest_end(rt, TIME)?;
+    sockets.accept();
+    sockets.farewell(socket);
+    expect_no_write(&mut sockets, socket)?;
+    expect_past(rt, earliest)
+}

@@ -1,0 +1,111 @@
+//! Scenarios of sockets of the system, without a server: which of them are asked, and when; how long they rest; and whom they end.
+//! `cases` runs them.
+#![tactic(auto)]
+
+mod beside;
+mod farewells;
+mod listening;
+mod patience;
+mod pieces;
+mod rests;
+mod silent;
+
+use scenario_outcomes::Sums;
+use std::io;
+
+/// The scenarios of sockets that have nothing.
+fn tell_silent(sums: &mut Sums, rt: &HostRuntime) -> io::Result<()> {
+    let alloc = rt.alloc();
+    sums.tell(
+        rt,
+        "bytes_between_a_read_and_a_rest_are_told_by_it",
+        silent::bytes_between_a_read_and_a_rest_are_told_by_it(rt, alloc),
+    )?;
+    sums.tell(
+        rt,
+        "a_full_read_is_followed_by_another",
+        silent::a_full_read_is_followed_by_another(rt, alloc),
+    )?;
+    sums.tell(
+        rt,
+        "an_end_behind_the_last_bytes_is_read",
+        silent::an_end_behind_the_last_bytes_is_read(rt, alloc),
+    )?;
+    sums.tell(
+        rt,
+        "a_rest_tells_of_one_among_many",
+        silent::a_rest_tells_of_one_among_many(rt, alloc),
+    )?;
+    sums.tell(
+        rt,
+        "silent_sockets_are_asked_in_turn",
+        silent::silent_sockets_are_asked_in_turn(rt, alloc),
+    )
+}
+
+/// The scenarios of where sockets listen, of those that have no room, and of the time that they have.
+fn tell_bounds(sums: &mut Sums, rt: &HostRuntime) -> io::Result<()> {
+    let alloc = rt.alloc();
+    sums.tell(
+        rt,
+        "sockets_listen_at_the_address_that_is_asked_for",
+        listening::sockets_listen_at_the_address_that_is_asked_for(rt, alloc),
+    )?;
+    sums.tell(
+        rt,
+        "a_full_socket_takes_more_once_its_client_reads",
+        silent::a_full_socket_takes_more_once_its_client_reads(rt, alloc),
+    )?;
+    sums.tell(
+        rt,
+        "a_socket_with_room_is_written_to_beside_one_that_speaks",
+        beside::a_socket_with_room_is_written_to_beside_one_that_speaks(rt, alloc),
+    )?;
+    sums.tell(
+        rt,
+        "a_socket_that_is_not_welcomed_is_ended",
+        patience::a_socket_that_is_not_welcomed_is_ended(rt, alloc),
+    )?;
+    sums.tell(
+        rt,
+        "a_socket_that_was_bidden_farewell_is_ended",
+        farewells::a_socket_that_was_bidden_farewell_is_ended(rt, alloc),
+    )?;
+    sums.tell(
+        rt,
+        "a_full_socket_that_was_bidden_farewell_is_ended",
+        farewells::a_full_socket_that_was_bidden_farewell_is_ended(rt, alloc),
+    )
+}
+
+/// The scenarios of when rests end, and when pieces are sent.
+fn tell_times(sums: &mut Sums, rt: &HostRuntime) -> io::Result<()> {
+    let alloc = rt.alloc();
+    sums.tell(
+        rt,
+        "a_rest_in_which_nothing_comes_waits_and_ends",
+        rests::a_rest_in_which_nothing_comes_waits_and_ends(rt, alloc),
+    )?;
+    sums.tell(
+        rt,
+        "a_rest_ends_once_a_client_writes",
+        rests::a_rest_ends_once_a_client_writes(rt, alloc),
+    )?;
+    sums.tell(
+        rt,
+        "a_client_is_accepted_behind_the_rest_that_it_ends",
+        rests::a_client_is_accepted_behind_the_rest_that_it_ends(rt, alloc),
+    )?;
+    sums.tell(
+        rt,
+        "small_pieces_are_sent_at_once",
+        pieces::small_pieces_are_sent_at_once(rt, alloc),
+    )
+}
+
+/// Runs these scenarios, and prints a line for each.
+pub fn tell_all(sums: &mut Sums, rt: &HostRuntime) -> io::Result<()> {
+    tell_silent(sums, rt)?;
+    tell_bounds(sums, rt)?;
+    tell_times(sums, rt)
+}

@@ -1,0 +1,76 @@
+//! Sockets of the system that are not welcomed after they came.
+
+use crate::silent::{got_in_the_end, met, round};
+use scenario_outcomes::{Unmet, expect, value_of};
+use serving::{Read, Wire as _};
+use sockets::Sockets;
+use std::alloc::Global;
+use std::io;
+use std::net::SocketAddr;
+use std::time::Duration;
+
+/// How many milliseconds a socket has until it is to be welcomed.
+const TIME: u64 = 200;
+
+/// How many rounds in vain are enough, whatever else the machine does.
+const PATIENCE: u32 = 1_000;
+
+/// As many bytes as a login has, and more.
+const WORDS: [u8; 200] = [0; 200];
+
+/// Sockets that listen at a port that is free, and end those that are not welcomed in time.
+fn listening(rt: &HostRuntime, alloc: Global) -> Result<Sockets, Unmet> {
+    let address = value_of("parse", "127.0.0.1:0".parse::<SocketAddr>())?;
+    let sockets = value_of("Sockets::bind", Sockets::bind(rt, alloc, address))?;
+    Ok(sockets.with_patience(rt, Duration::from_millis(TIME)))
+}
+
+/// A client writes this, and its socket gives all of it.
+fn say<S: io::Write>(
+    sockets: &mut Sockets,
+    client: &mut S,
+    socket: u64,
+    bytes: &[u8],
+) -> Result<(), Unmet> {
+    value_of("write_all", client.write_all(bytes))?;
+    let mut left = bytes.len();
+    for _ in 0..bytes.len() {
+        if left == 0 {
+            break;
+        }
+        let count = got_in_the_end(sockets, socket)?;
+        left = left.saturating_sub(count);
+    }
+    Ok(())
+}
+
+/// Expects that a socket fails in the end, in rounds that rest.
+fn expect_ended(sockets: &mut Sockets, socket: u64) -> Result<(), Unmet> {
+    for _ in 0..PATIENCE {
+        match round(sockets, socket) {
+            Read::Failed => return Ok(()),
+            Read::Wait => sockets.rest(),
+            _ => return Err(Unmet::Call("read")),
+        }
+    }
+    Err(Unmet::Claim("a socket that is not welcomed is ended"))
+}
+
+/// A socket that says nothing in its time is ended, and one that says much. One that is welcomed is heard long after, though it
+/// said nothing.
+pub(crate) fn a_socket_that_is_not_welcomed_is_ended(
+    rt: &HostRuntime,
+    alloc: Global,
+) -> Result<(), Unmet> {
+    let mut sockets = listening(rt, alloc)?;
+    let (mut welcome, welcome_socket) = met(rt, &mut sockets)?;
+    let (mut long, long_socket) = met(rt, &mut sockets)?;
+    let (_silent, silent_socket) = met(rt, &mut sockets)?;
+    say(&mut sockets, &mut long, long_socket, WORDS.as_slice())?;
+    sockets.welcome(welcome_socket);
+    expect_ended(&mut sockets, silent_socket)?;
+    expect_ended(&mut sockets, long_socket)?;
+    let waits = matches!(round(&mut sockets, welcome_socket), Read::Wait);
+    expect("a socket that was welcomed is not ended", waits)?;
+    say(&mut sockets, &mut welcome, welcome_socket, b"more")
+}

@@ -1,0 +1,271 @@
+//! Sockets of the system that have nothing, or no room: which of them are asked, and when.
+
+use scenario_outcomes::{Unmet, expect, expect_number, value_of};
+use serving::{Accept, Read, Wire as _, Write};
+use sockets::Sockets;
+use std::alloc::Global;
+use std::io::{self, Read as _, Write as _};
+use std::net::{Net, SocketAddr, TcpStream};
+
+/// How many sockets there are at once: twice as many files are open, and a process may have 1,024.
+const MANY: usize = 400;
+
+/// How many silent sockets a round asks at most.
+const ASKED_AT_MOST: u64 = 8;
+
+/// How many writes fill a socket that nobody reads, whatever room the system gives it.
+const MOST_WRITES: u32 = 100_000;
+
+/// How many rounds in vain are enough, whatever else the machine does.
+const PATIENCE: u32 = 1_000;
+
+/// Sockets that listen at a port that is free.
+pub(crate) fn listening<N: Net>(net: &N, alloc: Global) -> Result<Sockets, Unmet> {
+    let address = value_of("parse", "127.0.0.1:0".parse::<SocketAddr>())?;
+    value_of("Sockets::bind", Sockets::bind(net, alloc, address))
+}
+
+/// The next socket that comes.
+pub(crate) fn accepted(sockets: &mut Sockets) -> Result<u64, Unmet> {
+    for _ in 0..PATIENCE {
+        match sockets.accept() {
+            Accept::Socket(name) => return Ok(name),
+            Accept::Nothing => sockets.rest(),
+            Accept::Failed => return Err(Unmet::Call("accept")),
+        }
+    }
+    Err(Unmet::Claim("a socket came"))
+}
+
+/// A client that comes, and the name of its socket.
+pub(crate) fn met<N: Net>(net: &N, sockets: &mut Sockets) -> Result<(N::Stream, u64), Unmet> {
+    let address = value_of("Sockets::local_addr", sockets.local_addr())?;
+    let client = value_of("TcpStream::connect", TcpStream::connect(net, address))?;
+    let name = accepted(sockets)?;
+    Ok((client, name))
+}
+
+/// A round that reads from one socket.
+pub(crate) fn round(sockets: &mut Sockets, socket: u64) -> Read {
+    let mut buffer = [0u8; 16];
+    sockets.accept();
+    sockets.read(socket, &mut buffer)
+}
+
+/// How many bytes a socket gives, in rounds of which each that gets nothing rests.
+pub(crate) fn got_in_the_end(sockets: &mut Sockets, socket: u64) -> Result<usize, Unmet> {
+    for _ in 0..PATIENCE {
+        match round(sockets, socket) {
+            Read::Got(count) => return Ok(count),
+            Read::Wait => sockets.rest(),
+            _ => return Err(Unmet::Call("read")),
+        }
+    }
+    Err(Unmet::Claim("bytes came"))
+}
+
+/// How many bytes a socket gives after a rest, which may first tell of what was before.
+fn told_by_a_rest(sockets: &mut Sockets, socket: u64) -> Result<usize, Unmet> {
+    for _ in 0..3 {
+        sockets.rest();
+        if let Read::Got(count) = round(sockets, socket) {
+            return Ok(count);
+        }
+    }
+    Err(Unmet::Claim("a rest tells of what came before it"))
+}
+
+/// Bytes that come between a read that emptied a socket and a rest are not asked for in the next round, and the rest tells of
+/// them.
+pub(crate) fn bytes_between_a_read_and_a_rest_are_told_by_it<N: Net>(
+    net: &N,
+    alloc: Global,
+) -> Result<(), Unmet> {
+    let mut sockets = listening(net, alloc)?;
+    let (mut client, socket) = met(net, &mut sockets)?;
+    for _ in 0..3 {
+        value_of("write_all", client.write_all(b"one"))?;
+        let first = got_in_the_end(&mut sockets, socket)?;
+        expect_number("the number of bytes", first as u64, 3)?;
+        value_of("write_all", client.write_all(b"four"))?;
+        let waits = matches!(round(&mut sockets, socket), Read::Wait);
+        expect("an emptied socket is not asked in the next round", waits)?;
+        let second = told_by_a_rest(&mut sockets, socket)?;
+        expect_number("the number of bytes", second as u64, 4)?;
+    }
+    Ok(())
+}
+
+/// A read that gets all that it asks for has not emptied its socket: the next round gets the rest.
+pub(crate) fn a_full_read_is_followed_by_another<N: Net>(
+    net: &N,
+    alloc: Global,
+) -> Result<(), Unmet> {
+    let mut sockets = listening(net, alloc)?;
+    let (mut client, socket) = met(net, &mut sockets)?;
+    value_of("write_all", client.write_all(b"sixteen bytes and more"))?;
+    let first = got_in_the_end(&mut sockets, socket)?;
+    expect_number("the number of bytes", first as u64, 16)?;
+    match round(&mut sockets, socket) {
+        Read::Got(count) => expect_number("the number of bytes", count as u64, 6),
+        _ => Err(Unmet::Claim("the next round gets what was left")),
+    }
+}
+
+/// The end of a client that writes and goes away at once is read, though its bytes were fewer than a read was offered.
+pub(crate) fn an_end_behind_the_last_bytes_is_read<N: Net>(
+    net: &N,
+    alloc: Global,
+) -> Result<(), Unmet> {
+    let mut sockets = listening(net, alloc)?;
+    let (mut client, socket) = met(net, &mut sockets)?;
+    let nothing = matches!(round(&mut sockets, socket), Read::Wait);
+    expect("a socket that just came has nothing", nothing)?;
+    value_of("write_all", client.write_all(b"last"))?;
+    drop(client);
+    let count = got_in_the_end(&mut sockets, socket)?;
+    expect_number("the number of bytes", count as u64, 4)?;
+    for _ in 0..4 {
+        match round(&mut sockets, socket) {
+            Read::End => return Ok(()),
+            _ => sockets.rest(),
+        }
+    }
+    Err(Unmet::Claim("the end is read"))
+}
+
+/// Many clients, and the names of their sockets, of which none has anything.
+fn many_met<N: Net>(
+    net: &N,
+    alloc: Global,
+    sockets: &mut Sockets,
+) -> Result<Vec<(N::Stream, u64)>, Unmet> {
+    let mut clients: Vec<(N::Stream, u64)> = Vec::new(alloc);
+    for _ in 0..MANY {
+        let client = met(net, sockets)?;
+        value_of("push", clients.push(client))?;
+    }
+    for (_, socket) in &clients {
+        let nothing = matches!(round(sockets, *socket), Read::Wait);
+        expect("a socket that just came has nothing", nothing)?;
+    }
+    sockets.rest();
+    Ok(clients)
+}
+
+/// How many sockets give bytes in one round.
+fn speaking<S>(sockets: &mut Sockets, clients: &[(S, u64)]) -> u64 {
+    let mut buffer = [0u8; 16];
+    let mut count = 0u64;
+    sockets.accept();
+    for (_, socket) in clients {
+        if let Read::Got(_) = sockets.read(*socket, &mut buffer) {
+            count = count.saturating_add(1);
+        }
+    }
+    count
+}
+
+/// How many sockets give bytes after a rest, which may first tell of what was before.
+fn spoken_after_a_rest<S>(sockets: &mut Sockets, clients: &[(S, u64)]) -> u64 {
+    for _ in 0..3 {
+        sockets.rest();
+        let count = speaking(sockets, clients);
+        if count > 0 {
+            return count;
+        }
+    }
+    0
+}
+
+/// Of many silent sockets a rest tells which one has something, and the next round gets it.
+pub(crate) fn a_rest_tells_of_one_among_many<N: Net>(net: &N, alloc: Global) -> Result<(), Unmet> {
+    let mut sockets = listening(net, alloc)?;
+    let mut clients = many_met(net, alloc, &mut sockets)?;
+    for place in [0, MANY / 2, MANY - 1] {
+        speaking(&mut sockets, clients.as_slice());
+        if let Some((client, _)) = clients.get_mut(place) {
+            value_of("write_all", client.write_all(b"one"))?;
+        }
+        let count = spoken_after_a_rest(&mut sockets, clients.as_slice());
+        expect_number("the number of sockets that gave something", count, 1)?;
+    }
+    Ok(())
+}
+
+/// Where no round rests, many silent sockets are asked in turn, few in each round, and each that has something gives it.
+pub(crate) fn silent_sockets_are_asked_in_turn<N: Net>(
+    net: &N,
+    alloc: Global,
+) -> Result<(), Unmet> {
+    let mut sockets = listening(net, alloc)?;
+    let mut clients = many_met(net, alloc, &mut sockets)?;
+    for (client, _) in clients.iter_mut() {
+        value_of("write_all", client.write_all(b"one"))?;
+    }
+    let mut given = 0u64;
+    for _ in 0..PATIENCE {
+        let count = speaking(&mut sockets, clients.as_slice());
+        expect("a round asks few of them", count <= ASKED_AT_MOST)?;
+        given = given.saturating_add(count);
+        if given == MANY as u64 {
+            return Ok(());
+        }
+    }
+    Err(Unmet::Claim("each of them is asked"))
+}
+
+/// Writes until a socket takes less than it is offered: how many bytes it took.
+pub(crate) fn fill(sockets: &mut Sockets, socket: u64) -> Result<u64, Unmet> {
+    let bytes = [0u8; 4096];
+    let mut taken = 0u64;
+    for _ in 0..MOST_WRITES {
+        sockets.accept();
+        match sockets.write(socket, bytes.as_slice()) {
+            Write::Took(count) => {
+                taken = taken.saturating_add(count as u64);
+                if count < bytes.len() {
+                    return Ok(taken);
+                }
+            }
+            Write::Wait => return Ok(taken),
+            Write::Failed => return Err(Unmet::Call("write")),
+        }
+    }
+    Err(Unmet::Claim("a socket that nobody reads gets full"))
+}
+
+/// A client reads so many bytes.
+pub(crate) fn read_all<S: io::Read>(client: &mut S, count: u64) -> Result<(), Unmet> {
+    let mut buffer = [0u8; 4096];
+    let mut left = count;
+    for _ in 0..count {
+        if left == 0 {
+            return Ok(());
+        }
+        let some = value_of("read", client.read(&mut buffer))?;
+        left = left.saturating_sub(some as u64);
+    }
+    expect_number("the number of bytes that are missing", left, 0)
+}
+
+/// A socket that took less than it was offered takes no more by itself, and takes more once its client has read and a rest told of it.
+pub(crate) fn a_full_socket_takes_more_once_its_client_reads<N: Net>(
+    net: &N,
+    alloc: Global,
+) -> Result<(), Unmet> {
+    let mut sockets = listening(net, alloc)?;
+    let (mut client, socket) = met(net, &mut sockets)?;
+    let taken = fill(&mut sockets, socket)?;
+    let waits = matches!(sockets.write(socket, b"one"), Write::Wait);
+    expect("a full socket takes nothing", waits)?;
+    read_all(&mut client, taken)?;
+    for _ in 0..3 {
+        sockets.rest();
+        sockets.accept();
+        if let Write::Took(count) = sockets.write(socket, b"one") {
+            return expect_number("the number of bytes", count as u64, 3);
+        }
+    }
+    Err(Unmet::Claim("a rest tells of room"))
+}
