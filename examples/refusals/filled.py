@@ -19,6 +19,8 @@ EXCHANGE, KEY = "all", "q0"
 # publishes that wait for their acks
 WINDOW = 200
 LOGINS = 100
+# bytes that are published at once to see that publishes are taken again
+ONCE = 1_000_000
 # the library of an allocator, as the loader finds it, and what it is told (examples/deploy/warren.service)
 ALLOCATORS = {
     "glibc": (None, {}),
@@ -347,12 +349,13 @@ def by_a_client(port, tally, name, work):
 
 
 def publishes_taken(server, exchange, size, tally):
-    """Publishes some messages by one client after another until all of one are acked, for some seconds. Yields what is wrong if none are."""
+    """Publishes some messages, of a megabyte at most, by one client after another until all of one are acked, for some seconds. Yields what is wrong if none are."""
+    count = max(1, min(LOGINS, ONCE // size))
     for turn in range(1, TURNS + 1):
-        last = tally.tried("publish", lambda: Publisher(server.port, ACCOUNT).fill(exchange, KEY, size, LOGINS))
-        if last is not None and last.acked == LOGINS:
+        last = tally.tried("publish", lambda: Publisher(server.port, ACCOUNT).fill(exchange, KEY, size, count))
+        if last is not None and last.acked == count:
             if turn > 1:
                 tally.told.append(f"publishes taken at turn {turn}")
             return
         time.sleep(REST)
-    yield f"publishes are not taken: {last and last.acked} of {LOGINS} ({last and last.why})"
+    yield f"publishes are not taken: {last and last.acked} of {count} ({last and last.why})"

@@ -174,10 +174,18 @@ class Row:
         for queue in others or [first]:
             yield from emptied(server.port, queue, filler, tally)
 
+    def purged(self, server, tally, queue):
+        """Purges what is left of a queue, until what publishers wrote before they were ended is gone, too. Returns how much the first purge removed."""
+        first = left = by_a_client(server.port, tally, "purge of the rest", lambda it: it.purge(queue))
+        while self.pressing and left:
+            time.sleep(REST)
+            left = by_a_client(server.port, tally, "purge of the rest", lambda it: it.purge(queue))
+        return first
+
     def again(self, server, filler, tally):
         """It is filled once more, each queue is purged while it is full, and publishes are taken."""
         for queue in self.queues:
-            left = by_a_client(server.port, tally, "purge of the rest", lambda it, queue=queue: it.purge(queue))
+            left = self.purged(server, tally, queue)
             if left and not self.pressing and left > filler.sent - filler.acked:
                 yield f"{queue}: {left} were left"
         filler = self.filled(server, tally, "fill again")

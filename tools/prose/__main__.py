@@ -1,7 +1,11 @@
 #!/usr/bin/env python3
-"""Checks the pages: that no link leads nowhere, how long the README is, and that no sentence has a word of the dialect below.
+"""Checks the pages: that no link leads nowhere, how long the README is, that no sentence has a word of the dialect below, and that a crate's CALLING.md
+quotes a proved caller.
 
 The words are short and true, and a reader stops at them. Beside each is what to write instead. Quoted code may have them.
+
+A CALLING.md has at most 80 lines. Each of its blocks of code and of definitions is found word for word, in whole lines, in a source or a definition of
+crates/callers, and one of them at least has a public function.
 """
 
 import glob
@@ -9,10 +13,14 @@ import os
 import re
 import sys
 
-PAGES = ("README.md", "CHANGELOG.md", "CONTRIBUTING.md", "tools/README.md", "docs/*.md", "docs/inside/*.md", "examples/*/README.md")
+CALLING = "crates/*/CALLING.md"
+PAGES = ("README.md", "CHANGELOG.md", "CONTRIBUTING.md", "tools/README.md", "docs/*.md", "docs/inside/*.md", "examples/*/README.md", CALLING)
 # these name pages, too
 BESIDE = ("crates/*/README.md", "crates/cases/data/*/*.script")
 MOST_LINES = 120
+MOST_CALLING_LINES = 80
+CALLERS = ("crates/callers/src/*.rt", "crates/callers/specs/*.antt")
+QUOTED = re.compile(r"^```(?:rust|antt)\n(.*?)^```$", re.MULTILINE | re.DOTALL)
 DIALECT = (
     (r"want of memory", "allocation failure"),
     (r"wanting", "is missing; or: an allocation fails"),
@@ -65,7 +73,7 @@ def is_there(root, page, target):
 
 def dead_links(root, page, text):
     leads = dict(LEADS.findall(text))
-    yield from (f"{page}: no line says where {it} leads" for it in NAMED_LINK.findall(text) if it not in leads)
+    yield from (f"{page}: no line says where {it} leads" for it in NAMED_LINK.findall(without_blocks(text)) if it not in leads)
     targets = [*LINK.findall(text), *leads.values()]
     yield from (f"{page}: {it} leads nowhere" for it in targets if "://" not in it and not is_there(root, page, it))
 
@@ -81,11 +89,29 @@ def dialect(page, text):
                 yield f"{page}:{number}: \"{it.group(0)}\"; instead: {instead}"
 
 
+def wrong_quotes(root, page, text):
+    """What a page for callers quotes otherwise than the proved callers have it."""
+    callers = ["\n" + text_of(root, it) for it in found(root, CALLERS)]
+    blocks = QUOTED.findall(text)
+    yield from (f"{page}: no caller has the code that begins with {it.splitlines()[0]!r}" for it in blocks if not any("\n" + it in caller for caller in callers))
+    if not any(re.search(r"^pub fn ", it, re.MULTILINE) for it in blocks):
+        yield f"{page}: it quotes no caller"
+
+
+def wrong_calling(root, page, text):
+    lines = text.count("\n")
+    if lines > MOST_CALLING_LINES:
+        yield f"{page}: {lines} lines; {MOST_CALLING_LINES} are the most"
+    yield from wrong_quotes(root, page, text)
+
+
 def wrong_in(root, page):
     text = text_of(root, page)
     yield from dead_links(root, page, text)
     yield from dead_names(root, page, text)
     yield from dialect(page, text)
+    if os.path.basename(page) == "CALLING.md":
+        yield from wrong_calling(root, page, text)
     lines = text.count("\n")
     if page == "README.md" and lines > MOST_LINES:
         yield f"{page}: {lines} lines; {MOST_LINES} are the most"

@@ -32,19 +32,19 @@ pub pushed_still : {X : Type 0} (b : Bool) (p q : X) (old new : List X) → new 
 pushed_still true p q old new e i = subst (λ (xs : List _). IsIn q xs) (sym e) (in_front q old (p ∷ []) i)
 pushed_still false p q old new e i = subst (λ (xs : List _). IsIn q xs) (sym e) i
 
--- the place at which it stands
+-- the index at which it is
 pub place_in : {X : Type 0} (p : X) (waiters : List X) → IsIn p waiters → (i : ℕ) × (i < length waiters) × (get_or waiters i p ≡ p)
 place_in p [] i = absurd i
 place_in p (x ∷ xs) (inl s) = (zero, (omega arith), sym s)
 place_in p (x ∷ xs) (inr i) = let (n, lt, e) = place_in p xs i in (suc n, (omega (arith, lt)), e)
 
--- what stands at a place is there
+-- what is at an index is in the list
 pub in_at : {X : Type 0} (waiters : List X) (i : ℕ) (p d : X) → i < length waiters → get_or waiters i d ≡ p → IsIn p waiters
 in_at [] i p d lt e = absurd (omega (arith, lt))
 in_at (x ∷ xs) zero p d lt e = inl (sym e)
 in_at (x ∷ xs) (suc i) p d lt e = inr (in_at xs i p d (omega (arith, lt)) e)
 
--- what stands in front of what is appended
+-- what is in front of what is appended
 pub front_at : {X : Type 0} (xs ys : List X) (i : ℕ) (d : X) → i < length xs → get_or (xs ++ ys) i d ≡ get_or xs i d
 front_at [] ys i d lt = absurd (omega (arith, lt))
 front_at (x ∷ xs) ys zero d lt = refl

@@ -93,7 +93,7 @@ awake_in waiters marks p (i, at) =
     let long = picks_length waiters in
     in_place p p (picks waiters) i (omega (arith, within, long)) (picks_at waiters i (awake_waiter p) ∙ ap (λ (s : Waiter). s.pick) (at.there (awake_waiter p)))
 
--- the marks of those before this place stay, and picks look at all from there on
+-- the marks of those before this index stay, and picks look at all behind it
 pub record MarksFrom (old new : List ℕ) (place count : ℕ) : Type 0 where
   pub more : (i : ℕ) → bit_of old i ≡ 1 → bit_of new i ≡ 1
   pub marked : (i : ℕ) → place ≤ i → i < count → bit_of new i ≡ 1

@@ -230,7 +230,7 @@ serves kept r held running own listed = record {
 pub running_still : (old new : Broker) (before after : Lists) → ((d : ℕ) → new.connection d ≡ None → old.connection d ≡ None) → MakesNoList before after → AllRun old before → AllRun new after
 running_still old new before after runs makes running d none = makes d (running d (runs d none))
 
--- where no other connection than this ends, nothing is listed of this if it runs no more, and no list is made
+-- if no connection but this one ends, and this one has no list unless it is running, and no list is made, only running connections have lists
 pub running_but : (old new : Broker) (before after : Lists) (c : ℕ) → ((d : ℕ) → (d == c) ≡ false → new.connection d ≡ None → old.connection d ≡ None) → (new.connection c ≡ None → HasNoList after c) → MakesNoList before after
     → AllRun old before → AllRun new after
 running_but old new before after c others gone makes running d none = go (d == c) refl
@@ -317,4 +317,4 @@ serves_none kept rounds agreed len none = record {
   noted = λ place p has. absurd (false≢true (ap is_some (sym (none p.connection p.channel) ∙ has.was.1)));
 }
 
--- ---- events that want no memory
+-- ---- events that never allocate

@@ -7,7 +7,7 @@ use Rattle.broker.proofs.Standing.{from_turned}
 
 -- ---- a sweep
 
--- those that stay of the first so many
+-- those that stay of the first `n`
 module _ {X : Type 0} (test : X → Bool) where
   pub take_filter : (n : ℕ) (xs : List X) → take (count_by test (take n xs)) (filter test xs) ≡ filter test (take n xs)
   take_filter zero xs = refl

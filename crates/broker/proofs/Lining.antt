@@ -158,7 +158,7 @@ passed_least count next turn to at is lt p = elim (leb_tells next count) [
 
 -- ---- lists that are gone round
 
--- Gone round from `next`, the list has this element behind those in front, which stand at places that are passed; and gone round from behind it, all others stand before it.
+-- In the order from `next`, this element is behind those in front, whose indices come first; in the order from behind it, all others are before it.
 pub record GoneRound {X : Type 0} (xs : List X) (next place : ℕ) (x : X) : Type 0 where
   pub front : List X
   pub back : List X
@@ -184,7 +184,7 @@ splits (x ∷ xs) (suc place) d lt =
     let long = s.long in
     record { front = x ∷ s.front; back = s.back; whole = ap (λ (ys : List _). x ∷ ys) s.whole; long = omega (arith, long) }
 
--- what is in a list stands at some place
+-- what is in a list is at some index
 pub place_of_in : {X : Type 0} (y : X) (xs : List X) → IsIn y xs → (j : ℕ) × (j < length xs) × ((d : X) → get_or xs j d ≡ y)
 place_of_in y [] i = absurd i
 place_of_in y (x ∷ xs) (inl s) = (zero, (omega arith), λ d. sym s)
@@ -335,7 +335,7 @@ in_place y e [] j lt is = absurd (omega (arith, lt))
 in_place y e (x ∷ xs) zero lt is = inl (sym is)
 in_place y e (x ∷ xs) (suc j) lt is = inr (in_place y e xs j (omega (arith, lt)) is)
 
--- each stands at one place
+-- each is at one index
 pub distinct_place : {X : Type 0} (y e : X) (xs : List X) (i j : ℕ) → AreDistinct xs → i < length xs → j < length xs → get_or xs i e ≡ y → get_or xs j e ≡ y → i ≡ j
 distinct_place y e [] i j d l m a b = absurd (omega (arith, l))
 distinct_place y e (x ∷ xs) zero zero d l m a b = refl

@@ -118,7 +118,7 @@ past_end (x ∷ channels) (suc h) far = past_end channels h (λ lt. far (omega (
 pub more_same : (s : Listings) → SleepMore s s
 more_same s = record { same = refl; stay = λ l i. i }
 
--- a list in which nothing stands comes at the end
+-- an empty list is appended
 more_end : (old : List Listings) (s : Listings) → s.all ≡ [] → (h : ℕ) → SleepMore (listings_on old h) (listings_on (old ++ s ∷ []) h)
 more_end [] s none zero = record { same = none; stay = λ l i. let lt = i.1.within in absurd (omega (arith, lt)) }
 more_end [] s none (suc h) = more_same (listings_of [] [])
@@ -158,7 +158,7 @@ roomy_there channels h room = elim (leb_tells (h + 1) (length channels)) [
       absurd (omega (arith, none, lt))
 ]
 
--- so it is for all channels, where it comes in on its own
+-- the same for all channels, if it is added on its own
 pub adds_on : (channels : List Listings) (one : Listing) (s : Listings) → one.consumer.channel < length channels → AddsListing one one.consumer.channel (listings_on channels one.consumer.channel) s
     → (h : ℕ) → AddsListing one h (listings_on channels h) (listings_on (set channels one.consumer.channel s) h)
 adds_on channels one s lt its h = go (h == one.consumer.channel) refl

@@ -1,4 +1,4 @@
--- Rounds of queues that stand at other places, and consumers that stand there.
+-- Rounds of queues that have new indices, and the consumers in them.
 use Rattle.broker.proofs.Names.{◌∙◌, ◌<◌, ◌+◌, ℕ, zero, suc, List, [], ◌∷◌, Bool, true, false, Option, Some, None, length, map, get_or, set, inl, inr, refl, sym, ap, subst, arith, ◌==◌, nat_eq, option_map, lookup, eqb-true, leb_tells, length-set, length-map, get_or-set_same, get_or-set_other, lookup-map_values, IsIn, bit_of, place_now, Pick, Waiter, Waiters, Lists, Listing, Listings, round_of, round_at, awake_waiter, asleep_waiter, listings_on, channels_of, order, IsAwake, QueuesAreMarked, all_awake, StandsIn, AllRoused, IsMoved, IsOfEither, ArePlacesApart, listing_moved, channels_moved, all_moved, ListsAreMoved}
 use Rattle.std.proofs.Common.{◌≡◌}
 use Rattle.broker.proofs.Among.{place_in}
@@ -61,7 +61,7 @@ either_set rounds place r other lt same i = go (i == place) refl
         inr (here, ap order (ap (round_at (set rounds place r)) here ∙ get_or-set_same rounds place r none lt) ∙ same)
     go false f = inl (ap order (get_or-set_other rounds place i r none (apart i place f)))
 
--- one round more stands at its new place
+-- one more round is at its new index
 pub one_moved : (places : List ℕ) (olds mid new : List Waiters) (from : ℕ) → from < length places → ArePlacesApart places (length mid)
     → ((i : ℕ) → i < from → place_now places i < length mid → IsMoved (round_at olds i) (round_at mid (place_now places i)))
     → (place_now places from < length mid → IsMoved (round_at olds from) (round_at new (place_now places from)))

@@ -10,14 +10,14 @@ use Rattle.broker.proofs.Joined.{Holds}
 use Rattle.broker.proofs.Standing.{in_left, in_turned}
 use Rattle.broker.proofs.Takers.{order_at}
 
--- ---- who stands in a line
+-- ---- who is in an order
 
 in_picks : (s : Waiter) (waiters : List Waiter) → IsIn s waiters → IsIn s.pick (picks waiters)
 in_picks s [] i = absurd i
 in_picks s (x ∷ xs) (inl e) = inl (ap (λ (z : Waiter). z.pick) e)
 in_picks s (x ∷ xs) (inr i) = inr (in_picks s xs i)
 
--- whoever has a waiter stands in the line of its round
+-- a consumer with a waiter is in the order of its round
 pub in_order : (b : Broker) (lists : Lists) (queue : ℕ) (r : Waiters) (p : Pick) → IsInRound b lists queue r p → IsIn p (order r)
 in_order b lists queue r p (inl (i, at)) =
     let within = at.within in
@@ -26,7 +26,7 @@ in_order b lists queue r p (inl (i, at)) =
     (in_place p p (picks r.waiters) i (omega (arith, within, long)) (picks_at r.waiters i (awake_waiter p) ∙ ap (λ (s : Waiter). s.pick) (at.there (awake_waiter p))))
 in_order b lists queue r p (inr s) = in_turned p (picks r.waiters) r.next (in_picks (asleep_waiter p) r.waiters s.asleep)
 
--- ---- how many stand before one
+-- ---- how many are before one
 
 -- before those that follow one who is not in front, and is not the next
 standing_behind : (p q : Pick) (front back : List Pick) → (IsIn p front → ⊥) → (p ≡ q → ⊥) → standing (is_consumer p) (front ++ q ∷ back) ≡ length front + 1 + standing (is_consumer p) back
@@ -53,7 +53,7 @@ standing_before p (x ∷ back) more i = go (is_consumer p x) refl i (standing_be
     go false e (inl s) rest = absurd (false≢true (sym e ∙ ap (is_consumer p) (sym s) ∙ one_consumer p))
     go false e (inr j) rest = ap (λ (n : ℕ). 1 + n) (rest j)
 
--- one who stands behind those in front, and not in front, is nearer where those in front, and the one behind them, go last
+-- one that is behind those in front, and not among them, is nearer if those in front, and the one behind them, go to the end
 told_last : (p q : Pick) (front back : List Pick) → (IsIn p front → ⊥) → (p ≡ q → ⊥) → IsIn p (front ++ q ∷ back) → standing (is_consumer p) (back ++ front ++ q ∷ []) < standing (is_consumer p) (front ++ q ∷ back)
 told_last p q front back none far i = less
   where
@@ -74,7 +74,7 @@ told_last p q front back none far i = less
 
 -- ---- whoever is not told
 
--- whoever stands in a line, and to whom a delivery could be made while another is told from its queue, stands nearer
+-- a consumer to which a delivery could be made while another is picked from its queue is nearer then
 pub nearer_here : (old new : WithTurn) (place : ℕ) (q p : Pick) → IsFirst old q place new → Stands old place p → IsPickFrom old.kept place p → (p ≡ q → ⊥) → standing_at new place p < standing_at old place p
 nearer_here old new place q p t stands pick far =
     subst (λ (ps : List Pick). standing (is_consumer p) ps < standing_at old place p) (sym t.now)

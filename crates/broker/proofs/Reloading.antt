@@ -59,14 +59,14 @@ places_apart old new places count apart moved most i j l m there same =
           | goes gone behind ↦ absurd (omega (arith, behind, there, most, here))
         ]
 
--- A consumer that is there now was there, of the queue that stood at this place.
+-- A consumer that exists now existed before, of the queue that was at this index.
 pub record Was (old : Kept) (places : List ℕ) (place : ℕ) (p : Pick) : Type 0 where
   pub from : ℕ
   pub within : from < length places
   pub now : place_now places from ≡ place
   pub has : HasConsumer (topology_kept old) (broker_of old) from p
 
--- who has a waiter stands in the round
+-- a consumer with a waiter is in the round
 stands : (b : Broker) (lists : Lists) (queue : ℕ) (r : Waiters) (p : Pick) → IsInRound b lists queue r p → StandsIn r p
 stands b lists queue r p (inl up) = inl up
 stands b lists queue r p (inr s) = inr s.asleep
@@ -75,7 +75,7 @@ stands b lists queue r p (inr s) = inr s.asleep
 abbrev no_round : Waiters
 no_round = record { waiters = []; marks = []; next = 0; capacity = 0 }
 
--- nobody stands in a round without waiters
+-- no consumer is in a round without waiters
 order_none : (r : Waiters) → r.waiters ≡ [] → order r ≡ []
 order_none r none = ap (λ (ws : List Waiter). turned r.next (picks ws)) none ∙ turned_none r.next
   where
@@ -160,7 +160,7 @@ module _ (old new : Kept) (places : List ℕ) (after : IsStoreWhole new.store) (
         }
   ]
     where
-      -- a round in which somebody stands is there
+      -- a round in which a consumer is exists
       inside : (at : ℕ) (p : Pick) → IsIn p (order (round_at left.rounds at)) → at < length (topology_kept new).queues
       inside at p i = elim (leb_tells (at + 1) (length left.rounds)) [
         | inl a ↦ let lt = a.1 in omega (arith, lt, len)
@@ -200,7 +200,7 @@ module _ (old new : Kept) (places : List ℕ) (after : IsStoreWhole new.store) (
       (running_still (broker_of old) (broker_of new) before.lists left.lists (λ d none. sym (stood.connections d) ∙ none) lists.made serving.running)
       (own_moved before empty left serving.own came none len) (listed_moved none_stranded before.lists left.lists serving.listed lists)
 
-  -- the round of each queue that is there still stands at its new place
+  -- the round of each queue that is still declared is at its new index
   round_moved : (before left : Rounds) → RoundsAreMoved places before.rounds left.rounds → length left.rounds ≡ length (topology_kept new).queues
       → (from to : ℕ) → from < length (topology_kept old).queues → to < length (topology_kept new).queues → queue_name (topology_kept old) from ≡ queue_name (topology_kept new) to
       → IsMoved (round_at before.rounds from) (round_at left.rounds to)

@@ -44,7 +44,7 @@ rises_end ls l rises below i j d lt within = elim (leb_tells (j + 1) (length ls)
       omega (arith, one, other, less)
 ]
 
--- their queues stand elsewhere
+-- their queues have other indices
 pub rises_moved : (places : List ℕ) (ls : List Listing) → NumbersRise ls → NumbersRise (map (listing_moved places) ls)
 rises_moved places ls rises i j d lt within =
     let long = length-map ls (listing_moved places) in
@@ -53,7 +53,7 @@ rises_moved places ls rises i j d lt within =
     let up : number_of (get_or ls i d) < number_of (get_or ls j d) = rises i j d lt (omega (arith, within, long)) in
     omega (arith, one, other, up)
 
--- where another stands at the first place of a listing's number or a greater one, the listing stands nowhere
+-- if another one is at the first index with a listing's number or a greater one, the listing is nowhere
 pub none_near : (ls : List Listing) (at : ℕ) (l : Listing) → NumbersRise ls → AllWithin (λ (m : Listing). number_of m < number_of l) ls 0 at → AllWithin (λ (m : Listing). number_of l ≤ number_of m) ls at (length ls)
     → (at < length ls → get_or ls at l ≡ l → ⊥) → IsIn l ls → ⊥
 none_near ls at l rises before behind other i =
@@ -79,7 +79,7 @@ none_near ls at l rises before behind other i =
           ]
     ]
 
--- where one is found it stands
+-- one that is found is in the list
 pub found_in : (ls : List Listing) (l : Listing) (found : Option ℕ) → IfSome found (λ i. IsListedAt ls i l) → is_some found ≡ true → IsIn l ls
 found_in ls l None at e = absurd (false≢true e)
 found_in ls l (Some i) at e = in_at ls i l l at.within (at.there l)

@@ -23,7 +23,7 @@ equal_numbers : IsEquivalence nat_eq
 equal_numbers = record { refl = λ x. eq-eqb x x refl; symm = same_either; congr = λ x y z e. ap (λ (n : ℕ). nat_eq n z) (eqb-true x y e) }
 
 module _ (old new : Lists) (c : ℕ) (was now : List Listings) (found : lookup (nat_eq c) old ≡ Some was) (is : new ≡ set_value (nat_eq c) old now) where
-  -- at each number it stands if that is the connection's, and else what stood there
+  -- at each number it is this if that is the connection's, and otherwise what it was
   at_each : (d : ℕ) → lookup (nat_eq d) new ≡ cond (nat_eq c d) (Some now) (lookup (nat_eq d) old)
   at_each d = ap (lookup (nat_eq d)) is ∙ lookup-set_value equal_numbers (nat_eq c) (λ x y e. ap (λ (n : ℕ). nat_eq n y) (eqb-true c x e)) d now old (ap is_some found)
 

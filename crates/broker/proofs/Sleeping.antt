@@ -214,7 +214,7 @@ joined_woken b lists queue old new p w (inr f) = elim (w.asleep p f.asleep) [
   | inr up ↦ inl up
 ]
 
--- where the same waiters stand there, and picks look at the same
+-- if the same waiters are there, and picks look at the same
 pub awake_bits : (old new : Waiters) → new.waiters ≡ old.waiters → ((i : ℕ) → bit_of new.marks i ≡ bit_of old.marks i) → (p : Pick) → IsAwake old p → IsAwake new p
 awake_bits old new same bits p (i, at) = (
   i,

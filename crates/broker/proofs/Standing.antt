@@ -1,9 +1,9 @@
--- Those of a line who pass a test, and how many of them stand before one.
+-- Those of an order that pass a test, and how many are before one.
 use Rattle.broker.proofs.Names.{◌∙◌, ◌≤◌, ◌+◌, ◌++◌, ℕ, List, [], ◌∷◌, Bool, true, false, if◌then◌else◌, cond, take, drop, filter, inl, inr, refl, sym, ap, subst, arith, false≢true, take-append-drop, append-nil, IsIn, turned, standing, AreDistinct}
 use Rattle.std.proofs.Common.{◌≡◌, ◌⊎◌}
 use Rattle.broker.proofs.Lining.{in_either}
 
--- ---- how many stand before one
+-- ---- how many are before one
 
 module _ {X : Type 0} (is : X → Bool) (p : X) (own : is p ≡ true) (only : (x : X) → is x ≡ true → p ≡ x) where
   -- where fewer pass, but this one if it may
@@ -37,7 +37,7 @@ in_right y (x ∷ xs) ys i = inr (in_right y xs ys i)
 in_parts : {X : Type 0} (y : X) (xs ys : List X) → IsIn y (xs ++ ys) → IsIn y (ys ++ xs)
 in_parts y xs ys i = elim (in_either y xs ys i) [ inl j ↦ in_right y ys xs j | inr j ↦ in_left y ys xs j ]
 
--- one that is nowhere in a list may stand anywhere in it
+-- one that is nowhere in a list may be anywhere in it
 distinct_among : {X : Type 0} (x : X) (ys xs : List X) → (IsIn x (ys ++ xs) → ⊥) → AreDistinct (ys ++ xs) → AreDistinct (ys ++ x ∷ xs)
 distinct_among x [] xs none d = (none, d)
 distinct_among x (y ∷ ys) xs none d = ((λ i. other (in_parts y ys (x ∷ xs) i)), distinct_among x ys xs (λ i. none (inr i)) d.1)

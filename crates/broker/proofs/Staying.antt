@@ -71,7 +71,7 @@ own_stays old new rounds is stay own place = record {
 pub own_same : (kept : Kept) (old new : List Waiters) → SameOrders old new → AllAreConsumers kept old → AllAreConsumers kept new
 own_same kept old new same own place = subst (AreItsConsumers kept place) (sym (same place)) (own place)
 
--- whoever stands in a line to which one came in stood there, or takes from its queue
+-- a consumer in an order to which one was added was in it before, or takes from its queue
 pub who_came : (kept : Kept) (queue : ℕ) (old new : Waiters) → AddsItsOwn kept queue old new → (p : Pick) → IsIn p (order new) → IsIn p (order old) ⊎ (is_of kept queue p ≡ true)
 who_came kept queue old new (inl same) p i = inl (subst (IsIn p) same i)
 who_came kept queue old new (inr c) p i = elim (in_either p (order old) (c.newcomer ∷ []) (subst (IsIn p) c.line i)) [
@@ -79,7 +79,7 @@ who_came kept queue old new (inr c) p i = elim (in_either p (order old) (c.newco
   | inr last ↦ inr (elim last [ inl same ↦ subst (λ (q : Pick). is_of kept queue q ≡ true) (sym same) c.its | inr none ↦ absurd none ])
 ]
 
--- and nobody stands there twice
+-- and none is there twice
 pub comes_once : (kept : Kept) (queue : ℕ) (old new : Waiters) → AddsItsOwn kept queue old new → AreDistinct (order old) → AreDistinct (order new)
 comes_once kept queue old new (inl same) apart = subst (λ (ps : List Pick). AreDistinct ps) (sym same) apart
 comes_once kept queue old new (inr c) apart = subst (λ (ps : List Pick). AreDistinct ps) (sym c.line) (distinct_end c.newcomer (order old) apart c.absent)
@@ -141,7 +141,7 @@ listed_stays old new lists is stay own c h = record {
 pub listed_same : (kept : Kept) (old new : Lists) → SameListed old new → AllListedAreThere kept old → AllListedAreThere kept new
 listed_same kept old new same own c h = subst (AreItsListings kept c h) (sym (same c h)) (own c h)
 
--- so it is where one is listed more that is there
+-- the same if one more is listed that exists
 pub listed_joined : (kept : Kept) (old new : Lists) → ListsItsOwn kept old new → AllListedAreThere kept old → AllListedAreThere kept new
 listed_joined kept old new adds own c h = record {
   there = λ l i. elim (adds.came c h l i) [ inl was ↦ (own c h).there l was | inr its ↦ its ];

@@ -18,7 +18,7 @@ use Rattle.broker.proofs.Turning.{GoRound, round_joined}
 pub lists_kept : (k : Kept) (old new : Lists) (rounds : List Waiters) → KeepLists k old new → (place : ℕ) → KeepsIn k place old new (round_at rounds place) (round_at rounds place)
 lists_kept k old new rounds keeps place p i has = joined_kept k old new place (round_at rounds place) p (keeps.listed (listing place p)) has i
 
--- a connection of which it is told so runs no more
+-- a connection of which this is reported is no longer running
 pub has_ended : (c : ℕ) (ends : Ends) (old new : Broker) → TellsEnd c ends old new → ends ≡ ended.Connection → new.connection c ≡ None
 has_ended c ends old new tells is = (subst (λ (x : Ends). TellsEnd c x old new) is tells).0
 

@@ -1,4 +1,4 @@
--- Who takes from a queue, and stands in its line.
+-- Who takes from a queue, and is in its order.
 use Rattle.broker.proofs.Names.{◌∙◌, ◌<◌, ℕ, zero, suc, List, [], ◌∷◌, Bool, true, false, Option, Some, None, length, map, filter, get_or, inl, inr, refl, sym, ap, subst, arith, ◌==◌, ◌&&◌, ◌||◌, nat_lt, list_any, eqb-true, eq-eqb, lt-ltb, false≢true, Text, Topology, IsIn, Channel, Broker, WasConsumer, queue_name, Kept, IsPickFrom, IsNewest, Pick, Waiters, Lists, listed_on, AreBelow, AllListedAreThere, round_at, order, is_numbered_of, has_taker, takes_from, is_of, HasConsumer, AllAreConsumers, SameOrders}
 use Rattle.std.proofs.Common.{◌≡◌}
 use Rattle.std.specs.Str.{bytes_eq}
@@ -99,7 +99,7 @@ order_at [] place = refl
 order_at (r ∷ rounds) zero = refl
 order_at (r ∷ rounds) (suc place) = order_at rounds place
 
--- nobody else stands there
+-- nothing else is there
 pub line_is : (kept : Kept) (rounds : List Waiters) (place : ℕ) → AllAreConsumers kept rounds → get_or (map order rounds) place [] ≡ line_of (broker_of kept) (queue_name (topology_kept kept) place) (round_at rounds place)
 line_is kept rounds place own =
     order_at rounds place

@@ -1,4 +1,4 @@
--- A broker with its rounds, as its callers see it: who stands in the lines of its queues.
+-- A broker with its rounds, as its callers see it: who is in the orders of its queues.
 use Rattle.broker.proofs.Names.{◌∙◌, ◌<◌, ◌≤◌, ◌++◌, ℕ, List, [], ◌∷◌, Bool, true, Option, length, filter, inl, inr, sym, ap, subst, arith, append-nil, filter-append, Topology, IsIn, queue_name, Kept, Pick, standing, AreDistinct, Waiters, Rounds, round_at, order, is_consumer, takes_from, is_of, remains, HasConsumer, AllAreConsumers, AllAddTheirOwn, LeaveLines, SameOrders, GoesOn, IsServing, with_turn, line_at, standing_at, AllStand, WaitersAreConsumers, NobodyIsPutBack, NoneIsLater}
 use Rattle.std.proofs.Common.{◌≡◌}
 use Rattle.commands.specs.State.{broker_of, topology_kept}
@@ -9,13 +9,13 @@ use Rattle.broker.proofs.Joined.{Holds, holds}
 use Rattle.broker.proofs.Standing.{fewer, filter_twice}
 use Rattle.broker.proofs.Takers.{has_of, of_has, has_takes, takes_has, line_is, order_at, orders_same}
 
--- ---- who stands in a line
+-- ---- who is in an order
 
 -- whoever takes from a queue waits in its round
 stand_in : (kept : Kept) (r : Rounds) (place : ℕ) → Holds kept r → place < length (topology_kept kept).queues → (p : Pick) → takes_from (broker_of kept) (queue_name (topology_kept kept) place) p ≡ true → IsIn p (order (round_at r.rounds place))
 stand_in kept r place held lt p takes = in_order (broker_of kept) r.lists place (round_at r.rounds place) p (held.joined place p (takes_has (topology_kept kept) (broker_of kept) place p lt takes))
 
--- so it stands in the queue's line, and nobody else does
+-- then it is in the queue's order, and nothing else is
 pub all_stand : (kept : Kept) (r : Rounds) (x : Option Pick) → Holds kept r → AllAreConsumers kept r.rounds → AllStand (with_turn kept r x)
 all_stand kept r x held own place p = (into, out)
   where
@@ -38,7 +38,7 @@ same_turns kept old new x on = let lines = orders_same old.rounds new.rounds on.
 
 -- ---- events
 
--- of those who are there, those who stood in a line are gone round as before, and whoever came in is behind them
+-- of the existing consumers, those in an order keep it, and whoever was added is behind them
 abbrev pub GoRound : Kept → List Waiters → List Waiters → Type 0
 GoRound kept old new = (place : ℕ) (test : Pick → Bool) → ((p : Pick) → test p ≡ true → is_of kept place p ≡ true)
     → (came : List Pick) × (filter test (order (round_at new place)) ≡ filter test (order (round_at old place)) ++ came)
@@ -73,7 +73,7 @@ module _ (old new : Kept) (r s : Rounds) (x y : Option Pick) (is : topology_kept
   there : (place : ℕ) → place < length t.queues → (q : Pick) → takes_from (broker_of new) (queue_name t place) q ≡ true → is_of new place q ≡ true
   there place lt q e = has_of new place q (subst (λ (z : Topology). HasConsumer z (broker_of new) place q) (sym is) (takes_has t (broker_of new) place q lt e))
 
-  -- whoever was there and is has no more before it
+  -- a consumer that was there and still is has no greater number before it
   pub not_later : (place : ℕ) (p : Pick) → HasConsumer t (broker_of old) place p → HasConsumer t (broker_of new) place p
       → standing_at (with_turn new s y) place p ≤ standing_at (with_turn old r x) place p
   not_later place p had has =

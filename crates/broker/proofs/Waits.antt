@@ -51,7 +51,7 @@ fewer place p start now served owes stands w =
 
 -- ---- one queue
 
--- How far it is from its turn after so many deliveries from others:
+-- How far it is from its turn after `served` deliveries to others:
 record QueueNears (place : ℕ) (start : WithTurn) (served owes : ℕ) (now : WithTurn) : Type 0 where
   topology : topology_kept now ≡ topology_kept start
   near : served + owes + ahead_at now place ≤ ahead_at start place + owed start.turn

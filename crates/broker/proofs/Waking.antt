@@ -12,7 +12,7 @@ use Rattle.model.specs.declared.events.Event.TheVariants.{Open, Running}
 use Rattle.model.specs.declared.methods.Get.{Get}
 use Rattle.model.specs.declared.methods.Qos.{Qos}
 
--- ---- one message more leaves no more to take
+-- ---- one more message lets a consumer take nothing further
 
 below_less : (limit n m : ℕ) → n ≤ m → is_below limit m ≡ true → is_below limit n ≡ true
 below_less limit n m le e = go (limit == 0) (nat_lt m limit) refl e
@@ -80,7 +80,7 @@ module _ (t : Topology) (old new : Broker) (e : Event) (sends : List Send) (note
   abbrev mine : ℕ → ℕ → Channel
   mine c h = channel_or_new (old.channel c h)
 
-  -- who may on a channel that stands there
+  -- a consumer on an open channel that may
   before : (c h : ℕ) (ch : Channel) (k : Consumer) (conn : Connection) → old.connection c ≡ Some conn → conn.is_paused ≡ false → old.channel c h ≡ Some ch → ch.is_closing ≡ false → IsIn k ch.consumers → may_take ch k ≡ true → Could c h k.number
   before c h ch k conn runs awake there still its may = inl (ch, k, record { connection = conn; runs = runs; awake = awake; there = there; open_still = still; its = its; may = may }, refl)
 

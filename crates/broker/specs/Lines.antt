@@ -1,25 +1,25 @@
--- Lines that are gone round: who comes before whom (own).
+-- Round-robin orders: who comes before whom (own).
 use Rattle.std.specs.Prelude.{◌<◌, ◌+◌, ◌-◌, ◌++◌, ℕ, List, [], ◌∷◌, Bool, if◌then◌else◌, nat_lt, take, drop}
 use Rattle.model.specs.Topology.{IsIn}
 
--- a list from this place on, and then from the front
+-- a list from index `next` on, and then from the front
 abbrev pub turned : {X : Type 0} → ℕ → List X → List X
 turned next xs = drop next xs ++ take next xs
 
--- how many of so many places are passed from `next` on, and then from the front, before this one
+-- of `count` indices, how many come before `at` in the order from `next` on and then from the front
 abbrev pub ahead : ℕ → ℕ → ℕ → ℕ
 ahead count next at = if nat_lt at next then (count - next) + at else at - next
 
--- this place is passed from `next` on, and then from the front, before that one
+-- index `at` comes before index `to` in the order from `next` on and then from the front
 abbrev pub IsPassed : ℕ → ℕ → ℕ → ℕ → Type 0
 IsPassed count next to at = (at < count) × (ahead count next at < ahead count next to)
 
--- how many stand in a line before the first that passes the test
+-- how many entries are before the first that passes `test`
 abbrev pub standing : {X : Type 0} → (X → Bool) → List X → ℕ
 standing test [] = 0
 standing test (x ∷ xs) = if test x then 0 else 1 + standing test xs
 
--- no two are one
+-- no entry occurs twice
 abbrev pub AreDistinct : {X : Type 0} → List X → Type 0
 AreDistinct [] = Unit {0}
 AreDistinct (x ∷ xs) = (IsIn x xs → ⊥) × AreDistinct xs

@@ -1,4 +1,4 @@
--- Nobody waits for ever while others are served: how far off a turn is, and what is done while one consumer, or one queue, waits (own).
+-- No consumer starves: how far off a consumer's turn is, and what can happen while one consumer, or one queue, waits (own).
 use Rattle.std.specs.Prelude.{◌≡◌, ◌<◌, ◌≤◌, ◌+◌, ◌++◌, ◌⊎◌, ◌∷◌, ℕ, List, [], Option, Some, None}
 use Rattle.std.specs.Prelude.{length, slice_index_or}
 use Rattle.model.specs.Topology.{IsIn}
@@ -11,76 +11,76 @@ use Rattle.broker.specs.Turns.{WithTurn, topology_kept, broker_of}
 
 -- ---- how far off a turn is
 
--- the consumers whose waiters are kept for the queue at this place, in the order in which their turns come
+-- the consumers of the queue at this index, in the order in which their turns come
 abbrev pub line_at : WithTurn → ℕ → List Pick
 line_at b place = slice_index_or b.lines place []
 
--- the consumer stands in the line of the queue at this place
+-- the consumer has a turn in the order of the queue at this index
 abbrev pub Stands : WithTurn → ℕ → Pick → Type 0
 Stands b place p = IsIn p (line_at b place)
 
--- how many queues there are
+-- the number of queues
 abbrev pub queues : WithTurn → ℕ
 queues b = length (topology_kept b).queues
 
--- how many stand before this consumer in the line of the queue at this place
+-- how many consumers come before `p` in the order of the queue at this index
 abbrev pub standing_at : WithTurn → ℕ → Pick → ℕ
 standing_at b place p = standing (is_consumer p) (line_at b place)
 
--- how many queues are passed before the turn of the queue at this place
+-- how many queues come before the one at this index
 abbrev pub ahead_at : WithTurn → ℕ → ℕ
 ahead_at b place = ahead (queues b) b.next place
 
--- the delivery that is owed, if somebody was told
+-- 1 if a consumer is picked, to which a delivery has not been made yet
 abbrev pub owed : Option Pick → ℕ
 owed None = 0
 owed (Some told) = 1
 
--- the consumer is there, and takes from the queue at this place
+-- the consumer exists and takes from the queue at this index
 abbrev pub TakesAt : WithTurn → ℕ → Pick → Type 0
 TakesAt b place p = HasConsumer (topology_kept b) (broker_of b) place p
 
--- each consumer of a queue stands in its line, and nobody else does
+-- each consumer of a queue is in its order, and nothing else is
 abbrev pub AllStand : WithTurn → Type 0
 AllStand b = (place : ℕ) (p : Pick) → (TakesAt b place p → IsIn p (line_at b place)) × (IsIn p (line_at b place) → TakesAt b place p)
 
--- The waiters that are kept for each queue are exactly those of its consumers, each once: so they are as many as the queue has consumers.
+-- Each queue has exactly one waiter for each of its consumers.
 pub record WaitersAreConsumers (b : WithTurn) : Type 0 where
   pub stand : AllStand b
   pub once : (place : ℕ) → AreDistinct (line_at b place)
 
--- ---- what becomes of lines
+-- ---- what becomes of the orders
 
--- The queues are gone round as before, and each line is as it was.
+-- The order of the queues and of each queue's consumers is unchanged.
 pub record LinesStay (old new : WithTurn) : Type 0 where
   pub next : new.next ≡ old.next
   pub lines : (place : ℕ) → line_at new place ≡ line_at old place
 
--- Nobody is put back: whoever is there still has no more before it than it had. A newcomer is behind all who are there.
+-- No consumer is put back: one that is still there has at most as many before it as it had. A new consumer is behind all that are there.
 pub record NobodyIsPutBack (old new : WithTurn) : Type 0 where
   pub next : new.next ≡ old.next
   pub lines : (place : ℕ) (p : Pick) → TakesAt old place p → TakesAt new place p → standing_at new place p ≤ standing_at old place p
 
--- Nor does anybody come in.
+-- The same, and no consumer is added.
 pub record NoneIsLater (old new : WithTurn) : Type 0 where
   pub next : new.next ≡ old.next
   pub took : (place : ℕ) (p : Pick) → TakesAt new place p → TakesAt old place p
   pub lines : (place : ℕ) (p : Pick) → TakesAt new place p → standing_at new place p ≤ standing_at old place p
 
--- Each queue that is there still has its line, wherever it stands, and the queues are gone round from the first.
+-- Each queue that is still declared keeps its order, whatever its index is now, and the round over the queues begins at the first.
 pub record LinesMove (old new : WithTurn) : Type 0 where
   pub next : new.next ≡ 0
   pub lines : (from to : ℕ) → from < queues old → to < queues new → queue_name (topology_kept old) from ≡ queue_name (topology_kept new) to
       → line_at new to ≡ line_at old from
 
--- ---- who is told
+-- ---- who is picked
 
--- from the queue at this place a delivery can be made to somebody
+-- a delivery can be made from the queue at this index
 abbrev pub CanGive : WithTurn → ℕ → Type 0
 CanGive b place = (p : Pick) × IsPickFrom b.kept place p
 
--- A consumer of the queue at this place is told: of those that come before this queue none can give anything, and of those who stand before
--- it in its line nobody can be given anything. It goes last, with those who stood before it; all other lines stay.
+-- A consumer of the queue at this index is picked: no delivery can be made from a queue that comes before it, nor to a consumer that comes before
+-- this one in the queue's order. It goes to the end, with those that came before it; all other orders are unchanged.
 pub record IsFirst (old : WithTurn) (told : Pick) (queue : ℕ) (new : WithTurn) : Type 0 where
   pub could : IsPickFrom old.kept queue told
   pub queues_before : (at : ℕ) → IsPassed (queues old) old.next queue at → CanGive old at → ⊥
@@ -92,13 +92,13 @@ pub record IsFirst (old : WithTurn) (told : Pick) (queue : ℕ) (new : WithTurn)
   pub before : (p : Pick) → IsIn p front → IsPickFrom old.kept queue p → ⊥
   pub others : (at : ℕ) → (at ≡ queue → ⊥) → line_at new at ≡ line_at old at
 
--- Whoever was told and not served is told again, and nothing changes; or it is the first.
+-- a consumer that was picked and not served is picked again, and nothing changes; or the picked consumer is the first
 abbrev pub IsToldInTurn : WithTurn → Pick → WithTurn → Type 0
 IsToldInTurn old told new = ((old.turn ≡ Some told) × LinesStay old new) ⊎ ((queue : ℕ) × IsFirst old told queue new)
 
--- ---- one who waits
+-- ---- a consumer that waits
 
--- Another consumer of the queue at this place is told, though a delivery could be made to this one from it.
+-- Another consumer of the queue at this index is picked, though a delivery could be made from it to this one.
 pub record IsPassedOver (old new : WithTurn) (place : ℕ) (p : Pick) : Type 0 where
   pub told : Pick
   pub stands : Stands old place p
@@ -106,14 +106,14 @@ pub record IsPassedOver (old new : WithTurn) (place : ℕ) (p : Pick) : Type 0 w
   pub other : p ≡ told → ⊥
   pub first : IsFirst old told place new
 
--- One of another queue is.
+-- A consumer of another queue is picked.
 pub record IsBeside (old new : WithTurn) (place : ℕ) (p : Pick) : Type 0 where
   pub told : Pick
   pub queue : ℕ
   pub far : place ≡ queue → ⊥
   pub first : IsFirst old told queue new
 
--- The delivery that was owed to another is made, and this consumer of the queue at this place is there still.
+-- The delivery to another consumer, which was picked, is made, and consumer `p` still exists.
 pub record IsServedAnother (old new : WithTurn) (place : ℕ) (p : Pick) : Type 0 where
   pub told : Pick
   pub owed : old.turn ≡ Some told
@@ -121,37 +121,37 @@ pub record IsServedAnother (old new : WithTurn) (place : ℕ) (p : Pick) : Type 
   pub later : NoneIsLater old new
   pub still : TakesAt new place p
 
--- Something else is done, and this consumer of the queue at this place is there still.
+-- Something else happens, and consumer `p` still exists.
 pub record IsLeft (old new : WithTurn) (place : ℕ) (p : Pick) : Type 0 where
   pub back : NobodyIsPutBack old new
   pub was : TakesAt old place p
   pub still : TakesAt new place p
 
--- One thing after another while the consumer of the queue at this place waits: so many deliveries of its queue were made to others, and one
--- more is owed, or none.
+-- A sequence of steps while consumer `p` waits: the queue made `served` deliveries to other consumers, and `owes` is 1 if another delivery of the
+-- queue is owed to the consumer that was picked.
 pub data Waits (place : ℕ) (p : Pick) (start : WithTurn) : ℕ → ℕ → WithTurn → Type 0 where
   begins : Waits place p start 0 (owed start.turn) start
-  -- another is told
+  -- another consumer is picked
   passed : {served owes : ℕ} {old new : WithTurn} → Waits place p start served owes old → IsPassedOver old new place p → Waits place p start served 1 new
-  -- and is served
+  -- it is served
   other : {served owes : ℕ} {old new : WithTurn} → Waits place p start served owes old → IsServedAnother old new place p
       → Waits place p start (served + owes) 0 new
-  -- one of another queue is told
+  -- a consumer of another queue is picked
   beside : {served owes : ℕ} {old new : WithTurn} → Waits place p start served owes old → IsBeside old new place p → Waits place p start served 0 new
-  -- nobody is told, or the same again
+  -- none is picked, or the same again
   again : {served owes : ℕ} {old new : WithTurn} → Waits place p start served owes old → LinesStay old new → Waits place p start served owes new
-  -- something else is done
+  -- something else happens
   stays : {served owes : ℕ} {old new : WithTurn} → Waits place p start served owes old → IsLeft old new place p → Waits place p start served owes new
 
 -- ---- a queue that waits
 
--- One thing after another while the queue at this place waits: so many deliveries were made from others, and one more is owed, or none.
+-- A sequence of steps while the queue at this index waits: `served` deliveries were made from other queues, and `owes` is 1 if another is owed.
 pub data QueueWaits (place : ℕ) (start : WithTurn) : ℕ → ℕ → WithTurn → Type 0 where
   begins : QueueWaits place start 0 (owed start.turn) start
-  -- a consumer of another queue is told, though this one can give something
+  -- a consumer of another queue is picked, though a delivery could be made from this one
   passed : {served owes : ℕ} {old new : WithTurn} (told : Pick) (queue : ℕ) → QueueWaits place start served owes old → CanGive old place
       → (place ≡ queue → ⊥) → IsFirst old told queue new → new.kept ≡ old.kept → QueueWaits place start served 1 new
-  -- and is served, or something else is done
+  -- it is served, or something else happens
   other : {served owes : ℕ} {old new : WithTurn} → QueueWaits place start served owes old → new.next ≡ old.next
       → topology_kept new ≡ topology_kept old → QueueWaits place start (served + owes) 0 new
   -- nothing is delivered
@@ -160,25 +160,25 @@ pub data QueueWaits (place : ℕ) (start : WithTurn) : ℕ → ℕ → WithTurn 
 
 -- ---- the bound
 
--- Of one who waits its queue made fewer deliveries to others than it had consumers as it began, but for one that was owed.
+-- the queue made fewer deliveries to others than it had consumers at the start, not counting one that was owed then
 abbrev pub IsServedSoon : WithTurn → ℕ → ℕ → ℕ → Type 0
 IsServedSoon start place served owes = served + owes < length (line_at start place) + owed start.turn
 
--- whoever waits while this consumer is told and served was passed over by so few deliveries of its queue, this one among them
+-- each consumer that waits while `told` is served was passed over by fewer deliveries of its queue than that, this one among them
 abbrev pub ServesSoon : WithTurn → Pick → Type 0
 ServesSoon old told = (place : ℕ) (p : Pick) (start : WithTurn) (served owes : ℕ) → Stands start place p → Waits place p start served owes old
     → IsServedSoon start place served owes
 
--- Nobody waits for ever while others are served:
+-- No consumer and no queue starves:
 pub record NobodyWaits : Type 0 where
-  -- whoever waits is nearer by one with each delivery of its queue to another, and by nothing further
+  -- each delivery of its queue to another brings a waiting consumer one nearer to its turn, and nothing puts it back
   pub nearer : (place : ℕ) (p : Pick) (start now : WithTurn) (served owes : ℕ) → Waits place p start served owes now
       → served + owes + standing_at now place p ≤ standing_at start place p + owed start.turn
-  -- so its queue makes fewer deliveries to others than it has consumers, but for one that was owed
+  -- so its queue makes fewer deliveries to others than it has consumers, not counting one that was owed
   pub fewer : (place : ℕ) (p : Pick) (start now : WithTurn) (served owes : ℕ) → Stands start place p → Waits place p start served owes now
       → IsServedSoon start place served owes
-  -- as each delivery finds it
+  -- the same, as each delivery finds it
   pub soon : (b : WithTurn) (told : Pick) → ServesSoon b told
-  -- and a queue that can give something is passed over by fewer deliveries than there are queues, but for one that was owed
+  -- a queue from which a delivery can be made is passed over by fewer deliveries than there are queues, not counting one that was owed
   pub queue : (place : ℕ) (start now : WithTurn) (served owes : ℕ) → place < queues start → QueueWaits place start served owes now
       → served + owes < queues start + owed start.turn

@@ -1,4 +1,4 @@
-//! The broker as its callers have it.
+//! The broker as its callers see it.
 
 ghost use Rattle.std.specs.Prelude.{◌≡◌};
 ghost use Rattle.replies.specs.Sent.{connection_of_event};
@@ -15,7 +15,7 @@ use std::alloc::{AllocError, Global};
 use std::marker::Model;
 use std::mem;
 
-/// The connection that an event is of.
+/// Returns the connection that an event belongs to.
 fn connection_of(event: &Event) -> u64
     ensures { result ≡ connection_of_event event.now }
 {
@@ -33,15 +33,15 @@ fn connection_of(event: &Event) -> u64
     }
 }
 
-/// Queues, and the connections that run with their channels and consumers.
+/// The queues, and the running connections with their channels and consumers.
 pub struct Broker {
     core: Core,
     rounds: ConsumerRounds,
-    /// Whose turn it is: the consumer that was told last, until something is delivered.
+    /// The consumer that was picked, until something is delivered.
     turn: Option<Pick>,
 }
 
-/// Written out, so that a drop is one call.
+/// Written out so that a drop is one call.
 impl Drop for Broker {
     fn drop(self) {
         let Broker {
@@ -76,13 +76,13 @@ impl Broker {
     ghost use Rattle.commands.specs.Obstacles.{TellsObstacle};
     ghost use Rattle.reloading.specs.Wanting.{MayWant};
     ghost use Rattle.commands.specs.Judged.{IsAsked, WantsNoMemory};
-    ghost use Rattle.commands.specs.Picked.{IsPick};
+    ghost use Rattle.commands.specs.Picked.{IsPick, DeliversTo};
     ghost use Rattle.commands.specs.declared.picks.Pick.{Pick as Consumer};
     ghost use Rattle.broker.specs.Turns.{broker_of, topology_kept};
     ghost use Rattle.broker.specs.Waiting.{AllStand, WaitersAreConsumers, NobodyIsPutBack, NoneIsLater, LinesStay, IsToldInTurn, LinesMove, ServesSoon};
     ghost use Rattle.replies.specs.Sent.{AreAddressed, connection_of_event};
 
-    /// The broker of this topology: its queues are empty, and no connection runs.
+    /// Makes the broker of `topology`: its queues are empty, and no connection is running. Fails only if an allocation fails.
     pub fn new(alloc: Global, topology: Topology) -> Result<Broker, AllocError>
         ensures topology { IfOk result (λ b. topology_kept b ≡ topology) }
         ensures empty { IfOk result (λ b. Is nothing (broker_of b)) }
@@ -97,26 +97,36 @@ impl Broker {
         })
     }
 
-    /// What every broker keeps: the waiters that are kept for each queue are exactly those of its consumers. So they are as many as the
-    /// queue has consumers, whatever consumers came and left.
+    /// Stops keeping notes, for a caller that reads none. Contracts see no difference.
+    pub fn drop_notes(&mut self)
+        ensures { self.new ≡ self.old }
+    {
+        self.core.drop_notes();
+    }
+
+    /// Shows that each queue has exactly one waiter for each of its consumers, whatever consumers came and left. Does nothing at run
+    /// time.
     pub fn is_kept(&self)
         ensures { WaitersAreConsumers self.now }
     {
         self.core.is_kept();
     }
 
-    /// Performs `event`, and returns what it sends and notes. If the event's method has a spelling, each send is for the event's own
-    /// connection, by a method with a spelling. Nobody is put back in a line: a new consumer is behind all others of its queue. No waiter
-    /// is kept but of a consumer that is there. Fails only if an allocation fails; nothing has changed then. An opening, a loss, a pause and
-    /// its end, a command that is ignored, and a rejection that requeues never allocate.
+    /// Performs `event`, and returns what it sends and notes. If the event's method can be encoded, each send is for the event's own
+    /// connection, by a method that can be encoded. No consumer is put back in its queue's order: a new one is behind all others.
+    /// Fails only if an allocation fails; nothing has changed then. An opening, a loss, a pause and its end, a command that is ignored, and a
+    /// rejection that requeues never allocate.
     pub fn step(&mut self, alloc: Global, event: &Event) -> Result<Step, AllocError>
         requires asked { IsAsked event.now }
+        // The promise: the model's step, whose sends go to the event's connection.
         ensures ok { IfOk result (λ s. Acts (topology_kept self.old) (broker_of self.old) event.now s.sends.items s.notes.items (broker_of self.new)) }
         ensures addressed { IfOk result (λ s. IsSaid event.now → AreCarried (broker_of self.old) → AreAddressed (connection_of_event event.now) s.sends.items) }
+        // The frame: the topology and the picked consumer are unchanged, no consumer is put back, and each waiter has its consumer.
         ensures topology { topology_kept self.new ≡ topology_kept self.old }
         ensures turn { self.new.turn ≡ self.old.turn }
         ensures later { OnOk result (NobodyIsPutBack self.old self.new) }
         ensures own { WaitersAreConsumers self.new }
+        // A failure changes nothing, and the events that never allocate don't fail.
         ensures err { OnErr result (self.new ≡ self.old) }
         ensures quiet { WantsNoMemory (topology_kept self.old) (broker_of self.old) event.now → IsOk result }
     {
@@ -136,22 +146,25 @@ impl Broker {
         }
     }
 
-    /// How many messages came to queues that lag behind those who take from them.
+    /// Returns how many messages have entered queues whose consumers lag behind. A hint: no contract says more.
     pub fn lagged(&self) -> u64 {
         self.core.lagged()
     }
 
-    /// Returns the consumer to which the next delivery can be made, and gives it the turn; `None` if there is none. Until something is
-    /// delivered, it is the same consumer again, as long as a delivery can be made to it. Otherwise it is the first in line of the first queue,
-    /// from the one behind that from which was told last, from which a delivery can be made. It goes to the back of its line, with those who
-    /// were before it; all other lines stay. If nobody is told, every line stays. Never allocates.
+    /// Picks the consumer of the next delivery, round-robin over the queues and over each queue's consumers. Returns `None` if no delivery can be
+    /// made. Until something is delivered the same consumer is picked again, as long as a delivery can be made to it. Otherwise the picked one goes
+    /// to the end of its queue's order, with those that came before it and can't take a message; all other orders are unchanged. If none is picked
+    /// every order is unchanged. Never allocates.
     pub fn pick(&mut self) -> Option<Pick>
+        // The state is unchanged, and the result is the picked consumer.
         ensures kept { self.new.kept ≡ self.old.kept }
         ensures turn { self.new.turn ≡ result }
+        // Who is picked: the first in order, or the same as before.
         ensures stand { AllStand self.old }
         ensures in_turn { IfSome result (λ p. IsToldInTurn self.old p self.new) }
         ensures stay { result ≡ None → LinesStay self.old self.new }
         ensures again { (p : Consumer) → self.old.turn ≡ Some p → IsPick (broker_of self.old) p → result ≡ Some p }
+        // A delivery can be made to the picked consumer; if none is picked, no delivery can be made at all.
         ensures some { IfSome result (λ p. IsPick (broker_of self.old) p) }
         ensures none { result ≡ None → (c : ℕ) → CanDeliver (broker_of self.old) c → ⊥ }
     {
@@ -161,12 +174,14 @@ impl Broker {
         }
     }
 
-    /// The next delivery that can be made, if there is any, going round: whose turn it is from now on.
+    /// Picks the consumer of the next delivery in round-robin order, if any.
     fn find(&mut self) -> Option<Pick>
+        // The state is unchanged, and the result is the picked consumer: the first in order.
         ensures kept { self.new.kept ≡ self.old.kept }
         ensures turn { self.new.turn ≡ result }
         ensures in_turn { IfSome result (λ p. IsToldInTurn self.old p self.new) }
         ensures stay { result ≡ None → LinesStay self.old self.new }
+        // A delivery can be made to it; if none is picked, no delivery can be made at all.
         ensures some { IfSome result (λ p. IsPick (broker_of self.old) p) }
         ensures none { result ≡ None → (c : ℕ) → CanDeliver (broker_of self.old) c → ⊥ }
     {
@@ -174,19 +189,22 @@ impl Broker {
         self.turn
     }
 
-    /// The delivery that was picked is made: the first ready message of the consumer's queue goes to it, and its turn is over.
-    /// Whoever waits meanwhile in the same line is passed over by fewer deliveries than it has consumers, this one among them.
-    /// Where each message can be given out and consumers are named, the send is for the consumer's own connection, by a method
-    /// with a spelling. Where memory is wanting, nothing has changed: it is the turn of the same consumer still.
+    /// Delivers the first ready message of the picked consumer's queue to it, and ends its turn.
+    /// A consumer that waits in the same queue is passed over by fewer deliveries than the queue has consumers, this one among them.
+    /// If each message can be encoded and consumers are named, the send is for the consumer's own connection, by a method that can be encoded.
+    /// Fails only if an allocation fails; nothing has changed then, so the same consumer is picked again, as
+    /// long as a delivery to it can be made.
     pub fn pump(&mut self, alloc: Global, pick: Pick) -> Result<Step, AllocError>
         requires { IsPick (broker_of self.old) pick }
-        ensures ok { IfOk result (λ s. Acts (topology_kept self.old) (broker_of self.old)
-            (event_is.Deliver pick.connection) s.sends.items s.notes.items (broker_of self.new)) }
+        // The promise: this delivery, whose send goes to the consumer's connection.
+        ensures ok { IfOk result (λ s. DeliversTo (broker_of self.old) pick s.sends.items s.notes.items (broker_of self.new)) }
         ensures addressed { IfOk result (λ s. AreCarried (broker_of self.old)
             → AreNamed (topology_kept self.old) (broker_of self.old) → AreAddressed pick.connection s.sends.items) }
+        // The turn is over, no consumer is put back, and those that wait were passed over by few deliveries.
         ensures over { OnOk result (self.new.turn ≡ None) }
         ensures later { OnOk result (NoneIsLater self.old self.new) }
         ensures soon { OnOk result (ServesSoon self.old pick) }
+        // The frame; a failure changes nothing.
         ensures topology { topology_kept self.new ≡ topology_kept self.old }
         ensures err { OnErr result (self.new ≡ self.old) }
     {
@@ -197,8 +215,8 @@ impl Broker {
         Ok(step)
     }
 
-    /// The connection runs from now on, with channels 1 to `channels` open and new. What one of its number held is ready
-    /// again. Where memory is wanting, nothing has changed.
+    /// Makes `connection` a running one, with channels 1 to `channels` open and new. What an earlier connection of this number held is ready
+    /// again. Fails only if an allocation fails; nothing has changed then.
     pub fn open(
         &mut self,
         alloc: Global,
@@ -220,7 +238,7 @@ impl Broker {
         Ok(())
     }
 
-    /// The connection is lost: what it held is ready again, and it is gone with its channels. It takes no memory.
+    /// Removes a connection that is lost, with its channels: its unacknowledged messages are ready again. Never allocates.
     pub fn lose(&mut self, connection: u64)
         ensures acts { Acts (topology_kept self.old) (broker_of self.old) (event_is.Lose connection) [] [] (broker_of self.new) }
         ensures topology { topology_kept self.new ≡ topology_kept self.old }
@@ -233,7 +251,7 @@ impl Broker {
         self.rounds.leave(&self.core, connection, Ends::Connection);
     }
 
-    /// The output of the connection holds 1,048,576 bytes or more from now on. It takes no memory.
+    /// Records that the output of `connection` holds 1,048,576 bytes or more. Never allocates.
     pub fn pause(&mut self, connection: u64)
         ensures acts { Acts (topology_kept self.old) (broker_of self.old) (event_is.Pause connection) [] [] (broker_of self.new) }
         ensures topology { topology_kept self.new ≡ topology_kept self.old }
@@ -245,7 +263,7 @@ impl Broker {
         self.core.pause(connection);
     }
 
-    /// It holds fewer again. It takes no memory.
+    /// Records that the output of `connection` holds fewer than 1,048,576 bytes again. Never allocates.
     pub fn resume(&mut self, connection: u64)
         ensures acts { Acts (topology_kept self.old) (broker_of self.old) (event_is.Resume connection) [] [] (broker_of self.new) }
         ensures topology { topology_kept self.new ≡ topology_kept self.old }
@@ -258,9 +276,9 @@ impl Broker {
         self.core.resume(connection);
     }
 
-    /// The first thing that stands against a reload to this topology and these guarantees, or nothing where nothing does, whoever
-    /// may log in from then on. Where memory is wanting nothing is told; it may be only where no queue in use is gone, or where the
-    /// first that is has a name of more than 22 bytes.
+    /// Returns the first obstacle to a reload to `topology` and `guarantees`, or `None` if there is none; users don't matter.
+    /// Fails only if an allocation fails. It may allocate only if each queue in use is declared in `topology`, or if the first that is not has a name
+    /// of more than 22 bytes.
     pub fn obstacle(
         &self,
         alloc: Global,
@@ -273,13 +291,15 @@ impl Broker {
         self.core.obstacle(alloc, topology, guarantees)
     }
 
-    /// This topology is in force from now on, where no queue in use is gone: each message stands in the queue of its name, is
-    /// marked, and is else as it was, and so are connections and channels. Nobody has the turn; each queue's consumers are gone round
-    /// as before, and the queues from the first. Where memory is wanting, nothing has changed.
+    /// Puts `topology` in force. Each message stays in the queue of its name and is marked as one that the reload found there; connections and
+    /// channels are unchanged. No consumer is picked; each queue's consumers keep their order, and the round over the queues begins at the first.
+    /// Fails only if an allocation fails; nothing has changed then.
     pub fn reload(&mut self, alloc: Global, topology: Topology) -> Result<(), AllocError>
         requires { NoneIsStranded (topology_kept self.old) topology (broker_of self.old) }
+        // The new topology is in force, and messages are marked.
         ensures topology { OnOk result (topology_kept self.new ≡ topology) }
         ensures stood { OnOk result (Is (with_all_stood (broker_of self.old)) (broker_of self.new)) }
+        // The order of consumers; a failure changes nothing.
         ensures turn { OnOk result (self.new.turn ≡ None) }
         ensures lines { OnOk result (LinesMove self.old self.new) }
         ensures err { OnErr result (self.new ≡ self.old) }

@@ -1,7 +1,7 @@
 //! The broker: queues, running connections and their channels, and what each event does to them.
 //!
-//! What an event does is done by `Core` of crate `commands`; the broker adds the rounds of consumers, over which
-//! deliveries go.
+//! Start at [`Broker`]. What an event does is done by `Core` of crate `commands`; the broker adds the order in which consumers are
+//! served.
 #![tactic(auto)]
 
 mod brokers;

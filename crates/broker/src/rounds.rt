@@ -1,13 +1,13 @@
-//! The consumers of all channels, over which deliveries go round.
+//! The rounds of consumers, over which deliveries go.
 //!
-//! Each queue has the round of its consumers. What is picked is found by going round the queues that have something ready
-//! and a waiter awake, from the one behind that from which was picked last, and at each queue its round. So a consumer of a queue
-//! that has nothing ready costs nothing, nor does a queue of which nobody may take something. A waiter that is found when its
-//! consumer may take nothing falls asleep, and costs nothing until an event of its own channel or the end of its connection's pause
-//! wakes it. So a command wakes what sleeps on its channel, and goes over no waiter that is idle. Each consumer's waiter is listed at
-//! its channel as it is made, with a bit that tells whether it sleeps, so that a pick takes no memory. A waiter goes with its consumer, and so
-//! does its listing: as consumers of a connection may have left, all waiters are gone over, and all that is listed of the connection, and
-//! those of its consumers that are gone are taken out.
+//! Each queue has a round: a waiter for each of its consumers. A pick goes round-robin over the queues that have a ready message and a
+//! waiter awake, starting behind the queue picked last, and at each queue over its round. So a consumer of a queue without a ready
+//! message costs nothing, nor does a queue whose consumers can't take a message. If a pick finds that a waiter's consumer can't take a
+//! message, the waiter falls asleep, and costs nothing until an event of its own channel, or the end of its connection's pause, wakes it.
+//! A command wakes the waiters that sleep on its channel, and looks at no other. Each waiter is listed at its channel when it is made, with
+//! a bit that says whether it sleeps, so that a pick never allocates. A waiter is removed with its consumer, and so is its listing: when
+//! consumers of a connection may have left, all waiters and the connection's listings are checked, and those of consumers that are gone
+//! are removed.
 
 mod finding;
 mod queue_rounds;
@@ -31,22 +31,22 @@ use std::alloc::{AllocError, Global};
 use std::collections::HashMap;
 use std::marker::Model;
 
-/// Whether a command may leave more that a consumer of its channel may take.
+/// Returns whether a command may let a consumer of its channel take more.
 fn wakes_on(method: &Method) -> bool
     ensures { result ≡ wakes_on method.now }
 {
     !matches!(method, Method::BasicPublish(_) | Method::BasicGet(_))
 }
 
-/// The rounds of all queues, in the order of the file, and who sleeps, by connection.
+/// The rounds of all queues, in the order of the definitions, and which waiters sleep, by connection.
 pub(crate) struct ConsumerRounds {
     rounds: QueueRounds,
     sleepers: Sleepers,
-    /// The place behind the queue from which was picked last.
+    /// The index behind the queue picked last.
     next: usize,
 }
 
-/// Written out, so that a drop is one call.
+/// Written out so that a drop is one call.
 impl Drop for ConsumerRounds {
     fn drop(self) {
         let ConsumerRounds {
@@ -77,7 +77,7 @@ impl ConsumerRounds {
     ghost use Rattle.broker.specs.Rounds.{NotesStay, SameListed, ListsItsOwn, ListingsLeave, HasNoList, MakesNoList, PicksFirst, GoesOn, AllAreEmpty};
     ghost use Rattle.broker.specs.Moving.{ArePlacesApart, RoundsAreMoved, LinesCome, ListsAreMoved};
 
-    /// No waiter, for so many queues.
+    /// Makes empty rounds for `queues` queues. Fails only if an allocation fails.
     pub fn new(alloc: Global, queues: usize) -> Result<ConsumerRounds, AllocError>
         ensures rounds { IfOk result (λ r. length r.rounds ≡ queues) }
         ensures empty { IfOk result (λ r. AllAreEmpty r.rounds) }
@@ -91,8 +91,8 @@ impl ConsumerRounds {
         })
     }
 
-    /// The consumer that this event is to make, if any: there is room for its waiter in the round of its queue, and on the list of its channel.
-    /// Where memory is wanting there may not be. No waiter of a consumer that is there is gone, and all go on as before.
+    /// Returns the consumer that `event` is going to make, if any, with capacity for its waiter in the round of its queue and on its channel's list.
+    /// Fails only if an allocation fails. Either way the waiters of existing consumers stay, and every order is unchanged.
     pub fn expect_next(
         &mut self,
         alloc: Global,
@@ -101,12 +101,15 @@ impl ConsumerRounds {
     ) -> Result<Option<Newcomer>, AllocError>
         requires rounds { length self.old.rounds ≡ length (topology_kept core.now).queues }
         requires listed { AllListedAreThere core.now self.old.lists }
+        // The newcomer, and capacity for it.
         ensures expected { IfOk result (IsExpected core.now event.now self.new) }
+        // The frame: waiters and listings stay, and so does every order.
         ensures kept { KeepsWaiters core.now self.old self.new }
         ensures noted { NotesStay self.old.lists self.new.lists }
         ensures same { SameListed self.old.lists self.new.lists }
         ensures running { ListsRunning (broker_of core.now) self.old.lists self.new.lists }
         ensures wakens { AllWaken self.old.rounds self.new.rounds }
+        // An event that makes no consumer never fails.
         ensures quiet { seat_of core.now event.now ≡ None → IsOk result }
         ensures on { GoesOn self.old self.new }
     {
@@ -121,14 +124,17 @@ impl ConsumerRounds {
         Ok(Some(Newcomer { queue, consumer }))
     }
 
-    /// The newcomer, if there is one, and it is a consumer now, waits in the round of its queue from now on, awake, and is listed. All others
-    /// stay. It takes no memory.
+    /// Adds the waiter of `newcomer`, if there is one and it is a consumer now: awake, at the end of its queue's order, and listed. All other
+    /// waiters stay. Never allocates.
     pub fn join(&mut self, core: &Core, newcomer: Option<Newcomer>)
         requires { IfSome newcomer (CanJoin self.old) }
+        // The newcomer is added if it is a consumer.
         ensures joined { IfSome newcomer (λ n. is_of core.now n.queue n.consumer ≡ true → HasJoined self.new n.queue n.consumer) }
+        // The frame: waiters and listings stay, and nothing else is added.
         ensures kept { KeepsWaiters core.now self.old self.new }
         ensures noted { NotesStay self.old.lists self.new.lists }
         ensures listed { ListsItsOwn core.now self.old.lists self.new.lists }
+        // No list is made, and each order gets at most a newcomer of its own.
         ensures none { MakesNoList self.old.lists self.new.lists }
         ensures len { length self.new.rounds ≡ length self.old.rounds }
         ensures next { self.new.next ≡ self.old.next }
@@ -143,14 +149,17 @@ impl ConsumerRounds {
         }
     }
 
-    /// The waiters of this connection's consumers that are gone are gone too, and so are their listings. Of a connection that runs no more
-    /// nothing is listed any longer. The others are gone round as before. It takes no memory.
+    /// Removes the waiters and the listings of those consumers of `connection` that are gone, and all its lists if it is no longer running. The
+    /// order of the others is unchanged. Never allocates.
     pub fn leave(&mut self, core: &Core, connection: u64, ends: Ends)
         requires { ends ≡ ended.Connection → (broker_of core.now).connection connection ≡ None }
+        // Those of existing consumers stay.
         ensures kept { KeepsWaiters core.now self.old self.new }
         ensures noted { KeepLists core.now self.old.lists self.new.lists }
+        // Those of this connection whose consumer is gone are removed.
         ensures left { ListingsLeave core.now connection self.old.lists self.new.lists }
         ensures gone { ends ≡ ended.Connection → HasNoList self.new.lists connection }
+        // The frame.
         ensures none { MakesNoList self.old.lists self.new.lists }
         ensures lines { LeaveLines core.now connection self.old.rounds self.new.rounds }
         ensures len { length self.new.rounds ≡ length self.old.rounds }
@@ -163,10 +172,12 @@ impl ConsumerRounds {
         }
     }
 
-    /// The waiters of this connection's consumers are awake from now on that are of this channel, or all where none is named. It
-    /// takes no memory.
+    /// Wakes the waiters of consumers of `connection` and `channel`; `None` is all channels. Never
+    /// allocates.
     pub fn wake(&mut self, connection: u64, channel: Option<u16>)
+        // The waiters are woken.
         ensures woken { (p : Consumer) → IsAt connection channel p → WakesWaiter self.old self.new p }
+        // The frame: waiters, listings and orders stay.
         ensures kept { KeepsAll self.old self.new }
         ensures noted { NotesStay self.old.lists self.new.lists }
         ensures same { SameListed self.old.lists self.new.lists }
@@ -178,9 +189,11 @@ impl ConsumerRounds {
         wake_connection(&mut self.sleepers, &mut self.rounds, connection, channel);
     }
 
-    /// The waiters of consumers that may be able to take more after this event are awake from now on. It takes no memory.
+    /// Wakes the waiters of consumers that may be able to take more after `event`. Never allocates.
     pub fn wake_for(&mut self, event: &Event)
+        // The waiters are woken.
         ensures woken { (p : Consumer) → wakes event.now p ≡ true → WakesWaiter self.old self.new p }
+        // The frame: waiters, listings and orders stay.
         ensures kept { KeepsAll self.old self.new }
         ensures noted { NotesStay self.old.lists self.new.lists }
         ensures same { SameListed self.old.lists self.new.lists }
@@ -205,14 +218,16 @@ impl ConsumerRounds {
         }
     }
 
-    /// The waiters of `old` stand from now on in the rounds of their queues at the places that the table has for these, and all are
-    /// awake; those of a queue whose place is behind the end are gone. They are listed there. It takes no memory.
+    /// Moves the waiters of `old` to the rounds at the indices that `places` has for their queues, all awake, and their listings too. Those
+    /// of a queue whose new index is past the end are removed. Never allocates.
     pub fn take_over(&mut self, old: ConsumerRounds, places: &[usize])
         requires len { length places.now ≡ length old.rounds }
         requires apart { ArePlacesApart places.now (length self.old.rounds) }
+        // The rounds are moved, nothing else is in them, and the listings follow.
         ensures moved { RoundsAreMoved places.now old.rounds self.new.rounds }
         ensures came { LinesCome places.now old.rounds self.old.rounds self.new.rounds }
         ensures lists { ListsAreMoved places.now old.lists self.new.lists }
+        // The frame.
         ensures next { self.new.next ≡ self.old.next }
         ensures len { length self.new.rounds ≡ length self.old.rounds }
     {
@@ -226,18 +241,21 @@ impl ConsumerRounds {
         self.sleepers = left;
     }
 
-    /// The first delivery that can be made, from the queue behind that from which was picked last, and then from the front. It takes
-    /// no memory.
+    /// Picks the next delivery, round-robin over the queues, starting behind the queue picked last. Never
+    /// allocates.
     pub fn pick(&mut self, core: &Core) -> Option<Pick>
         requires len { length self.old.rounds ≡ length (topology_kept core.now).queues }
         requires noted { AllAreNoted (topology_kept core.now) (broker_of core.now) self.old.lists }
+        // The frame: waiters and listings stay.
         ensures kept { KeepsWaiters core.now self.old self.new }
         ensures noted { NotesStay self.old.lists self.new.lists }
         ensures same { SameListed self.old.lists self.new.lists }
         ensures no_list { MakesNoList self.old.lists self.new.lists }
         ensures len { length self.new.rounds ≡ length self.old.rounds }
+        // A delivery can be made to the picked consumer; if none is picked, none can be made to a consumer with a waiter.
         ensures some { IfSome result (λ p. (place : ℕ) × IsPickFrom core.now place p) }
         ensures none { result ≡ None → (place : ℕ) (p : Consumer) → IsInItsRound (broker_of core.now) self.old place p → IsPickFrom core.now place p → ⊥ }
+        // It is the first in order; if none is picked, every order is unchanged.
         ensures told { IfSome result (λ p. PicksFirst core.now self.old self.new p) }
         ensures on { result ≡ None → GoesOn self.old self.new }
     {

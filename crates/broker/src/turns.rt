@@ -1,4 +1,4 @@
-//! Whose turn it is.
+//! The consumer that is picked.
 
 ghost use Rattle.std.specs.Prelude.{◌≡◌, ℕ, true, false, None, Some, IfSome};
 ghost use Rattle.depot.specs.Store.{HasReady};
@@ -8,7 +8,7 @@ ghost use Rattle.commands.specs.declared.picks.Pick.{Pick as Consumer};
 
 use commands::{Core, Pick, Taking};
 
-/// Whether the queue at this place has something ready. If not, no delivery can be made from it.
+/// Returns whether the queue at index `place` has a ready message. If not, no delivery can be made from it.
 fn is_ready(core: &Core, place: usize) -> bool
     ensures yes { result ≡ true → HasReady core.now.store place }
     ensures no { result ≡ false → (p : Consumer) → IsPickFrom core.now place p → ⊥ }
@@ -19,7 +19,7 @@ fn is_ready(core: &Core, place: usize) -> bool
     }
 }
 
-/// Whether a delivery can be made to the consumer of these numbers.
+/// Returns whether a delivery can be made to the consumer `pick`.
 fn can_deliver(core: &Core, pick: Pick) -> bool
     ensures yes { result ≡ true → IsPick (broker_of core.now) pick }
     ensures no { result ≡ false → IsPick (broker_of core.now) pick → ⊥ }
@@ -32,7 +32,7 @@ fn can_deliver(core: &Core, pick: Pick) -> bool
     }
 }
 
-/// The consumer whose turn it is, as long as a delivery can be made to it.
+/// Returns the picked consumer, as long as a delivery can be made to it.
 pub(crate) fn turn_kept(core: &Core, turn: Option<Pick>) -> Option<Pick>
     ensures same { IfSome result (λ p. turn ≡ Some p) }
     ensures some { IfSome result (λ p. IsPick (broker_of core.now) p) }

@@ -1,9 +1,9 @@
-//! Nobody waits for ever while others are served.
+//! No consumer starves.
 
 ghost use Rattle.broker.specs.Waiting.{NobodyWaits};
 
-/// Nobody is passed over by more deliveries than there are consumers in its line, times the queues, and one of each queue with each
-/// consumer that comes in meanwhile.
+/// Shows that no consumer is passed over by as many deliveries of its queue as that has consumers, not counting one that was owed to another at
+/// the start, and that no queue is passed over by as many deliveries as there are queues. Does nothing at run time.
 pub fn nobody_waits()
     ensures { NobodyWaits }
 {}

@@ -4,6 +4,7 @@
 #![tactic(auto)]
 
 mod dead_routes;
+mod emptied;
 mod engines;
 mod frugal;
 mod large_outputs;
@@ -86,6 +87,26 @@ fn tell_thrift(sums: &mut Sums, rt: &HostRuntime) -> io::Result<()> {
     )
 }
 
+/// Runs the scenarios of a broker that is full.
+fn tell_emptied(sums: &mut Sums, rt: &HostRuntime) -> io::Result<()> {
+    let alloc = rt.alloc();
+    sums.tell(
+        rt,
+        "a_full_broker_is_emptied",
+        emptied::a_full_broker_is_emptied(rt, alloc),
+    )?;
+    sums.tell(
+        rt,
+        "a_full_broker_is_drained",
+        emptied::a_full_broker_is_drained(rt, alloc),
+    )?;
+    sums.tell(
+        rt,
+        "a_full_queue_is_purged",
+        emptied::a_full_queue_is_purged(rt, alloc),
+    )
+}
+
 /// Runs the scenarios of a process without memory.
 fn tell_memory(sums: &mut Sums, rt: &HostRuntime) -> io::Result<()> {
     sums.tell(
@@ -93,7 +114,8 @@ fn tell_memory(sums: &mut Sums, rt: &HostRuntime) -> io::Result<()> {
         "no_memory_is_left",
         nothing_left::no_memory_is_left(rt, rt.alloc()),
     )?;
-    tell_thrift(sums, rt)
+    tell_thrift(sums, rt)?;
+    tell_emptied(sums, rt)
 }
 
 /// Runs all scenarios of this crate, and prints a line for each.

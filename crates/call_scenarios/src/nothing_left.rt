@@ -146,7 +146,10 @@ impl Calls {
     /// Performs the publish of the second connection.
     fn turn(&mut self, alloc: Global) -> Outcome {
         match self.engine.turn(alloc, 2) {
-            Ok(Turn::Did(notes)) => done_where(is_second(notes.as_slice())),
+            Ok(Turn::Did(notes)) => match notes.into_vec() {
+                Some(notes) => done_where(is_second(notes.as_slice())),
+                None => Outcome::Other,
+            },
             Ok(_) => Outcome::Other,
             Err(_) => Outcome::Wanting,
         }
@@ -161,13 +164,15 @@ impl Calls {
         }
     }
 
-    /// Checks that a publish leaves the engine's reserve alone, and that fed bytes use it.
-    fn expect_reserve(&mut self, alloc: Global) -> Result<(), Unmet> {
+    /// Checks that a publish is refused, and that fed bytes use the engine's reserve. The refused publish was read with the memory of the reserve,
+    /// and has allocated what it could of that again, so the rest is taken before the bytes are fed.
+    fn expect_reserve(&mut self, alloc: Global, room: &mut Room) -> Result<(), Unmet> {
         expect_outcome(
             "a publish leaves the reserve",
             self.turn(alloc),
             Outcome::Wanting,
         )?;
+        room.take_all(alloc);
         expect_outcome("feed takes the reserve", self.feed_first(), Outcome::Done)
     }
 
@@ -297,8 +302,24 @@ fn expect_ample(alloc: Global) -> Result<(), Unmet> {
     Frugal::new(alloc)?.expect_all(alloc, &mut Room::none(alloc))
 }
 
-/// Checks each call while memory is ample. Then takes all memory, and checks that a publish leaves the engine's reserve alone and that fed
-/// bytes use it.
+/// Makes each call that allocates while no memory is left, not even the reserve.
+fn expect_wanting(alloc: Global, calls: &mut Calls, room: &mut Room) -> Result<(), Unmet> {
+    let reload = checked(alloc)?;
+    let stated = Stated::with(alloc, GUARANTEES)?;
+    room.take_all(alloc);
+    calls.expect_reserve(alloc, room)?;
+    room.take_all(alloc);
+    calls.expect_all(alloc, Outcome::Wanting)?;
+    let reload = calls.reload(alloc, reload);
+    expect_outcome("reload does as expected", reload, Outcome::Wanting)?;
+    room.take_all(alloc);
+    let admission = admission(alloc, stated);
+    expect_outcome("admit does as expected", admission, Outcome::Wanting)?;
+    calls.expect_outputs(CONSUMED)
+}
+
+/// While no memory is left, calls that allocate fail and change nothing, and calls that never allocate do what they are for. After memory was
+/// given back, the first succeed, too.
 pub(crate) fn no_memory_is_left(rt: &HostRuntime, alloc: Global) -> Result<(), Unmet> {
     expect(
         "all room can be taken from this allocator",
@@ -306,7 +327,13 @@ pub(crate) fn no_memory_is_left(rt: &HostRuntime, alloc: Global) -> Result<(), U
     )?;
     expect_ample(alloc)?;
     let mut calls = Calls::new(alloc)?;
+    let mut frugal = Frugal::new(alloc)?;
     let mut room = Room::new(alloc)?;
-    room.take_all(alloc);
-    calls.expect_reserve(alloc)
+    expect_wanting(alloc, &mut calls, &mut room)?;
+    frugal.expect_all(alloc, &mut room)?;
+    drop(room);
+    calls.expect_all(alloc, Outcome::Done)?;
+    calls.expect_outputs(CONSUMED_AND_DELIVERED)?;
+    let reload = calls.reload(alloc, checked(alloc)?);
+    expect_outcome("reload does as expected", reload, Outcome::Done)
 }

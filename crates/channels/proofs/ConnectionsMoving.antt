@@ -1,4 +1,4 @@
--- What is seen of channels whose queues stand at other places.
+-- The model sees no difference on channels whose queues have new indices.
 use Rattle.channels.proofs.Imports.{◌≡◌, ℕ, zero, suc, List, [], ◌∷◌, refl, ap, ◌∙◌, Option, Some, None, slice_index_or, lookup-map_values, Text, Open, open_in, open_moved, AreNamedAlike, Running, running_in, channel_at, channel_of, connection_at, connection_of, channels_moved, running_moved, connections_moved, MovesAreUnseen}
 use Rattle.std.specs.Prelude.{option_map, nat_eq}
 use Rattle.channels.proofs.Moving.{open_named}

@@ -1,7 +1,8 @@
 -- Counts of what consumers hold, at each change.
-use Rattle.channels.proofs.Imports.{◌≡◌, ℕ, zero, suc, ◌+◌, ◌<◌, List, [], ◌∷◌, ◌++◌, length, get_or, map, find, refl, sym, ap, ◌∙◌, arith, Bool, true, false, cond, not, Option, Some, None, ◌||◌, All, list_any, count_by-le-length, length-filter, sum_by-cons, takes, is_refused, kept, is_to, count_to, count_given, Taker, tag_of, taker_of, consumers_of, counts_of, is_numbered, counted_in, counted_out, may_held, taker_held, AreParts, may_of, taker_among, Delivery, Consumer, CountedConsumer}
+use Rattle.channels.proofs.Imports.{◌≡◌, ℕ, zero, suc, ◌+◌, ◌<◌, List, [], ◌∷◌, ◌++◌, length, get_or, map, find, refl, sym, ap, ◌∙◌, arith, Bool, true, false, cond, not, Option, Some, None, ◌||◌, All, list_any, count_by-le-length, length-filter, sum_by-cons, takes, is_refused, kept, is_to, count_to, count_given, Taker, tag_of, taker_of, consumers_of, counts_of, is_numbered, counted_in, counted_out, may_held, taker_held, AreParts, Get, NoneAbove, number_given, subst, ne_eqb, may_of, taker_among, Delivery, Consumer, CountedConsumer}
 use Rattle.std.proofs.Common.{filter, count_by}
-use Rattle.std.specs.Prelude.{◌==◌}
+use Rattle.std.specs.Prelude.{◌==◌, max}
+use Rattle.model.specs.declared.messages.Taker.TheVariants.{Consumer as To_consumer}
 use Rattle.channels.proofs.Settlement.{taken_by}
 
 -- ---- the first i of a list changed, the others as they were
@@ -158,7 +159,7 @@ pub may_kept : (limit given number : ℕ) (seats : List CountedConsumer) (os : L
     → may_held limit given (find (is_numbered number) seats) ≡ may_of limit os (find (λ (c : Consumer). c.number == number) (consumers_of seats))
 may_kept limit given number seats os h g = told_kept (may_held limit given) (may_of limit os) number seats os refl (λ s e. rw (e, g) refl) h
 
--- so it is told where it may
+-- then it is returned if it may
 pub taker_kept : (limit given number : ℕ) (seats : List CountedConsumer) (os : List Delivery) → counts_of seats ≡ counts (consumers_of seats) os → given ≡ count_given taker_of os
     → taker_held limit given (find (is_numbered number) seats) ≡ taker_among limit os (find (λ (c : Consumer). c.number == number) (consumers_of seats))
 taker_kept limit given number seats os h g = told_kept (taker_held limit given) (taker_among limit os) number seats os refl (λ s e. rw (e, g) refl) h
@@ -181,3 +182,20 @@ counts-length (s ∷ ss) = ap suc (counts-length ss)
 
 pub held_small : (n : ℕ) (seats : List CountedConsumer) → All (λ k. k < n) (counts_of seats) → All (λ (s : CountedConsumer). s.held < n) seats
 held_small n seats h k d lt = let a = h k d.held (let l = counts-length seats in omega arith) in let e = held_at seats k d in omega arith
+
+-- ---- who was given nothing
+
+not_to : (number : ℕ) (by : Taker) → number_given by < number → is_to number by ≡ false
+not_to number Get less = refl
+not_to number (To_consumer n) less = ne_eqb n number (λ e. absurd (omega arith))
+
+-- what was given to others counts for nobody of a greater number
+pub none_above_give : (most : ℕ) (os : List Delivery) (o : Delivery) → NoneAbove most os → NoneAbove (max most (number_given o.by)) (os ++ o ∷ [])
+none_above_give most os o none number more = go o.by refl
+  where
+    go : (by : Taker) → o.by ≡ by → count_to taker_of number (os ++ o ∷ []) ≡ 0
+    go by e = let was = none number (omega arith) in let one = one_more (λ x. is_to number (taker_of x)) os o in let not_its = not_to number by (subst (λ (t : Taker). number_given t < number) e (omega arith)) in
+        one ∙ ap (λ (t : Taker). count_to taker_of number os + cond (is_to number t) 1 0) e ∙ ap (λ (b : Bool). count_to taker_of number os + cond b 1 0) not_its ∙ (omega arith)
+
+pub none_above_kept : (most : ℕ) (os : List Delivery) (tag : ℕ) (multiple : Bool) → NoneAbove most os → NoneAbove most (kept tag_of tag multiple os)
+none_above_kept most os tag multiple none number more = let was = none number more in let parts = taken_parts os tag multiple (λ o. is_to number (taker_of o)) in omega arith

@@ -19,7 +19,7 @@ find_at n next (x ∷ xs) (suc i) d rise lt e =
     let more = above_at x.consumer.number xs i d rise.1.0 (omega arith) in
     ap (λ (b : Bool). cond b (Some x) (find (is_numbered n) xs)) (ne_eqb x.consumer.number n (λ same. omega arith)) ∙ find_at n next xs i d rise.1.1 (omega arith) e
 
--- whatever stands for none
+-- whatever is returned past the end
 pub get_same : (xs : List CountedConsumer) (i : ℕ) (d e : CountedConsumer) → i < length xs → get_or xs i d ≡ get_or xs i e
 get_same [] i d e lt = absurd (omega arith)
 get_same (x ∷ xs) zero d e lt = refl

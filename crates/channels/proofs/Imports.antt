@@ -7,7 +7,7 @@ pub use Rattle.channels.specs.Names.{AreNamesSpent, IsNextName, server_name}
 pub use Rattle.channels.specs.Open.{HasNoTaker, IsConsumerSeated, IsOne, IsTaker, JudgesConsumer, Open, SeatsConsumer, TellsTaker, consumer_in, open_in, places_of}
 pub use Rattle.channels.specs.Outstanding.{AreInOrder, AreKept, IsTagAt, OutstandingList, given_tag, marked, tag_of, taker_of}
 pub use Rattle.channels.specs.RunningConnections.{HasPlacesBelow, IsChannelSet, PutsChannel, Running, channel_at, channel_in, channel_of, connection_at, connection_of, running_in, with_channel, with_channel_at, with_channel_in}
-pub use Rattle.channels.specs.Seats.{AreNumbered, AreParts, NumbersRise, Seated, SeatsAreCounted, consumers_of, counted_in, counted_out, counts_of, has_name, is_named, is_numbered, may_held, taker_held, takes_from, uncounted}
+pub use Rattle.channels.specs.Seats.{AreNumbered, AreParts, NoneAbove, NumbersRise, Seated, SeatsAreCounted, consumers_of, counted_in, counted_out, counts_of, has_name, is_named, is_numbered, may_held, number_given, taker_held, takes_from, uncounted}
 pub use Rattle.channels.specs.declared.consumers.Consumer.{Consumer}
 pub use Rattle.channels.specs.declared.consumers.CountedConsumer.{CountedConsumer}
 pub use Rattle.model.specs.Broker.{Channel, new_channel}

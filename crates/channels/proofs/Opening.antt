@@ -33,7 +33,7 @@ opened_next names old new ch n e is before =
     ∙ ap (λ (k : Channel). None ∷ replicate n (Some new_channel) ++ Some k ∷ []) is
     ∙ ap (λ (cs : List (Option Channel)). None ∷ cs) (replicate_more n (Some new_channel))
 
--- so many places there are
+-- the number of slots
 pub opened_len : (channels : List (Option Open)) (n : ℕ) → map (option_map (open_in [])) channels ≡ None ∷ replicate n (Some new_channel) → length channels ≡ n + 1
 opened_len channels n e =
     let same = ap length e in

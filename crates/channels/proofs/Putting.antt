@@ -23,7 +23,7 @@ found_apart {X} c d (y ∷ ys) w n = go (nat_eq c y.0) refl (found_apart c d ys 
         ap (λ (b : Bool). cond b (Some w) (lookup (nat_eq d) ys)) apart ∙ sym (ap (λ (b : Bool). cond b (Some y.1) (lookup (nat_eq d) ys)) apart)
     go false t more = ap (λ (o : Option X). cond (nat_eq d y.0) (Some y.1) o) more
 
--- an open channel stands within
+-- an open channel is within the list
 within : (xs : List (Option Open)) (i : ℕ) (x : Open) → get_or xs i None ≡ Some x → i < length xs
 within [] i x e = absurd (none-some x e)
 within (y ∷ ys) zero x e = omega arith
@@ -61,7 +61,7 @@ puts_written es c h old ch is = at (running_in es c) refl is
             ap (λ (o : Option Running). channel_at o k) (found_apart c d es (with_channel_in l h ch) t)
             ∙ sym (ap (λ (b : Bool). if b && (k == h) then Some ch else channel_of es d k) t)
 
--- what stands at a number is put there again
+-- what is at a number is put there again
 set_there : (xs : List (Option Open)) (i : ℕ) (x : Open) → get_or xs i None ≡ Some x → set xs i (Some x) ≡ xs
 set_there [] i x e = absurd (none-some x e)
 set_there (y ∷ ys) zero x e = ap (λ (z : Option Open). z ∷ ys) (sym e)

@@ -37,7 +37,7 @@ without_tagged names tag (c ∷ cs) = go (not (is_named tag c)) (without_tagged 
     go true e = ap (λ (ks : List seen.Consumer). consumer_in names c ∷ ks) e
     go false e = e
 
--- ---- what stands against one consumer more
+-- ---- the reason against one more consumer
 
 abbrev decided : Bool → Bool → Bool → Option Stands
 decided taken many wanting =
@@ -112,7 +112,7 @@ given_wanting : (ch : seen.Channel) (tag : Text) → (length tag ≡ 0 → ⊥) 
 given_wanting ch [] h = absurd (h refl)
 given_wanting ch (b ∷ bs) h = refl
 
--- nothing stands against it
+-- there is no reason against it
 pub named_free : (old : Open) (m : Consume) → (length m.consumer_tag ≡ 0 → ⊥) → MaySeat old.given m.consumer_tag → (names : List Text) → refusal_of_seat (open_in names old) m ≡ None
 named_free old m h may names =
     decides (open_in names old) m false false false

@@ -3,7 +3,7 @@ use Rattle.channels.proofs.Imports.{◌≡◌, ◌<◌, ℕ, zero, suc, List, []
 use Rattle.std.proofs.Common.{◌==◌, if◌then◌else◌, nat_eq}
 use Rattle.std.proofs.lemmas.Bool.{eq-eqb}
 
--- within a list it is the same whatever stands past its end
+-- within a list it is the same whatever is past its end
 pub same_default : {A : Type 0} (xs : List A) (i : ℕ) (a b : A) → i < length xs → get_or xs i a ≡ get_or xs i b
 same_default [] i a b lt = absurd (omega (arith, lt))
 same_default (x ∷ xs) zero a b lt = refl

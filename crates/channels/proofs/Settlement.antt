@@ -80,7 +80,7 @@ drop_len : (xs : List Delivery) → drop (length xs) xs ≡ []
 drop_len [] = refl
 drop_len (x ∷ xs) = drop_len xs
 
--- what is behind n of them is so many fewer
+-- what is behind n of them has n fewer
 pub rest_is : (n : ℕ) (xs : List Delivery) → take (length xs - n) (drop n xs) ≡ drop n xs
 rest_is n xs = ap (λ (k : ℕ). take k (drop n xs)) (sym (length-drop n xs)) ∙ take_len (drop n xs)
 

@@ -8,7 +8,7 @@ use Rattle.channels.specs.Open.{Open, consumers_from}
 use Rattle.channels.specs.declared.consumers.Consumer.{Consumer}
 use Rattle.channels.specs.RunningConnections.{Running, channel_of}
 
--- how many consumers on a channel take from the queue at this place; none where it is not open
+-- how many consumers of a channel take from the queue at this index; 0 if it is not open
 abbrev pub consumers_at : ℕ → Option Open → ℕ
 consumers_at queue None = 0
 consumers_at queue (Some ch) = consumers_from queue ch
@@ -17,9 +17,9 @@ consumers_at queue (Some ch) = consumers_from queue ch
 abbrev pub consumers_counted : ℕ → Running → ℕ
 consumers_counted queue l = sum_by (consumers_at queue) l.channels
 
--- So many consumers take from the queue at this place, on all channels together; the greatest 64-bit number stands for any above it.
+-- This many consumers on all channels together take from the queue at this index, at most 2^64 - 1.
 pub record CountsConsumers (connections : List (ℕ × Running)) (queue count : ℕ) : Type 0 where
-  -- every open channel is among these, of which no two are the same
+  -- every open channel is among these, which are distinct
   pub channels : List ChannelName
   pub all : (c h : ℕ) (ch : Open) → channel_of connections c h ≡ Some ch → IsIn (record { connection = c; number = h }) channels
   pub apart : AllPairs (λ (x y : ChannelName). x ≡ y → ⊥) channels
@@ -29,11 +29,11 @@ pub record CountsConsumers (connections : List (ℕ × Running)) (queue count : 
 abbrev pub all_consumers : List (ℕ × Running) → ℕ → ℕ
 all_consumers connections queue = sum_by (consumers_counted queue) (values_of connections)
 
--- some consumer takes from the queue at this place
+-- some consumer takes from the queue at this index
 abbrev pub is_consumed : List (ℕ × Running) → ℕ → Bool
 is_consumed connections queue = nat_lt 0 (all_consumers connections queue)
 
--- A consumer of some channel does.
+-- A consumer of some channel takes from the queue at this index.
 pub record HasTaker (connections : List (ℕ × Running)) (queue : ℕ) : Type 0 where
   pub connection : ℕ
   pub number : ℕ

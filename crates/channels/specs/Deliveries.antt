@@ -17,14 +17,14 @@ use Rattle.channels.specs.declared.consumers.SeatRefusal.TheVariants.{InUse, Too
 use Rattle.channels.specs.declared.consumers.Unseated.{Unseated}
 use Rattle.channels.specs.declared.consumers.Unseated.TheVariants.{Refused, Memory}
 
--- delivery tags, limits, consumers, what is outstanding, and how many messages more can be given out, and how many consumers more be made, without memory
+-- delivery tags, limits, consumers, unacknowledged deliveries, and the spare capacity for deliveries and for consumers
 pub record Given : Type 0 where
   pub next_tag : ℕ
-  -- consumers are numbered as they are made, and no number is used again
+  -- consumers are numbered in the order in which they are made, and no number is used twice
   pub next_number : ℕ
   -- the number of the next consumer tag that the server makes
   pub next_name : ℕ
-  -- the limit of consumers made later, and that of all of them together; 0 is none (RabbitMQ, "Consumer Prefetch")
+  -- the prefetch of consumers that are made later, and that of all of them together; 0 is no limit (RabbitMQ, "Consumer Prefetch")
   pub each_limit : ℕ
   pub limit : ℕ
   pub consumers : List Consumer
@@ -33,7 +33,7 @@ pub record Given : Type 0 where
   pub room : ℕ
   pub seats : ℕ
 
--- nothing was given out, there is no consumer and no limit
+-- nothing was given out, and there is no consumer and no limit
 abbrev pub nothing_given : ℕ → ℕ → Given
 nothing_given room seats = record {
   next_tag = 1;
@@ -47,7 +47,7 @@ nothing_given room seats = record {
   seats = seats;
 }
 
--- a message is given out under the next tag, and is outstanding (AMQP 0-9-1, basic.deliver, basic.get-ok)
+-- a message is given out under the next tag, and is unacknowledged (AMQP 0-9-1, basic.deliver, basic.get-ok)
 abbrev pub with_given : Given → ℕ → ℕ → Taker → ℕ → Given
 with_given g queue arrival by room = record g {
   next_tag = g.next_tag + 1;
@@ -55,32 +55,32 @@ with_given g queue arrival by room = record g {
   room = room;
 }
 
--- a limit is set: of all consumers of the channel together, or of each that is made later (RabbitMQ, "Consumer Prefetch", global)
+-- a prefetch is set: of all consumers of the channel together, or of each that is made later (RabbitMQ, "Consumer Prefetch", global)
 abbrev pub with_limit : Given → ℕ → Bool → Given
 with_limit g count global = if global then record g { limit = count } else record g { each_limit = count }
 
--- this consumer, if there is one, may be given one message more under this limit of the channel
+-- this consumer exists, and may be given one more message under the channel's limit
 abbrev pub may_of : ℕ → List Delivery → Option Consumer → Bool
 may_of limit outstanding None = false
 may_of limit outstanding (Some c) = may_hold taker_of limit c.no_ack c.limit c.number outstanding
 
--- this consumer, if there is one and it may
+-- this consumer, if it exists and may
 abbrev pub taker_among : ℕ → List Delivery → Option Consumer → Option Consumer
 taker_among limit outstanding c = if may_of limit outstanding c then c else None
 
--- a tag is left, and the consumer of this number is the channel's and may be given one message more
+-- a tag is left, and the consumer with this number is the channel's and may be given one more message
 abbrev pub may_be_given : Given → ℕ → Bool
 may_be_given g number = has_tag_left g.next_tag && may_of g.limit g.outstanding (find (λ (c : Consumer). c.number == number) g.consumers)
 
--- the consumer of this number
+-- the consumer with this number
 abbrev pub consumer_at : Given → ℕ → Option Consumer
 consumer_at g number = find (λ (c : Consumer). c.number == number) g.consumers
 
--- the consumer of this number, where it may be given one message more
+-- the consumer with this number, if it may be given one more message
 abbrev pub taker_at : Given → ℕ → Option Consumer
 taker_at g number = if may_be_given g number then consumer_at g number else None
 
--- one consumer more, under the next number and the limit set for each (AMQP 0-9-1, basic.consume)
+-- one more consumer, with the next number and the prefetch that is set for each (AMQP 0-9-1, basic.consume)
 abbrev pub with_consumer_added : Given → Text → ℕ → Bool → ℕ → Given
 with_consumer_added g name queue no_ack seats = record g {
   seats = seats;
@@ -88,48 +88,48 @@ with_consumer_added g name queue no_ack seats = record g {
   consumers = g.consumers ++ record { number = g.next_number; tag = name; queue = queue; no_ack = no_ack; limit = g.each_limit } ∷ [];
 }
 
--- Nothing stands against a consumer of this tag: it is not in use on the channel, there are fewer than 256 (own), and a number is left.
+-- A consumer with this tag can be made: the tag is not in use on the channel, there are fewer than 256 consumers (own), and a number is left.
 pub record MaySeat (g : Given) (name : Text) : Type 0 where
   pub free : list_any (is_named name) g.consumers ≡ false
   pub few : length g.consumers < 256
   pub left : g.next_number < greatest
 
--- the first thing that stands against it, in this order, or that nothing does
+-- the first reason against it, in this order, or `None` if there is none
 abbrev pub JudgesSeat : Given → Text → Option SeatRefusal → Type 0
 JudgesSeat g name None = MaySeat g name
 JudgesSeat g name (Some InUse) = list_any (is_named name) g.consumers ≡ true
 JudgesSeat g name (Some TooMany) = (list_any (is_named name) g.consumers ≡ false) × (256 ≤ length g.consumers)
 JudgesSeat g name (Some Spent) = (list_any (is_named name) g.consumers ≡ false) × ((length g.consumers < 256) × (g.next_number ≡ greatest))
 
--- a consumer was made, for which there is room for one fewer now
+-- a consumer was made; there is spare capacity for at most one fewer now
 abbrev pub AddsConsumer : Given → Text → ℕ → Bool → Given → Type 0
 AddsConsumer old name queue no_ack new = (new ≡ with_consumer_added old name queue no_ack new.seats) × (old.seats ≤ new.seats + 1)
 
--- why a consumer without a tag of its own was refused, in this order: there are 256; the numbers or the names are spent
+-- why a consumer without a tag of its own is refused, in this order: there are 256; the numbers or the server's tags are used up
 abbrev pub RefusesUnnamed : Given → SeatRefusal → Type 0
 RefusesUnnamed g InUse = ⊥
 RefusesUnnamed g TooMany = 256 ≤ length g.consumers
 RefusesUnnamed g Spent = (length g.consumers < 256) × ((g.next_number ≡ greatest) ⊎ AreNamesSpent g.consumers g.next_name)
 
--- the next name for a consumer without a tag of its own, against which nothing stands; or why it has none
+-- the next tag for a consumer without one of its own, which can be made; or why it can't be
 abbrev pub NamesUnnamed : Given → Result Name SeatRefusal → Type 0
 NamesUnnamed g (Ok name) =
     (length g.consumers < 256) × ((g.next_number < greatest) × (IsNextName g.consumers g.next_name name.number × (name.tag.bytes ≡ server_name name.number)))
 NamesUnnamed g (Err refusal) = RefusesUnnamed g refusal
 
--- what stands against it, or that a name is left and nothing does
+-- the first reason against a consumer without a tag of its own, or `None` if a tag is left and there is none
 abbrev pub JudgesUnnamed : Given → Option SeatRefusal → Type 0
 JudgesUnnamed g None = (length g.consumers < 256) × ((g.next_number < greatest) × ((n : ℕ) × IsNextName g.consumers g.next_name n))
 JudgesUnnamed g (Some refusal) = RefusesUnnamed g refusal
 
--- A consumer was made under the next name, of this number.
+-- A consumer was made with the server's next tag, which has number `n`.
 pub record IsMadeUnder (old : Given) (queue : ℕ) (no_ack : Bool) (tag : Text) (new : Given) (n : ℕ) : Type 0 where
   pub next : IsNextName old.consumers old.next_name n
   pub named : tag ≡ server_name n
   pub made : new ≡ record (with_consumer_added old (server_name n) queue no_ack new.seats) { next_name = n + 1 }
 
--- A consumer was made under the next name that is not in use, which is told, or refused; or memory was wanting, and nothing stands
--- against it. If none was made nothing changed.
+-- what each result of making a consumer without a tag of its own means: it was made with the next free tag, which is returned; or it was
+-- refused; or an allocation failed, and there is no reason against it. If none was made nothing changed.
 abbrev pub ConsumesUnnamed : Given → ℕ → Bool → Result Text Unseated → Given → Type 0
 ConsumesUnnamed old queue no_ack (Ok tag) new =
     (length old.consumers < 256) × ((old.next_number < greatest) × ((old.seats ≤ new.seats + 1) × ((n : ℕ) × IsMadeUnder old queue no_ack tag new n)))

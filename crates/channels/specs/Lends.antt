@@ -1,4 +1,4 @@
--- What becomes of the connections, once a connection or a channel that was lent comes back.
+-- What becomes of the connections when a borrow of a connection or a channel ends.
 use Rattle.std.specs.Prelude.{◌≡◌, ℕ, List, Option, Some}
 use Rattle.std.specs.Borrow.{LendsIf, LendsSo, MutBor, Fml}
 use Rattle.channels.specs.Open.{Open}
@@ -7,19 +7,19 @@ use Rattle.channels.specs.RunningConnections.{Running, channel_of, with_channel_
 use Rattle.channels.specs.contracts.running.RunningConnection.{the_row as connection_row}
 use Rattle.channels.specs.contracts.connections.RunningConnections.{the_row as connections_row}
 
--- a connection ends with the channel that was written last at this number
+-- a connection ends with the channel as it was written last
 abbrev pub LendsChannelIn : MutBor Running → ℕ → Option (MutBor Open) → Fml
 LendsChannelIn l h r = LendsIf connection_row channel_row l r (with_channel_in l.now h) l.now
 
--- all connections end with what was written last of this one
+-- all connections end with this one as it was written last
 abbrev pub LendsConnection : MutBor (List (ℕ × Running)) → ℕ → Option (MutBor Running) → Fml
 LendsConnection ls c r = LendsSo connections_row connection_row ls r (λ n w. n ≡ with_running ls.now c w) (λ n. n ≡ ls.now)
 
--- all connections end with the channel that was written last at these numbers
+-- all connections end with this channel as it was written last
 abbrev pub LendsChannel : MutBor (List (ℕ × Running)) → ℕ → ℕ → Option (MutBor Open) → Fml
 LendsChannel ls c h r = LendsSo connections_row channel_row ls r (λ n w. n ≡ with_channel ls.now c h w) (λ n. n ≡ ls.now)
 
--- a channel that was there and is written stands at its number, and everything else stays
+-- an open channel that is borrowed and written is at its number then, and nothing else changed
 abbrev pub LentArePut : Type 0
 LentArePut = (connections : List (ℕ × Running)) (c h : ℕ) (was ch : Open)
     → channel_of connections c h ≡ Some was → PutsChannel connections c h (Some ch) (with_channel connections c h ch)

@@ -1,4 +1,4 @@
--- Queues that stand at other places: what is outstanding and consumers are told them.
+-- Queues with new indices: unacknowledged deliveries and consumers get them.
 use Rattle.std.specs.Prelude.{◌≡◌, ℕ, List, [], map, slice_index_or}
 use Rattle.std.specs.List.{AllByRecursion}
 use Rattle.model.specs.Words.{Text}
@@ -8,35 +8,35 @@ use Rattle.model.specs.declared.deliveries.Delivery.{Delivery}
 use Rattle.channels.specs.declared.consumers.Consumer.{Consumer}
 use Rattle.channels.specs.declared.consumers.CountedConsumer.{CountedConsumer}
 
--- where the queue stands now that stood at this place; behind the table, at the same one
+-- the new index of the queue at this index; past the end of the table, the same one
 abbrev pub place_now : List ℕ → ℕ → ℕ
 place_now places p = slice_index_or places p p
 
--- given out from that queue
+-- a delivery, with its queue's new index
 abbrev pub outstanding_moved : List ℕ → Delivery → Delivery
 outstanding_moved places o = record o { queue = place_now places o.queue }
 
--- taking from that queue
+-- a consumer, with its queue's new index
 abbrev pub consumer_moved : List ℕ → Consumer → Consumer
 consumer_moved places c = record c { queue = place_now places c.queue }
 
--- the same with its count
+-- the same, with its count
 abbrev pub seat_moved : List ℕ → CountedConsumer → CountedConsumer
 seat_moved places s = record s { consumer = consumer_moved places s.consumer }
 
--- all that is outstanding, and each consumer
+-- all deliveries and consumers of a channel
 abbrev pub given_moved : List ℕ → Given → Given
 given_moved places g = record g { consumers = map (consumer_moved places) g.consumers; outstanding = map (outstanding_moved places) g.outstanding }
 
--- the channel with all of it
+-- the channel with all of them
 abbrev pub open_moved : List ℕ → Open → Open
 open_moved places ch = record ch { given = given_moved places ch.given }
 
--- a queue at this place has the same name as the one where it stands now
+-- the queue at this index has the same name as the one at its new index
 abbrev pub IsNamedAlike : List Text → List Text → List ℕ → ℕ → Type 0
 IsNamedAlike old new places p = slice_index_or new (place_now places p) [] ≡ slice_index_or old p []
 
--- So it is with each queue that the channel names.
+-- The same for each queue that the channel names.
 pub record AreNamedAlike (old new : List Text) (places : List ℕ) (ch : Open) : Type 0 where
   pub outstanding : AllByRecursion (λ (o : Delivery). IsNamedAlike old new places o.queue) ch.given.outstanding
   pub consumers : AllByRecursion (λ (c : Consumer). IsNamedAlike old new places c.queue) ch.given.consumers

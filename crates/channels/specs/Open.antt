@@ -1,4 +1,4 @@
--- An open channel as it is kept, with queues by their places in the file, and as the model has it, with queues by their names.
+-- An open channel as this crate has it, with queues by index, and as the model has it, with queues by name.
 use Rattle.std.specs.Prelude.{◌≡◌, ℕ, ◌+◌, ◌-◌, List, [], ◌∷◌, ◌++◌, map, filter, count_by, slice_index_or}
 use Rattle.std.specs.Prelude.{not, Bool, true, false, Option, Some, None, option_map, Result, Ok, Err}
 use Rattle.model.specs.Words.{Text}
@@ -22,41 +22,41 @@ use Rattle.channels.specs.declared.consumers.Unseated.TheVariants.{Refused, Memo
 
 -- an open channel
 pub record Open : Type 0 where
-  -- the last confirm number, where publishes are confirmed (RabbitMQ, "Publisher Confirms")
+  -- the last confirm number, if the channel is in confirm mode (RabbitMQ, "Publisher Confirms")
   pub confirm : Option ℕ
-  -- a close was sent, and close-ok is awaited
+  -- whether a close was sent, and close-ok is awaited
   pub is_closing : Bool
   pub given : Given
 
--- the channel with the limit that a qos sets (AMQP 0-9-1, basic.qos)
+-- the channel with the prefetch that a qos sets (AMQP 0-9-1, basic.qos)
 abbrev pub with_qos : Open → Qos → Open
 with_qos ch m = record ch { given = with_limit ch.given m.prefetch_count m.global }
 
--- the channel on which a message of the queue at this place was given out under the next tag, and waits to be settled (AMQP 0-9-1, basic.get-ok)
+-- a message of the queue at this index was given out under the next tag, and waits to be settled (AMQP 0-9-1, basic.get-ok)
 abbrev pub given_on : Open → ℕ → ℕ → Taker → Open
 given_on ch queue arrival by = record ch { given = with_given ch.given queue arrival by (ch.given.room - 1) }
 
--- the same of a message that needs no acknowledgement
+-- the same for a message that needs no acknowledgement
 abbrev pub settled_on : Open → Open
 settled_on ch = record ch { given = record ch.given { next_tag = ch.given.next_tag + 1 } }
 
--- the channel without what this tag settles, and with so much room (AMQP 0-9-1, basic.ack)
+-- the channel without what this tag settles, with this spare capacity (AMQP 0-9-1, basic.ack)
 abbrev pub without_settled : Open → ℕ → Bool → ℕ → Open
 without_settled ch tag multiple room = record ch { given = record ch.given { outstanding = kept tag_of tag multiple ch.given.outstanding; room = room } }
 
--- the channel without the consumers of this tag, and with so much room (AMQP 0-9-1, basic.cancel)
+-- the channel without the consumers with this tag, with this spare capacity (AMQP 0-9-1, basic.cancel)
 abbrev pub without_named : Open → Text → ℕ → Open
 without_named ch tag seats = record ch { given = record ch.given { consumers = filter (λ c. not (is_named tag c)) ch.given.consumers; seats = seats } }
 
--- how many of its consumers take from the queue at this place
+-- how many of its consumers take from the queue at this index
 abbrev pub consumers_from : ℕ → Open → ℕ
 consumers_from queue ch = count_by (takes_from queue) ch.given.consumers
 
--- a consumer, where queues have these names
+-- a consumer as the model has it, if queues have these names
 abbrev pub consumer_in : List Text → Consumer → seen.Consumer
 consumer_in names c = record { number = c.number; tag = c.tag; queue = slice_index_or names c.queue []; no_ack = c.no_ack; limit = c.limit }
 
--- the channel, where queues have these names
+-- the channel as the model has it, if queues have these names
 abbrev pub open_in : List Text → Open → seen.Channel
 open_in names ch = record {
   confirm = ch.confirm;
@@ -70,60 +70,60 @@ open_in names ch = record {
   outstanding = map (outstanding_in names) ch.given.outstanding;
 }
 
--- the places of their queues, in the order in which they were made
+-- the indices of the consumers' queues, in the order in which the consumers were made
 abbrev pub places_of : List Consumer → List ℕ
 places_of consumers = map (λ (c : Consumer). c.queue) consumers
 
--- A consumer of the queue at this place was made under this tag (AMQP 0-9-1, basic.consume).
+-- A consumer of the queue at this index was made with this tag (AMQP 0-9-1, basic.consume).
 pub record IsConsumerSeated (old : Open) (queue : ℕ) (m : Consume) (tag : Text) (new : Open) : Type 0 where
-  -- nothing stood against it
+  -- there was no reason against it
   pub free : (names : List Text) → refusal_of_seat (open_in names old) m ≡ None
   pub named : (names : List Text) → tag ≡ tag_for (open_in names old) m.consumer_tag
-  -- so the channel has it, where the queue at this place has the name that the consume gives
+  -- the model's channel has it, if the queue at this index has the name that the consume gives
   pub made : (names : List Text) → slice_index_or names queue [] ≡ m.queue → open_in names new ≡ with_consumer (open_in names old) m
-  -- what was given out stays, and so do the other consumers' places
+  -- the deliveries stay, and so do the queues of the other consumers
   pub outstanding : new.given.outstanding ≡ old.given.outstanding
   pub places : places_of new.given.consumers ≡ places_of old.given.consumers ++ queue ∷ []
 
--- what stands against it, as the model has it
+-- the refusal, as the model has it
 abbrev pub seat_refusal : SeatRefusal → Refusal
 seat_refusal InUse = Of_connection 530
 seat_refusal TooMany = Of_connection 506
 seat_refusal Spent = Of_connection 541
 
--- what stands against one consumer more, or that nothing does
+-- the reason against one more consumer, or `None` if there is none
 abbrev pub JudgesConsumer : Open → Consume → Option SeatRefusal → Type 0
 JudgesConsumer ch m against = (names : List Text) → refusal_of_seat (open_in names ch) m ≡ option_map seat_refusal against
 
--- A consumer was made under this tag; or it was refused for what stands against it; or memory was wanting, and nothing does. If none
--- was made nothing changed.
+-- what each result of making a consumer means: it was made with this tag; or it was refused; or an allocation failed, and there is no reason
+-- against it. If none was made nothing changed.
 abbrev pub SeatsConsumer : Open → ℕ → Consume → Result Text Unseated → Open → Type 0
 SeatsConsumer old queue m (Ok tag) new = IsConsumerSeated old queue m tag new
 SeatsConsumer old queue m (Err (Refused refusal)) new = JudgesConsumer old m (Some refusal) × (new ≡ old)
 SeatsConsumer old queue m (Err Memory) new = JudgesConsumer old m None × (new ≡ old)
 
--- The consumer of this number is the channel's, the only one of this number, and may be given one message more.
+-- The consumer with this number is the channel's, the only one with it, and may be given one more message.
 pub record IsTaker (ch : Open) (number : ℕ) (k : Consumer) : Type 0 where
   pub numbered : k.number ≡ number
   pub seat : IsIn k ch.given.consumers
-  -- so the model has it, where queues have these names
+  -- the model's channel has it, if queues have these names
   pub its : (names : List Text) → IsIn (consumer_in names k) (open_in names ch).consumers
   pub only : (names : List Text) (other : seen.Consumer) → IsIn other (open_in names ch).consumers → other.number ≡ number → other ≡ consumer_in names k
   pub may : (names : List Text) → may_take (open_in names ch) (consumer_in names k) ≡ true
 
--- The consumer of this number is the channel's, and the only one of this number.
+-- The consumer with this number is the channel's, and the only one with it.
 pub record IsOne (ch : Open) (number : ℕ) (k : Consumer) : Type 0 where
   pub numbered : k.number ≡ number
   pub seat : IsIn k ch.given.consumers
-  -- so the model has it, where queues have these names
+  -- the model's channel has it, if queues have these names
   pub its : (names : List Text) → IsIn (consumer_in names k) (open_in names ch).consumers
   pub only : (names : List Text) (other : seen.Consumer) → IsIn other (open_in names ch).consumers → other.number ≡ number → other ≡ consumer_in names k
 
--- No consumer of this number may be given one message more.
+-- no consumer with this number may be given one more message
 abbrev pub HasNoTaker : Open → ℕ → Type 0
 HasNoTaker ch number = (names : List Text) (k : seen.Consumer) → IsIn k (open_in names ch).consumers → k.number ≡ number → may_take (open_in names ch) k ≡ false
 
--- The consumer of this number is told, exactly where it may be given one message more.
+-- this is the consumer with this number if it may be given one more message; otherwise none may
 abbrev pub TellsTaker : Open → ℕ → Option Consumer → Type 0
 TellsTaker ch number (Some k) = IsTaker ch number k
 TellsTaker ch number None = HasNoTaker ch number

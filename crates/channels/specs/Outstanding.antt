@@ -1,11 +1,11 @@
--- What is outstanding on a channel, in the order of delivery tags.
+-- The unacknowledged deliveries of a channel, in the order of delivery tags.
 use Rattle.std.specs.Prelude.{◌≡◌, ◌<◌, ◌≤◌, ◌+◌, ◌*◌, ◌==◌, ℕ, List, length, get_or, drop, if◌then◌else◌}
 use Rattle.model.specs.Settling.{Rises}
 use Rattle.model.specs.declared.messages.Taker.{Taker}
 use Rattle.model.specs.Placed.{waiting}
 use Rattle.model.specs.declared.deliveries.Delivery.{Delivery}
 
--- its delivery tag
+-- the delivery tag; 0 if it was settled
 abbrev pub tag_of : Delivery → ℕ
 tag_of o = o.tag
 
@@ -13,33 +13,33 @@ tag_of o = o.tag
 abbrev pub taker_of : Delivery → Taker
 taker_of o = o.by
 
--- the tag under which it was given out: the place of what was settled has it for its arrival (own)
+-- the tag under which it was given out: an entry that was settled has it as its arrival (own)
 abbrev pub given_tag : Delivery → ℕ
 given_tag o = if o.tag == 0 then o.arrival else o.tag
 
--- the place of this one once it is settled
+-- the entry once it is settled
 abbrev pub marked : Delivery → Delivery
 marked o = record o { tag = 0; arrival = o.tag }
 
--- This tag waits at this place.
+-- The delivery with this tag waits at this index.
 pub record IsTagAt (places : List Delivery) (place tag : ℕ) : Type 0 where
   pub within : place < length places
   pub there : (d : Delivery) → (get_or places place d).tag ≡ tag
   pub waits : tag ≡ 0 → ⊥
 
--- what is outstanding, and how many messages more can be given out without memory
+-- the unacknowledged deliveries, and the spare capacity for more
 pub record OutstandingList : Type 0 where
   pub outstanding : List Delivery
-  -- the last tag that was given out so, 0 before the first
+  -- the last tag that was recorded; 0 before the first
   pub last : ℕ
   pub room : ℕ
 
--- Places are in the order of the tags that were given out there, up to this one.
+-- The entries are in the order of the tags that they were given out under, up to `last`.
 pub record AreInOrder (last : ℕ) (places : List Delivery) : Type 0 where
   pub rises : Rises given_tag places
   pub most : (k : ℕ) (d : Delivery) → k < length places → given_tag (get_or places k d) ≤ last
 
--- Places from the front on are in order, and those that wait are counted; what was settled has at most as many places as wait, and 32.
+-- The entries behind `front` are in order, and `count` of them wait; at most as many entries as wait, and 32, are of settled deliveries.
 pub record AreKept (places : List Delivery) (front count last : ℕ) : Type 0 where
   pub within : front ≤ length places
   pub order : AreInOrder last (drop front places)

@@ -1,11 +1,11 @@
--- What a span of the outstanding deliveries settles (AMQP 0-9-1, basic.ack, "delivery-tag" and "multiple").
+-- What a span of the unacknowledged deliveries settles (AMQP 0-9-1, basic.ack, "delivery-tag" and "multiple").
 use Rattle.std.specs.Prelude.{◌≡◌, ℕ, List, [], filter, Bool, if◌then◌else◌, Option, Some, None}
 use Rattle.model.specs.Settling.{takes, is_refused, settled}
 use Rattle.model.specs.declared.deliveries.Delivery.{Delivery}
 use Rattle.channels.specs.Outstanding.{tag_of}
 use Rattle.channels.specs.declared.spans.Span.{Span}
 
--- what the span settles of these, in the order of tags: nothing where its tag is refused
+-- what the span settles of these, in the order of tags; nothing if its tag is refused
 abbrev pub settled_by : Span → List Delivery → List Delivery
 settled_by span ds = if is_refused tag_of span.tag span.multiple ds then [] else filter (takes tag_of span.tag span.multiple) ds
 
@@ -15,7 +15,7 @@ pub record IsSpan (span : Span) (tag : ℕ) (multiple : Bool) (ds : List Deliver
   pub is_multiple : span.multiple ≡ multiple
   pub settles : settled tag_of tag multiple ds ≡ Some (settled_by span ds)
 
--- The tag's span is told, or none, where the tag is refused.
+-- this is the tag's span, or `None` if the tag is refused
 abbrev pub TellsSpan : ℕ → Bool → List Delivery → Option Span → Type 0
 TellsSpan tag multiple ds (Some span) = IsSpan span tag multiple ds
 TellsSpan tag multiple ds None = settled tag_of tag multiple ds ≡ None

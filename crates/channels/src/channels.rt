@@ -1,4 +1,4 @@
-//! What is kept of an open channel.
+//! An open channel.
 
 ghost use Rattle.std.specs.Prelude.{◌≡◌, ◌+◌, ◌*◌, ◌<◌, ◌≤◌, List, length, None, Some, true, false, IfSome, OnOk, OnErr, option_map, nat_lt};
 ghost use Rattle.model.specs.Words.{Text as Name};
@@ -24,12 +24,12 @@ use model::{Consume, Delivery, Qos, Taker, Text};
 use std::alloc::{AllocError, Global};
 use std::marker::Model;
 
-/// What is kept of an open channel. Source: AMQP 0-9-1, section 1.5, "channel"; RabbitMQ, "Publisher Confirms".
+/// An open channel. Source: AMQP 0-9-1, section 1.5, "channel"; RabbitMQ, "Publisher Confirms".
 #[derive(Drop)]
 pub struct Channel {
-    /// The last confirm number, where publishes are confirmed.
+    /// The last confirm number, if the channel is in confirm mode.
     confirm: Option<u64>,
-    /// A close was sent, and close-ok is awaited.
+    /// Whether a close was sent, and close-ok is awaited.
     is_closing: bool,
     deliveries: Deliveries,
 }
@@ -43,7 +43,7 @@ impl Model for Channel {
 }
 
 impl Channel {
-    /// A channel with nothing on it: publishes are not confirmed. It takes no memory.
+    /// Makes a channel that is not in confirm mode, without deliveries and consumers. Never allocates.
     pub fn new(alloc: Global) -> Channel
         ensures { result ≡ record { confirm = None; is_closing = false; given = nothing_given 0 0 } }
     {
@@ -54,8 +54,8 @@ impl Channel {
         }
     }
 
-    /// What is left of a channel once a close was sent on it: everything but a close and close-ok is ignored. It takes no
-    /// memory.
+    /// Makes a channel on which a close was sent, and which ignores all but a close and close-ok. Never
+    /// allocates.
     pub fn closing(alloc: Global) -> Channel
         ensures { result ≡ record { confirm = None; is_closing = true; given = nothing_given 0 0 } }
     {
@@ -66,21 +66,21 @@ impl Channel {
         }
     }
 
-    /// Whether a close was sent and close-ok is awaited.
+    /// Returns whether a close was sent and close-ok is awaited.
     pub fn is_closing(&self) -> bool
         ensures { result ≡ self.now.is_closing }
     {
         self.is_closing
     }
 
-    /// The last confirm number, 0 before the first confirm; none where publishes are not confirmed.
+    /// Returns the last confirm number, 0 before the first confirm, or `None` if the channel is not in confirm mode.
     pub fn confirm(&self) -> Option<u64>
         ensures { result ≡ self.now.confirm }
     {
         self.confirm
     }
 
-    /// Publishes are confirmed from now on, by numbers from 1. Where they already are, nothing changes.
+    /// Puts the channel into confirm mode, with numbers from 1. Does nothing if it is in confirm mode already.
     pub fn select(&mut self)
         ensures { self.new ≡ record self.old { confirm = started self.old.confirm } }
     {
@@ -89,7 +89,7 @@ impl Channel {
         }
     }
 
-    /// The confirm number of the next publish, where publishes are confirmed.
+    /// Returns the confirm number of the next publish, if the channel is in confirm mode.
     pub fn next_confirm(&self) -> Option<u64>
         requires { is_spent self.now.confirm ≡ false }
         ensures { result ≡ next_of self.now.confirm }
@@ -100,7 +100,7 @@ impl Channel {
         }
     }
 
-    /// One publish more: it takes the next confirm number, where publishes are confirmed.
+    /// Counts a publish: it takes the next confirm number, if the channel is in confirm mode.
     pub fn count_publish(&mut self)
         requires { is_spent self.old.confirm ≡ false }
         ensures { self.new ≡ record self.old { confirm = next_of self.old.confirm } }
@@ -108,7 +108,7 @@ impl Channel {
         self.confirm = self.next_confirm();
     }
 
-    /// Sets the limit that a qos sets: of all its consumers together, or of each that is made later. Source: AMQP 0-9-1,
+    /// Sets the prefetch of all its consumers together, or of each that is made later. Source: AMQP 0-9-1,
     /// basic.qos; RabbitMQ, "Consumer Prefetch".
     pub fn limit(&mut self, qos: &Qos)
         ensures { self.new ≡ with_qos self.old qos.now }
@@ -116,8 +116,8 @@ impl Channel {
         self.deliveries.limit(qos.prefetch_count, qos.global);
     }
 
-    /// What stands against the consumer that a consume asks for, in this order: that a consumer of the channel has the tag (530),
-    /// that the channel has 256 consumers (506), and that the numbers or the server's tags are spent (541). It takes no memory.
+    /// Returns the first reason against the consumer that `consume` asks for: its tag is in use on the channel (530), the channel has 256 consumers
+    /// (506), or the numbers or the server's tags are used up (541). Never allocates.
     /// Source: AMQP 0-9-1, basic.consume.
     pub fn refusal(&self, consume: &Consume) -> Option<SeatRefusal>
         ensures { JudgesConsumer self.now consume.now result }
@@ -129,10 +129,10 @@ impl Channel {
         self.deliveries.refusal(consume.consumer_tag.as_bytes())
     }
 
-    /// Makes a consumer of the queue at this place, under the tag that the consume gives, or where it gives none under one of
-    /// the server's. Tells its tag. Refused, in this order: where a consumer of the channel has the tag (530), where the channel
-    /// has 256 consumers (506), and where the numbers or the server's tags are spent (541). Memory is wanting only where nothing
-    /// stands against it. Where it is refused, or memory is wanting, nothing changes. Source: AMQP 0-9-1, basic.consume.
+    /// Makes a consumer of the queue at index `queue`, and returns its tag: the one that `consume` gives, or else one of the server's. Refused as
+    /// [`Channel::refusal`] says, in the same order: its tag is in use on the channel (530), the channel has 256 consumers (506), or the
+    /// numbers or the server's tags are used up (541). Fails with [`Unseated::Memory`] only if there is no such reason and an allocation fails. If it
+    /// fails nothing has changed. Source: AMQP 0-9-1, basic.consume.
     pub fn consume(
         &mut self,
         alloc: Global,
@@ -156,7 +156,7 @@ impl Channel {
         Ok(tag)
     }
 
-    /// Takes out the consumer of this tag, if there is one; what it was given stays outstanding. It takes no memory. Source:
+    /// Removes the consumer with this tag, if any. Its unacknowledged messages stay unacknowledged. Never allocates. Source:
     /// AMQP 0-9-1, basic.cancel.
     pub fn cancel(&mut self, tag: &[u8])
         ensures whole { self.new ≡ without_named self.old tag.now self.new.given.seats }
@@ -165,7 +165,7 @@ impl Channel {
         self.deliveries.cancel(tag);
     }
 
-    /// The number of the next consumer: none was made under it yet, and each that is there has a smaller one.
+    /// Returns the number of the next consumer. No consumer had it yet, and each has a smaller one.
     pub fn next_number(&self) -> u64
         ensures next { result ≡ self.now.given.next_number }
         ensures above { AreBelow (Some self.now) result }
@@ -173,23 +173,23 @@ impl Channel {
         self.deliveries.next_number()
     }
 
-    /// The consumer of this number, exactly where it is the channel's and may be given a message now: a delivery tag is left,
-    /// and neither its limit nor the channel's is reached. Source: RabbitMQ, "Consumer Prefetch".
+    /// Returns the consumer with this number if it is the channel's and can take a message now: a delivery tag is left, and neither its prefetch nor
+    /// the channel's is used up. Source: RabbitMQ, "Consumer Prefetch".
     pub fn taker(&self, number: u64) -> Option<&Consumer>
         ensures { TellsTaker self.now number (option_map (λ k. k.now) result) }
     {
         self.deliveries.taker(number)
     }
 
-    /// Whether the consumer of this number is the channel's, and may be given a message now: a delivery tag is left, and neither
-    /// its limit nor the channel's is reached. Source: RabbitMQ, "Consumer Prefetch".
+    /// Returns whether the consumer with this number is the channel's and can take a message now: a delivery tag is left, and neither its prefetch
+    /// nor the channel's is used up. Source: RabbitMQ, "Consumer Prefetch".
     pub fn may_take(&self, number: u64) -> bool
         ensures { result ≡ may_be_given self.now.given number }
     {
         self.deliveries.may_take(number)
     }
 
-    /// The consumer of this number, if the channel has it.
+    /// Returns the consumer with this number, if the channel has it.
     pub fn consumer(&self, number: u64) -> Option<&Consumer>
         ensures found { option_map (λ k. k.now) result ≡ consumer_at self.now.given number }
         ensures one { IfSome result (λ k. IsOne self.now number k.now) }
@@ -197,45 +197,46 @@ impl Channel {
         self.deliveries.consumer(number)
     }
 
-    /// Whether it has a consumer.
+    /// Returns whether it has a consumer.
     pub fn has_consumers(&self) -> bool
         ensures { result ≡ nat_lt 0 (length self.now.given.consumers) }
     {
         self.deliveries.has_consumers()
     }
 
-    /// Whether one of its consumers has this tag.
+    /// Returns whether one of its consumers has this tag.
     pub fn has_tagged(&self, tag: &[u8]) -> bool
         ensures { (names : List Name) → result ≡ is_in_use tag.now (open_in names self.now).consumers }
     {
         self.deliveries.has_tagged(tag)
     }
 
-    /// How many of its consumers take from the queue at this place.
+    /// Returns how many of its consumers take from the queue at index `queue`.
     pub fn consumers_from(&self, queue: usize) -> usize
         ensures { result ≡ consumers_from queue self.now }
     {
         self.deliveries.consumers_from(queue)
     }
 
-    /// Whether a delivery tag is left.
+    /// Returns whether the channel can still number a delivery: tags are below 2^64 - 1.
     pub fn has_tag_left(&self) -> bool
         ensures { result ≡ has_tag_left self.now.given.next_tag }
     {
         self.deliveries.has_tag_left()
     }
 
-    /// The delivery tag under which the next message is given out.
+    /// Returns the delivery tag of the next message that is given out.
     pub fn next_tag(&self) -> u64
         ensures { result ≡ self.now.given.next_tag }
     {
         self.deliveries.next_tag()
     }
 
-    /// Makes room for so many messages more that are given out. What is made is bounded by what is outstanding. Where memory is
-    /// wanting, as it may be only where there was not so much, nothing changes.
+    /// Reserves capacity for `more` deliveries. What is allocated is bounded by the number of unacknowledged ones. Fails only if there is less
+    /// capacity and the allocation fails; nothing has changed then.
     pub fn reserve(&mut self, more: usize) -> Result<(), AllocError>
         ensures same { self.new ≡ record self.old { given = record self.old.given { room = self.new.given.room } } }
+        // The capacity after it, also if it fails.
         ensures kept { self.old.given.room ≤ self.new.given.room }
         ensures full { OnErr result (self.old.given.room < more) }
         ensures grown { self.old.given.room < self.new.given.room → self.new.given.room ≤ 3 * length self.old.given.outstanding + more + 68 }
@@ -245,7 +246,7 @@ impl Channel {
         self.deliveries.reserve(more)
     }
 
-    /// A message of the queue at this place is given out under the next tag, and waits to be settled.
+    /// Records that a message of the queue at index `queue` is given out under the next tag, and is unacknowledged.
     pub fn give(&mut self, queue: usize, arrival: u64, by: Taker)
         requires left { has_tag_left self.old.given.next_tag ≡ true }
         requires room { 0 < self.old.given.room }
@@ -254,7 +255,7 @@ impl Channel {
         self.deliveries.give(queue, arrival, by);
     }
 
-    /// A message is given out under the next tag that needs no acknowledgement.
+    /// Records that a message is given out under the next tag, and needs no acknowledgement.
     pub fn give_settled(&mut self)
         requires { has_tag_left self.old.given.next_tag ≡ true }
         ensures { self.new ≡ settled_on self.old }
@@ -262,7 +263,7 @@ impl Channel {
         self.deliveries.give_settled();
     }
 
-    /// All that is outstanding, in tag order, with the places between of what was settled before: at most as many again, and 32.
+    /// Returns the unacknowledged deliveries in tag order, among entries of settled ones: at most as many again, and 32.
     pub fn outstanding(&self) -> &[Delivery]
         ensures all { waiting result.now ≡ self.now.given.outstanding }
         ensures few { length result.now ≤ 2 * length self.now.given.outstanding + 32 }
@@ -270,14 +271,14 @@ impl Channel {
         self.deliveries.outstanding()
     }
 
-    /// What this tag settles; none where it is refused, with 406. It is searched for here alone. Source: AMQP 0-9-1, basic.ack.
+    /// Returns what `tag` settles, or `None` if it is refused, with 406. Only this searches for the tag. Source: AMQP 0-9-1, basic.ack.
     pub fn span(&self, tag: u64, multiple: bool) -> Option<Span>
         ensures { TellsSpan tag multiple self.now.given.outstanding result }
     {
         self.deliveries.span(tag, multiple)
     }
 
-    /// What this span settles, in tag order, with the places between of what was settled before; nothing where its tag is
+    /// Returns what `span` settles, in tag order, among entries of deliveries that were settled before; nothing if its tag is
     /// refused.
     pub fn at(&self, span: Span) -> &[Delivery]
         ensures { waiting result.now ≡ settled_by span self.now.given.outstanding }
@@ -285,7 +286,7 @@ impl Channel {
         self.deliveries.at(span)
     }
 
-    /// Takes out what this span settles; nothing where its tag is refused. It takes no memory.
+    /// Removes what `span` settles; nothing if its tag is refused. Never allocates.
     pub fn forget_span(&mut self, span: Span)
         ensures settled { self.new ≡ without_settled self.old span.tag span.multiple self.new.given.room }
         ensures room { self.old.given.room ≤ self.new.given.room }
@@ -294,7 +295,7 @@ impl Channel {
     }
 
     /// Returns the deliveries that `tag` settles, in tag order, or `None` if the tag is refused, with 406: with `multiple` all up to
-    /// `tag`, which must itself be outstanding, and for tag 0 all that are outstanding; otherwise the one of this tag. Never
+    /// `tag`, which must itself be unacknowledged, and for tag 0 all that are; otherwise the one with this tag. Never
     /// allocates. Source: AMQP 0-9-1, basic.ack.
     pub fn settle(&self, tag: u64, multiple: bool) -> Option<Settled<'_>>
         ensures { result ≡ settled tag_of tag multiple self.now.given.outstanding }
@@ -316,7 +317,7 @@ impl Channel {
         });
     }
 
-    /// Each queue that stood at a place of the table stands now at the place that it has there. It takes no memory.
+    /// Sets each queue's index to the one that `places` has for it. Never allocates.
     pub fn renumber(&mut self, places: &[usize])
         ensures { self.new ≡ open_moved places.now self.old }
     {

@@ -1,6 +1,6 @@
-//! Connections that run, and their channels.
+//! The running connections, and their channels.
 //!
-//! A connection is looked up by its number in a map, and a channel stands in its connection at its number.
+//! A connection is looked up by its number in a map, and a channel by its number in its connection's vector.
 
 ghost use Rattle.std.specs.Prelude.{◌≡◌, min};
 ghost use Rattle.model.specs.Step.{greatest};
@@ -15,7 +15,7 @@ use std::alloc::{AllocError, Global};
 use std::collections::HashMap;
 use std::marker::Model;
 
-/// The connections that run, each under its number.
+/// The running connections, by number.
 #[derive(Drop)]
 pub struct RunningConnections {
     connections: HashMap<u64, RunningConnection>,
@@ -59,7 +59,7 @@ impl RunningConnections {
     ghost use Rattle.channels.specs.RunningConnections.{running_in, connection_of, channel_of, outstanding_on, PutsChannel, OpensConnection, HoldsConnections};
     ghost use Rattle.channels.specs.RunningConnections.{HasPlacesBelow};
 
-    /// No connection runs. It takes no memory.
+    /// Makes an empty list of connections. Never allocates.
     pub fn new(alloc: Global) -> RunningConnections
         ensures { result ≡ [] }
     {
@@ -68,14 +68,14 @@ impl RunningConnections {
         }
     }
 
-    /// The connection of this number, if it runs.
+    /// Returns the connection with this number, if it is running.
     pub fn get(&self, connection: u64) -> Option<&RunningConnection>
         ensures { option_copied result ≡ running_in self.now connection }
     {
         self.connections.get(&connection)
     }
 
-    /// The open channel of this number on the connection, if that runs.
+    /// Returns the open channel with this number, if its connection is running.
     pub fn channel(&self, connection: u64, number: u16) -> Option<&Channel>
         ensures { option_copied result ≡ channel_of self.now connection number }
     {
@@ -85,7 +85,7 @@ impl RunningConnections {
         }
     }
 
-    /// The connection of this number, if it runs, to be changed.
+    /// Borrows the connection with this number mutably, if it is running.
     pub fn running_mut(&mut self, connection: u64) -> Option<&mut RunningConnection>
         ensures* writes_back { sem 𝓛 (LendsConnection self.entry connection result) }
         ensures value { option_copied_mut result ≡ running_in self.old connection }
@@ -93,7 +93,7 @@ impl RunningConnections {
         self.connections.get_mut(&connection)
     }
 
-    /// The open channel of these numbers, to be changed.
+    /// Borrows the open channel with these numbers mutably.
     pub fn channel_mut(&mut self, connection: u64, number: u16) -> Option<&mut Channel>
         ensures* writes_back { sem 𝓛 (LendsChannel self.entry connection number result) }
         ensures value { option_copied_mut result ≡ channel_of self.old connection number }
@@ -104,8 +104,8 @@ impl RunningConnections {
         }
     }
 
-    /// All that is outstanding on this channel, in tag order, with the places between of what was settled before; nothing where
-    /// it is not open, or its connection doesn't run. There are at most as many places between as wait, and 32.
+    /// Returns the unacknowledged deliveries of a channel in tag order, among entries of settled ones: at most as many again, and 32. Empty if the
+    /// channel is not open, or its connection is not running.
     pub fn outstanding(&self, connection: u64, number: u16) -> &[Delivery]
         ensures all { waiting result.now ≡ outstanding_on (channel_of self.now connection number) }
         ensures few { length result.now ≤ 2 * length (outstanding_on (channel_of self.now connection number)) + 32 }
@@ -116,31 +116,31 @@ impl RunningConnections {
         }
     }
 
-    /// How many consumers on all channels together take from the queue at this place, at most the greatest number. It passes
-    /// every channel that is kept, and takes no memory.
+    /// Returns how many consumers on all channels together take from the queue at index `queue`, at most `usize::MAX`. Looks at
+    /// every channel. Never allocates.
     pub fn count_consumers(&self, queue: usize) -> usize
         ensures { CountsConsumers self.now queue result }
     {
         count_consumers(&self.connections, queue)
     }
 
-    /// Whether some consumer on some channel takes from the queue at this place. It passes every channel that is kept, and takes
-    /// no memory.
+    /// Returns whether some consumer on some channel takes from the queue at index `queue`. Looks at every channel. Never
+    /// allocates.
     pub fn is_consumed(&self, queue: usize) -> bool
         ensures { result ≡ is_consumed self.now queue }
     {
         count_consumers(&self.connections, queue) != 0
     }
 
-    /// Consumers take from a queue exactly where some channel has one that does.
+    /// Shows that consumers take from a queue exactly if some channel has one that does. Does nothing at run time.
     pub fn takers_are_found(&self)
         ensures { (queue : ℕ) → Decides (is_consumed self.now queue) (HasTaker self.now queue) }
     {
         self.connections.values();
     }
 
-    /// The connection runs from now on, with channels 1 to `channels` open and new, and no place for more. Gives what ran under
-    /// its number before, if anything did.
+    /// Makes `connection` a running one, with channels 1 to `channels` open and new, and no slots for others. Returns the earlier connection of
+    /// this number, if any. Fails only if an allocation fails; nothing has changed then.
     pub fn open(
         &mut self,
         alloc: Global,
@@ -160,14 +160,14 @@ impl RunningConnections {
         }
     }
 
-    /// The connection runs no more, and its channels are gone with it.
+    /// Removes the connection with its channels.
     pub fn remove(&mut self, connection: u64)
         ensures { HoldsConnections self.new (with_one (connection_of self.old) connection None) (with_row (channel_of self.old) connection (λ h. None)) }
     {
         self.connections.remove(&connection);
     }
 
-    /// The connection is paused from now on, or is not, if it runs.
+    /// Sets whether the connection is paused, if it is running.
     pub fn set_paused(&mut self, connection: u64, is_paused: bool)
         ensures { HoldsConnections self.new
             (with_one (connection_of self.old) connection (paused is_paused (connection_of self.old connection))) (channel_of self.old) }
@@ -177,8 +177,8 @@ impl RunningConnections {
         }
     }
 
-    /// This stands at this channel from now on, where none may have been open yet. Places are made up to its number. Memory is
-    /// wanting only where it has none yet. Then nothing has changed.
+    /// Puts `channel` at this number, whether or not a channel was open there. Makes slots up to that number. Fails only if the connection has no
+    /// slot for it yet and the allocation fails; nothing has changed then.
     pub fn open_channel(
         &mut self,
         connection: u64,
@@ -197,7 +197,7 @@ impl RunningConnections {
         }
     }
 
-    /// This stands at this channel from now on.
+    /// Replaces the open channel with this number by `channel`.
     pub fn put(&mut self, connection: u64, number: u16, channel: Option<Channel>)
         requires { IsSome (channel_of self.old connection number) }
         ensures { PutsChannel self.old connection number channel self.new }
@@ -207,7 +207,7 @@ impl RunningConnections {
         }
     }
 
-    /// Each queue that stood at a place of the table stands now at the place that it has there. It takes no memory.
+    /// Sets each queue's index to the one that `places` has for it. Never allocates.
     pub fn renumber(&mut self, places: &[usize])
         ensures { self.new ≡ connections_moved places.now self.old }
     {
@@ -215,17 +215,17 @@ impl RunningConnections {
     }
 }
 
-/// A channel that was lent and written stands at its number now, and everything else stays.
+/// Shows that an open channel that is borrowed and written is at its number then, and nothing else changed. Does nothing at run time.
 pub fn lent_channels_are_put()
     ensures { LentArePut }
 {}
 
-/// Where each queue that a channel names has its name at its new place too, all is seen of the channels that was seen before.
+/// Shows that the model sees no difference on the channels if each queue that they name has its name at its new index. Does nothing at run time.
 pub fn moves_are_unseen()
     ensures { MovesAreUnseen }
 {}
 
-/// The same for these connections.
+/// Does the same for these connections.
 fn renumber_all(connections: &mut HashMap<u64, RunningConnection>, places: &[usize])
     ensures { connections.new.entries ≡ connections_moved places.now connections.old.entries }
 {
@@ -235,7 +235,7 @@ fn renumber_all(connections: &mut HashMap<u64, RunningConnection>, places: &[usi
     });
 }
 
-/// How many consumers on all channels of these connections take from the queue at this place, at most the greatest number.
+/// Returns how many consumers on all channels of these connections take from the queue at index `queue`, at most `usize::MAX`.
 fn count_consumers(connections: &HashMap<u64, RunningConnection>, queue: usize) -> usize
     ensures counts { CountsConsumers connections.now.entries queue result }
     ensures all { result ≡ min (all_consumers connections.now.entries queue) greatest }

@@ -4,51 +4,52 @@ ghost use Rattle.std.specs.Prelude.{cond, ◌&&◌, ◌≡◌, ◌<◌, ◌≤�
 ghost use Rattle.std.specs.Prelude.{length, map, find, filter, count_by, vec_len, vec_capacity};
 ghost use Rattle.model.specs.declared.messages.Taker.TheVariants as taker;
 ghost use Rattle.std.specs.List.{list_any, position_from, All};
-ghost use Rattle.model.specs.Prefetch.{is_to, is_delivery, is_below};
+ghost use Rattle.model.specs.Prefetch.{is_to, is_delivery, is_below, count_to};
 ghost use Rattle.model.specs.Placed.{is_waiting, waiting};
 ghost use Rattle.channels.specs.Seats.{consumers_of, is_numbered, has_name, takes_from, counted_in, counted_out, uncounted};
-ghost use Rattle.channels.specs.Seats.{may_held, taker_held, IsSeatAt, NumbersRise};
+ghost use Rattle.channels.specs.Seats.{may_held, taker_held, IsSeatAt, NumbersRise, number_given, NoneAbove};
 ghost use Rattle.channels.specs.Moving.{seat_moved};
+ghost use Rattle.channels.specs.Outstanding.{taker_of};
 
 use crate::pending::place_now;
 use model::{Delivery, Taker, Text};
 use std::alloc::AllocError;
 
-/// One who takes a queue's messages. Source: AMQP 0-9-1, basic.consume.
+/// A consumer of a queue. Source: AMQP 0-9-1, basic.consume.
 #[derive(Drop)]
 pub struct Consumer {
-    /// Consumers of a channel are numbered as they are made, and no number is used again.
+    /// Its number on the channel: in the order in which consumers are made, and never used twice.
     pub number: u64,
     pub tag: Text,
-    /// The queue's place in the file of definitions.
+    /// The index of its queue.
     pub queue: usize,
     pub no_ack: bool,
-    /// How many messages it may hold; 0 is no limit.
+    /// Its prefetch: how many messages it may have unacknowledged; 0 is no limit.
     pub limit: u16,
 }
 
-/// A consumer, and how many of the outstanding messages were given to it.
+/// A consumer with the number of its unacknowledged messages.
 #[derive(Drop)]
 pub struct CountedConsumer {
     pub consumer: Consumer,
     pub(crate) held: usize,
 }
 
-/// What stands against a consumer.
+/// Why a consumer is refused, with the reply code.
 #[derive(Clone, Copy, PartialEq, Eq, Debug, Drop)]
 pub enum SeatRefusal {
     /// Its tag is in use on the channel: 530.
     InUse,
     /// The channel has 256 consumers: 506.
     TooMany,
-    /// The numbers of consumers are spent: 541.
+    /// The consumer numbers, or the server's tags, are used up: 541.
     Spent,
 }
 
 /// Why a consumer was not made.
 #[derive(Clone, Copy, PartialEq, Eq, Debug, Drop)]
 pub enum Unseated {
-    /// This stands against it.
+    /// It is refused for this.
     Refused(SeatRefusal),
     Memory,
 }
@@ -73,21 +74,21 @@ impl From<AllocError> for Unseated {
     }
 }
 
-/// Some consumer has this tag.
+/// Returns whether some consumer has this tag.
 pub(crate) fn is_in_use(seats: &[CountedConsumer], tag: &[u8]) -> bool
     ensures { result ≡ list_any (has_name tag.now) seats.now }
 {
     seats.iter().any(|s| s.consumer.tag.as_bytes() == tag)
 }
 
-/// Whether the consumer at this place has this number.
+/// Returns whether the consumer at index `place` has this number.
 fn is_at(seats: &[CountedConsumer], place: usize, number: u64) -> bool
     ensures { result ≡ true → IsSeatAt seats.now number place }
 {
     place < seats.len() && seats[place].consumer.number == number
 }
 
-/// The first place at which the consumer has this number, looked for one by one.
+/// Returns the index of the first consumer with this number, by linear search.
 fn search(seats: &[CountedConsumer], number: u64) -> Option<usize>
     ensures is { result ≡ position_from (is_numbered number) 0 seats.now }
     ensures some { IfSome result (λ place. IsSeatAt seats.now number place) }
@@ -95,7 +96,7 @@ fn search(seats: &[CountedConsumer], number: u64) -> Option<usize>
     seats.iter().position(|s| s.consumer.number == number)
 }
 
-/// The place of the consumer of this number. It is found by halving, since numbers rise; none is told after a look at each.
+/// Returns the index of the consumer with this number: by binary search, since numbers ascend. Looks at each before it returns `None`.
 fn place_of_consumer(seats: &[CountedConsumer], number: u64) -> Option<usize>
     ensures some { IfSome result (λ place. IsSeatAt seats.now number place) }
     ensures none { result ≡ None → find (is_numbered number) seats.now ≡ None }
@@ -107,7 +108,7 @@ fn place_of_consumer(seats: &[CountedConsumer], number: u64) -> Option<usize>
     search(seats, number)
 }
 
-/// The seat of the consumer of this number.
+/// Returns the counted consumer with this number.
 fn seat_of(seats: &[CountedConsumer], number: u64) -> Option<&CountedConsumer>
     requires { NumbersRise (consumers_of seats.now) }
     ensures { option_map (λ s. s.now) result ≡ find (is_numbered number) seats.now }
@@ -118,7 +119,7 @@ fn seat_of(seats: &[CountedConsumer], number: u64) -> Option<&CountedConsumer>
     }
 }
 
-/// The consumer of this number.
+/// Returns the consumer with this number.
 pub(crate) fn consumer_of(seats: &[CountedConsumer], number: u64) -> Option<&Consumer>
     requires { NumbersRise (consumers_of seats.now) }
     ensures { option_map (λ k. k.now) result ≡ option_map (λ s. s.consumer) (find (is_numbered number) seats.now) }
@@ -129,14 +130,14 @@ pub(crate) fn consumer_of(seats: &[CountedConsumer], number: u64) -> Option<&Con
     }
 }
 
-/// How many take from the queue at this place.
+/// Returns how many take from the queue at index `queue`.
 pub(crate) fn count_from(seats: &[CountedConsumer], queue: usize) -> usize
     ensures { result ≡ count_by (λ s. takes_from queue s.consumer) seats.now }
 {
     seats.iter().filter(|s| s.consumer.queue == queue).count()
 }
 
-/// Takes out the consumers of this tag.
+/// Removes the consumers with this tag.
 pub(crate) fn remove_tagged(seats: &mut Vec<CountedConsumer>, tag: &[u8])
     ensures seats { seats.new.items ≡ filter (λ s. not (has_name tag.now s)) seats.old.items }
     ensures len { vec_len seats.new ≤ vec_len seats.old }
@@ -145,7 +146,7 @@ pub(crate) fn remove_tagged(seats: &mut Vec<CountedConsumer>, tag: &[u8])
     seats.retain(|s| s.consumer.tag.as_bytes() != tag);
 }
 
-/// It was given to the consumer of this number.
+/// Returns whether it was given to the consumer with this number.
 fn is_its(by: &Taker, number: u64) -> bool
     ensures { result ≡ is_to number by.now }
 {
@@ -155,22 +156,32 @@ fn is_its(by: &Taker, number: u64) -> bool
     }
 }
 
-/// It was given to some consumer.
+/// Returns whether it was given to a consumer.
 fn is_consumed(by: &Taker) -> bool
     ensures { result ≡ is_delivery by.now }
 {
     matches!(by, Taker::Consumer(_))
 }
 
-/// 1 where it was given to some consumer, else 0.
+/// Returns the number of the consumer to which it was given; 0 for a get.
+pub(crate) fn number_of(by: &Taker) -> u64
+    ensures { result ≡ number_given by.now }
+{
+    match by {
+        Taker::Get => 0,
+        Taker::Consumer(number) => *number,
+    }
+}
+
+/// Returns 1 if it was given to a consumer, otherwise 0.
 pub(crate) fn one_if_consumed(by: &Taker) -> usize
     ensures { result ≡ cond (is_delivery by.now) 1 0 }
 {
     if is_consumed(by) { 1 } else { 0 }
 }
 
-/// How many of those that wait were given to the consumer of this number.
-pub(crate) fn given_to(given: &[Delivery], number: u64) -> usize
+/// Returns how many of those that wait were given to the consumer with this number.
+fn given_to(given: &[Delivery], number: u64) -> usize
     ensures { result ≡ count_by (λ o. is_waiting o && is_to number o.by) given.now }
 {
     let mut count = 0;
@@ -182,7 +193,19 @@ pub(crate) fn given_to(given: &[Delivery], number: u64) -> usize
     count
 }
 
-/// How many of those that wait were given to consumers.
+/// Returns how many of those that wait were given to the consumer of this number, if none of a greater number than `most` was given any.
+/// Goes over them only if the number is not greater.
+pub(crate) fn held_by(given: &[Delivery], most: u64, number: u64) -> usize
+    requires { NoneAbove most (waiting given.now) }
+    ensures { result ≡ count_to taker_of number (waiting given.now) }
+{
+    if number > most {
+        return 0;
+    }
+    given_to(given, number)
+}
+
+/// Returns how many of those that wait were given to consumers.
 pub(crate) fn given_to_all(given: &[Delivery]) -> usize
     ensures { result ≡ count_by (λ o. is_waiting o && is_delivery o.by) given.now }
 {
@@ -195,7 +218,7 @@ pub(crate) fn given_to_all(given: &[Delivery]) -> usize
     count
 }
 
-/// Counts a message that is given out to the consumer of this number, if there is one.
+/// Counts a message that is given out to the consumer with this number, if there is one.
 fn count_one_in(seats: &mut [CountedConsumer], number: u64)
     requires held { All (λ s. s.held < 2 ^ 64 - 1) seats.old }
     requires rise { NumbersRise (consumers_of seats.old) }
@@ -220,7 +243,7 @@ pub(crate) fn count_in(seats: &mut Vec<CountedConsumer>, by: &Taker)
     }
 }
 
-/// Counts one no more that was given to the consumer of this number, if there is one.
+/// Uncounts a message that was given to the consumer with this number, if there is one.
 fn count_number_out(seats: &mut [CountedConsumer], number: u64)
     requires { NumbersRise (consumers_of seats.old) }
     ensures { seats.new ≡ map (uncounted (taker.Consumer number)) seats.old }
@@ -230,7 +253,7 @@ fn count_number_out(seats: &mut [CountedConsumer], number: u64)
     }
 }
 
-/// Counts one no more that is settled.
+/// Uncounts a message that is settled.
 fn count_one_out(seats: &mut [CountedConsumer], by: &Taker)
     requires { NumbersRise (consumers_of seats.old) }
     ensures { seats.new ≡ map (uncounted by.now) seats.old }
@@ -241,7 +264,7 @@ fn count_one_out(seats: &mut [CountedConsumer], by: &Taker)
     }
 }
 
-/// Counts this one no more, where it waits.
+/// Uncounts this one if it waits.
 fn count_waiting_out(seats: &mut [CountedConsumer], one: &Delivery)
     requires { NumbersRise (consumers_of seats.old) }
     ensures yes { is_waiting one.now ≡ true → seats.new ≡ map (uncounted one.now.by) seats.old }
@@ -252,7 +275,7 @@ fn count_waiting_out(seats: &mut [CountedConsumer], one: &Delivery)
     }
 }
 
-/// Counts those that wait no more, one after another.
+/// Uncounts those that wait, one after another.
 fn count_each_out(seats: &mut [CountedConsumer], gone: &[Delivery])
     requires { NumbersRise (consumers_of seats.old) }
     ensures { seats.new ≡ map (counted_out (waiting gone.now)) seats.old }
@@ -262,7 +285,7 @@ fn count_each_out(seats: &mut [CountedConsumer], gone: &[Delivery])
     }
 }
 
-/// Counts those that wait no more.
+/// Uncounts those that wait.
 pub(crate) fn count_out(seats: &mut Vec<CountedConsumer>, gone: &[Delivery])
     requires { NumbersRise (consumers_of seats.old.items) }
     ensures seats { seats.new.items ≡ map (counted_out (waiting gone.now)) seats.old.items }
@@ -272,21 +295,21 @@ pub(crate) fn count_out(seats: &mut Vec<CountedConsumer>, gone: &[Delivery])
     count_each_out(seats, gone);
 }
 
-/// This limit leaves room for one message more beside so many.
+/// Returns whether `limit` allows one more message than `held`.
 fn is_room(limit: u16, held: usize) -> bool
     ensures { result ≡ is_below limit held }
 {
     limit == 0 || held < limit as usize
 }
 
-/// The consumer there may be given one message more, where all consumers of the channel have `given` under this limit of theirs.
+/// Returns whether this consumer may be given one more message; all of the channel together have `given` under `limit`.
 fn may_hold(seat: &CountedConsumer, limit: u16, given: usize) -> bool
     ensures { result ≡ may_held limit given (Some seat.now) }
 {
     seat.consumer.no_ack || (is_room(seat.consumer.limit, seat.held) && is_room(limit, given))
 }
 
-/// The consumer of this number is there, and may be given one message more.
+/// Returns whether the consumer with this number exists and may be given one more message.
 pub(crate) fn may_one(seats: &[CountedConsumer], number: u64, limit: u16, given: usize) -> bool
     requires { NumbersRise (consumers_of seats.now) }
     ensures { result ≡ may_held limit given (find (is_numbered number) seats.now) }
@@ -297,7 +320,7 @@ pub(crate) fn may_one(seats: &[CountedConsumer], number: u64, limit: u16, given:
     }
 }
 
-/// The consumer of this number, where it is there and may be given one message more.
+/// Returns the consumer with this number if it exists and may be given one more message.
 pub(crate) fn taker_of(
     seats: &[CountedConsumer],
     number: u64,
@@ -319,7 +342,7 @@ pub(crate) fn taker_of(
     }
 }
 
-/// Each is told where its queue stands now.
+/// Sets each queue's index to the one that `places` has for it.
 pub(crate) fn renumber(seats: &mut Vec<CountedConsumer>, places: &[usize])
     ensures seats { seats.new.items ≡ map (seat_moved places.now) seats.old.items }
     ensures len { vec_len seats.new ≡ vec_len seats.old }
@@ -328,7 +351,7 @@ pub(crate) fn renumber(seats: &mut Vec<CountedConsumer>, places: &[usize])
     renumber_slice(seats, places);
 }
 
-/// Each of these is told where its queue stands now.
+/// Does the same for each of these.
 fn renumber_slice(seats: &mut [CountedConsumer], places: &[usize])
     ensures { seats.new ≡ map (seat_moved places.now) seats.old }
 {

@@ -1,6 +1,6 @@
-//! Delivery tags, what is outstanding under them, and the consumers with their limits.
+//! Delivery tags, unacknowledged deliveries, and the consumers with their limits.
 
-use crate::consumers::{Consumer, CountedConsumer, SeatRefusal, Unseated, given_to};
+use crate::consumers::{Consumer, CountedConsumer, SeatRefusal, Unseated, held_by, number_of};
 use crate::names::{Name, next_name};
 use crate::pending::Unsettled;
 use crate::seats::Seats;
@@ -16,6 +16,8 @@ pub struct Deliveries {
     seats: Seats,
     next_tag: u64,
     next_number: u64,
+    /// The greatest number of a consumer to which something was given.
+    most_given: u64,
     next_name: u64,
     each_limit: u16,
     limit: u16,
@@ -23,7 +25,7 @@ pub struct Deliveries {
 
 impl Model for Deliveries {
     ghost use Rattle.std.specs.Prelude.{◌<◌};
-    ghost use Rattle.channels.specs.Seats.{SeatsAreCounted, AreNumbered};
+    ghost use Rattle.channels.specs.Seats.{SeatsAreCounted, AreNumbered, NoneAbove};
     ghost use Rattle.channels.specs.Deliveries.{Given};
 
     ghost Value = { Given };
@@ -40,7 +42,8 @@ impl Model for Deliveries {
       seats = d.seats.room;
     } };
 
-    ghost invariant = { λ d. (d.pending.last < d.next_tag) × SeatsAreCounted d.seats d.pending.outstanding × AreNumbered d.next_number d.seats.consumers };
+    ghost invariant = { λ d. (d.pending.last < d.next_tag) × SeatsAreCounted d.seats d.pending.outstanding
+        × AreNumbered d.next_number d.seats.consumers × NoneAbove d.most_given d.pending.outstanding };
 }
 
 impl Deliveries {
@@ -56,7 +59,7 @@ impl Deliveries {
     ghost use Rattle.channels.specs.Deliveries.{ConsumesUnnamed, JudgesSeat, JudgesUnnamed, MaySeat, NamesUnnamed};
     ghost use Rattle.channels.specs.Moving.{given_moved};
 
-    /// Nothing was given out, there is no consumer and no limit. It takes no memory.
+    /// Makes the deliveries of a new channel: nothing was given out, and there is no consumer and no limit. Never allocates.
     pub fn new(alloc: Global) -> Deliveries
         ensures { result ≡ nothing_given 0 0 }
     {
@@ -65,17 +68,20 @@ impl Deliveries {
             seats: Seats::new(alloc),
             next_tag: 1,
             next_number: 1,
+            most_given: 0,
             next_name: 1,
             each_limit: 0,
             limit: 0,
         }
     }
 
-    /// Makes room for so many messages more that are given out. Where memory is wanting nothing changes.
+    /// Reserves capacity for `more` deliveries. Fails only if there is less and the allocation fails; nothing has changed then.
     pub fn reserve(&mut self, more: usize) -> Result<(), AllocError>
+        // The capacity after it, also if it fails.
         ensures same { self.new ≡ record self.old { room = self.new.room } }
         ensures kept { self.old.room ≤ self.new.room }
         ensures room { OnOk result (more ≤ self.new.room) }
+        // When it may fail, and how much it allocates.
         ensures full { OnErr result (self.old.room < more) }
         ensures grown { self.old.room < self.new.room → self.new.room ≤ 3 * length self.old.outstanding + more + 68 }
         ensures err { OnErr result (self.new ≡ self.old) }
@@ -83,14 +89,14 @@ impl Deliveries {
         self.pending.reserve(more)
     }
 
-    /// What this tag settles; none where it is refused, with 406. Source: AMQP 0-9-1, basic.ack.
+    /// Returns what `tag` settles, or `None` if it is refused, with 406. Source: AMQP 0-9-1, basic.ack.
     pub fn span(&self, tag: u64, multiple: bool) -> Option<Span>
         ensures { TellsSpan tag multiple self.now.outstanding result }
     {
         self.pending.span(tag, multiple)
     }
 
-    /// What this span settles, in tag order, with the places between of what was settled before; nothing where its tag is
+    /// Returns what `span` settles, in tag order, among entries of deliveries that were settled before; nothing if its tag is
     /// refused.
     pub fn at(&self, span: Span) -> &[Delivery]
         ensures { waiting result.now ≡ settled_by span self.now.outstanding }
@@ -98,7 +104,7 @@ impl Deliveries {
         self.pending.at(span)
     }
 
-    /// Takes out what this span settles; nothing where its tag is refused.
+    /// Removes what `span` settles; nothing if its tag is refused.
     pub fn forget_span(&mut self, span: Span)
         ensures outstanding { self.new ≡ record self.old { outstanding = kept tag_of span.tag span.multiple self.old.outstanding; room = self.new.room } }
         ensures room { self.old.room ≤ self.new.room }
@@ -107,7 +113,7 @@ impl Deliveries {
         self.pending.forget(span);
     }
 
-    /// All that is outstanding, in tag order, with the places between of what was settled before: at most as many again, and 32.
+    /// Returns the unacknowledged deliveries in tag order, among entries of settled ones: at most as many again, and 32.
     pub fn outstanding(&self) -> &[Delivery]
         ensures all { waiting result.now ≡ self.now.outstanding }
         ensures few { length result.now ≤ 2 * length self.now.outstanding + 32 }
@@ -115,21 +121,21 @@ impl Deliveries {
         self.pending.all()
     }
 
-    /// The delivery tag under which the next message is given out.
+    /// Returns the delivery tag of the next message that is given out.
     pub fn next_tag(&self) -> u64
         ensures { result ≡ self.now.next_tag }
     {
         self.next_tag
     }
 
-    /// Whether a delivery tag is left.
+    /// Returns whether the channel can still number a delivery: tags are below 2^64 - 1.
     pub fn has_tag_left(&self) -> bool
         ensures { result ≡ has_tag_left self.now.next_tag }
     {
         self.next_tag < u64::MAX
     }
 
-    /// A message of the queue at this place is given out, and waits to be settled. Tells its tag.
+    /// Records that a message of the queue at index `queue` is given out and is unacknowledged. Returns its tag.
     pub fn give(&mut self, queue: usize, arrival: u64, by: Taker) -> u64
         requires left { has_tag_left self.old.next_tag ≡ true }
         requires room { 0 < self.old.room }
@@ -145,11 +151,12 @@ impl Deliveries {
             by,
         });
         self.seats.count_in(&by);
+        self.most_given = self.most_given.max(number_of(&by));
         self.next_tag = tag + 1;
         tag
     }
 
-    /// A message is given out that needs no acknowledgement. Tells its tag, which is never outstanding.
+    /// Records that a message is given out that needs no acknowledgement. Returns its tag, which is never unacknowledged.
     pub fn give_settled(&mut self) -> u64
         requires { has_tag_left self.old.next_tag ≡ true }
         ensures tag { result ≡ self.old.next_tag }
@@ -160,7 +167,7 @@ impl Deliveries {
         tag
     }
 
-    /// Sets a limit; 0 is none. Source: AMQP 0-9-1, basic.qos; RabbitMQ, "Consumer Prefetch".
+    /// Sets a prefetch; 0 is no limit. Source: AMQP 0-9-1, basic.qos; RabbitMQ, "Consumer Prefetch".
     pub fn limit(&mut self, count: u16, global: bool)
         ensures { self.new ≡ with_limit self.old count global }
     {
@@ -171,7 +178,7 @@ impl Deliveries {
         }
     }
 
-    /// The number of the next consumer: each that is there has a smaller one.
+    /// Returns the number of the next consumer. Each consumer has a smaller one.
     pub fn next_number(&self) -> u64
         ensures next { result ≡ self.now.next_number }
         ensures numbered { AreNumbered result self.now.consumers }
@@ -179,15 +186,15 @@ impl Deliveries {
         self.next_number
     }
 
-    /// Whether the consumer of this number is the channel's, and may be given a message now: a tag is left, and neither its
-    /// limit nor the channel's is reached.
+    /// Returns whether the consumer with this number is the channel's and can take a message now: a tag is left, and neither its prefetch nor the
+    /// channel's is used up.
     pub fn may_take(&self, number: u64) -> bool
         ensures { result ≡ may_be_given self.now number }
     {
         self.has_tag_left() && self.seats.may_take(number, self.limit)
     }
 
-    /// The consumer of this number, where it may be given a message now.
+    /// Returns the consumer with this number if it can take a message now.
     pub fn taker(&self, number: u64) -> Option<&Consumer>
         ensures taker { option_map (λ k. k.now) result ≡ taker_at self.now number }
         ensures numbered { AreNumbered self.now.next_number self.now.consumers }
@@ -199,7 +206,7 @@ impl Deliveries {
         found
     }
 
-    /// The consumer of this number, if there is one.
+    /// Returns the consumer with this number, if there is one.
     pub fn consumer(&self, number: u64) -> Option<&Consumer>
         ensures consumer { option_map (λ k. k.now) result ≡ consumer_at self.now number }
         ensures numbered { AreNumbered self.now.next_number self.now.consumers }
@@ -207,29 +214,29 @@ impl Deliveries {
         self.seats.numbered(number)
     }
 
-    /// Whether there is a consumer.
+    /// Returns whether there is a consumer.
     pub fn has_consumers(&self) -> bool
         ensures { result ≡ nat_lt 0 (length self.now.consumers) }
     {
         self.seats.len() > 0
     }
 
-    /// Whether some consumer has this tag.
+    /// Returns whether some consumer has this tag.
     pub fn has_tagged(&self, tag: &[u8]) -> bool
         ensures { result ≡ list_any (is_named tag.now) self.now.consumers }
     {
         self.seats.has(tag)
     }
 
-    /// How many of the consumers take from the queue at this place.
+    /// Returns how many of the consumers take from the queue at index `queue`.
     pub fn consumers_from(&self, queue: usize) -> usize
         ensures { result ≡ count_by (takes_from queue) self.now.consumers }
     {
         self.seats.count_from(queue)
     }
 
-    /// What stands against a consumer of this tag: that one of the channel has the tag (530), that there are 256 (506), or
-    /// that the numbers are spent (541). It takes no memory.
+    /// Returns the first reason against a consumer with this tag: one of the channel has the tag (530), there are 256 (506), or the numbers are used
+    /// up (541). Never allocates.
     pub fn refusal(&self, tag: &[u8]) -> Option<SeatRefusal>
         ensures { JudgesSeat self.now tag.now result }
     {
@@ -245,8 +252,8 @@ impl Deliveries {
         None
     }
 
-    /// Makes a consumer of this tag, against which nothing stands. Memory is wanting only where there was no room for one
-    /// more. Then nothing changes.
+    /// Makes a consumer with this tag, which is not refused. Fails only if there is no spare capacity and the allocation fails; nothing has
+    /// changed then.
     pub fn consume(&mut self, tag: Text, queue: usize, no_ack: bool) -> Result<(), AllocError>
         requires { MaySeat self.old tag }
         ensures ok { OnOk result (AddsConsumer self.old tag queue no_ack self.new) }
@@ -264,15 +271,15 @@ impl Deliveries {
             no_ack,
             limit: self.each_limit,
         };
-        let held = given_to(self.pending.all(), number);
+        let held = held_by(self.pending.all(), self.most_given, number);
         self.seats.push(consumer, held);
         self.next_number = number + 1;
         Ok(())
     }
 
-    /// The next name for a consumer for whom the client gives no tag: `amq.ctag-N`, N counted from 1 on the channel, past those in
-    /// use. Refused, in this order: where the channel has 256 consumers (506), and where the numbers or the names are spent (541).
-    /// It takes no memory.
+    /// Returns the next tag for a consumer without one of its own: `amq.ctag-N`, with N counted from 1 on the channel, past those in use. Refused
+    /// if the channel has 256 consumers (506), or if the numbers or the tags are used up (541), in this order.
+    /// Never allocates.
     fn next_unnamed(&self) -> Result<Name, SeatRefusal>
         ensures { NamesUnnamed self.now result }
     {
@@ -288,7 +295,7 @@ impl Deliveries {
         }
     }
 
-    /// What stands against a consumer for whom the client gives no tag. It takes no memory.
+    /// Returns the first reason against a consumer without a tag of its own. Never allocates.
     pub fn refusal_unnamed(&self) -> Option<SeatRefusal>
         ensures { JudgesUnnamed self.now result }
     {
@@ -298,8 +305,8 @@ impl Deliveries {
         }
     }
 
-    /// Makes a consumer for whom the client gave no tag, under the next name. Tells the tag. Refused where something stands
-    /// against it, and for want of memory. Then nothing changes.
+    /// Makes a consumer without a tag of its own, with the server's next tag, and returns that. Fails if it is refused or an allocation
+    /// fails; nothing has changed then.
     pub fn consume_unnamed(
         &mut self,
         alloc: Global,
@@ -315,7 +322,7 @@ impl Deliveries {
         Ok(tag)
     }
 
-    /// Takes the consumer of this tag out, if there is one. What it was given stays outstanding.
+    /// Removes the consumer with this tag, if any. Its unacknowledged messages stay unacknowledged.
     pub fn cancel(&mut self, tag: &[u8])
         ensures consumers { self.new ≡ record self.old { consumers = filter (λ c. not (is_named tag.now c)) self.old.consumers; seats = self.new.seats } }
         ensures seats { self.old.seats ≤ self.new.seats }
@@ -323,7 +330,7 @@ impl Deliveries {
         self.seats.take_out(tag);
     }
 
-    /// Each queue that stood at a place of the table stands now at the place that it has there. It takes no memory.
+    /// Sets each queue's index to the one that `places` has for it. Never allocates.
     pub fn renumber(&mut self, places: &[usize])
         ensures { self.new ≡ given_moved places.now self.old }
     {
@@ -331,7 +338,7 @@ impl Deliveries {
         self.seats.renumber(places);
     }
 
-    /// The consumers, in the order in which they were made.
+    /// Returns the consumers, in the order in which they were made.
     pub fn consumers(&self) -> &[CountedConsumer]
         ensures { consumers_of result.now ≡ self.now.consumers }
     {

@@ -1,9 +1,9 @@
-//! Connections that run, each with its open channels: whether publishes on one are confirmed, whether a close was sent on it, and what it
-//! has given out.
+//! The running connections, each with its open channels: whether a channel is in confirm mode, whether a close was sent on it, and what it has
+//! given out.
 //!
-//! A `Channel` is seen as the record that the model keeps of it. `Deliveries` are a channel's delivery tags, what is
-//! outstanding under them, and the consumers with their limits (`specs/Outstanding.antt`). `RunningConnections` are seen as a list of the connections beside
-//! their numbers, each with its limit, whether it is paused, and its channels at their numbers (`specs/RunningConnections.antt`).
+//! Start at [`RunningConnections`] and [`Channel`]. A caller sees a `Channel` as a record of what is kept of it. Its `Deliveries` have the
+//! delivery tags, the unacknowledged deliveries, and the consumers with their limits (`specs/Outstanding.antt`). A caller sees
+//! `RunningConnections` as the connections by number, each with its limit, whether it is paused, and its channels (`specs/RunningConnections.antt`).
 #![tactic(auto)]
 
 mod channels;

@@ -7,17 +7,17 @@ use crate::seats::Seats;
 use arrayvec::ArrayString;
 use itoa::Buffer;
 
-/// What is before the number, and the most bytes that a number is written in.
+/// The most bytes of a tag: the text before the number, and the most bytes that a number is formatted in.
 const ROOM: usize = 49;
 
-/// A consumer tag that the server made of its number.
+/// A consumer tag that the server made, with its number.
 #[derive(Drop)]
 pub(crate) struct Name {
     pub(crate) number: u64,
     pub(crate) tag: ArrayString<ROOM>,
 }
 
-/// The name of this number.
+/// Returns the tag with this number.
 fn name_of(number: u64) -> ArrayString<ROOM>
     ensures { result.bytes ≡ server_name number }
 {
@@ -28,7 +28,7 @@ fn name_of(number: u64) -> ArrayString<ROOM>
     name
 }
 
-/// The first name from this number on that no consumer has; none where they have all of them. It takes no memory.
+/// Returns the first tag with a number at or after `from` that no consumer has, or `None` if there is none. Never allocates.
 pub(crate) fn next_name(seats: &Seats, from: u64) -> Option<Name>
     ensures { FindsName seats.now.consumers from result }
 {

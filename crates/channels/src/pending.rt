@@ -1,4 +1,4 @@
-//! What was given out on a channel and is not settled.
+//! The unacknowledged deliveries of a channel.
 
 use crate::spans::Span;
 use crate::tags::{behind, close_if, count_settled, forget_in, make_place, settled_of, span_of};
@@ -6,15 +6,15 @@ use model::Delivery;
 use std::alloc::{AllocError, Global};
 use std::marker::Model;
 
-/// Messages that were given out and are not settled, in the order of their tags: those behind `start` that wait. What was
-/// settled before others that wait keeps its place for a while, marked by tag 0.
+/// The unacknowledged deliveries, in the order of their tags: those behind `start` that wait. A delivery that is settled while earlier ones
+/// wait leaves its entry for a while, marked by tag 0.
 #[derive(Drop)]
 pub(crate) struct Unsettled {
     items: Vec<Delivery>,
     start: usize,
-    /// How many wait.
+    /// The number of deliveries that wait.
     count: usize,
-    /// The last tag that was given out so, 0 before the first.
+    /// The last tag that was recorded; 0 before the first.
     last: u64,
 }
 
@@ -38,7 +38,7 @@ impl Unsettled {
     ghost use Rattle.channels.specs.Spans.{settled_by, TellsSpan};
     ghost use Rattle.channels.specs.Moving.{outstanding_moved};
 
-    /// Nothing is outstanding. It takes no memory.
+    /// Makes an empty list. Never allocates.
     pub(crate) fn new(alloc: Global) -> Unsettled
         ensures outstanding { result.outstanding ≡ [] }
         ensures last { result.last ≡ 0 }
@@ -52,7 +52,7 @@ impl Unsettled {
         }
     }
 
-    /// All that is outstanding, in tag order, with the places of what was settled before.
+    /// Returns the unacknowledged deliveries in tag order, among entries of settled ones.
     pub(crate) fn all(&self) -> &[Delivery]
         ensures all { waiting result.now ≡ self.now.outstanding }
         ensures rises { Rises tag_of self.now.outstanding }
@@ -61,21 +61,21 @@ impl Unsettled {
         behind(&self.items, self.start)
     }
 
-    /// What a tag settles; none where it is refused.
+    /// Returns what `tag` settles, or `None` if it is refused.
     pub(crate) fn span(&self, tag: u64, multiple: bool) -> Option<Span>
         ensures { TellsSpan tag multiple self.now.outstanding result }
     {
         span_of(behind(&self.items, self.start), tag, multiple)
     }
 
-    /// What a span settles, in tag order, with the places between of what was settled before; nothing where its tag is refused.
+    /// Returns what `span` settles, in tag order, among entries of deliveries that were settled before; nothing if its tag is refused.
     pub(crate) fn at(&self, span: Span) -> &[Delivery]
         ensures { waiting result.now ≡ settled_by span self.now.outstanding }
     {
         settled_of(behind(&self.items, self.start), span)
     }
 
-    /// Takes out what a span settles. What is kept is closed up where that is more than twice what waits, and 32.
+    /// Removes what `span` settles. Compacts the list if it has more entries than twice those that wait, plus 32.
     pub(crate) fn forget(&mut self, span: Span)
         ensures outstanding { self.new.outstanding ≡ kept tag_of span.tag span.multiple self.old.outstanding }
         ensures last { self.new.last ≡ self.old.last }
@@ -88,13 +88,15 @@ impl Unsettled {
         self.start = close_if(&mut self.items, self.start, is_wanted);
     }
 
-    /// Makes room for so many more: what is kept is closed up where that is enough and worth while, else by a growth. Memory is
-    /// wanting only where closing up is not enough.
+    /// Reserves capacity for `more` deliveries: by compacting the list if that suffices and a quarter of it was settled, otherwise by growing it.
+    /// Fails only if compacting does not suffice and the allocation fails; nothing has changed then.
     pub(crate) fn reserve(&mut self, more: usize) -> Result<(), AllocError>
+        // The capacity after it, also if it fails.
         ensures outstanding { self.new.outstanding ≡ self.old.outstanding }
         ensures last { self.new.last ≡ self.old.last }
         ensures kept { self.old.room ≤ self.new.room }
         ensures room { OnOk result (more ≤ self.new.room) }
+        // When it may fail, and how much it allocates.
         ensures full { OnErr result (self.old.room < more) }
         ensures grown { self.old.room < self.new.room → self.new.room ≤ 3 * length self.old.outstanding + more + 68 }
         ensures err { OnErr result (self.new ≡ self.old) }
@@ -108,7 +110,7 @@ impl Unsettled {
         Ok(())
     }
 
-    /// Each queue that stood at a place of the table stands now at the place that it has there. It takes no memory.
+    /// Sets each queue's index to the one that `places` has for it. Never allocates.
     pub(crate) fn renumber(&mut self, places: &[usize])
         ensures outstanding { self.new.outstanding ≡ map (outstanding_moved places.now) self.old.outstanding }
         ensures last { self.new.last ≡ self.old.last }
@@ -117,10 +119,11 @@ impl Unsettled {
         renumber_each(&mut self.items, places);
     }
 
-    /// A message is given out.
+    /// Records `given` as unacknowledged. Its tag is greater than all recorded before.
     pub(crate) fn push(&mut self, given: Delivery)
         requires room { 0 < self.old.room }
         requires rises { self.old.last < given.tag }
+        // The delivery is the last, and uses one slot.
         ensures outstanding { self.new.outstanding ≡ self.old.outstanding ++ given ∷ [] }
         ensures last { self.new.last ≡ given.tag }
         ensures room { self.new.room + 1 ≡ self.old.room }
@@ -136,7 +139,7 @@ impl Unsettled {
 ghost use Rattle.std.specs.Prelude.{◌≡◌, ◌+◌, ◌*◌, ◌<◌, ◌≤◌, false, OnOk, OnErr, vec_len, vec_capacity, map};
 ghost use Rattle.channels.specs.Moving.{place_now, outstanding_moved};
 
-/// More places are kept than twice what waits, and 32.
+/// Returns whether there are more entries than twice those that wait, plus 32.
 fn is_sparse(places: usize, count: usize) -> bool
     requires { count ≤ places }
     ensures { result ≡ false → places ≤ 2 * count + 32 }
@@ -145,7 +148,7 @@ fn is_sparse(places: usize, count: usize) -> bool
     settled > 32 && settled - 32 > count
 }
 
-/// There is no room for so many more behind what is kept, and a quarter of it was settled.
+/// Returns whether there is no capacity for `more` entries behind the list, while over a quarter of it was settled.
 fn is_worth_closing(items: &Vec<Delivery>, count: usize, more: usize) -> bool
     requires { count ≤ vec_len items.now }
 {
@@ -153,7 +156,7 @@ fn is_worth_closing(items: &Vec<Delivery>, count: usize, more: usize) -> bool
     more > items.capacity() - places && places - count > places / 4
 }
 
-/// How many places more are made where so many are wanted behind so many: as many as there are, so that growths are few.
+/// Returns by how many entries a list of `places` grows if `more` are needed: by at least its own length, so that growths are few.
 fn growth(places: usize, more: usize) -> usize
     ensures enough { more ≤ result }
     ensures few { result ≤ places + more + 4 }
@@ -164,10 +167,12 @@ fn growth(places: usize, more: usize) -> usize
     if places > 4 { places } else { 4 }
 }
 
-/// Makes room for so many more behind what is kept, where there is not so much.
+/// Reserves capacity for `more` entries behind the list, unless it has that.
 fn grow(items: &mut Vec<Delivery>, more: usize) -> Result<(), AllocError>
+    // The entries are unchanged.
     ensures items { items.new.items ≡ items.old.items }
     ensures len { vec_len items.new ≡ vec_len items.old }
+    // The capacity after it, when it may fail, and how much it allocates.
     ensures ok { OnOk result (vec_len items.new + more ≤ vec_capacity items.new) }
     ensures capacity { vec_capacity items.old ≤ vec_capacity items.new }
     ensures full { OnErr result (vec_capacity items.old < vec_len items.old + more) }
@@ -180,7 +185,7 @@ fn grow(items: &mut Vec<Delivery>, more: usize) -> Result<(), AllocError>
     items.reserve_exact(growth(items.len(), more))
 }
 
-/// Where the queue stands now that stood at this place; behind the table, at the same one.
+/// Returns the new index of the queue at index `place`; past the end of the table, the same one.
 pub(crate) fn place_now(places: &[usize], place: usize) -> usize
     ensures { result ≡ place_now places.now place }
 {
@@ -190,7 +195,7 @@ pub(crate) fn place_now(places: &[usize], place: usize) -> usize
     }
 }
 
-/// Each is told where its queue stands now.
+/// Sets each queue's index to the one that `places` has for it.
 fn renumber_each(items: &mut Vec<Delivery>, places: &[usize])
     ensures items { items.new.items ≡ map (outstanding_moved places.now) items.old.items }
     ensures len { vec_len items.new ≡ vec_len items.old }
@@ -199,7 +204,7 @@ fn renumber_each(items: &mut Vec<Delivery>, places: &[usize])
     renumber_slice(items, places);
 }
 
-/// Each of these is told where its queue stands now.
+/// Does the same for each of these.
 fn renumber_slice(items: &mut [Delivery], places: &[usize])
     ensures { items.new ≡ map (outstanding_moved places.now) items.old }
 {

@@ -1,4 +1,4 @@
-//! A connection that runs, with its channels.
+//! A running connection, with its channels.
 
 use crate::channels::Channel;
 use crate::consumers::Consumer;
@@ -9,12 +9,12 @@ use model::Delivery;
 use std::alloc::{AllocError, Global};
 use std::marker::Model;
 
-/// What is kept of a connection that runs.
+/// A running connection.
 #[derive(Drop)]
 pub struct RunningConnection {
     channel_max: u16,
     is_paused: bool,
-    /// Each open channel at its number.
+    /// The open channels, by number.
     channels: Vec<Option<Channel>>,
 }
 
@@ -44,7 +44,7 @@ impl RunningConnection {
     ghost use Rattle.channels.specs.RunningConnections.{channel_in, outstanding_on, PutsIn};
     ghost use Rattle.channels.specs.Lends.{LendsChannelIn};
 
-    /// A connection with channels 1 to `channels` open and new.
+    /// Makes a connection with channels 1 to `channels` open and new. Fails only if an allocation fails.
     pub(crate) fn new(
         alloc: Global,
         channel_max: u16,
@@ -62,14 +62,14 @@ impl RunningConnection {
         })
     }
 
-    /// The greatest channel number that was agreed on.
+    /// Returns the greatest channel number that was agreed on.
     pub fn channel_max(&self) -> u16
         ensures { result ≡ self.now.channel_max }
     {
         self.channel_max
     }
 
-    /// The open channel of this number.
+    /// Returns the open channel with this number.
     pub fn channel(&self, number: u16) -> Option<&Channel>
         ensures { option_copied result ≡ channel_in self.now number }
     {
@@ -79,7 +79,7 @@ impl RunningConnection {
         }
     }
 
-    /// The open channel of this number, to be changed.
+    /// Borrows the open channel with this number mutably.
     pub fn channel_mut(&mut self, number: u16) -> Option<&mut Channel>
         ensures* writes_back { sem 𝓛 (LendsChannelIn self.entry number result) }
         ensures value { option_copied_mut result ≡ channel_in self.old number }
@@ -90,7 +90,7 @@ impl RunningConnection {
         }
     }
 
-    /// How many numbers have a place for a channel, from 0 on: no channel of a greater number is open.
+    /// Returns the number of channel slots, from 0 on: no channel with a greater number is open.
     pub fn places(&self) -> usize
         ensures places { result ≡ length self.now.channels }
         ensures few { result ≤ 2 ^ 16 }
@@ -98,8 +98,8 @@ impl RunningConnection {
         self.channels.len()
     }
 
-    /// All that is outstanding on this channel, in tag order, with the places between of what was settled before; nothing where
-    /// it is not open. There are at most as many places between as wait, and 32.
+    /// Returns the unacknowledged deliveries of a channel in tag order, among entries of settled ones: at most as many again, and 32. Empty if the
+    /// channel is not open.
     pub fn outstanding(&self, number: u16) -> &[Delivery]
         ensures all { waiting result.now ≡ outstanding_on (channel_in self.now number) }
         ensures few { length result.now ≤ 2 * length (outstanding_on (channel_in self.now number)) + 32 }
@@ -110,8 +110,8 @@ impl RunningConnection {
         }
     }
 
-    /// The number of the next consumer on this channel, 1 where it is not open; none where close-ok is awaited. Each consumer that
-    /// is there has a smaller one.
+    /// Returns the number of this channel's next consumer: 1 if it is not open, `None` if it awaits close-ok. Each consumer has a smaller
+    /// one.
     pub fn next_number(&self, number: u16) -> Option<u64>
         ensures next { result ≡ next_number (channel_in self.now number) }
         ensures above { IfSome result (AreBelow (channel_in self.now number)) }
@@ -122,7 +122,7 @@ impl RunningConnection {
         }
     }
 
-    /// The consumer of this number on the channel, if that is open and has it.
+    /// Returns the consumer with this number on the channel, if that is open and has it.
     pub fn consumer(&self, channel: u16, number: u64) -> Option<&Consumer>
         ensures found { option_map (λ k. k.now) result ≡ consumer_numbered (channel_in self.now channel) number }
         ensures one { IfSome result (λ k. IsOneOn self.now channel number k.now) }
@@ -133,8 +133,8 @@ impl RunningConnection {
         }
     }
 
-    /// The consumer of this number on the channel, exactly where it may be given a message now: the connection is not paused,
-    /// the channel is open, and the consumer is its and may take one.
+    /// Returns the consumer with this number on the channel if it can take a message now: the connection is not paused, the channel is open, and the
+    /// consumer is its and may take one.
     pub fn taker(&self, channel: u16, number: u64) -> Option<&Consumer>
         ensures { TellsOn self.now channel number (option_map (λ k. k.now) result) }
     {
@@ -147,15 +147,15 @@ impl RunningConnection {
         }
     }
 
-    /// How many consumers on its channels take from the queue at this place, at most the greatest number.
+    /// Returns how many consumers on its channels take from the queue at index `queue`, at most `usize::MAX`.
     pub(crate) fn count_consumers(&self, queue: usize) -> usize
         ensures { result ≡ min (consumers_counted queue self.now) greatest }
     {
         count_consumers(&self.channels, queue)
     }
 
-    /// This stands at the channel of this number from now on, where none may have been open yet. Places are made up to its
-    /// number. Memory is wanting only where it has none yet. Then nothing has changed.
+    /// Puts `channel` at this number, whether or not a channel was open there. Makes slots up to that number. Fails only if there is no slot for it
+    /// yet and the allocation fails; nothing has changed then.
     pub(crate) fn open_channel(&mut self, number: u16, channel: Channel) -> Result<(), AllocError>
         ensures ok { OnOk result (PutsIn self.old number (Some channel) self.new) }
         ensures err { OnErr result (self.new ≡ self.old) }
@@ -165,7 +165,7 @@ impl RunningConnection {
         open_at(&mut self.channels, number, channel)
     }
 
-    /// This stands at the channel of this number from now on.
+    /// Replaces the open channel with this number by `channel`.
     pub(crate) fn put(&mut self, number: u16, channel: Option<Channel>)
         requires { IsSome (channel_in self.old number) }
         ensures { PutsIn self.old number channel self.new }
@@ -173,14 +173,14 @@ impl RunningConnection {
         put_at(&mut self.channels, number, channel);
     }
 
-    /// The connection is paused from now on, or is not.
+    /// Sets whether the connection is paused.
     pub(crate) fn set_paused(&mut self, is_paused: bool)
         ensures { self.new ≡ record self.old { is_paused = is_paused } }
     {
         self.is_paused = is_paused;
     }
 
-    /// Each queue that stood at a place of the table stands now at the place that it has there. It takes no memory.
+    /// Sets each queue's index to the one that `places` has for it. Never allocates.
     pub(crate) fn renumber(&mut self, places: &[usize])
         ensures { self.new ≡ running_moved places.now self.old }
     {

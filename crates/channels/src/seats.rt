@@ -1,4 +1,4 @@
-//! The consumers of a channel, with kept counts of what they were given.
+//! The consumers of a channel, with counts of their unacknowledged messages.
 
 ghost use Rattle.std.specs.Prelude.{◌≡◌};
 
@@ -10,8 +10,8 @@ use model::{Delivery, Taker};
 use std::alloc::{AllocError, Global};
 use std::marker::Model;
 
-/// Consumers in the order in which they were made. Each has a count of what was given to it and is not settled, and one
-/// more counts what was given to any, cancelled ones too.
+/// The consumers, in the order in which they were made, each with the number of its unacknowledged messages. Another count is that of all
+/// consumers together, including cancelled ones.
 #[derive(Drop)]
 pub(crate) struct Seats {
     seats: Vec<CountedConsumer>,
@@ -45,7 +45,7 @@ impl Seats {
     ghost use Rattle.channels.specs.declared.consumers.Consumer.{Consumer as One};
     ghost use Rattle.model.specs.declared.deliveries.Delivery.{Delivery as Given};
 
-    /// No consumer, and nothing counted. It takes no memory.
+    /// Makes an empty list. Never allocates.
     pub(crate) fn new(alloc: Global) -> Seats
         ensures consumers { result.consumers ≡ [] }
         ensures room { result.room ≡ 0 }
@@ -57,35 +57,35 @@ impl Seats {
         }
     }
 
-    /// All of them.
+    /// Returns all consumers with their counts.
     pub(crate) fn all(&self) -> &[CountedConsumer]
         ensures { consumers_of result.now ≡ self.now.consumers }
     {
         &self.seats
     }
 
-    /// How many there are.
+    /// Returns the number of consumers.
     pub(crate) fn len(&self) -> usize
         ensures { result ≡ length self.now.consumers }
     {
         self.seats.len()
     }
 
-    /// Whether some consumer has this tag.
+    /// Returns whether some consumer has this tag.
     pub(crate) fn has(&self, tag: &[u8]) -> bool
         ensures { result ≡ list_any (is_named tag.now) self.now.consumers }
     {
         is_in_use(&self.seats, tag)
     }
 
-    /// How many take from the queue at this place.
+    /// Returns how many take from the queue at index `queue`.
     pub(crate) fn count_from(&self, queue: usize) -> usize
         ensures { result ≡ count_by (takes_from queue) self.now.consumers }
     {
         count_from(&self.seats, queue)
     }
 
-    /// The consumer of this number.
+    /// Returns the consumer with this number.
     pub(crate) fn numbered(&self, number: u64) -> Option<&Consumer>
         requires { NumbersRise self.now.consumers }
         ensures { option_map (λ k. k.now) result ≡ find (λ (c : One). c.number == number) self.now.consumers }
@@ -93,7 +93,7 @@ impl Seats {
         consumer_of(&self.seats, number)
     }
 
-    /// Whether the consumer of this number is there and may be given one message more, under this limit of all.
+    /// Returns whether consumer `number` exists and neither its own prefetch nor the channel's `limit` is used up.
     pub(crate) fn may_take(&self, number: u64, limit: u16) -> bool
         requires { NumbersRise self.now.consumers }
         ensures { (given : List Given) → SeatsAreCounted self.now given
@@ -102,7 +102,7 @@ impl Seats {
         may_one(&self.seats, number, limit, self.given)
     }
 
-    /// The consumer of this number, where it is there and may be given one message more, under this limit of all.
+    /// Returns consumer `number` if it exists and neither its own prefetch nor the channel's `limit` is used up.
     pub(crate) fn taker(&self, number: u64, limit: u16) -> Option<&Consumer>
         requires { NumbersRise self.now.consumers }
         ensures { (given : List Given) → SeatsAreCounted self.now given
@@ -111,7 +111,7 @@ impl Seats {
         taker_of(&self.seats, number, limit, self.given)
     }
 
-    /// Makes room for one more. Nothing else changes, also where memory is wanting.
+    /// Reserves capacity for one more. Nothing else changes, even if the allocation fails.
     pub(crate) fn reserve(&mut self) -> Result<(), AllocError>
         ensures same { self.new ≡ record self.old { room = self.new.room } }
         ensures kept { self.old.room ≤ self.new.room }
@@ -122,7 +122,7 @@ impl Seats {
         self.seats.reserve(1)
     }
 
-    /// A consumer more, who has been given so many already.
+    /// Appends a consumer, to which `held` messages were given already.
     pub(crate) fn push(&mut self, consumer: Consumer, held: usize)
         requires { 0 < self.old.room }
         ensures consumers { self.new.consumers ≡ self.old.consumers ++ consumer ∷ [] }
@@ -133,7 +133,7 @@ impl Seats {
         self.seats.push_reserved(CountedConsumer { consumer, held });
     }
 
-    /// Takes out the consumers of this tag. What they were given counts on for all.
+    /// Removes the consumers with this tag. What they were given still counts in the count of all.
     pub(crate) fn take_out(&mut self, tag: &[u8])
         ensures consumers { self.new.consumers ≡ filter (λ c. not (is_named tag.now c)) self.old.consumers }
         ensures room { self.old.room ≤ self.new.room }
@@ -142,7 +142,7 @@ impl Seats {
         remove_tagged(&mut self.seats, tag);
     }
 
-    /// Each queue that stood at a place of the table stands now at the place that it has there. It takes no memory.
+    /// Sets each queue's index to the one that `places` has for it. Never allocates.
     pub(crate) fn renumber(&mut self, places: &[usize])
         ensures consumers { self.new.consumers ≡ map (consumer_moved places.now) self.old.consumers }
         ensures room { self.new.room ≡ self.old.room }
@@ -153,9 +153,11 @@ impl Seats {
 
     /// Counts a message that is given out.
     pub(crate) fn count_in(&mut self, by: &Taker)
+        // What the caller knows: no count overflows.
         requires each { All (λ n. n < 2 ^ 64 - 1) self.old.held }
         requires all { self.old.given < 2 ^ 64 - 1 }
         requires rise { NumbersRise self.old.consumers }
+        // The consumers are unchanged, and the counts are right.
         ensures consumers { self.new.consumers ≡ self.old.consumers }
         ensures room { self.new.room ≡ self.old.room }
         ensures counted { (given : List Given) (o : Given) → o.by ≡ by.now → SeatsAreCounted self.old given → SeatsAreCounted self.new (given ++ o ∷ []) }
@@ -164,7 +166,7 @@ impl Seats {
         self.given += one_if_consumed(by);
     }
 
-    /// Counts those no more that are settled now; what was settled before has a place that counts for none.
+    /// Uncounts those of `gone` that wait, which are settled now.
     pub(crate) fn count_out(&mut self, gone: &[Delivery])
         requires { NumbersRise self.old.consumers }
         ensures consumers { self.new.consumers ≡ self.old.consumers }

@@ -1,4 +1,4 @@
-//! What a delivery tag settles, gone over in the order of tags.
+//! The deliveries that a delivery tag settles, in the order of tags.
 
 ghost use Rattle.std.specs.Prelude.{◌≡◌, ◌∷◌, [], IfSome, IfNone};
 ghost use Rattle.model.specs.Placed.{waiting};
@@ -24,7 +24,7 @@ impl<'a> Model for Settled<'a> {
     ghost view = { λ s. waiting s.places.now };
 }
 
-/// Takes the first delivery that waits, and all in front of it, off `places`.
+/// Removes the first delivery that waits, and all in front of it, from `places`, and returns it.
 fn first_waiting<'a>(places: &mut &'a [Delivery]) -> Option<&'a Delivery>
     ensures some { IfSome result (λ d. waiting places.old.now ≡ d.now ∷ waiting places.new.now) }
     ensures none { IfNone result ((waiting places.old.now ≡ []) × (waiting places.new.now ≡ [])) }

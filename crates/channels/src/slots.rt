@@ -1,4 +1,4 @@
-//! Places for the channels of a connection, each at its number, and the channels that stand there.
+//! The channel slots of a connection, by channel number.
 
 ghost use Rattle.std.specs.Prelude.{
   ◌≡◌,
@@ -42,7 +42,7 @@ use crate::channels::Channel;
 use crate::consumers::Consumer;
 use std::alloc::{AllocError, Global};
 
-/// Room for the channels 0 to `count`, where all but 0 are open and new.
+/// Makes slots for channels 0 to `count`, of which all but 0 are open and new. Fails only if an allocation fails.
 pub(crate) fn open_channels(alloc: Global, count: u16) -> Result<Vec<Option<Channel>>, AllocError>
     ensures { IfOk result (λ channels. (names : List Name) → map (option_map (open_in names)) channels.items ≡ None ∷ replicate count (Some new_channel)) }
 {
@@ -55,7 +55,7 @@ pub(crate) fn open_channels(alloc: Global, count: u16) -> Result<Vec<Option<Chan
     Ok(channels)
 }
 
-/// There are places for so many channels more, which are not open. Where memory is wanting, nothing has changed.
+/// Appends `more` empty slots. Fails only if an allocation fails; nothing has changed then.
 fn grow(channels: &mut Vec<Option<Channel>>, more: usize) -> Result<(), AllocError>
     ensures ok { OnOk result (channels.new.items ≡ channels.old.items ++ replicate more None) }
     ensures err { OnErr result (channels.new.items ≡ channels.old.items) }
@@ -68,8 +68,8 @@ fn grow(channels: &mut Vec<Option<Channel>>, more: usize) -> Result<(), AllocErr
     Ok(())
 }
 
-/// This stands at the channel of this number from now on, where none may have been open yet. Places are made up to its number.
-/// Memory is wanting only where it has none yet. Then nothing has changed.
+/// Puts `channel` at this number, whether or not a channel was open there. Makes slots up to that number.
+/// Fails only if there is no slot for it yet and the allocation fails; nothing has changed then.
 pub(crate) fn open_at(
     channels: &mut Vec<Option<Channel>>,
     number: u16,
@@ -87,7 +87,7 @@ pub(crate) fn open_at(
     Ok(())
 }
 
-/// This stands at the channel of this number from now on.
+/// Replaces the open channel with this number by `channel`.
 pub(crate) fn put_at(channels: &mut [Option<Channel>], number: u16, channel: Option<Channel>)
     requires { IsSome (slice_index_or channels.old number None) }
     ensures { IsChannelSet channels.old number channel channels.new }
@@ -98,7 +98,7 @@ pub(crate) fn put_at(channels: &mut [Option<Channel>], number: u16, channel: Opt
     }
 }
 
-/// How many consumers on this channel take from the queue at this place.
+/// Returns how many consumers of this channel take from the queue at index `queue`.
 fn consumers_in(slot: &Option<Channel>, queue: usize) -> usize
     ensures { result ≡ consumers_at queue slot.now }
 {
@@ -108,7 +108,7 @@ fn consumers_in(slot: &Option<Channel>, queue: usize) -> usize
     }
 }
 
-/// The same of all these channels, at most the greatest number.
+/// Returns the same for all these channels, at most `usize::MAX`.
 pub(crate) fn count_consumers(channels: &[Option<Channel>], queue: usize) -> usize
     ensures { result ≡ min (sum_by (consumers_at queue) channels.now) greatest }
 {
@@ -119,7 +119,7 @@ pub(crate) fn count_consumers(channels: &[Option<Channel>], queue: usize) -> usi
     count
 }
 
-/// The number of the next consumer, where close-ok is not awaited on the channel: each that is there has a smaller one.
+/// Returns the number of the channel's next consumer, or `None` if it awaits close-ok. Each consumer has a smaller one.
 pub(crate) fn number_of(channel: &Channel) -> Option<u64>
     ensures next { result ≡ next_number (Some channel.now) }
     ensures above { IfSome result (AreBelow (Some channel.now)) }
@@ -131,7 +131,7 @@ pub(crate) fn number_of(channel: &Channel) -> Option<u64>
     }
 }
 
-/// The consumer of this number, exactly where close-ok is not awaited on the channel and it may be given a message now.
+/// Returns the consumer with this number if it can take a message now and the channel does not await close-ok.
 pub(crate) fn taker_of(channel: &Channel, number: u64) -> Option<&Consumer>
     ensures some { IfSome result (λ k. (channel.now.is_closing ≡ false) × IsTaker channel.now number k.now) }
     ensures none { result ≡ None → channel.now.is_closing ≡ false → HasNoTaker channel.now number }
@@ -143,7 +143,7 @@ pub(crate) fn taker_of(channel: &Channel, number: u64) -> Option<&Consumer>
     }
 }
 
-/// The channel here is told where queues stand now.
+/// Sets the queues' indices of this channel to those that `places` has for them.
 fn renumber_in(slot: &mut Option<Channel>, places: &[usize])
     ensures { slot.new ≡ option_map (open_moved places.now) slot.old }
 {
@@ -152,7 +152,7 @@ fn renumber_in(slot: &mut Option<Channel>, places: &[usize])
     }
 }
 
-/// Each channel is told where queues stand now.
+/// Does the same for each channel.
 pub(crate) fn renumber_each(channels: &mut [Option<Channel>], places: &[usize])
     ensures { channels.new ≡ channels_moved places.now channels.old }
 {

@@ -1,4 +1,4 @@
-//! Which of the outstanding deliveries a tag settles.
+//! What a tag settles on a channel.
 
 /// What a tag settles on a channel, and where it was found. If the channel changes, it is what the tag settles then. Source:
 /// AMQP 0-9-1, basic.ack, "delivery-tag" and "multiple".
@@ -6,6 +6,6 @@
 pub struct Span {
     pub tag: u64,
     pub multiple: bool,
-    /// The place at which the tag waited: it is looked at first, and if the tag does not wait there it is searched for.
+    /// The index at which the tag waited. It is looked at first; if the tag does not wait there it is searched for.
     pub(crate) place: usize,
 }

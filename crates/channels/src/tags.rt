@@ -1,4 +1,4 @@
-//! Which of the outstanding deliveries a tag settles.
+//! Finds the deliveries that a tag settles.
 
 ghost use Rattle.std.specs.Prelude.{◌≡◌, ◌+◌, ◌<◌, ◌≤◌, ◌++◌, ℕ, IfSome, IfNone, option_map, true, false};
 ghost use Rattle.std.specs.Prelude.{length, take, drop, set, get_or, count_by, vec_len, vec_capacity};
@@ -11,14 +11,14 @@ ghost use Rattle.model.specs.Placed.{is_waiting, waiting};
 use crate::spans::Span;
 use model::Delivery;
 
-/// The tag under which it was given out, also where it was settled.
+/// Returns the tag under which a delivery was given out, even if it was settled.
 fn given_tag(one: &Delivery) -> u64
     ensures { result ≡ given_tag one.now }
 {
     if one.tag == 0 { one.arrival } else { one.tag }
 }
 
-/// How many tags are lower, where tags rise. It is found by halving.
+/// Returns how many tags are lower, by binary search, since tags ascend.
 fn lower(given: &[Delivery], tag: u64) -> usize
     requires { Rises given_tag given.now }
     ensures within { result ≤ length given.now }
@@ -28,7 +28,7 @@ fn lower(given: &[Delivery], tag: u64) -> usize
     given.partition_point(|one| given_tag(one) < tag)
 }
 
-/// Whether this tag waits at this place.
+/// Returns whether this tag waits at index `place`.
 fn is_at(given: &[Delivery], place: usize, tag: u64) -> bool
     ensures yes { result ≡ true → IsTagAt given.now place tag }
     ensures no { result ≡ false → IsTagAt given.now place tag → ⊥ }
@@ -36,7 +36,7 @@ fn is_at(given: &[Delivery], place: usize, tag: u64) -> bool
     tag != 0 && place < given.len() && given[place].tag == tag
 }
 
-/// The place of a tag that waits, where tags rise.
+/// Returns the index of a tag that waits.
 fn search(given: &[Delivery], tag: u64) -> Option<usize>
     requires { Rises given_tag given.now }
     ensures there { IfSome result (λ i. IsTagAt given.now i tag) }
@@ -49,7 +49,7 @@ fn search(given: &[Delivery], tag: u64) -> Option<usize>
     None
 }
 
-/// The same: it is looked for near this place first.
+/// Returns the same, and looks at index `near` first.
 fn place_of_tag(given: &[Delivery], tag: u64, near: usize) -> Option<usize>
     requires { Rises given_tag given.now }
     ensures there { IfSome result (λ i. IsTagAt given.now i tag) }
@@ -61,7 +61,7 @@ fn place_of_tag(given: &[Delivery], tag: u64, near: usize) -> Option<usize>
     search(given, tag)
 }
 
-/// What a tag settles, and where; none where it is refused. It is looked for at the front first.
+/// Returns what a tag settles, with its index, or `None` if it is refused. Looks at the front first.
 pub(crate) fn span_of(given: &[Delivery], tag: u64, multiple: bool) -> Option<Span>
     requires { Rises given_tag given.now }
     ensures { TellsSpan tag multiple (waiting given.now) result }
@@ -83,13 +83,15 @@ pub(crate) fn span_of(given: &[Delivery], tag: u64, multiple: bool) -> Option<Sp
     }
 }
 
-/// The run of places that a span settles.
+/// Returns the range of indices that a span settles.
 fn run_of(given: &[Delivery], span: Span) -> Option<(usize, usize)>
     requires { Rises given_tag given.now }
+    // The range, and what is in it.
     ensures within { IfSome result (λ r. (r.0 ≤ r.1) × (r.1 ≤ length given.now)) }
     ensures run { option_map (λ r. waiting (drop r.0 (take r.1 given.now))) result ≡ settled tag_of span.tag span.multiple (waiting given.now) }
     ensures next { IfSome result (λ r. (r.0 ≡ 0 → ⊥) → r.1 ≡ r.0 + 1) }
     ensures there { IfSome result (λ r. (r.0 ≡ 0 → ⊥) → IsTagAt given.now r.0 span.tag) }
+    // What is outside of it; `None` if the tag is refused.
     ensures rest { IfSome result (λ r. waiting (take r.0 given.now) ++ waiting (drop r.1 given.now) ≡ kept tag_of span.tag span.multiple (waiting given.now)) }
     ensures none { IfNone result (kept tag_of span.tag span.multiple (waiting given.now) ≡ waiting given.now) }
 {
@@ -108,7 +110,7 @@ fn run_of(given: &[Delivery], span: Span) -> Option<(usize, usize)>
     }
 }
 
-/// What a span settles, with the places between of what was settled before; nothing where its tag is refused.
+/// Returns what a span settles, among entries of deliveries that were settled before; nothing if its tag is refused.
 pub(crate) fn settled_of(given: &[Delivery], span: Span) -> &[Delivery]
     requires { Rises given_tag given.now }
     ensures { waiting result.now ≡ settled_by span (waiting given.now) }
@@ -119,14 +121,14 @@ pub(crate) fn settled_of(given: &[Delivery], span: Span) -> &[Delivery]
     }
 }
 
-/// How many of these wait to be settled.
+/// Returns how many of these wait to be settled.
 fn count_waiting(given: &[Delivery]) -> usize
     ensures { result ≡ count_by is_waiting given.now }
 {
     given.iter().filter(|one| one.tag != 0).count()
 }
 
-/// How many a span settles of those behind `start`.
+/// Returns how many a span settles of those behind `start`.
 pub(crate) fn count_settled(items: &Vec<Delivery>, start: usize, span: Span) -> usize
     requires start { start ≤ vec_len items.now }
     requires rises { Rises given_tag (drop start items.now.items) }
@@ -135,7 +137,7 @@ pub(crate) fn count_settled(items: &Vec<Delivery>, start: usize, span: Span) -> 
     count_waiting(settled_of(behind(items, start), span))
 }
 
-/// The place of this one once it is settled.
+/// Returns the entry of this delivery once it is settled.
 fn marked(one: &Delivery) -> Delivery
     ensures { result ≡ marked one.now }
 {
@@ -147,7 +149,7 @@ fn marked(one: &Delivery) -> Delivery
     }
 }
 
-/// The one at this place is settled.
+/// Marks the entry at index `place` as settled.
 fn mark_in(items: &mut [Delivery], place: usize)
     requires { place < length items.old }
     ensures { (d : Delivery) → items.new ≡ set items.old place (marked (get_or items.old place d)) }
@@ -156,7 +158,7 @@ fn mark_in(items: &mut [Delivery], place: usize)
     items[place] = settled;
 }
 
-/// The one at this place is settled.
+/// Marks the entry at index `place` as settled.
 fn mark(items: &mut Vec<Delivery>, place: usize)
     requires { place < vec_len items.old }
     ensures items { (d : Delivery) → items.new.items ≡ set items.old.items place (marked (get_or items.old.items place d)) }
@@ -166,7 +168,7 @@ fn mark(items: &mut Vec<Delivery>, place: usize)
     mark_in(items, place);
 }
 
-/// Those behind the start.
+/// Returns the entries behind `start`.
 pub(crate) fn behind(items: &Vec<Delivery>, start: usize) -> &[Delivery]
     requires { start ≤ vec_len items.now }
     ensures { result.now ≡ drop start items.now.items }
@@ -174,14 +176,16 @@ pub(crate) fn behind(items: &Vec<Delivery>, start: usize) -> &[Delivery]
     &items[start..]
 }
 
-/// Takes out what a span settles of those behind `start`: the front moves over it, or its place is marked. Tells where the rest
-/// starts.
+/// Removes what a span settles of those behind `start`: moves the start past it, or marks its entry. Returns the new
+/// start.
 pub(crate) fn forget_in(items: &mut Vec<Delivery>, start: usize, span: Span) -> usize
     requires start { start ≤ vec_len items.old }
     requires rises { Rises given_tag (drop start items.old.items) }
+    // The entries that are left, and their order.
     ensures start { result ≤ vec_len items.new }
     ensures order { (last : ℕ) → AreInOrder last (drop start items.old.items) → AreInOrder last (drop result items.new.items) }
     ensures kept { waiting (drop result items.new.items) ≡ kept tag_of span.tag span.multiple (waiting (drop start items.old.items)) }
+    // Nothing is moved.
     ensures len { vec_len items.new ≡ vec_len items.old }
     ensures capacity { vec_capacity items.new ≡ vec_capacity items.old }
 {
@@ -198,7 +202,7 @@ pub(crate) fn forget_in(items: &mut Vec<Delivery>, start: usize, span: Span) -> 
     }
 }
 
-/// What is behind `start` and waits stands at the front, and nothing else.
+/// Moves the entries behind `start` that wait to the front, and removes all others.
 fn close_up(items: &mut Vec<Delivery>, start: usize)
     requires { start ≤ vec_len items.old }
     ensures items { items.new.items ≡ waiting (drop start items.old.items) }
@@ -208,7 +212,7 @@ fn close_up(items: &mut Vec<Delivery>, start: usize)
     items.retain(|one| one.tag != 0);
 }
 
-/// Takes the front away.
+/// Removes the first `n` entries.
 fn drop_front(items: &mut Vec<Delivery>, n: usize)
     requires { n ≤ vec_len items.old }
     ensures items { items.new.items ≡ drop n items.old.items }
@@ -218,12 +222,14 @@ fn drop_front(items: &mut Vec<Delivery>, n: usize)
     items.drain(..n);
 }
 
-/// Closes up what is kept, where that is wanted. Tells where it starts.
+/// Compacts the list if `is_wanted`. Returns the new start.
 pub(crate) fn close_if(items: &mut Vec<Delivery>, start: usize, is_wanted: bool) -> usize
     requires start { start ≤ vec_len items.old }
+    // The entries that are left, and their order.
     ensures start { result ≤ vec_len items.new }
     ensures order { (last : ℕ) → AreInOrder last (drop start items.old.items) → AreInOrder last (drop result items.new.items) }
     ensures waiting { waiting (drop result items.new.items) ≡ waiting (drop start items.old.items) }
+    // The length after it.
     ensures fewer { vec_len items.new ≤ vec_len items.old }
     ensures closed { is_wanted ≡ true → vec_len items.new ≡ length (waiting (drop start items.old.items)) }
     ensures capacity { vec_capacity items.new ≡ vec_capacity items.old }
@@ -235,13 +241,15 @@ pub(crate) fn close_if(items: &mut Vec<Delivery>, start: usize, is_wanted: bool)
     0
 }
 
-/// Makes a place for one more by closing up, where there is none and not all wait. Tells where they start.
+/// Makes a free slot by compacting, if there is none and not all entries wait. Returns the new start.
 pub(crate) fn make_place(items: &mut Vec<Delivery>, start: usize) -> usize
     requires start { start ≤ vec_len items.old }
     requires room { length (waiting (drop start items.old.items)) < vec_capacity items.old }
+    // The entries that are left, and their order.
     ensures start { result ≤ vec_len items.new }
     ensures order { (last : ℕ) → AreInOrder last (drop start items.old.items) → AreInOrder last (drop result items.new.items) }
     ensures waiting { waiting (drop result items.new.items) ≡ waiting (drop start items.old.items) }
+    // The length after it: there is a free slot.
     ensures fewer { vec_len items.new ≤ vec_len items.old }
     ensures place { vec_len items.new < vec_capacity items.new }
     ensures capacity { vec_capacity items.new ≡ vec_capacity items.old }

@@ -11,7 +11,7 @@ use Rattle.channels.specs.Open.{Open}
 use Rattle.commands.specs.declared.commands.asking.Left as asked
 use Rattle.commands.proofs.Judging.{number_passed}
 
--- what a command comes to on an open channel, by what stands against it on the channel
+-- what a command does on an open channel, by its refusal on the channel
 abbrev pub AnswersOpen : ℕ → ℕ → Store → Open → Method → Option Content → Result Done Stop → Store → Open → Type 0
 AnswersOpen c h s ch m content result s' ch' = (old new : Side) → Turns c h (seen s ch) (seen s' ch') old new
     → Answers (refusal_of s.topology (state_of s old) (seen s ch) m) s.topology (state_of s old) c h (Some (seen s ch)) m content result (state_of s' new)
@@ -37,14 +37,14 @@ done_open : (c h : ℕ) (s s' : Store) (ch ch' : Open) (m : Method) (content : O
 done_open c h s s' ch ch' m content r d e comes old new turns =
     performed_answers (refusal_of s.topology (state_of s old) (seen s ch) m) s.topology (state_of s old) c h (seen s ch) m content (state_of s' new) r d e (comes old new turns)
 
--- and so it did by all that may stand against it there
+-- the same by the whole refusal, if the channel does not await close-ok and its number is allowed
 pub open_here : (max c h : ℕ) (s s' : Store) (ch ch' : Open) (m : Method) (content : Option Content) (d : Result Done Stop) → ch.is_closing ≡ false → h ≢ 0 → refusal_of_number max h m ≡ None
     → AnswersOpen c h s ch m content d s' ch' → AnswersHere max c h s ch m content d s' ch'
 open_here max c h s s' ch ch' m content d runs apart passed answers old new conn same turns =
     subst (λ (r : Option step.Refusal). Answers r s.topology (state_of s old) c h (Some (seen s ch)) m content d (state_of s' new))
     (sym (number_passed s.topology (state_of s old) conn max h m (Some (seen s ch)) runs apart same passed)) (answers old new turns)
 
--- so it came to that where nothing stands against it before its method is looked at
+-- and so for a command that is performed on its channel alone
 pub done_here : (max c h : ℕ) (s s' : Store) (ch ch' : Open) (m : Method) (content : Option Content) (r : Result Step Stop) (d : Result Done Stop) → d ≡ done_of r
     → ch.is_closing ≡ false → h ≢ 0 → refusal_of_number max h m ≡ None → Commands c h s ch m content r s' ch' → AnswersHere max c h s ch m content d s' ch'
 done_here max c h s s' ch ch' m content r d e runs apart passed comes = open_here max c h s s' ch ch' m content d runs apart passed (done_open c h s s' ch ch' m content r d e comes)

@@ -1,4 +1,4 @@
--- What stands against a consume.
+-- The refusal of a consume.
 use Rattle.commands.proofs.Names.{◌≡◌, ◌∙◌, List, Option, None, ap, sym, Text, Topology, Channel, or_else, refusal_in, refusal_of_asking, refusal_of_seat, refusal_of_consume, Consume, open_in, JudgesConsumer, refusal_by, refusal_seen}
 use Rattle.std.specs.Prelude.{Some}
 use Rattle.model.specs.Step.{Refusal}
@@ -6,13 +6,13 @@ use Rattle.channels.specs.Open.{Open}
 use Rattle.channels.specs.declared.consumers.SeatRefusal.{SeatRefusal}
 use Rattle.channels.specs.declared.consumers.SeatRefusal.TheVariants.{InUse, TooMany, Spent}
 
--- what stands against its consumer stands against its seat
+-- the refusal of its consumer, as the model has it
 pub unseated : (names : List Text) (ch : Open) (m : Consume) (why : SeatRefusal) → JudgesConsumer ch m (Some why) → Some (refusal_seen (refusal_by why)) ≡ refusal_of_seat (open_in names ch) m
 unseated names ch m InUse is = sym (is names)
 unseated names ch m TooMany is = sym (is names)
 unseated names ch m Spent is = sym (is names)
 
--- of a queue that is there, where it asks for nothing more, it is what stands against a consume
+-- if the queue exists and nothing is asked for that is not implemented, it is the refusal of the consume
 pub seat : (t : Topology) (ch : Channel) (m : Consume) → None ≡ refusal_in t m.queue → None ≡ refusal_of_asking m → refusal_of_seat ch m ≡ refusal_of_consume t ch m
 seat t ch m there asked =
     sym (ap (λ (x : Option Refusal). or_else x (or_else (refusal_of_asking m) (refusal_of_seat ch m))) (sym there) ∙ ap (λ (x : Option Refusal). or_else x (refusal_of_seat ch m)) (sym asked))

@@ -29,13 +29,13 @@ tag_short ch m free short = go m.consumer_tag (none_wanting (ch.next_number == g
     go [] left lt = server_short (next_free ch) (leb-false 18446744073709551615 (next_free ch) left)
     go (b ∷ bs) left lt = lt
 
--- ---- what stands against it
+-- ---- the refusal
 
--- where nothing stands against a consume, nothing does against its seat
+-- if a consume is not refused, its consumer is not
 pub seat_free : (t : Topology) (ch : Channel) (m : Consume) → refusal_of_consume t ch m ≡ None → refusal_of_seat ch m ≡ None
 seat_free t ch m free = second_none (refusal_of_asking m) (refusal_of_seat ch m) (second_none (refusal_in t m.queue) (or_else (refusal_of_asking m) (refusal_of_seat ch m)) free)
 
--- and a consumer that was not made, though nothing stood against it, wanted memory
+-- and a consumer that was not made, though it was not refused, failed to allocate
 pub unseated : (t : Topology) (names : List Text) (ch new : Open) (m : Consume) (place : ℕ) (why : Unseated) (Does : Step → Type 0) → refusal_of_consume t (open_in names ch) m ≡ None
     → SeatsConsumer ch place m (Err why) new → ComesTo (refusal_of_consume t (open_in names ch) m) Does (Err (stop_of why))
 unseated t names ch new m place (Refused r) Does free (is, same) = absurd (false≢true (ap is_some (sym (seat_free t (open_in names ch) m free) ∙ is names)))
@@ -51,7 +51,7 @@ consumed c h place s ch made m tag sends notes old new at seated sent noted turn
     does_here c h s (seen s ch) (seen s made) (with_consumer (seen s ch) m) sends (consume_sends c h m.no_wait (tag_for (seen s ch) m.consumer_tag)) notes old new
     (sent ∙ ap (consume_sends c h m.no_wait) (seated.named names)) noted (seated.made names at.named) turns
 
--- and so is one that is the channel's no more a cancel
+-- and so is one that a cancel removes from the channel
 pub cancelled : (c h : ℕ) (s : Store) (ch left : Open) (m : Cancel) (sends : List Send) (notes : List Note) (old new : Side) → sends ≡ cancel_sends c h m.no_wait m.consumer_tag → notes ≡ []
     → seen s left ≡ without_consumer (seen s ch) m.consumer_tag → Turns c h (seen s ch) (seen s left) old new → Cancels (state_of s old) c h (seen s ch) m sends notes (state_of s new)
 cancelled c h s ch left m sends notes old new sent noted same turns =

@@ -35,7 +35,7 @@ all_by_place t place name (k ∷ ks) apart lt named within =
     ∙ ap (λ (n : ℕ). cond (takes_from place k) 1 0 + n) (all_by_place t place name ks apart lt named (All-tail (λ (x : Consumer). x.queue < length t.queues) k ks within))
     ∙ sym (sum_by-cons (λ (x : Consumer). cond (takes_from place x) 1 0) k ks)
 
--- so it is on a channel
+-- the same on a channel
 on_channel : (t : Topology) (place : ℕ) (name : Text) (o : Option Open) → AreApart (queue_names t.queues) → place < length t.queues → queue_name t place ≡ name → ((ch : Open) → o ≡ Some ch → IsPlaced t ch)
     → consumers_at place o ≡ consumers_on name (option_map (open_in (queue_names t.queues)) o)
 on_channel t place name None apart lt named placed = refl
@@ -65,7 +65,7 @@ has_consumers kept place count name placed apart lt named is = record {
 
 -- ---- the answer
 
--- a count is written as it is where the greatest number stands for any above it
+-- a count is written as it is if the greatest number is written for any above it
 written_same : (n : ℕ) → written_count (min n greatest) ≡ written_count n
 written_same n = elim (leb_tells n 4294967295) [
   | inl a ↦ let le = a.1 in let same : min n greatest ≡ n = omega (arith, le) in ap written_count same

@@ -15,7 +15,7 @@ use Rattle.commands.proofs.Placing.{takes_within}
 
 -- ---- who may take a message
 
--- who may take one on the connection that stands there may take one
+-- a consumer of the connection that may take one may take one, as the model has it
 pub tells_is : (kept : Kept) (p : Pick) (l : Running) (r : Option Consumer) → running_in kept.connections p.connection ≡ Some l → ArePlaced kept → TellsOn l p.channel p.number r → TellsConsumer kept p r
 tells_is kept p l (Some k) e placed t = record {
   channel = open_in (names_of kept) t.channel;
@@ -46,7 +46,7 @@ pub none_told : {B : Type 0} (f : B → Consumer) (kept : Kept) (p : Pick) (r : 
 none_told f kept p None e t = t
 none_told f kept p (Some k) e t = absurd (false≢true (sym e))
 
--- one that may take one on the connection that stands there takes it from its queue
+-- a consumer of the connection that may take one takes it from its queue
 pub takes_from : (kept : Kept) (p : Pick) (l : Running) (k : Consumer) → running_in kept.connections p.connection ≡ Some l → ArePlaced kept → TellsOn l p.channel p.number (Some k) → TellsTaking kept p (From k.queue)
 takes_from kept p l k e placed t = (k, tells_is kept p l (Some k) e placed t, refl)
 
@@ -101,7 +101,7 @@ none_picked kept p none (made, at, numbered) = none made.channel made.consumer (
 pub picked_there : (b : Broker) (p : Pick) → IsPick b p → IsSome (b.channel p.connection p.channel)
 picked_there b p (made, at, numbered) = ap is_some (ap (λ (h : ℕ). b.channel p.connection h) (sym at) ∙ made.taker.there)
 
--- and it is this one, where this stands at its number
+-- and it is this one, if this is the channel with its number
 its_channel : (b : Broker) (p : Pick) (ch : Channel) → b.channel p.connection p.channel ≡ Some ch → (pick : IsPick b p) → pick.0.channel ≡ ch
 its_channel b p ch there (made, at, numbered) = same_Some made.channel ch (sym made.taker.there ∙ ap (λ (h : ℕ). b.channel p.connection h) at ∙ there)
 
@@ -129,28 +129,32 @@ delivered s s' ch ch' p k e tag name sends notes t found tagged named sent noted
     let names = queue_names s.topology.queues in
     let own : made.channel ≡ seen s ch = its_channel (state_of s old) p (seen s ch) turns.was (made, at, numbered) in
     record {
-      made = record {
-        number = p.channel;
-        channel = seen s ch;
-        consumer = consumer_in names k;
-        taker = record {
-          connection = made.taker.connection;
-          runs = made.taker.runs;
-          awake = made.taker.awake;
-          there = turns.was;
-          open_still = ap (λ (x : Channel). x.is_closing) (sym own) ∙ made.taker.open_still;
-          its = t.its names;
-          may = t.may names;
+      delivery = record {
+        made = record {
+          number = p.channel;
+          channel = seen s ch;
+          consumer = consumer_in names k;
+          taker = record {
+            connection = made.taker.connection;
+            runs = made.taker.runs;
+            awake = made.taker.awake;
+            there = turns.was;
+            open_still = ap (λ (x : Channel). x.is_closing) (sym own) ∙ made.taker.open_still;
+            its = t.its names;
+            may = t.may names;
+          };
+          entry = e;
+          first = found;
         };
-        entry = e;
-        first = found;
+        makes = record {
+          sent = sent ∙ ap (λ (n : ℕ). deliver p.connection p.channel n k.tag e ∷ []) tagged;
+          noted = noted ∙ ap (delivery_notes k.no_ack e.message.number) named;
+          left = subst (λ (n : ℕ). Is (after_delivery (state_of s old) p.connection p.channel (seen s ch) k.no_ack (queue_name s.topology k.queue) (taker.Consumer n)) (state_of s' new)) (sym t.numbered)
+              (gives old new turns);
+        };
       };
-      makes = record {
-        sent = sent ∙ ap (λ (n : ℕ). deliver p.connection p.channel n k.tag e ∷ []) tagged;
-        noted = noted ∙ ap (delivery_notes k.no_ack e.message.number) named;
-        left = subst (λ (n : ℕ). Is (after_delivery (state_of s old) p.connection p.channel (seen s ch) k.no_ack (queue_name s.topology k.queue) (taker.Consumer n)) (state_of s' new)) (sym t.numbered)
-            (gives old new turns);
-      };
+      channel = refl;
+      consumer = t.numbered;
     }
 
 -- its tag is short where consumers are named

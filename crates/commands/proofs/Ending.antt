@@ -21,7 +21,7 @@ module _ (old new : Broker) where
   here : (c : ℕ) (x : Option Connection) → with_one old.connection c x c ≡ x
   here c x = ap (λ (v : Bool). if v then x else old.connection c) (eq-eqb c c refl)
 
-  -- one that is gone runs no more, and each other runs still
+  -- a connection that is gone is no longer running, and each other still is
   pub gone_ended : (c : ℕ) → Is (with_gone old c) new → TellsEnd c ends.Connection old new
   gone_ended c is = (is.connections c ∙ here c None, others_run c None is.connections)
 

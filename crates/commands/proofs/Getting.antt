@@ -40,13 +40,13 @@ remaining_are b c h ch no_ack q e f =
     ap (λ (v : Bool). ready_in (if v then after_giving no_ack holder (b.queue q) else b.queue q)) ((bytes_eq-Decides q q).1 refl)
     ∙ remaining_in no_ack holder (b.queue q) e f
 
--- ---- what stands against a get
+-- ---- the refusal of a get
 
--- what stands against the name of its queue
+-- the refusal by the name of its queue
 pub absent : (t : Topology) (b : Broker) (ch : Channel) (get : Get) (r : Refusal) → Some r ≡ refusal_in t get.queue → refusal_of_get t b ch get ≡ Some r
 absent t b ch get r e = ap (λ (x : Option Refusal). or_else x (refusal_of_tags ch (first_ready (b.queue get.queue)))) (sym e)
 
--- and where that is there what stands against giving out its first ready message
+-- and if that exists, the refusal to give out its first ready message
 pub there : (t : Topology) (b : Broker) (ch : Channel) (get : Get) (o : Option Entry) → None ≡ refusal_in t get.queue → first_ready (b.queue get.queue) ≡ o → refusal_of_get t b ch get ≡ refusal_of_tags ch o
 there t b ch get o is at = ap (λ (x : Option Refusal). or_else x (refusal_of_tags ch (first_ready (b.queue get.queue)))) (sym is) ∙ ap (refusal_of_tags ch) at
 

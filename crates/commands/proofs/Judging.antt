@@ -23,7 +23,7 @@ number_is t b conn max h m ch e n same =
     chosen false true = refl
     chosen false false = refl
 
--- and where nothing does it is what stands against it on the channel
+-- and if there is none it is the refusal on the channel
 pub number_passed : (t : Topology) (b : Broker) (conn : Connection) (max h : ℕ) (m : Method) (ch : Option Channel) → is_awaiting ch ≡ false → h ≢ 0 → conn.channel_max ≡ max
     → refusal_of_number max h m ≡ None → refusal t b conn h m ch ≡ refusal_on t b ch m
 number_passed t b conn max h m ch e n same is = number_is t b conn max h m ch e n same ∙ ap (λ (x : Option Refusal). or_else x (refusal_on t b ch m)) is
@@ -32,7 +32,7 @@ number_passed t b conn max h m ch e n same is = number_is t b conn max h m ch e 
 pub publish_is : (t : Topology) (b : Broker) (ch : Channel) (p : Publish) → p.immediate ≡ false → refusal_of_publish t b ch p ≡ or_else (refusal_to t p.exchange) (refusal_of_count b ch)
 publish_is t b ch p flag = ap (λ (x : Bool). if x then Some (Of_connection 540) else or_else (refusal_to t p.exchange) (refusal_of_count b ch)) flag
 
--- a queue that stands at a place is found by its name
+-- a queue at an index is found by its name
 pub queue_there : (qs : List DeclaredQueue) (i : ℕ) (name : Text) → i < length qs → get_or (queue_names qs) i [] ≡ name → is_some (queue_named qs name) ≡ true
 queue_there [] i name lt e = absurd (omega arith)
 queue_there (q ∷ qs) zero name lt e = chosen (bytes_eq q.name name) refl

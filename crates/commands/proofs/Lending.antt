@@ -1,5 +1,5 @@
 -- What a command did on a channel that was lent, as what is kept.
-use Rattle.commands.proofs.Names.{◌≡◌, ◌∙◌, ℕ, zero, suc, List, [], ◌∷◌, get_or, set, nat_eq, Option, None, Result, Ok, Err, sym, ap, subst, option_map, none-some, Topology, queue_names, Broker, Connection, with_pair, IsAgreed, IsDelivery, refusal, Content, Send, Method, Note, open_in, Store, Stop, running_in, channel_in, channel_of, connection_at, connection_of, seen_in, limits_of, with_running, with_channel_in, PutsChannel, set_same, found_channel, found_written, IsPlaced, Kept, ArePlaced, broker_of, names_of, topology_kept, Side, Turns, CanCommand, Answers, AnswersHere, AnswersOn, DeliversHere, UnlessPerformed, seen, IsPick, Pick, Done, Performed}
+use Rattle.commands.proofs.Names.{◌≡◌, ◌∙◌, ℕ, zero, suc, List, [], ◌∷◌, get_or, set, nat_eq, Option, None, Result, Ok, Err, sym, ap, subst, option_map, none-some, Topology, queue_names, Broker, Connection, with_pair, IsAgreed, refusal, Content, Send, Method, Note, open_in, Store, Stop, running_in, channel_in, channel_of, connection_at, connection_of, seen_in, limits_of, with_running, with_channel_in, PutsChannel, set_same, found_channel, found_written, IsPlaced, Kept, ArePlaced, broker_of, names_of, topology_kept, Side, Turns, CanCommand, Answers, AnswersHere, AnswersOn, DeliversHere, DeliversTo, UnlessPerformed, seen, IsPick, Pick, Done, Performed}
 use Rattle.std.proofs.Common.{Some}
 use Rattle.channels.specs.Open.{Open}
 use Rattle.channels.specs.RunningConnections.{Running, with_channel}
@@ -90,7 +90,7 @@ still_placed old new same placed = subst (λ (k : Kept). ArePlaced k) (sym same)
 pub lent_placed : (old new : Kept) (c h : ℕ) (l : Running) (was ch : Open) → IsLent old new c h l was ch → IsPlaced (topology_kept old) ch → ArePlaced old → ArePlaced new
 lent_placed old new c h l was ch lent own placed = placed_put old new c h (Some ch) lent.topology lent.put (placed_some (topology_kept old) ch own) placed
 
--- what stands at a number is set there again
+-- what is at a number is set there again
 set_there : (xs : List (Option Open)) (i : ℕ) (x : Open) → get_or xs i None ≡ Some x → set xs i (Some x) ≡ xs
 set_there [] i x e = absurd (none-some x e)
 set_there (y ∷ ys) zero x e = ap (λ (z : Option Open). z ∷ ys) (sym e)
@@ -111,9 +111,9 @@ lent_same old new c h l was ch lent stored same =
 -- a delivery that was made on a channel that was lent was made in what is kept
 pub delivered_on : LentArePut → (old now new : Kept) (p : Pick) (was ch : Open) (sends : List Send) (notes : List Note) → old ≡ now → channel_of old.connections p.connection p.channel ≡ Some was
     → new.connections ≡ with_channel old.connections p.connection p.channel ch → topology_kept new ≡ topology_kept old → IsPick (broker_of now) p → DeliversHere p old.store was sends notes new.store ch
-    → IsDelivery (broker_of now) p.connection sends notes (broker_of new)
+    → DeliversTo (broker_of now) p sends notes (broker_of new)
 delivered_on are old now new p was ch sends notes same there written topology pick delivers =
-    subst (λ (k : Kept). IsDelivery (broker_of k) p.connection sends notes (broker_of new)) same
+    subst (λ (k : Kept). DeliversTo (broker_of k) p sends notes (broker_of new)) same
     (delivers (side_of old) (side_of new) (turns_put old new p.connection p.channel was ch there (put_there are old new p.connection p.channel was ch there written) topology)
     (subst (λ (k : Kept). IsPick (broker_of k) p) (sym same) pick))
 

@@ -50,7 +50,7 @@ module _ (kept : Kept) (place : ℕ) (q : Text) (at : slice_get (names_of kept) 
         takes = one_place names one.one.queue place apart (omega (arith, within, long)) (slice_get_within names place q at) (ap (λ (k : seen.Consumer). k.queue) one.is ∙ c.takes ∙ sym is_named);
       }
 
--- what stands at a place of the file stands under its name
+-- the queue at an index is the one with its name
 abbrev pub AreNamed : Type 0
 AreNamed = (s : Store) (place : ℕ) → IsStoreWhole s → place < length s.topology.queues → IsQueueNamed s place
 
@@ -74,7 +74,7 @@ judged r kept t new gs e stands told =
     (λ o judges users. judges (broker_of kept) users stands)
     (subst (λ (x : Topology). IfOk r (JudgesReload x (λ place. queue_at kept.store place) (λ place. is_consumed kept.connections place) new gs)) e told)
 
--- what memory may be wanting for, in whatever broker it is so, may be wanting for of the broker
+-- if a reload may fail to allocate for every broker with these queues, it may for this one
 pub wanted : {E : Type 0} (r : Result (Option Obstacle) E) (kept : Kept) (t new : Topology) → t ≡ topology_kept kept
     → ShowsQueues (topology_kept kept) (λ place. queue_at kept.store place) (λ place. is_consumed kept.connections place) (broker_of kept)
     → OnErr r ((b : Broker) → ShowsQueues t (λ place. queue_at kept.store place) (λ place. is_consumed kept.connections place) b → MayWant t new b)

@@ -20,7 +20,7 @@ names_long : (qs : List DeclaredQueue) → length (queue_names qs) ≡ length qs
 names_long [] = refl
 names_long (q ∷ qs) = ap suc (names_long qs)
 
--- two queues of one name stand at one place
+-- two queues with one name have one index
 pub same_place : (t : Topology) (i j : ℕ) → AreApart (queue_names t.queues) → i < length t.queues → j < length t.queues → queue_name t i ≡ queue_name t j → i ≡ j
 same_place t i j apart h k e = let long = names_long t.queues in one_place (queue_names t.queues) i j apart (omega (arith, long, h)) (omega (arith, long, k)) e
 

@@ -28,7 +28,7 @@ in_mapped g x [] i = absurd i
 in_mapped g x (y ∷ ys) (inl e) = inl (ap g e)
 in_mapped g x (y ∷ ys) (inr i) = inr (in_mapped g x ys i)
 
--- a name stands at one place
+-- a name has one index
 pub one_place : (names : List Text) (i j : ℕ) → AreApart names → i < length names → j < length names → get_or names i [] ≡ get_or names j [] → i ≡ j
 one_place [] i j apart l m e = absurd (omega (arith, l))
 one_place (n ∷ ns) zero zero apart l m e = refl
@@ -47,14 +47,14 @@ seen_of f y [] i = absurd i
 seen_of f y (x ∷ xs) (inl e) = record { one = x; among = inl refl; is = sym e }
 seen_of f y (x ∷ xs) (inr i) = let more = seen_of f y xs i in record { one = more.one; among = inr more.among; is = more.is }
 
--- ---- where queues in use stand
+-- ---- the new indices of queues in use
 
--- what is asked of what is seen is so of what stands inside
+-- what a reload requires of a broker holds of the same broker
 pub can_reload : (old now : Kept) (t : Topology) → old ≡ now → IsAgreed (broker_of now) → NoneIsStranded (topology_kept now) t (broker_of now) → IsAgreed (broker_of old) × NoneIsStranded (topology_kept old) t (broker_of old)
 can_reload old now t same agreed none =
     (subst (λ (k : Kept). IsAgreed (broker_of k)) (sym same) agreed, subst (λ (k : Kept). NoneIsStranded (topology_kept k) t (broker_of k)) (sym same) none)
 
--- The queue at this place stands at its place in the new file, under its name.
+-- The queue at this index is at its new index in the new topology, with its name.
 pub record Stands (old new : List Text) (places : List ℕ) (p : ℕ) : Type 0 where
   pub within : place_now places p < length new
   pub named : IsNamedAlike old new places p

@@ -1,5 +1,5 @@
 -- Consumers that are there still, and those that leave.
-use Rattle.commands.proofs.Names.{◌≡◌, ◌∙◌, ℕ, List, [], ◌∷◌, ◌++◌, filter, not, cond, Bool, true, false, Option, None, inl, inr, refl, sym, ap, subst, Result, Ok, Err, arith, ◌||◌, is_some, option_map, IfOk, OnOk, AllocError, eqb-true, eq-eqb, lt-ltb, false≢true, Text, Topology, IsIn, Channel, Broker, new_channel, with_pair, with_row, consumer_of, is_tagged, is_in_use, without_consumer, first_ready, by_channel, Is, Acts, Does, Gets, Performs, after_close, channel_or_new, with_closing, with_freed, with_gone, Content, Command, TooLarge, Fault, Send, Entry, Get, Qos, Method, ConnectionClose, ChannelOpen, ChannelFlow, ChannelClose, ChannelCloseOk, ExchangeDeclare, QueuePurge, BasicQos, BasicConsume, BasicCancel, BasicPublish, BasicGet, BasicAck, BasicReject, BasicNack, BasicRecover, ConfirmSelect, Note, open_in, running_in, channel_at, connection_at, Step, Performed, AnswersOn, Acted, AllConsumersStay, OtherConsumersStay, LeavesChannel, TellsStayOn, TellsStay, has_consumers, cancels_one, ends_of, opens_or_closes, Kept, broker_of, channel_on, names_of, topology_kept}
+use Rattle.commands.proofs.Names.{◌≡◌, ◌∙◌, ℕ, List, [], ◌∷◌, ◌++◌, filter, not, cond, Bool, true, false, Option, None, inl, inr, refl, sym, ap, subst, Result, Ok, Err, arith, ◌||◌, is_some, option_map, IfOk, OnOk, AllocError, eqb-true, eq-eqb, lt-ltb, false≢true, Text, Topology, IsIn, Channel, Broker, new_channel, with_pair, with_row, consumer_of, is_tagged, is_in_use, without_consumer, first_ready, by_channel, Is, Acts, Does, Gets, Performs, after_close, channel_or_new, with_freed, with_gone, Content, Command, TooLarge, Fault, Send, Entry, Get, Qos, Method, ConnectionClose, ChannelOpen, ChannelFlow, ChannelClose, ChannelCloseOk, ExchangeDeclare, QueuePurge, BasicQos, BasicConsume, BasicCancel, BasicPublish, BasicGet, BasicAck, BasicReject, BasicNack, BasicRecover, ConfirmSelect, Note, open_in, running_in, channel_at, connection_at, Step, Performed, AnswersOn, Acted, AllConsumersStay, OtherConsumersStay, LeavesChannel, TellsStayOn, TellsStay, has_consumers, cancels_one, ends_of, opens_or_closes, Kept, broker_of, channel_on, names_of, topology_kept}
 use Rattle.std.proofs.Common.{Some}
 use Rattle.std.specs.Prelude.{◌==◌, ◌&&◌, if◌then◌else◌, nat_lt, length}
 use Rattle.model.specs.Broker.{Consumer}
@@ -109,7 +109,7 @@ module _ (old new : Broker) where
             subst (λ (n : ℕ). WasConsumer new n l k) (sym d_is) (subst (λ (n : ℕ). WasConsumer new c n k) (sym l_is) (own k (subst (λ (n : ℕ). WasConsumer old c n k) l_is (subst (λ (n : ℕ). WasConsumer old n l k) d_is was))))
         go false apart = others_stay d l k apart was
 
-    -- one leaves that it has no more
+    -- a consumer has left that the channel no longer has
     one_leaves : (k : Consumer) → WasConsumer old c h k → (IsIn k (channel_or_new x).consumers → ⊥) → LeavesChannel c h old new
     one_leaves k was none = record {
       consumer = k;

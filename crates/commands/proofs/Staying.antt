@@ -3,7 +3,7 @@ use Rattle.commands.proofs.Names.{◌≡◌, ◌∙◌, ℕ, Bool, true, false, 
 use Rattle.std.proofs.Common.{◌==◌, ◌&&◌, Some, if◌then◌else◌}
 use Rattle.channels.specs.Open.{Open}
 
--- what stands for a pair of numbers is put there again
+-- what is at a pair of numbers is put there again
 put_again : {A : Type 0} (f : ℕ → ℕ → A) (c h d k : ℕ) (x : A) → f c h ≡ x → with_pair f c h x d k ≡ f d k
 put_again f c h d k x is = chosen (d == c) (k == h) refl refl
   where

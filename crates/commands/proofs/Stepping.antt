@@ -86,7 +86,7 @@ put_is old new c h ch e l = record {
   channels = seen_put (names_of old) (names_of new) old.connections new.connections c h ch (ap (λ (s : Store). queue_names s.topology.queues) e) l;
 }
 
--- what is judged of a content that is too large by the connection that stands there is judged by the broker's state
+-- what is decided of a content that is too large by the kept connection is what the broker's state decides
 pub large_judged : (kept : Kept) (c h : ℕ) (r : declared.Refusal) (l : Running) → running_in kept.connections c ≡ Some l
     → refusal_seen r ≡ refusal_of_large (limits_of l) h (channel_seen (names_of kept) l h) → HasChannel r (channel_seen (names_of kept) l h)
     → JudgesLarge (broker_of kept) c h (Some r)

@@ -1,4 +1,4 @@
--- What a command does to an open channel and to the queues, whatever else there is beside them.
+-- What a command does to an open channel and to the queues, whatever other connections and channels there are.
 use Rattle.std.specs.Prelude.{◌≡◌, ℕ, Bool, List, Option, Some, None, IsSome, Result, Ok, Err, true, false}
 use Rattle.std.specs.List.{AllByRecursion}
 use Rattle.model.specs.Words.{Text}
@@ -9,7 +9,7 @@ use Rattle.model.specs.Deliveries.{Settlement, after_delivery}
 use Rattle.model.specs.Grammar.{IsMethod}
 use Rattle.model.specs.Sending.{IsCarried}
 use Rattle.model.specs.Step as step
-use Rattle.model.specs.Step.{Is, IsDelivery, Performs, Settles, refusal, refusal_of, channel_or_new}
+use Rattle.model.specs.Step.{Is, Performs, Settles, refusal, refusal_of, channel_or_new}
 use Rattle.model.specs.declared.contents.Content.{Content}
 use Rattle.model.specs.declared.events.Send.{Send}
 use Rattle.model.specs.declared.messages.Entry.{Entry}
@@ -29,7 +29,7 @@ use Rattle.commands.specs.declared.refusals.Stop.TheVariants.{Refused, Memory}
 use Rattle.replies.specs.Sent.{AreAddressed}
 use Rattle.replies.specs.declared.steps.Step.{Step}
 use Rattle.commands.specs.State.{Kept, broker_of, topology_kept}
-use Rattle.commands.specs.Picked.{IsPick}
+use Rattle.commands.specs.Picked.{IsPick, DeliversTo}
 use Rattle.commands.specs.declared.picks.Pick.{Pick}
 use Rattle.commands.specs.declared.commands.asking.Left as asked
 use Rattle.commands.specs.declared.commands.asking.Left.TheVariants as left
@@ -38,12 +38,12 @@ use Rattle.commands.specs.declared.commands.Done.TheVariants.{Performed, Left}
 
 -- ---- states
 
--- what a state has beside its queues
+-- the connections and channels of a state, without its queues
 pub record Side : Type 0 where
   pub connection : ℕ → Option Connection
   pub channel : ℕ → ℕ → Option Channel
 
--- the state of these queues with that beside them
+-- the state with these queues, connections and channels
 abbrev pub state_of : Store → Side → Broker
 state_of s side = record { published = s.published; queue = entries_named s; connection = side.connection; channel = side.channel }
 
@@ -51,13 +51,13 @@ state_of s side = record { published = s.published; queue = entries_named s; con
 abbrev pub seen : Store → Open → Channel
 seen s ch = open_in (queue_names s.topology.queues) ch
 
--- The channel h of the connection c was this one and is that one now, and nothing else of connections and channels changed.
+-- Channel h of connection c changed from `ch` to `ch'`, and nothing else of connections and channels did.
 pub record Turns (c h : ℕ) (ch ch' : Channel) (old new : Side) : Type 0 where
   pub was : old.channel c h ≡ Some ch
   pub connections : (d : ℕ) → new.connection d ≡ old.connection d
   pub channels : (d k : ℕ) → new.channel d k ≡ with_pair old.channel c h (Some ch') d k
 
--- An agreed state has these queues and this channel, and the channel names queues that are there.
+-- What a command needs: some agreed state has these queues and this channel, and the channel names only queues that exist.
 pub record CanCommand (c h : ℕ) (s : Store) (ch : Open) : Type 0 where
   pub side : Side
   pub there : side.channel c h ≡ Some (seen s ch)
@@ -66,46 +66,46 @@ pub record CanCommand (c h : ℕ) (s : Store) (ch : Open) : Type 0 where
 
 -- ---- commands
 
--- nothing stands against a command, and this is so of what it does; or it is refused; or memory was wanting, and nothing stands against it
+-- what a result means: there is no refusal and `Does` holds; or the command is refused for this; or an allocation failed, and there is no refusal
 abbrev pub ComesTo : Option step.Refusal → (Step → Type 0) → Result Step Stop → Type 0
 ComesTo against Does (Ok s) = (against ≡ None) × Does s
 ComesTo against Does (Err (Refused r)) = against ≡ Some (refusal_seen r)
 ComesTo against Does (Err Memory) = against ≡ None
 
--- the method has a spelling, and so has all that stands in the queues
+-- the method can be encoded, and so can each message in a queue
 abbrev pub HasSpelling : Store → Method → Type 0
 HasSpelling s m = IsMethod m × ((q : Text) → AllByRecursion (λ (e : Entry). IsCarried e.message) (entries_named s q))
 
--- what a command comes to on an open channel, with this content behind it
+-- what each result of a command on an open channel means, for the command's method and content
 abbrev pub Commands : ℕ → ℕ → Store → Open → Method → Option Content → Result Step Stop → Store → Open → Type 0
 Commands c h s ch m content result s' ch' = (old new : Side) → Turns c h (seen s ch) (seen s' ch') old new
     → ComesTo (refusal_of s.topology (state_of s old) (seen s ch) m)
     (λ x. Performs s.topology (state_of s old) c h (seen s ch) m content x.sends.items x.notes.items (state_of s' new)) result
 
--- what this tag settles is settled so, and this is sent and noted
+-- the tag settles what it should, in this way, and this is sent and noted
 abbrev pub SettlesHere : Settlement → ℕ → ℕ → Store → Open → ℕ → Bool → List Send → List Send → List Note → Store → Open → Type 0
 SettlesHere how c h s ch tag multiple wanted sends notes s' ch' = (old new : Side) → Turns c h (seen s ch) (seen s' ch') old new
     → Settles s.topology how (state_of s old) c h (seen s ch) tag multiple wanted sends notes (state_of s' new)
 
--- the first ready message of the queue at this place is given out so, under the channel's next delivery tag
+-- the first ready message of the queue at this index is given out under the channel's next delivery tag
 abbrev pub GivesHere : ℕ → ℕ → Store → Open → Bool → ℕ → Taker → Store → Open → Type 0
 GivesHere c h s ch no_ack place by s' ch' = (old new : Side) → Turns c h (seen s ch) (seen s' ch') old new
     → Is (after_delivery (state_of s old) c h (seen s ch) no_ack (queue_name s.topology place) by) (state_of s' new)
 
--- where one can be made to this consumer, it is made, and this is sent and noted
+-- if a delivery can be made to this consumer it is made, and this is sent and noted
 abbrev pub DeliversHere : Pick → Store → Open → List Send → List Note → Store → Open → Type 0
 DeliversHere p s ch sends notes s' ch' = (old new : Side) → Turns p.connection p.channel (seen s ch) (seen s' ch') old new
-    → IsPick (state_of s old) p → IsDelivery (state_of s old) p.connection sends notes (state_of s' new)
+    → IsPick (state_of s old) p → DeliversTo (state_of s old) p sends notes (state_of s' new)
 
--- memory was not wanting
+-- no allocation failed
 abbrev pub WantsNone : {A : Type 0} → Result A Stop → Type 0
 WantsNone (Ok x) = Unit {0}
 WantsNone (Err (Refused r)) = Unit {0}
 WantsNone (Err Memory) = ⊥
 
--- ---- what is left to be done
+-- ---- commands that need more than their channel
 
--- the method asks for this on the channel, which is there where it needs to be, and is not where it is opened
+-- the method asks for this, and the channel is open or not as that needs
 abbrev pub AsksLeft : Topology → Option Channel → Method → asked.Left → Type 0
 AsksLeft t ch m left.OpenChannel = (reserved : Text) × (m ≡ method.ChannelOpen reserved) × (ch ≡ None)
 AsksLeft t ch m left.AnswerClose = (x : Close) × (m ≡ method.ChannelClose x) × IsSome ch × ((channel_or_new ch).is_closing ≡ false)
@@ -114,16 +114,16 @@ AsksLeft t ch m left.EndChannel = (m ≡ method.ChannelCloseOk) × IsSome ch
 AsksLeft t ch m left.CloseConnection = (x : Close) × (m ≡ method.ConnectionClose x)
 AsksLeft t ch m (left.FindQueue place d) = (m ≡ method.QueueDeclare d.now) × IsSome ch × IsQueuePlace t d.now.queue place
 
--- it can be done: some method asks for it
+-- some method asks for this
 abbrev pub CanFinish : Topology → Option Channel → asked.Left → Type 0
 CanFinish t ch l = (m : Method) × AsksLeft t ch m l
 
--- Either the method is refused for this, or nothing stands against it, and it asks for what is left.
+-- Either the method is refused for this, or there is no refusal and it asks for this.
 abbrev pub Asks : Topology → Option Channel → Method → Option step.Refusal → Result asked.Left Refusal → Type 0
 Asks t ch m against (Ok l) = (against ≡ None) × AsksLeft t ch m l
 Asks t ch m against (Err r) = (against ≡ Some (refusal_seen r)) × HasChannel r ch
 
--- a command is performed, or it asks for this, or it is refused for what stands against it; or memory was wanting
+-- what a result means: the command is performed, or it asks for this, or it is refused; or an allocation failed, and there is no refusal
 abbrev pub Answers : Option step.Refusal → Topology → Broker → ℕ → ℕ → Option Channel → Method → Option Content → Result Done Stop → Broker → Type 0
 Answers against t old c h ch m content (Ok (Performed s)) new =
     (against ≡ None) × Performs t old c h (channel_or_new ch) m content s.sends.items s.notes.items new
@@ -131,30 +131,30 @@ Answers against t old c h ch m content (Ok (Left l)) new = (against ≡ None) ×
 Answers against t old c h ch m content (Err (Refused r)) new = (against ≡ Some (refusal_seen r)) × HasChannel r ch
 Answers against t old c h ch m content (Err Memory) new = against ≡ None
 
--- a command that is performed on its channel alone leaves nothing to be done
+-- a command that is performed on its channel alone asks for nothing else
 abbrev pub done_of : Result Step Stop → Result Done Stop
 done_of (Ok s) = Ok (Performed s)
 done_of (Err stop) = Err stop
 
--- and one that is not done yet is left as it was judged
+-- a command that asks for more, with its refusal, if any
 abbrev pub left_of : Result asked.Left Refusal → Result Done Stop
 left_of (Ok l) = Ok (Left l)
 left_of (Err r) = Err (Refused r)
 
--- the same of an open channel, where this is the greatest channel number of the connection
+-- `Answers` on an open channel of a connection whose greatest channel number is `max`
 abbrev pub AnswersHere : ℕ → ℕ → ℕ → Store → Open → Method → Option Content → Result Done Stop → Store → Open → Type 0
 AnswersHere max c h s ch m content result s' ch' = (old new : Side) (conn : Connection) → conn.channel_max ≡ max → Turns c h (seen s ch) (seen s' ch') old new
     → Answers (refusal s.topology (state_of s old) conn h m (Some (seen s ch))) s.topology (state_of s old) c h (Some (seen s ch)) m content
     result (state_of s' new)
 
--- The same of a command on a connection, which is silent where that doesn't run.
+-- `Answers` on a connection; `None` if it is not running, and then nothing has changed
 abbrev pub AnswersOn : Kept → ℕ → ℕ → Method → Option Content → Option (Result Done Stop) → Kept → Type 0
 AnswersOn old c h m content None new = ((broker_of old).connection c ≡ None) × (new ≡ old)
 AnswersOn old c h m content (Some r) new = (conn : Connection) × ((broker_of old).connection c ≡ Some conn)
     × Answers (refusal (topology_kept old) (broker_of old) conn h m ((broker_of old).channel c h))
     (topology_kept old) (broker_of old) c h ((broker_of old).channel c h) m content r (broker_of new)
 
--- this is so unless the command was performed
+-- `Stays` holds unless the command was performed
 abbrev pub UnlessPerformed : Result Done Stop → Type 0 → Type 0
 UnlessPerformed (Ok (Performed s)) Stays = Unit {0}
 UnlessPerformed (Ok (Left l)) Stays = Stays
@@ -166,7 +166,7 @@ IsNotPerformed (Ok (Performed s)) = ⊥
 IsNotPerformed (Ok (Left l)) = Unit {0}
 IsNotPerformed (Err stop) = Unit {0}
 
--- what a command sends that was performed has the address of its connection
+-- if the command was performed all that it sends is for connection c
 abbrev pub IsAddressedBy : ℕ → Result Done Stop → Type 0
 IsAddressedBy c (Ok (Performed s)) = AreAddressed c s.sends.items
 IsAddressedBy c (Ok (Left l)) = Unit {0}

@@ -1,5 +1,5 @@
--- Which connections run still, and which consumers are there still.
-use Rattle.std.specs.Prelude.{◌≡◌, ◌==◌, ◌<◌, ◌&&◌, ℕ, Bool, true, false, Option, Some, None, IsSome, nat_lt, length, if◌then◌else◌}
+-- Which connections are still running, and which consumers still exist.
+use Rattle.std.specs.Prelude.{◌≡◌, ◌==◌, ◌&&◌, ℕ, Bool, false, None, IsSome, nat_lt, length, if◌then◌else◌}
 use Rattle.model.specs.Broker.{Channel, Consumer, Broker}
 use Rattle.model.specs.Consuming.{is_in_use}
 use Rattle.model.specs.declared.methods.Method.{Method}
@@ -11,15 +11,15 @@ use Rattle.replies.specs.Sent.{connection_of_event}
 use Rattle.commands.specs.declared.acted.Ends.{Ends}
 use Rattle.commands.specs.declared.acted.Ends.TheVariants.{Nothing, Consumers, Connection}
 
--- each connection but this runs still that ran
+-- each connection but `c` that was running still is
 abbrev pub OthersRunStill : ℕ → Broker → Broker → Type 0
 OthersRunStill c old new = (d : ℕ) → (d == c) ≡ false → new.connection d ≡ None → old.connection d ≡ None
 
--- each connection runs still that ran
+-- each connection that was running still is
 abbrev pub AllRunStill : Broker → Broker → Type 0
 AllRunStill old new = (d : ℕ) → new.connection d ≡ None → old.connection d ≡ None
 
--- It is told whether this connection runs no more: then each other that ran runs still, and else each that ran.
+-- What is said of the end of connection `c`: it is no longer running, and each other still is; or each still is.
 abbrev pub TellsEnd : ℕ → Ends → Broker → Broker → Type 0
 TellsEnd c Connection old new = (new.connection c ≡ None) × OthersRunStill c old new
 TellsEnd c Consumers old new = AllRunStill old new
@@ -27,35 +27,35 @@ TellsEnd c Nothing old new = AllRunStill old new
 
 -- ---- consumers
 
--- each consumer that was there is there still
+-- each consumer still exists
 abbrev pub AllConsumersStay : Broker → Broker → Type 0
 AllConsumersStay old new = (c h : ℕ) (k : Consumer) → WasConsumer old c h k → WasConsumer new c h k
 
--- each consumer of another connection is there still
+-- each consumer of another connection still exists
 abbrev pub OtherConsumersStay : ℕ → Broker → Broker → Type 0
 OtherConsumersStay c old new = (d h : ℕ) (k : Consumer) → (d == c) ≡ false → WasConsumer old d h k → WasConsumer new d h k
 
--- A consumer of this channel is gone, and each that is not on it is there still.
+-- A consumer of this channel is gone, and each that is not on it still exists.
 pub record LeavesChannel (c h : ℕ) (old new : Broker) : Type 0 where
   pub consumer : Consumer
   pub was : WasConsumer old c h consumer
   pub gone : WasConsumer new c h consumer → ⊥
   pub others : (d l : ℕ) (k : Consumer) → (d == c && l == h) ≡ false → WasConsumer old d l k → WasConsumer new d l k
 
--- It is told what becomes of consumers at an event of this channel: each stays; or one of the channel leaves; or its connection ends.
+-- What is said of consumers after an event of this channel: each still exists; or one of the channel is gone; or its connection ended.
 abbrev pub TellsStayOn : ℕ → ℕ → Ends → Broker → Broker → Type 0
 TellsStayOn c h Nothing old new = AllConsumersStay old new
 TellsStayOn c h Consumers old new = LeavesChannel c h old new
 TellsStayOn c h Connection old new = OtherConsumersStay c old new
 
--- Consumers may be gone at this event: one of its channel is, or its connection ran and begins anew. Those elsewhere are there still.
+-- consumers may be gone by this event: one of its channel is, or its connection was running and begins anew. All others still exist.
 abbrev pub MayLeave : Event → Broker → Broker → Type 0
 MayLeave (Running c max k) old new = IsSome (old.connection c) × OtherConsumersStay c old new
 MayLeave (Command c h m content) old new = LeavesChannel c h old new
 MayLeave (TooLarge c h) old new = LeavesChannel c h old new
 MayLeave e old new = ⊥
 
--- It is told what becomes of consumers at this event: each is there still; or some may be gone; or those of its connection are.
+-- What is said of consumers after an event: each still exists; or some of its channel may be gone; or its connection ended.
 abbrev pub TellsStay : Event → Ends → Broker → Broker → Type 0
 TellsStay e Nothing old new = AllConsumersStay old new
 TellsStay e Consumers old new = MayLeave e old new
@@ -65,11 +65,11 @@ TellsStay e Connection old new = OtherConsumersStay (connection_of_event e) old 
 abbrev pub has_consumers : Channel → Bool
 has_consumers ch = nat_lt 0 (length ch.consumers)
 
--- the command cancels one that the channel has
+-- the command cancels a consumer that the channel has
 abbrev pub cancels_one : Channel → Method → Bool
 cancels_one ch (BasicCancel m) = is_in_use m.consumer_tag ch.consumers
 cancels_one ch _ = false
 
--- what is ended that ends no connection, where consumers leave or not
+-- what an event ends that ends no connection: consumers, if `leaves`
 abbrev pub ends_of : Bool → Ends
 ends_of leaves = if leaves then Consumers else Nothing

@@ -1,4 +1,4 @@
--- What is decided of a command.
+-- What is decided of a command before it is performed.
 use Rattle.std.specs.Prelude.{◌≡◌, ◌<◌, ◌⊎◌, Bool, true, false, length, ℕ, Option, Some, None, Result, Ok, Err, IsSome, if◌then◌else◌, nat_lt}
 use Rattle.model.specs.Words.{Text}
 use Rattle.model.specs.Topology.{Topology}
@@ -19,49 +19,49 @@ use Rattle.commands.specs.declared.refusals.Refusal.TheVariants as refused
 use Rattle.commands.specs.declared.refusals.Stop.{Stop}
 use Rattle.commands.specs.declared.refusals.Stop.TheVariants.{Refused, Memory}
 
--- a refusal of the code, as one of the model
+-- the refusal, as the model has it
 abbrev pub refusal_seen : Refusal → step.Refusal
 refusal_seen refused.Ignored = step.Ignored
 refusal_seen (refused.Channel code) = Of_channel code
 refusal_seen (refused.Connection code) = Of_connection code
 
--- why something is refused, if it is
+-- the refusal of a result, if it is one
 abbrev pub refused_by : {A : Type 0} → Result A Refusal → Option step.Refusal
 refused_by (Ok x) = None
 refused_by (Err r) = Some (refusal_seen r)
 
--- how a consume is refused, against whose consumer this stands
+-- the refusal of a consume whose channel can't have this consumer
 abbrev pub refusal_by : SeatRefusal → Refusal
 refusal_by seat.InUse = refused.Connection 530
 refusal_by seat.TooMany = refused.Connection 506
 refusal_by seat.Spent = refused.Connection 541
 
--- why it is not performed, where its consumer was not made for this
+-- why a consume is not performed, if its consumer was not made for this reason
 abbrev pub stop_of : Unseated → Stop
 stop_of (unseated.Refused r) = Refused (refusal_by r)
 stop_of unseated.Memory = Memory
 
--- a channel that a refusal closes is there
+-- if the refusal closes a channel, that channel is open
 abbrev pub HasChannel : Refusal → Option Channel → Type 0
 HasChannel refused.Ignored ch = Unit {0}
 HasChannel (refused.Channel code) ch = IsSome ch
 HasChannel (refused.Connection code) ch = Unit {0}
 
--- nothing is done for this command: its connection doesn't run, or its channel awaits close-ok
+-- the command is ignored: its connection is not running, or its channel awaits close-ok
 abbrev pub IsIgnored : Topology → Broker → ℕ → ℕ → Method → Option Connection → Type 0
 IsIgnored t b c h m None = Unit {0}
 IsIgnored t b c h m (Some conn) = refusal t b conn h m (b.channel c h) ≡ Some step.Ignored
 
--- the same of a publish whose content is too large
+-- the same for a publish whose content is too large
 abbrev pub IsLargeIgnored : Broker → ℕ → ℕ → Option Connection → Type 0
 IsLargeIgnored b c h None = Unit {0}
 IsLargeIgnored b c h (Some conn) = refusal_of_large conn h (b.channel c h) ≡ step.Ignored
 
--- what stands against a method for the number of its channel, which is not 0, where this is the greatest number that was agreed on
+-- the refusal of a method on channel `h`, not 0, by its class and by the channel's number; `max` is the greatest number that was agreed on
 abbrev pub refusal_of_number : ℕ → ℕ → Method → Option step.Refusal
 refusal_of_number max h m = if is_of_connection m then Some (Of_connection 503) else if nat_lt max h then Some (Of_connection 504) else None
 
--- a method that an open channel takes, and that may be refused for what it asks
+-- whether an open channel performs the method, so that it may be refused for what it asks
 abbrev pub is_taken : Method → Bool
 is_taken (method.ChannelFlow active) = true
 is_taken (method.ChannelClose m) = true
@@ -80,7 +80,7 @@ is_taken (method.BasicRecover requeue) = true
 is_taken (method.ConfirmSelect no_wait) = true
 is_taken _ = false
 
--- a command that opens or closes a channel, or closes its connection
+-- whether the method opens or closes a channel, or closes the connection
 abbrev pub opens_or_closes : Method → Bool
 opens_or_closes (method.ChannelOpen reserved) = true
 opens_or_closes (method.ChannelClose m) = true
@@ -88,18 +88,18 @@ opens_or_closes method.ChannelCloseOk = true
 opens_or_closes (method.ConnectionClose m) = true
 opens_or_closes _ = false
 
--- a rejection that requeues
+-- whether the method is a rejection that requeues
 abbrev pub is_requeueing : Method → Bool
 is_requeueing (method.BasicReject m) = m.requeue
 is_requeueing (method.BasicNack m) = m.requeue
 is_requeueing _ = false
 
--- a rejection that requeues, and nothing stands against it
+-- the method is a rejection that requeues, and there is no refusal
 abbrev pub IsRequeued : Topology → Broker → ℕ → ℕ → Method → Option Connection → Type 0
 IsRequeued t b c h m None = ⊥
 IsRequeued t b c h m (Some conn) = (is_requeueing m ≡ true) × (refusal t b conn h m (b.channel c h) ≡ None)
 
--- an event that wants no memory: an opening, a loss, a pause and its end, what is ignored, and a rejection that requeues
+-- an event that never allocates: an opening, a loss, a pause and its end, what is ignored, and a rejection that requeues
 abbrev pub WantsNoMemory : Topology → Broker → Event → Type 0
 WantsNoMemory t b (event.Open c) = Unit {0}
 WantsNoMemory t b (event.First c bytes) = Unit {0}
@@ -112,17 +112,17 @@ WantsNoMemory t b (event.Pause c) = Unit {0}
 WantsNoMemory t b (event.Resume c) = Unit {0}
 WantsNoMemory t b (event.Deliver c) = ⊥
 
--- it comes from a connection or from what becomes of one; a delivery is the broker's own (own)
+-- an event that comes from a connection or from its loss; a delivery is made by the broker itself (own)
 abbrev pub IsAsked : Event → Type 0
 IsAsked (event.Deliver c) = ⊥
 IsAsked e = Unit {0}
 
--- the queue of this name stands at this place of the file
+-- the queue with this name is at this index of the topology
 pub record IsQueuePlace (t : Topology) (name : Text) (place : ℕ) : Type 0 where
   pub within : place < length t.queues
   pub named : queue_name t place ≡ name
 
--- A publish whose content is too large is refused as the model says, and nothing is said where its connection doesn't run.
+-- A publish whose content is too large is refused as the model says; `None` if its connection is not running.
 abbrev pub JudgesLarge : Broker → ℕ → ℕ → Option Refusal → Type 0
 JudgesLarge b c h None = b.connection c ≡ None
 JudgesLarge b c h (Some r) =

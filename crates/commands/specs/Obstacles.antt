@@ -1,4 +1,4 @@
--- What stands against a reload, whoever may log in from then on (own).
+-- The obstacle to a reload, which doesn't depend on who may log in (own).
 use Rattle.std.specs.Prelude.{List, Option}
 use Rattle.model.specs.Topology.{Topology}
 use Rattle.model.specs.Guarantee.{Guarantee}
@@ -7,6 +7,6 @@ use Rattle.model.specs.declared.obstacles.Obstacle.{Obstacle}
 use Rattle.model.specs.declared.messages.User.{User}
 use Rattle.reloading.specs.Obstacles.{Judges}
 
--- this stands against a reload from the old topology to the new one and these guarantees, or nothing does, whichever users come with them
+-- `o` is the first obstacle to a reload from `old` to `new` and `gs`, or `None` if there is none, whichever users come with them
 abbrev pub TellsObstacle : Topology → Broker → Topology → List Guarantee → Option Obstacle → Type 0
 TellsObstacle old b new gs o = (users : List User) → Judges old (record { topology = new; guarantees = gs; users = users }) b o

@@ -1,9 +1,12 @@
 -- Which delivery is made.
-use Rattle.std.specs.Prelude.{◌≡◌, ◌<◌, ◌≤◌, ℕ, false, Option, Some, None, length}
+use Rattle.std.specs.Prelude.{◌≡◌, ◌<◌, ◌≤◌, ℕ, List, false, Option, Some, None, length}
 use Rattle.model.specs.Topology.{IsIn}
 use Rattle.model.specs.Broker as seen
 use Rattle.model.specs.Broker.{Broker}
 use Rattle.model.specs.Consuming.{MayTake, CanDeliver}
+use Rattle.model.specs.Step.{IsDelivery}
+use Rattle.model.specs.declared.events.Send.{Send}
+use Rattle.model.specs.declared.notes.Note.{Note}
 use Rattle.exchange_graph.specs.Marks.{queue_name}
 use Rattle.depot.specs.Store.{HasReady}
 use Rattle.channels.specs.Open.{consumer_in}
@@ -14,33 +17,39 @@ use Rattle.commands.specs.declared.picks.Pick.{Pick}
 use Rattle.commands.specs.declared.picks.Taking.{Taking}
 use Rattle.commands.specs.declared.picks.Taking.TheVariants.{Gone, Nothing, From}
 
--- a delivery that can be made, to this consumer
+-- a delivery to this consumer can be made
 abbrev pub IsPick : Broker → Pick → Type 0
 IsPick b p = (made : CanDeliver b p.connection) × (made.number ≡ p.channel) × (made.consumer.number ≡ p.number)
 
--- A delivery that can be made to this consumer, from the queue at this place.
+-- The delivery to this consumer is made: it is on the consumer's channel and has the consumer's tag.
+pub record DeliversTo (old : Broker) (p : Pick) (sends : List Send) (notes : List Note) (new : Broker) : Type 0 where
+  pub delivery : IsDelivery old p.connection sends notes new
+  pub channel : delivery.made.number ≡ p.channel
+  pub consumer : delivery.made.consumer.number ≡ p.number
+
+-- A delivery to this consumer can be made from the queue at this index.
 pub record IsPickFrom (kept : Kept) (place : ℕ) (p : Pick) : Type 0 where
   pub pick : IsPick (broker_of kept) p
   pub within : place < length (topology_kept kept).queues
   pub named : queue_name (topology_kept kept) place ≡ pick.0.consumer.queue
 
--- The first place at or behind `from` whose queue has something ready: no delivery can be made from those before it.
+-- `place` is the first index at or after `from` whose queue has a ready message: no delivery can be made from a queue between.
 pub record IsFirstPicked (kept : Kept) (from place : ℕ) : Type 0 where
   pub least : from ≤ place
   pub within : place < length (topology_kept kept).queues
   pub ready : HasReady kept.store place
   pub before : (at : ℕ) (p : Pick) → from ≤ at → at < place → IsPickFrom kept at p → ⊥
 
--- It is told, or none, and then no delivery can be made from a queue at or behind `from`.
+-- this index, or none, and then no delivery can be made from a queue at or after `from`
 abbrev pub IsNextPicked : Kept → ℕ → Option ℕ → Type 0
 IsNextPicked kept from (Some place) = IsFirstPicked kept from place
 IsNextPicked kept from None = (at : ℕ) (p : Pick) → from ≤ at → IsPickFrom kept at p → ⊥
 
--- the consumer of these numbers may take no message now, or is not there
+-- this consumer can't take a message now, or doesn't exist
 abbrev pub CannotTake : Broker → Pick → Type 0
 CannotTake b p = (ch : seen.Channel) (k : seen.Consumer) → MayTake b p.connection p.channel ch k → k.number ≡ p.number → ⊥
 
--- The consumer of these numbers may take a message now, from a queue that is there, and no other has its numbers.
+-- This consumer can take a message now, from a queue that exists, and no other consumer has its numbers.
 pub record TakesAs (kept : Kept) (p : Pick) (k : Consumer) : Type 0 where
   pub channel : seen.Channel
   pub taker : MayTake (broker_of kept) p.connection p.channel channel (consumer_in (names_of kept) k)
@@ -48,12 +57,12 @@ pub record TakesAs (kept : Kept) (p : Pick) (k : Consumer) : Type 0 where
   pub only : (other : seen.Consumer) → IsIn other channel.consumers → other.number ≡ p.number → other ≡ consumer_in (names_of kept) k
   pub within : k.queue < length (topology_kept kept).queues
 
--- It is told, exactly where it may.
+-- this is the consumer if it can take a message now; otherwise it can't
 abbrev pub TellsConsumer : Kept → Pick → Option Consumer → Type 0
 TellsConsumer kept p (Some k) = TakesAs kept p k
 TellsConsumer kept p None = CannotTake (broker_of kept) p
 
--- The consumer of these numbers is there, of a queue that is there, and no other has its numbers.
+-- This consumer exists, of a queue that exists, and no other consumer has its numbers.
 pub record IsKeptAs (kept : Kept) (p : Pick) (k : Consumer) : Type 0 where
   pub found : consumer_kept kept p ≡ Some k
   pub channel : seen.Channel
@@ -63,8 +72,8 @@ pub record IsKeptAs (kept : Kept) (p : Pick) (k : Consumer) : Type 0 where
   pub only : (other : seen.Consumer) → IsIn other channel.consumers → other.number ≡ p.number → other ≡ consumer_in (names_of kept) k
   pub within : k.queue < length (topology_kept kept).queues
 
--- The consumer of these numbers is not there; or it is one of the queue at this place, and may take nothing now; or it may take a
--- message, from the queue at this place.
+-- The consumer doesn't exist; or it takes from the queue at this index, and can't take a message now; or it can take a message from the queue at
+-- this index.
 abbrev pub TellsTaking : Kept → Pick → Taking → Type 0
 TellsTaking kept p Gone = (has_consumer kept p ≡ false) × CannotTake (broker_of kept) p
 TellsTaking kept p (Nothing place) = (k : Consumer) × IsKeptAs kept p k × (k.queue ≡ place) × CannotTake (broker_of kept) p

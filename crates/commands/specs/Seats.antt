@@ -1,4 +1,4 @@
--- Seats of consumers: of those that are there, and of one that is to be made.
+-- The numbers of consumers: of existing ones, and of one that is about to be made.
 use Rattle.std.specs.Prelude.{◌≡◌, ◌<◌, ℕ, Bool, true, false, if◌then◌else◌, Option, Some, None, is_some, option_map, length}
 use Rattle.model.specs.Words.{Text}
 use Rattle.model.specs.Topology.{Topology}
@@ -13,46 +13,46 @@ use Rattle.channels.specs.declared.consumers.Consumer.{Consumer}
 use Rattle.commands.specs.State.{Kept}
 use Rattle.commands.specs.declared.picks.Pick.{Pick}
 
--- the consumer of these numbers, if it is kept
+-- the consumer with these numbers, if it exists
 abbrev pub consumer_kept : Kept → Pick → Option Consumer
 consumer_kept kept p = consumer_numbered (channel_of kept.connections p.connection p.channel) p.number
 
--- it is kept
+-- the consumer exists
 abbrev pub has_consumer : Kept → Pick → Bool
 has_consumer kept p = is_some (consumer_kept kept p)
 
--- each consumer that is on the channel of this one has a smaller number
+-- each consumer on the same channel has a smaller number
 abbrev pub IsNewest : Kept → Pick → Type 0
 IsNewest kept p = (q : Pick) → q.connection ≡ p.connection → q.channel ≡ p.channel → has_consumer kept q ≡ true → q.number < p.number
 
--- ---- the seat of a consumer that is to be made
+-- ---- the consumer that is about to be made
 
--- the method is a consume
+-- whether the method is a consume
 abbrev pub is_consume : Method → Bool
 is_consume (BasicConsume m) = true
 is_consume _ = false
 
--- its seat, on a connection that runs
+-- the numbers of the next consumer of this channel, if the connection is running
 abbrev pub next_seat : ℕ → ℕ → Option Running → Option Pick
 next_seat c h None = None
 next_seat c h (Some l) = option_map (λ (n : ℕ). record { connection = c; channel = h; number = n }) (next_number (channel_in l h))
 
--- the seat of the consumer that this event is to make
+-- the numbers of the consumer that this event is going to make, if any
 abbrev pub seat_of : Kept → Event → Option Pick
 seat_of kept (Command c h m content) = if is_consume m then next_seat c h (running_in kept.connections c) else None
 seat_of kept e = None
 
--- the queue from which a consume asks to consume
+-- the queue from which a method consumes
 abbrev pub consumed_by : Method → Option Text
 consumed_by (BasicConsume m) = Some m.queue
 consumed_by _ = None
 
--- and an event
+-- the queue from which an event consumes
 abbrev pub consumed : Event → Option Text
 consumed (Command c h m content) = consumed_by m
 consumed e = None
 
--- The event is a consume from the queue at this place.
+-- The event is a consume from the queue at this index.
 pub record IsConsumed (t : Topology) (e : Event) (place : ℕ) : Type 0 where
   pub within : place < length t.queues
   pub named : consumed e ≡ Some (queue_name t place)

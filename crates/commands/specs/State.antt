@@ -1,4 +1,4 @@
--- What is kept, as the broker's state.
+-- The state of a core, and the model's broker that it represents.
 use Rattle.std.specs.Prelude.{◌≡◌, ℕ, List, [], None, Some}
 use Rattle.model.specs.Words.{Text}
 use Rattle.model.specs.Topology.{Topology, queue_names}
@@ -9,7 +9,7 @@ use Rattle.channels.specs.Open.{Open}
 use Rattle.channels.specs.RunningConnections.{Running, connection_of, channel_of, seen_in}
 use Rattle.channels.specs.Placed.{IsPlaced}
 
--- the queues with their entries, and the connections that run beside their numbers
+-- the queues with their messages, and the running connections by number
 pub record Kept : Type 0 where
   pub store : Store
   pub connections : List (ℕ × Running)
@@ -18,11 +18,11 @@ pub record Kept : Type 0 where
 abbrev pub topology_kept : Kept → Topology
 topology_kept kept = kept.store.topology
 
--- the names of its queues, in the order of their places
+-- the names of its queues, by index
 abbrev pub names_of : Kept → List Text
 names_of kept = queue_names kept.store.topology.queues
 
--- the state that the broker is in
+-- the broker's state, as the model has it
 abbrev pub broker_of : Kept → Broker
 broker_of kept = record {
   published = kept.store.published;
@@ -31,14 +31,14 @@ broker_of kept = record {
   channel = seen_in (names_of kept) kept.connections;
 }
 
--- the channel of these numbers, as a command finds it
+-- the channel with these numbers, as a command finds it: a new one if it is not open
 abbrev pub channel_on : Kept → ℕ → ℕ → Channel
 channel_on kept c h = channel_or_new ((broker_of kept).channel c h)
 
--- the state of a broker that nothing was asked of yet
+-- the state of a broker before the first event
 abbrev pub nothing : Broker
 nothing = record { published = 0; queue = λ q. []; connection = λ c. None; channel = λ c h. None }
 
--- what is outstanding on each channel was given out from queues that are there, and its consumers take from such
+-- each unacknowledged delivery of each channel is from a queue that exists, and each consumer takes from one
 abbrev pub ArePlaced : Kept → Type 0
 ArePlaced kept = (c h : ℕ) (ch : Open) → channel_of kept.connections c h ≡ Some ch → IsPlaced (topology_kept kept) ch

@@ -1,4 +1,4 @@
--- What a call of the core does, as a step of the model between what is kept before it and after it.
+-- Calls of the core as steps of the model, from the state before to the state after.
 use Rattle.std.specs.Prelude.{ℕ, List, Option}
 use Rattle.model.specs.Step.{Performs}
 use Rattle.model.specs.declared.contents.Content.{Content}

@@ -1,25 +1,25 @@
-//! What an event comes to.
+//! The outcome of an event.
 
 use replies::Step;
 
 /// What an event ends.
 #[derive(Clone, Copy, PartialEq, Eq, Debug, Drop)]
 pub enum Ends {
-    /// Nothing: each connection that ran runs still, and each consumer that was there is there still.
+    /// Nothing: each connection that was running still is, and each consumer still exists.
     Nothing,
-    /// One consumer of its channel, or more; or, where a connection that ran begins anew, all that it had. Each connection that
-    /// ran runs still.
+    /// At least one consumer of its channel; or, if a connection that was running begins anew, all that it had. Each connection that
+    /// was running still is.
     Consumers,
-    /// Its connection, with its consumers. Each other that ran runs still.
+    /// Its connection, with its consumers. Each other connection that was running still is.
     Connection,
 }
 
-/// What an event comes to.
+/// The outcome of an event.
 #[derive(Drop)]
 pub struct Acted {
     /// What is sent and noted.
     pub step: Step,
-    /// What it ends.
+    /// What the event ends.
     pub ends: Ends,
 }
 
@@ -28,7 +28,7 @@ impl Acted {
     ghost use Rattle.commands.specs.Ended.{ends_of};
     ghost use Rattle.commands.specs.declared.acted.Ends.TheVariants as ended;
 
-    /// This is sent and noted, each connection that ran runs still, and each consumer that was there is there still.
+    /// Makes the outcome of an event that ends no connection and no consumer.
     pub(crate) fn staying(step: Step) -> Acted
         ensures { result ≡ record { step = step; ends = ended.Nothing } }
     {
@@ -38,7 +38,7 @@ impl Acted {
         }
     }
 
-    /// This is sent and noted, and each connection that ran runs still; consumers leave, or do not.
+    /// Makes the outcome of an event that ends no connection, and ends consumers if `leaves`.
     pub(crate) fn leaving(step: Step, leaves: bool) -> Acted
         ensures { result ≡ record { step = step; ends = ends_of leaves } }
     {

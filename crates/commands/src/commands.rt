@@ -1,4 +1,4 @@
-//! What a command does on a channel that is open. Its connection and its channel were found before.
+//! Performs a command on an open channel. Its connection and its channel were looked up before.
 
 ghost use Rattle.std.specs.Prelude.{◌≡◌, ℕ, Option, None, true};
 ghost use Rattle.model.specs.Broker.{Broker, Connection};
@@ -37,16 +37,16 @@ use model::{ChannelId, Content, Method};
 use replies::Step;
 use std::alloc::Global;
 
-/// What becomes of a command that is not refused.
+/// The outcome of a command that is not refused.
 #[derive(Drop)]
 pub(crate) enum Done<'a> {
-    /// It is performed.
+    /// It was performed.
     Performed(Step),
-    /// It asks for this, which is not done yet.
+    /// It asks for something that needs more than its channel, and is not done yet.
     Left(Left<'a>),
 }
 
-/// What a command came to that is performed on its channel alone.
+/// Converts the outcome of a command that is performed on its channel alone.
 fn performed<'a>(outcome: Result<Step, Stop>) -> Result<Done<'a>, Stop>
     ensures { result ≡ done_of outcome }
 {
@@ -56,7 +56,7 @@ fn performed<'a>(outcome: Result<Step, Stop>) -> Result<Done<'a>, Stop>
     }
 }
 
-/// What is decided of a command that is not done yet.
+/// Converts the decision on a command that is not done yet.
 fn left<'a>(asked: Result<Left<'a>, Refusal>) -> Result<Done<'a>, Stop>
     ensures { result ≡ left_of asked.entry }
 {
@@ -66,8 +66,8 @@ fn left<'a>(asked: Result<Left<'a>, Refusal>) -> Result<Done<'a>, Stop>
     }
 }
 
-/// A command on a channel that is open, of a connection with this greatest channel number: on one that awaits close-ok all is
-/// ignored but a close and close-ok. What opens or closes is not performed here, but left to be done.
+/// Performs a command on an open channel; `channel_max` is the connection's greatest channel number. A channel that awaits close-ok ignores all
+/// but a close and close-ok. Commands that open or close something are not performed here, but returned as [`Done::Left`].
 pub(crate) fn on_channel<'a>(
     alloc: Global,
     id: ChannelId,
@@ -78,11 +78,14 @@ pub(crate) fn on_channel<'a>(
     content: &Option<Content>,
 ) -> Result<Done<'a>, Stop>
     requires { CanCommand id.connection id.number depot.old channel.old }
+    // What the result means, and that all that is sent is for this connection.
     ensures answers { AnswersHere channel_max id.connection id.number depot.old channel.old method.now content.now result depot.new channel.new }
     ensures addressed { HasSpelling depot.old method.now → IsAddressedBy id.connection result }
+    // The frame; a command that was not performed changes nothing.
     ensures topology { depot.new.topology ≡ depot.old.topology }
     ensures placed { IsPlaced depot.old.topology channel.new }
     ensures kept { UnlessPerformed result ((depot.new ≡ depot.old) × (channel.new ≡ channel.old)) }
+    // A rejection that requeues never fails to allocate, and nothing is opened or closed here.
     ensures quiet { is_requeueing method.now ≡ true → WantsNone result }
     ensures elsewhere { opens_or_closes method.now ≡ true → IsNotPerformed result }
 {
@@ -119,8 +122,8 @@ pub(crate) fn on_channel<'a>(
     }
 }
 
-/// A command on a channel that is not open, of a connection with this greatest channel number: on channel 0 only a close of the
-/// connection is known, and elsewhere the channel can only be opened.
+/// Decides on a command on a channel that is not open; `channel_max` is the connection's greatest channel number. On channel 0 only a close of
+/// the connection is known, and any other channel can only be opened.
 pub(crate) fn on_none(channel_max: u16, number: u16, method: &Method) -> Result<Done<'_>, Stop>
     ensures answers { (t : Handed) (b new : Broker) (c : ℕ) (conn : Connection) (content : Option Whole) → conn.channel_max ≡ channel_max
         → Answers (refusal t b conn number method.now None) t b c number None method.now content result new }

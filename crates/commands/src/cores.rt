@@ -1,4 +1,4 @@
-//! What the broker keeps, and its step, case by case.
+//! The broker's state, and its step, case by case.
 
 mod closing;
 mod declaring;
@@ -21,19 +21,19 @@ use replies::{Step, connection_close, connection_close_ok};
 use std::alloc::{AllocError, Global};
 use std::marker::Model;
 
-/// What names a publish in the close that answers it.
+/// The ids of `basic.publish`, for the close that answers a refused one.
 const PUBLISH: Ids = Ids {
     class: 60,
     method: 40,
 };
 
-/// Queues, and the connections that run with their channels.
+/// The queues, and the running connections with their channels.
 pub struct Core {
     depot: Depot,
     connections: RunningConnections,
 }
 
-/// Written out, so that a drop is one call.
+/// Written out so that a drop is one call.
 impl Drop for Core {
     fn drop(self) {
         let Core {
@@ -71,7 +71,7 @@ impl Core {
     ghost use Rattle.commands.specs.Judged.{is_requeueing, opens_or_closes, IsAsked, IsRequeued, IsIgnored, IsLargeIgnored, WantsNoMemory, JudgesLarge};
     ghost use Rattle.replies.specs.Sent.{AreAddressed, connection_of_event};
 
-    /// The broker of this topology: its queues are empty, and no connection runs.
+    /// Makes a core of `topology`: its queues are empty, and no connection is running. Fails only if an allocation fails.
     pub fn new(alloc: Global, topology: Topology) -> Result<Core, AllocError>
         ensures topology { IfOk result (λ b. topology_kept b ≡ topology) }
         ensures empty { IfOk result (λ b. Is nothing (broker_of b)) }
@@ -82,8 +82,15 @@ impl Core {
         })
     }
 
-    /// What becomes of a command whose connection runs: that, and its channel, are found once. What a command does on its channel
-    /// alone is done then; what else it asks for is told, and what opens or closes is such.
+    /// Stops keeping notes, for a caller that reads none. Contracts see no difference.
+    pub fn drop_notes(&mut self)
+        ensures { self.new ≡ self.old }
+    {
+        self.depot.drop_notes();
+    }
+
+    /// Performs what a command does on its channel alone, and returns what else it asks for; `None` if its connection is not running. The connection
+    /// and the channel are looked up once.
     fn decide<'a>(
         &mut self,
         alloc: Global,
@@ -92,11 +99,14 @@ impl Core {
         content: &Option<Content>,
     ) -> Option<Result<Done<'a>, Stop>>
         requires { IsAgreed (broker_of self.old) }
+        // What the result means, and that all that is sent is for this connection.
         ensures answers { AnswersOn self.old id.connection id.number method.now content.now result self.new }
         ensures addressed { IsMethod method.now → AreCarried (broker_of self.old) → IfSome result (IsAddressedBy id.connection) }
+        // The frame; a command that was not performed changes nothing.
         ensures topology { topology_kept self.new ≡ topology_kept self.old }
         ensures running { AllRunStill (broker_of self.old) (broker_of self.new) }
         ensures kept { IfSome result (λ r. UnlessPerformed r (self.new ≡ self.old)) }
+        // A rejection that requeues never fails to allocate, and nothing is opened or closed here.
         ensures quiet { is_requeueing method.now ≡ true → IfSome result WantsNone }
         ensures elsewhere { opens_or_closes method.now ≡ true → IfSome result IsNotPerformed }
     {
@@ -117,7 +127,7 @@ impl Core {
         }
     }
 
-    /// What is decided of a publish whose content is too large, or none where its connection doesn't run.
+    /// Returns the refusal of a publish whose content is too large, or `None` if its connection is not running.
     fn judge_large(&self, connection: u64, channel: u16) -> Option<Refusal>
         ensures { JudgesLarge (broker_of self.now) connection channel result }
     {
@@ -127,19 +137,22 @@ impl Core {
         }
     }
 
-    /// What is left to be done of a command that is not refused is done.
+    /// Does what is left to do of a command that is not refused. Fails only if an allocation fails; nothing has changed then.
     fn finish(&mut self, alloc: Global, id: ChannelId, left: Left<'_>) -> Result<Acted, AllocError>
         requires agreed { IsAgreed (broker_of self.old) }
         requires runs { IsSome ((broker_of self.old).connection id.connection) }
         requires can { CanFinish (topology_kept self.old) ((broker_of self.old).channel id.connection id.number) left }
+        // The promise: the model's step for the method, whose sends go to this connection.
         ensures ok { IfOk result (λ a. (m : Seen) (content : Option Whole)
             → AsksLeft (topology_kept self.old) ((broker_of self.old).channel id.connection id.number) m left.entry
             → PerformsOn self.old id.connection id.number m content a.step.sends.items a.step.notes.items self.new) }
         ensures addressed { IfOk result (λ a. (m : Seen)
             → AsksLeft (topology_kept self.old) ((broker_of self.old).channel id.connection id.number) m left.entry
             → IsMethod m → AreCarried (broker_of self.old) → AreAddressed id.connection a.step.sends.items) }
+        // What ends.
         ensures ended { IfOk result (λ a. TellsEnd id.connection a.ends (broker_of self.old) (broker_of self.new)) }
         ensures stay { IfOk result (λ a. TellsStayOn id.connection id.number a.ends (broker_of self.old) (broker_of self.new)) }
+        // The frame; a failure changes nothing.
         ensures topology { topology_kept self.new ≡ topology_kept self.old }
         ensures err { OnErr result (self.new ≡ self.old) }
     {
@@ -173,7 +186,7 @@ impl Core {
         }
     }
 
-    /// A command: nothing where its connection doesn't run, else it is refused or performed.
+    /// Performs or refuses a command; does nothing if its connection is not running. Fails only if an allocation fails; nothing has changed then.
     fn command(
         &mut self,
         alloc: Global,
@@ -182,16 +195,20 @@ impl Core {
         content: &Option<Content>,
     ) -> Result<Acted, AllocError>
         requires { IsAgreed (broker_of self.old) }
+        // The promise: the model's step for the command.
         ensures ok { IfOk result (λ a. OnConnection (topology_kept self.old) (broker_of self.old) id.connection id.number
             method.now content.now a.step.sends.items a.step.notes.items (broker_of self.new) ((broker_of self.old).connection id.connection)) }
+        // A rejection that requeues and an ignored command never fail.
         ensures requeued { IsRequeued (topology_kept self.old) (broker_of self.old) id.connection id.number method.now
             ((broker_of self.old).connection id.connection) → IsOk result }
         ensures ignored { IsIgnored (topology_kept self.old) (broker_of self.old) id.connection id.number method.now
             ((broker_of self.old).connection id.connection) → IsOk result }
         ensures addressed { IfOk result (λ a. IsMethod method.now → AreCarried (broker_of self.old)
             → AreAddressed id.connection a.step.sends.items) }
+        // What ends.
         ensures ended { IfOk result (λ a. TellsEnd id.connection a.ends (broker_of self.old) (broker_of self.new)) }
         ensures stay { IfOk result (λ a. TellsStayOn id.connection id.number a.ends (broker_of self.old) (broker_of self.new)) }
+        // The frame; a failure changes nothing.
         ensures topology { topology_kept self.new ≡ topology_kept self.old }
         ensures err { OnErr result (self.new ≡ self.old) }
     {
@@ -207,7 +224,8 @@ impl Core {
         }
     }
 
-    /// A publish whose content is too large: nothing where its connection doesn't run, else it is refused.
+    /// Refuses a publish whose content is too large; does nothing if its connection is not running. Fails only if an allocation fails; nothing
+    /// has changed then.
     fn refuse_large(
         &mut self,
         alloc: Global,
@@ -215,12 +233,15 @@ impl Core {
         channel: u16,
     ) -> Result<Acted, AllocError>
         requires { IsAgreed (broker_of self.old) }
+        // The promise: the model's step; an ignored publish never fails.
         ensures ok { IfOk result (λ a. OnLarge (broker_of self.old) connection channel a.step.sends.items a.step.notes.items
             (broker_of self.new) ((broker_of self.old).connection connection)) }
         ensures ignored { IsLargeIgnored (broker_of self.old) connection channel ((broker_of self.old).connection connection) → IsOk result }
         ensures addressed { IfOk result (λ a. AreAddressed connection a.step.sends.items) }
+        // What ends.
         ensures ended { IfOk result (λ a. TellsEnd connection a.ends (broker_of self.old) (broker_of self.new)) }
         ensures stay { IfOk result (λ a. TellsStayOn connection channel a.ends (broker_of self.old) (broker_of self.new)) }
+        // The frame; a failure changes nothing.
         ensures topology { topology_kept self.new ≡ topology_kept self.old }
         ensures err { OnErr result (self.new ≡ self.old) }
     {
@@ -230,19 +251,22 @@ impl Core {
         }
     }
 
-    /// One event: what it sends, what it notes, the state after it, whether its connection runs no more, and whether consumers left.
-    /// That is told only where one of its channel did, or where a connection that ran begins anew. Where the event's method has a
-    /// spelling, each send is for the event's own connection, by a method with a spelling. Where memory is wanting, nothing has changed;
-    /// an opening, a loss, a pause and its end, a command that is ignored, and a rejection that requeues want none.
+    /// Performs `event`, and returns what it sends and notes, and what it ends. Consumers are reported as ended only if one of the event's channel
+    /// did, or if a connection that was running begins anew. If the event's method can be encoded, each send is for the event's own connection, by
+    /// a method that can be encoded. Fails only if an allocation fails; nothing has changed then. An opening, a loss, a pause and its end, a command
+    /// that is ignored, and a rejection that requeues never allocate.
     pub fn step(&mut self, alloc: Global, event: &Event) -> Result<Acted, AllocError>
         requires agreed { IsAgreed (broker_of self.old) }
         requires asked { IsAsked event.now }
+        // The promise: the model's step, whose sends go to the event's connection.
         ensures ok { IfOk result (λ a. Acts (topology_kept self.old) (broker_of self.old) event.now
             a.step.sends.items a.step.notes.items (broker_of self.new)) }
         ensures addressed { IfOk result (λ a. IsSaid event.now → AreCarried (broker_of self.old)
             → AreAddressed (connection_of_event event.now) a.step.sends.items) }
+        // What ends: whether the event's connection is still running, and whose consumers may be gone.
         ensures ended { IfOk result (λ a. TellsEnd (connection_of_event event.now) a.ends (broker_of self.old) (broker_of self.new)) }
         ensures stay { IfOk result (λ a. TellsStay event.now a.ends (broker_of self.old) (broker_of self.new)) }
+        // The frame; a failure changes nothing, and the events that never allocate don't fail.
         ensures topology { topology_kept self.new ≡ topology_kept self.old }
         ensures err { OnErr result (self.new ≡ self.old) }
         ensures quiet { WantsNoMemory (topology_kept self.old) (broker_of self.old) event.now → IsOk result }

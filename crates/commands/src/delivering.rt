@@ -1,4 +1,4 @@
-//! A message that goes to a consumer, on the consumer's channel. Source: AMQP 0-9-1, basic.deliver.
+//! Delivers a message to a consumer, on the consumer's channel. Source: AMQP 0-9-1, basic.deliver.
 
 ghost use Rattle.std.specs.Prelude.{◌≡◌, [], Some, IfOk, OnErr};
 ghost use Rattle.model.specs.Naming.{AreNamed};
@@ -15,9 +15,9 @@ use model::{ChannelId, Taker};
 use replies::{Step, deliver};
 use std::alloc::{AllocError, Global};
 
-/// The delivery to the consumer of these numbers is made on its channel, where one can be made: the first ready message of its queue
-/// goes to it, and leaves the queue where it needs no acknowledgement. Where none can be made nothing is sent, and nothing changes. All
-/// that takes memory is made before the first change.
+/// Delivers the first ready message of the consumer's queue, if a delivery to `pick` can be made; otherwise sends and changes nothing. The message
+/// leaves the queue if the consumer needs no acknowledgement.
+/// Fails only if an allocation fails; nothing has changed then.
 pub(crate) fn deliver_on(
     alloc: Global,
     pick: Pick,
@@ -25,10 +25,12 @@ pub(crate) fn deliver_on(
     depot: &mut Depot,
 ) -> Result<Step, AllocError>
     requires { CanCommand pick.connection pick.channel depot.old channel.old }
+    // The promise: this delivery, whose send goes to the consumer's connection, or nothing.
     ensures ok { IfOk result (λ s. DeliversHere pick depot.old channel.old s.sends.items s.notes.items depot.new channel.new) }
     ensures addressed { IfOk result (λ s. (side : Side) → side.channel pick.connection pick.channel ≡ Some (seen depot.old channel.old)
         → AreCarried (state_of depot.old side) → AreNamed depot.old.topology (state_of depot.old side) → AreAddressed pick.connection s.sends.items) }
     ensures none { IfOk result (λ s. s.sends.items ≡ [] → (depot.new ≡ depot.old) × (channel.new ≡ channel.old)) }
+    // The frame; a failure changes nothing.
     ensures topology { depot.new.topology ≡ depot.old.topology }
     ensures placed { IsPlaced depot.old.topology channel.new }
     ensures err { OnErr result ((depot.new ≡ depot.old) × (channel.new ≡ channel.old)) }
@@ -45,6 +47,7 @@ pub(crate) fn deliver_on(
     let tag = channel.next_tag();
     let send = deliver(pick.connection, pick.channel, tag, &consumer.tag, entry)?;
     let mut step = Step::sending(alloc, send)?;
+    step.notes = depot.notes(alloc);
     let id = ChannelId {
         connection: pick.connection,
         number: pick.channel,

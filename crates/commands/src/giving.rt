@@ -1,4 +1,4 @@
-//! Messages that are given out, to gets and to consumers.
+//! Gives messages out, to gets and to consumers.
 
 ghost use Rattle.std.specs.Prelude.{◌≡◌, ◌<◌, ◌++◌, Some, true, IsSome, OnOk, OnErr, length};
 ghost use Rattle.model.specs.Prefetch.{has_tag_left};
@@ -11,11 +11,12 @@ ghost use Rattle.commands.specs.Commands.{CanCommand, GivesHere};
 
 use channels::Channel;
 use depot::{Depot, Giving};
-use model::{ChannelId, Holder, Note, Taker};
+use model::{ChannelId, Holder, Taker};
+use notes::Notes;
 use std::alloc::AllocError;
 
-/// The first ready message of the queue at this place is given out under the channel's next delivery tag. It leaves the queue where
-/// it needs no acknowledgement, and that is noted; else it is held there. All that takes memory is made before the first change.
+/// Gives the first ready message of the queue at index `place` out under the channel's next delivery tag. If `no_ack` is set it leaves the queue,
+/// and that is noted; otherwise it is held there. Fails only if an allocation fails; nothing has changed then.
 pub(crate) fn give_out(
     id: ChannelId,
     channel: &mut Channel,
@@ -23,15 +24,18 @@ pub(crate) fn give_out(
     place: usize,
     by: Taker,
     no_ack: bool,
-    notes: &mut Vec<Note>,
+    notes: &mut Notes,
 ) -> Result<(), AllocError>
+    // What the caller knows: there is a ready message, and a delivery tag is left.
     requires can { CanCommand id.connection id.number depot.old channel.old }
     requires within { place < length depot.old.topology.queues }
     requires left { has_tag_left channel.old.given.next_tag ≡ true }
     requires ready { IsSome (first_ready (queue_at depot.old place)) }
+    // The promise, and what is noted.
     ensures gives { OnOk result (GivesHere id.connection id.number depot.old channel.old no_ack place by depot.new channel.new) }
     ensures notes { OnOk result ((e : Entry) → first_ready (queue_at depot.old place) ≡ Some e → notes.new.items
         ≡ notes.old.items ++ delivery_notes no_ack e.message.number (queue_name depot.old.topology place)) }
+    // The frame; a failure changes nothing but the capacity of `notes`.
     ensures topology { depot.new.topology ≡ depot.old.topology }
     ensures placed { IsPlaced depot.old.topology channel.new }
     ensures err { OnErr result ((depot.new ≡ depot.old) × (channel.new ≡ channel.old)) }

@@ -1,6 +1,6 @@
-//! Queues, and the connections that run with their channels: what each event does to them.
+//! The queues, and the running connections with their channels: what each event does to them.
 //!
-//! A step is one of the model's (`Acts` of the model's `Step`): the state that a caller sees is a record of lists
+//! Start at [`Core`]. A step is one of the model's (`Acts` of the model's `Step`): a caller sees the state as a record of lists
 //! (`Kept`), and `broker_of` reads the model's state from it.
 #![tactic(auto)]
 

@@ -1,21 +1,21 @@
-//! Consumers by their numbers.
+//! Identifies consumers.
 
 /// A consumer, by its numbers.
 #[derive(Clone, Copy, PartialEq, Eq, Debug, Drop)]
 pub struct Pick {
     pub connection: u64,
     pub channel: u16,
-    /// Consumers of a channel are numbered as they are made.
+    /// Its number on the channel: consumers of a channel are numbered in the order in which they are made.
     pub number: u64,
 }
 
-/// Whether a consumer may take a message now.
+/// Whether a consumer can take a message now.
 #[derive(Clone, Copy, PartialEq, Eq, Debug, Drop)]
 pub enum Taking {
-    /// It is not there.
+    /// The consumer doesn't exist.
     Gone,
-    /// It may take nothing now, and is a consumer of the queue at this place.
+    /// It can't take a message now; it takes from the queue at this index.
     Nothing(usize),
-    /// It may take one, from the queue at this place.
+    /// It can take a message, from the queue at this index.
     From(usize),
 }

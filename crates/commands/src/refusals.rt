@@ -1,4 +1,4 @@
-//! What stands against a command, leaf by leaf: what it asks for is done beside.
+//! Decides whether a command is refused, check by check. Nothing changes here, and nothing allocates.
 //!
 //! Source: AMQP 0-9-1, section 1.1, "reply-code", and the rules of its XML.
 
@@ -43,9 +43,9 @@ pub enum Refusal {
 /// Why a command was not performed.
 #[derive(Clone, Copy, Drop)]
 pub enum Stop {
-    /// This stands against it.
+    /// It was refused.
     Refused(Refusal),
-    /// Memory was wanting.
+    /// An allocation failed.
     Memory,
 }
 
@@ -100,7 +100,7 @@ impl From<Unseated> for Stop {
     }
 }
 
-/// A limit by the size of messages is not implemented.
+/// Refuses a limit by the size of messages, which is not implemented.
 pub fn check_qos(qos: &Qos) -> Result<(), Refusal>
     ensures { refused_by result ≡ said.refusal_of_qos qos.now }
 {
@@ -111,7 +111,7 @@ pub fn check_qos(qos: &Qos) -> Result<(), Refusal>
     }
 }
 
-/// What stands against a method that no open channel takes. One that is not built yet is not implemented.
+/// Returns the refusal of a method that no open channel performs. One that the server doesn't have yet is not implemented (540).
 pub fn refusal_of_other(method: &Method) -> Refusal
     requires { is_taken method.now ≡ false }
     ensures { (t : Handed) (b : Broker) (ch : Seen) → said.refusal_of t b ch method.now ≡ Some (refusal_seen result) }
@@ -143,15 +143,15 @@ pub fn refusal_of_other(method: &Method) -> Refusal
     }
 }
 
-/// The connection class.
+/// Returns whether the method is of the connection class.
 fn is_of_connection(method: &Method) -> bool
     ensures { result ≡ said.is_of_connection method.now }
 {
     method.ids().class == 10
 }
 
-/// Elsewhere than on channel 0 no method of the connection class is known, and no channel has a number greater than this, which
-/// was agreed on.
+/// Refuses a method of the connection class on a channel other than 0, and a channel number above `channel_max`, the greatest that was
+/// agreed on.
 pub fn check_number(channel_max: u16, number: u16, method: &Method) -> Result<(), Refusal>
     ensures { refused_by result ≡ refusal_of_number channel_max number method.now }
 {
@@ -164,7 +164,7 @@ pub fn check_number(channel_max: u16, number: u16, method: &Method) -> Result<()
     Ok(())
 }
 
-/// The place of the queue of this name, which must be there.
+/// Returns the index of the queue with this name. Refused with 404 if there is none.
 pub fn check_queue(topology: &Topology, name: &Text) -> Result<usize, Refusal>
     ensures place { IfOk result (IsQueuePlace topology.now name.now) }
     ensures refusal { refused_by result ≡ said.refusal_in topology.now name.now }
@@ -175,7 +175,7 @@ pub fn check_queue(topology: &Topology, name: &Text) -> Result<usize, Refusal>
     }
 }
 
-/// A delivery tag must be left where a message is given out.
+/// Refuses giving a message out if no delivery tag is left.
 pub fn check_tag(channel: &Channel) -> Result<(), Refusal>
     ensures left { OnOk result (has_tag_left channel.now.given.next_tag ≡ true) }
     ensures refusal { (names : List Name) (e : Entry) → refused_by result ≡ said.refusal_of_tags (open_in names channel.now) (Some e) }
@@ -187,7 +187,7 @@ pub fn check_tag(channel: &Channel) -> Result<(), Refusal>
     }
 }
 
-/// Whether a close was sent on the channel and close-ok is awaited.
+/// Returns whether a close was sent on the channel and close-ok is awaited.
 fn is_awaiting(channel: Option<&Channel>) -> bool
     ensures { (names : List Name) → result ≡ said.is_awaiting (option_map (open_in names) (option_copied channel.entry)) }
 {
@@ -197,7 +197,7 @@ fn is_awaiting(channel: Option<&Channel>) -> bool
     }
 }
 
-/// A publish whose content is too large, of a connection that runs: no channel takes it, and one that is open is closed.
+/// Returns the refusal of a publish whose content is too large, on a running connection. An open channel is closed with 311.
 pub fn judge_large(running: &RunningConnection, number: u16) -> Refusal
     ensures is { (names : List Name) → refusal_seen result ≡ said.refusal_of_large (limits_of running.now) number (channel_seen names running.now number) }
     ensures channel { (names : List Name) → HasChannel result (channel_seen names running.now number) }

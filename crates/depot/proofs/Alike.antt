@@ -15,7 +15,7 @@ abbrev properties_in : Properties → Result Header ℕ → Properties
 properties_in other (Ok h) = h.properties
 properties_in other (Err code) = other
 
--- what stands before them
+-- what is before them
 abbrev behind_front : List ℕ → List ℕ
 behind_front bytes = to_be_bytes w16 60 ++ to_be_bytes w16 0 ++ to_be_bytes w64 0 ++ bytes
 

@@ -41,7 +41,7 @@ none_found {A} p (x ∷ xs) e = go (p x) e (none_found p xs)
     go true h rest = absurd (cc)
     go false h rest = ap (λ (ys : List A). x ∷ ys) (rest h)
 
--- of some of them no more pass
+-- some of them contain at most as many that pass
 pub count-filter : {A : Type 0} (p q : A → Bool) (xs : List A) → count_by p (filter q xs) ≤ count_by p xs
 count-filter p q [] = omega arith
 count-filter {A} p q (x ∷ xs) = go (q x) (count-filter p q xs)

@@ -60,7 +60,7 @@ taken_next (p ∷ ps) (es ∷ olds) news (suc i) lt len =
     taken_next ps olds news i (omega (arith, lt)) (omega (arith, len))
     ∙ ap (λ (n : ℕ). taken (drop n (p ∷ ps)) (drop n (es ∷ olds)) (set news (get_or ps i 0) (map stood_now (get_or olds i [])))) step
 
--- The queue stands at the place of its name, or is gone and has no entry.
+-- The queue is at the index of its name, or is gone and has no entry.
 data IsTaken (names : List Text) (q : Text) (p : ℕ) (entries : List Entry) : Type 0 where
   kept : p < length names → get_or names p [] ≡ q → IsTaken names q p entries
   gone : (IsIn q names → ⊥) → length names ≤ p → entries ≡ [] → IsTaken names q p entries
@@ -90,7 +90,7 @@ or_unlisted [] lists q d not = refl
 or_unlisted (n ∷ ns) [] q d not = refl
 or_unlisted (n ∷ ns) (es ∷ lists) q d not = rw (other_name n q (λ e. not (inl (sym e)))) (or_unlisted ns lists q d (λ i. not (inr i)))
 
--- the queue that is taken over has its entries, which stood then
+-- the queue that is moved has its entries, each marked as one that the reload found
 here_taken : (names : List Text) (n : Text) (p : ℕ) (es : List Entry) (news : List (List Entry)) → AreApart names → length news ≡ length names → IsTaken names n p es → listed names (set news p (map stood_now es)) n ≡ map stood_now es
 here_taken names n p es news apart len (kept lt is) =
     let now : List Entry = map stood_now es in
@@ -132,7 +132,7 @@ rest_moved n ns new p ps m = record {
   each = λ k lt. m.each (suc k) (omega (arith, lt));
 }
 
--- a list that stands at no place of the new file is empty, by the name that it has
+-- a list that has no index in the new topology is empty, by the name that it has
 record GoneHere (old new : List Text) (olds : List (List Entry)) : Type 0 where
   none : (k : ℕ) → k < length old → (IsIn (get_or old k []) new → ⊥) → get_or olds k [] ≡ []
 
@@ -151,7 +151,7 @@ tabled (n ∷ ns) new (p ∷ ps) (es ∷ olds) len m g = (
   tabled ns new ps olds (omega (arith, len)) (rest_moved n ns new p ps m) (record { none = λ k lt. g.none (suc k) (omega (arith, lt)) }),
 )
 
--- each name has the entries that it had, and all of them stood then
+-- each name has the entries that it had, each marked as one that the reload found
 names_taken : (old new : List Text) (places : List ℕ) (olds : List (List Entry)) (n : ℕ) → AreApart old → AreApart new → length olds ≡ length old → n ≡ length new → AreMoved old new places
     → ((q : Text) → IsIn q old → (IsIn q new → ⊥) → listed old olds q ≡ []) → (q : Text)
     → listed new (taken places olds (replicate n [])) q ≡ map stood_now (listed old olds q)
@@ -162,7 +162,7 @@ names_taken old new places olds n apart apart' len is m none_left q =
     ∙ ap (λ (z : List Entry). listed_or old olds q z) (all_empty new n q)
     ∙ or_nothing old olds q
 
--- .. and so it is of a whole store, whose queues are empty before
+-- .. and the same of a whole store, whose queues are empty before
 pub store_taken : (old self : Store) (places : List ℕ) (now : List (List Entry)) → AreApart (queue_names old.topology.queues) → AreApart (queue_names self.topology.queues)
     → length old.queues ≡ length old.topology.queues → AreMoved (queue_names old.topology.queues) (queue_names self.topology.queues) places
     → self.queues ≡ replicate (length self.topology.queues) [] → GoneAreEmpty old (queue_names self.topology.queues) → now ≡ taken places old.queues self.queues → (q : Text)

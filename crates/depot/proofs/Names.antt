@@ -3,7 +3,7 @@ pub use Rattle.depot.specs.Dying.{ArePlanned, IsDeathOf, IsSoundDeath, MayHaveLe
 pub use Rattle.depot.specs.Givings.{CanGive, IsTakenFrom, TellsArrival, given_notes, given_so}
 pub use Rattle.depot.specs.Marked.{ArePropertiesMarked, text_field}
 pub use Rattle.depot.specs.Moving.{AreMoved, GoneAreEmpty, IsMoved, goes, stays, taken}
-pub use Rattle.depot.specs.Purging.{IsPurgedBy, purged}
+pub use Rattle.depot.specs.Purging.{IsPurgedBy}
 pub use Rattle.depot.specs.Settled.{AreOf, AreSettledBy, IsApart, departure_in, left_at, returned_at, store_of}
 pub use Rattle.depot.specs.Signs.{AreSignedBut, TellsNext, ready_bit, ready_places}
 pub use Rattle.depot.specs.Store.{IsNextReady, IsStoreWhole, Store, entries_named, entries_of, queue_at, with_entries_at}

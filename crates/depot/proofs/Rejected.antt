@@ -12,7 +12,7 @@ use Rattle.depot.proofs.Planned.{queue_there}
 
 -- ---- what a death leaves alone
 
--- what comes is ready, so it is not held
+-- what is appended is ready, and therefore not held
 find_arriving : (a : Holder) (xs : List Entry) (o : Option Message) → find (is_held_as a) (xs ++ arriving o) ≡ find (is_held_as a) xs
 find_arriving a [] None = refl
 find_arriving a [] (Some m) = refl

@@ -179,7 +179,7 @@ returned_next t n c h gone i d old new last formed len lt within changes stays r
         subst (λ (ds : List Delivery). AreSettledBy Returns (store_of t old n) c h ds [] [] last) (sym (next_waiting gone i d false lt w))
         (subst (λ (ls : List (List Entry)). AreSettledBy Returns (store_of t ls n) c h (waiting (drop (i + 1) gone)) [] [] last) (stays w) rest)
 
--- one that waits was given out from one of so many queues, if all that wait were
+-- one that waits was given out from one of `count` queues, if all that wait were
 pub of_next : (first count : ℕ) (gone : List Delivery) (i : ℕ) (d : Delivery) → AreOf first (waiting gone) → count ≡ first → i < length gone → is_waiting (get_or gone i d) ≡ true → (get_or gone i d).queue < count
 of_next first count [] i d within same lt w = absurd (omega arith)
 of_next first count (x ∷ xs) zero d within same lt w = let at = subst (λ (ys : List Delivery). AreOf first ys) (ap (λ (b : Bool). cond b (x ∷ waiting xs) (waiting xs)) w) within zero d (omega arith) in omega (arith, at, same)

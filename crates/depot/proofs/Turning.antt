@@ -35,7 +35,7 @@ written [] i l d n h = omega arith
 written (x ∷ xs) zero l d n h = h
 written (x ∷ xs) (suc i) l d n h = written xs i l d n h
 
--- a queue is written whose room is less by at most so many
+-- a queue is written whose capacity is smaller by at most this
 pub room_write : (lines : List Line) (i k : ℕ) (l d : Line) (n : ℕ) → (get_or lines i d).room ≤ l.room + n → (get_or lines k no_line).room ≤ (get_or (set lines i l) k no_line).room + cond (k == i) n 0
 room_write lines i k l d n h = elim (eqb_tells k i) [
   | inl e ↦

@@ -1,5 +1,5 @@
--- What it leaves that the first ready message of a queue is given out: it is held, or it leaves the queue where it needs no
--- acknowledgement (AMQP 0-9-1, basic.get and basic.consume, "no-ack").
+-- Giving out the first ready message of a queue: it is held, or it leaves the queue if it needs no acknowledgement
+-- (AMQP 0-9-1, basic.get and basic.consume, "no-ack").
 use Rattle.std.specs.Prelude.{◌≡◌, ◌<◌, ℕ, List, [], Option, None, is_some, find}
 use Rattle.model.specs.Words.{Text}
 use Rattle.model.specs.Broker.{is_ready}
@@ -12,32 +12,32 @@ use Rattle.depot.specs.Store.{Store, entries_named}
 use Rattle.depot.specs.declared.givings.Giving.{Giving}
 use Rattle.depot.specs.declared.givings.Giving.TheVariants.{Held, Out}
 
--- nothing is held there yet by who is to hold it
+-- nothing is held in the queue under the new holder's tag
 abbrev pub CanGive : Giving → List Entry → Type 0
 CanGive (Held holder) entries = find (is_held_as holder) entries ≡ None
 CanGive (Out queue) entries = Unit {0}
 
--- there is room for the note that it leaves, where so many stand in a list of this capacity
+-- there is capacity for the note, if `count` notes are in a list of this capacity
 abbrev pub HasRoomFor : Giving → ℕ → ℕ → Type 0
 HasRoomFor (Held holder) count capacity = Unit {0}
 HasRoomFor (Out queue) count capacity = count < capacity
 
--- the queue's entries then
+-- the queue's entries after that
 abbrev pub given_so : Giving → List Entry → List Entry
 given_so (Held holder) entries = change_first is_ready (held_as holder) entries
 given_so (Out queue) entries = without_first is_ready entries
 
--- what is noted of it, if it is there
+-- what is noted of it
 abbrev pub given_notes : Giving → Option Entry → List Note
 given_notes (Held holder) first = []
 given_notes (Out queue) first = left_note Auto queue first
 
--- the number of its arrival is told where it is there and held
+-- an arrival number is returned exactly if a message is held now
 abbrev pub TellsArrival : Giving → Option Entry → Option ℕ → Type 0
 TellsArrival (Held holder) first told = is_some told ≡ is_some first
 TellsArrival (Out queue) first told = told ≡ None
 
--- The queue of this name has what is left once its first ready message is given out so, if it is there and has one; all else stays.
+-- The first ready message of the queue with this name was given out, if there is one; nothing else changed.
 pub record IsTakenFrom (old : Store) (name : Text) (how : Giving) (new : Store) : Type 0 where
   pub queues : (q : Text) → entries_named new q ≡ with_queue (entries_named old) name (given_so how (entries_named old name)) q
   pub counted : new.published ≡ old.published

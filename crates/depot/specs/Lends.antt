@@ -1,10 +1,10 @@
--- What becomes of the queues, once one that was lent comes back.
+-- What becomes of the queues when a borrow of one of them ends.
 use Rattle.std.specs.Prelude.{ℕ, List, slice_set}
 use Rattle.std.specs.Borrow.{Lends, MutBor, Fml}
 use Rattle.queue.specs.Line.{Line}
 use Rattle.queue.specs.contracts.indexed.Indexed.{the_row as queue_row}
 use Rattle.depot.specs.contracts.queues.Queues.{the_row}
 
--- the queues end with the one that was written last at this place
+-- the queue at this index ends as it was written last
 abbrev pub LendsQueue : MutBor (List Line) → ℕ → MutBor Line → Fml
 LendsQueue queues place queue = Lends the_row queue_row queues queue (slice_set queues.now place)

@@ -6,17 +6,17 @@ use Rattle.model.specs.Deaths.{AreMarked, with_headers}
 use Rattle.model.specs.declared.contents.Content.{Content}
 use Rattle.model.specs.declared.contents.Fields.{Fields as Properties}
 
--- a field that holds a text: its name behind the name's length, the letter S, and the text behind its length
+-- a table field with a long string: the name after its length in one byte, the letter S, and the text after its length in four bytes
 abbrev pub text_field : Text → Text → List ℕ
 text_field name text = (length name ∷ name) ++ (83 ∷ with_length text)
 
--- The properties of a message that died in this queue, last sent to this exchange: only the headers are others.
+-- The properties of a message that died in this queue, last sent to this exchange: only the headers change.
 pub record ArePropertiesMarked (queue exchange : Text) (old new : Properties) : Type 0 where
   pub headers : Option Text
   pub marked : AreMarked queue exchange old.headers headers
   pub made : new ≡ record old { headers = headers }
 
--- The content of a message that died in this queue, last sent to this exchange: only the headers are others.
+-- The content of a message that died in this queue, last sent to this exchange: only the headers change.
 pub record IsMarked (queue exchange : Text) (old new : Content) : Type 0 where
   pub headers : Option Text
   pub marked : AreMarked queue exchange old.properties.headers headers

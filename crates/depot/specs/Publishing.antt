@@ -12,10 +12,10 @@ use Rattle.model.specs.declared.notes.Way.TheVariants as way
 use Rattle.depot.specs.declared.depots.Routed.{Routed}
 use Rattle.depot.specs.Store.{Store, entries_named}
 
--- A publish on this channel, under this confirm number: the message comes to the end of each routed queue that is not full.
+-- A publish on this channel, with this confirm number: the message is appended to each routed queue that is not full.
 pub record Publishes (old : Store) (connection channel : ℕ) (p : Publish) (content : Content) (confirm : Option ℕ)
     (noted : List Note) (routed : Routed) (new : Store) : Type 0 where
-  -- the routed queues, in the order of the file
+  -- the routed queues, in the order of the definitions
   pub targets : List Text
   pub picked : Picks (Routes old.topology p.exchange p.routing_key) (queue_names old.topology.queues) targets
   pub notes : noted ≡ Published (old.published + 1) connection channel p.exchange p.routing_key confirm
@@ -27,7 +27,7 @@ pub record Publishes (old : Store) (connection channel : ℕ) (p : Publish) (con
   pub queues : (q : Text)
       → entries_named new q ≡ entries_named old q ++ comes_to old.topology (entries_named old) (message (old.published + 1) p content) q targets
 
--- The notes are those of before with these behind them, and there is room for two more.
+-- The notes of the publish are appended to those before.
 pub record Publishing (old : Store) (connection channel : ℕ) (p : Publish) (content : Content) (confirm : Option ℕ)
     (before after : List Note) (routed : Routed) (new : Store) : Type 0 where
   pub noted : List Note

@@ -1,4 +1,4 @@
--- Messages that were given out and are settled, by the places of their queues and by their names.
+-- Settling deliveries, by the indices of their queues and by their names.
 use Rattle.std.specs.Prelude.{◌≡◌, ◌<◌, ◌≤◌, ◌++◌, ℕ, List, [], map, filter, not, count_by, All, slice_index_or, slice_set}
 use Rattle.model.specs.Words.{Text}
 use Rattle.model.specs.Topology.{Topology, queue_names}
@@ -13,8 +13,8 @@ use Rattle.model.specs.declared.deliveries.Delivery.{Delivery}
 use Rattle.depot.specs.declared.departures.Departure.{Departure}
 use Rattle.depot.specs.Store.{Store, entries_named}
 
--- These deliveries of channel h of connection c are settled so, one after another; the notes are those of before with what is noted of
--- that behind them, and all else stays.
+-- These deliveries of channel h of connection c are settled in this way, one after another. What is noted of that is appended to the
+-- notes, and nothing else changed.
 pub record AreSettledBy (how : Settlement) (old : Store) (c h : ℕ) (gone : List Delivery) (before after : List Note) (new : Store) : Type 0 where
   pub noted : List Note
   pub appended : after ≡ before ++ noted
@@ -27,9 +27,9 @@ pub record AreSettledBy (how : Settlement) (old : Store) (c h : ℕ) (gone : Lis
 abbrev pub IsApart : Store → Type 0
 IsApart s = (q : Text) (holder : Holder) → count_by (is_held_as holder) (entries_named s q) ≤ 1
 
--- ---- by places
+-- ---- by index
 
--- the queues of a topology with these entries, after so many publishes
+-- the queues of a topology with these entries, after `n` publishes
 abbrev pub store_of : Topology → List (List Entry) → ℕ → Store
 store_of t entries n = record { topology = t; queues = entries; published = n }
 
@@ -38,11 +38,11 @@ abbrev pub left_at : ℕ → ℕ → List (List Entry) → Delivery → List (Li
 left_at c h entries d =
     slice_set entries d.queue (filter (λ (e : Entry). not (is_held_as (holder_of_delivery c h d) e)) (slice_index_or entries d.queue []))
 
--- the queues with it ready again, in its place
+-- the queues with the message of this delivery ready again, in its place
 abbrev pub returned_at : ℕ → ℕ → List (List Entry) → Delivery → List (List Entry)
 returned_at c h entries d = slice_set entries d.queue (map (freed (is_under (holder_of_delivery c h d))) (slice_index_or entries d.queue []))
 
--- each of these was given out from one of so many queues
+-- each of these deliveries is from a queue with an index below `count`
 abbrev pub AreOf : ℕ → List Delivery → Type 0
 AreOf count ds = All (λ (d : Delivery). d.queue < count) ds
 

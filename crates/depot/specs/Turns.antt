@@ -21,56 +21,56 @@ use Rattle.depot.specs.declared.depots.Routed.{Routed}
 
 -- ---- one turn
 
--- the turn of a message at the queue at this place
+-- the turn of a message at the queue at this index
 abbrev pub turn_at : List DeclaredQueue → Message → ℕ → PlannedTurn
 turn_at queues m place = record { place = place; name = slice_index_or (queue_names queues) place []; message = m }
 
--- what becomes of a turn: the queue at this place takes the message, or refuses it where there is none, and so it is noted
+-- the outcome of a turn: the queue takes the message, or refuses it (`None`), and the note says which
 pub record TurnOutcome : Type 0 where
   pub place : ℕ
   pub message : Option Message
   pub note : Note
 
--- .. at a queue that is full or not
+-- the outcome at a queue that is full or not
 abbrev pub outcome_of : Way → Text → Bool → Message → ℕ → TurnOutcome
 outcome_of how name full m place =
     if full then record { place = place; message = None; note = Refused m.number name }
     else record { place = place; message = Some m; note = Entered m.number name how }
 
--- what becomes of a turn at this queue, with these entries
+-- the outcome of a turn at this queue, with these entries
 abbrev pub outcome_at : Way → DeclaredQueue → List Entry → PlannedTurn → TurnOutcome
 outcome_at how q entries t =
     outcome_of how t.name (refuses (Some q) (ready_count entries) (ready_bytes entries) (length t.message.content.body)) t.message t.place
 
--- the queue at this place, with these entries, refuses a message with a body of this size
+-- the queue at this index, with these entries, refuses a message with a body of `size` bytes
 abbrev pub is_full_at : List DeclaredQueue → List (List Entry) → ℕ → ℕ → Bool
 is_full_at queues entries place size =
     refuses (slice_get queues place) (ready_count (slice_index_or entries place [])) (ready_bytes (slice_index_or entries place [])) size
 
--- what becomes of a turn at its queue, with these entries
+-- the outcome of a turn at its queue, with these entries
 abbrev pub outcome : Way → List DeclaredQueue → List (List Entry) → PlannedTurn → TurnOutcome
 outcome how queues entries t = outcome_of how t.name (is_full_at queues entries t.place (length t.message.content.body)) t.message t.place
 
--- the queue refuses
+-- the queue refuses the message
 abbrev pub is_refusal : TurnOutcome → Bool
 is_refusal o = elim o.message [ None ↦ true | Some m ↦ false ]
 
--- what comes to the queue
+-- the entry that is appended to the queue, if any
 abbrev pub arriving : Option Message → List Entry
 arriving None = []
 arriving (Some m) = record { message = m; mark = Ready } ∷ []
 
--- what comes of it
+-- the queues after a turn
 abbrev pub entered_one : TurnOutcome → List (List Entry) → List (List Entry)
 entered_one o entries = slice_set entries o.place (slice_index_or entries o.place [] ++ arriving o.message)
 
 -- ---- turns
 
--- the place of each
+-- the index of each turn's queue
 abbrev pub places : List PlannedTurn → List ℕ
 places turns = map (λ (t : PlannedTurn). t.place) turns
 
--- what becomes of turns that are taken one after another, so that each queue is judged as the turns before leave it
+-- the outcomes of turns taken one after another, so that each queue is judged as the turns before leave it
 abbrev pub outcomes : Way → List DeclaredQueue → List PlannedTurn → List (List Entry) → List TurnOutcome
 outcomes how queues [] entries = []
 outcomes how queues (t ∷ ts) entries = outcome how queues entries t ∷ outcomes how queues ts (entered_one (outcome how queues entries t) entries)
@@ -84,37 +84,37 @@ abbrev pub all_entered : List TurnOutcome → List (List Entry) → List (List E
 all_entered [] entries = entries
 all_entered (o ∷ os) entries = all_entered os (entered_one o entries)
 
--- there is none
+-- whether there is no turn
 abbrev pub no_turns : List PlannedTurn → Bool
 no_turns [] = true
 no_turns (t ∷ ts) = false
 
--- These are the turns of a message that is sent to this exchange under this key: one at each queue that it is routed to.
+-- The turns of a message that is sent to this exchange with this key: one at each queue that it is routed to.
 pub record IsPlan (t : Topology) (exchange key : Text) (m : Message) (turns : List PlannedTurn) : Type 0 where
   pub targets : List ℕ
   pub routed : AreTargets t exchange key targets
   pub turned : turns ≡ map (turn_at t.queues m) targets
 
--- ---- room
+-- ---- capacity
 
--- a queue that is not there
+-- a queue that doesn't exist
 abbrev pub no_line : Line
 no_line = record { entries = []; room = 0 }
 
--- for how many messages more the queue at this place has room
+-- for how many more messages the queue at this index has capacity
 abbrev pub room_at : List Line → ℕ → ℕ
 room_at lines place = (slice_index_or lines place no_line).room
 
--- how often this place is one of these
+-- how often `place` occurs in the list
 abbrev pub times : ℕ → List ℕ → ℕ
 times place [] = 0
 times place (p ∷ ps) = cond (place == p) 1 0 + times place ps
 
--- each of these queues has room for so many messages
+-- each of these queues has capacity for `count` messages
 abbrev pub LinesHaveRoom : List Line → List ℕ → ℕ → Type 0
 LinesHaveRoom lines targets count = (k : ℕ) → k < length targets → count ≤ room_at lines (slice_index_or targets k 0)
 
--- each queue has room for a message each time that it is one of these
+-- each queue has capacity for as many messages as it occurs in the list
 abbrev pub IsRoomy : List Line → List ℕ → Type 0
 IsRoomy lines targets = (place : ℕ) → times place targets ≤ room_at lines place
 

@@ -1,4 +1,4 @@
-//! Publishes, what the queues hold, and what is given out and settled.
+//! The depot: publishes, what the queues hold, and what is given out and settled.
 
 ghost use Rattle.std.specs.Prelude.{◌<◌, ℕ, length};
 ghost use Rattle.depot.specs.Store.{Store, IsStoreWhole, IsQueueNamed};
@@ -14,7 +14,8 @@ use crate::settling::{ack_all, leave, name_of, requeue_in};
 use crate::taking::give;
 use crate::turns::PlannedTurn;
 use exchange_graph::{Route, Router, Topology};
-use model::{ChannelId, Content, Delivery, Entry, Holder, Message, Note, Publish, Way};
+use model::{ChannelId, Content, Delivery, Entry, Holder, Message, Publish, Way};
+use notes::Notes;
 use queue::{Store as _, Walk};
 use std::alloc::{AllocError, Global};
 use std::marker::Model;
@@ -23,26 +24,29 @@ use std::sync::Arc;
 /// Where a publish went.
 #[derive(Clone, Copy, PartialEq, Eq, Debug, Drop)]
 pub struct Routed {
-    /// It was routed to no queue.
+    /// Whether it was routed to no queue.
     pub is_none: bool,
-    /// Some queue that it was routed to was full, and refused it.
+    /// Whether a routed queue was full and refused it.
     pub is_some_full: bool,
 }
 
-/// The queues of a topology, in the order of the file, and the number of publishes.
+/// The queues of a topology, and the number of publishes.
 pub struct Depot {
     router: Router,
     queues: Queues,
     published: u64,
+    /// Whether somebody reads the notes.
+    keeps_notes: bool,
 }
 
-/// Written out, so that a drop is one call.
+/// Written out so that a drop is one call.
 impl Drop for Depot {
     fn drop(self) {
         let Depot {
             router: _,
             queues: _,
             published: _,
+            keeps_notes: _,
         } = self;
     }
 }
@@ -101,7 +105,7 @@ impl Depot {
     ghost use Rattle.depot.specs.Purging.{IsPurgedBy};
     ghost use Rattle.exchange_graph.specs.Marks.{queue_name};
 
-    /// The depot of this topology: each queue is there and has no message.
+    /// Makes the depot of `topology`, whose queues are empty. Fails only if an allocation fails.
     pub fn new(alloc: Global, topology: Topology) -> Result<Depot, AllocError>
         ensures { IfOk result (λ d. d ≡ record { topology = topology; queues = replicate (length topology.queues) []; published = 0 }) }
     {
@@ -111,14 +115,33 @@ impl Depot {
             router,
             queues,
             published: 0,
+            keeps_notes: true,
         })
     }
 
-    /// Publishes a content, on this channel: the message comes to the end of each queue that it is routed to and that is not
-    /// full, in the order of the file, ready, and under the next publish number. `confirm` is its confirm number on the
-    /// channel, where it has one. `route` is the route of its exchange and key, where it is known; else it is learned. The
-    /// notes tell of the publish and of each routed queue, and room is left among them for two more. Bodies are shared. Where
-    /// memory is wanting, nothing has changed but that there may be more room.
+    /// Stops keeping notes, for a caller that reads none. Contracts see no difference.
+    pub fn drop_notes(&mut self)
+        ensures { self.new ≡ self.old }
+    {
+        self.keeps_notes = false;
+    }
+
+    /// Returns an empty list for the notes of a step, which keeps them if somebody reads them. Never allocates.
+    pub fn notes(&self, alloc: Global) -> Notes
+        ensures { result.items ≡ [] }
+    {
+        if self.keeps_notes {
+            Notes::new(alloc)
+        } else {
+            Notes::untold(alloc)
+        }
+    }
+
+    /// Publishes a content on channel `id`: appends the message to each routed queue that is not full, in the order of the definitions, with
+    /// the next publish number. `confirm` is its confirm number, if the channel confirms. `route` is the route of its exchange and key if that is
+    /// known; otherwise it is looked up and remembered. Appends a note of the publish and one for each routed queue, with capacity for two more.
+    /// Bodies are shared.
+    /// Fails only if an allocation fails; nothing has changed then but that there may be more capacity.
     pub fn publish(
         &mut self,
         alloc: Global,
@@ -127,13 +150,15 @@ impl Depot {
         content: &Content,
         confirm: Option<u64>,
         route: Option<Arc<Route>>,
-        notes: &mut Vec<Note>,
+        notes: &mut Notes,
     ) -> Result<Routed, AllocError>
         requires counted { self.old.published < greatest }
         requires routed { IfSome route (λ r. IsRoute self.old.topology publish.now.exchange publish.now.routing_key (arc_value r)) }
+        // The promise, and the capacity of `notes`.
         ensures ok { IfOk result (λ routed.
             Publishing self.old id.connection id.number publish.now content.now confirm notes.old.items notes.new.items routed self.new) }
         ensures room { OnOk result (vec_len notes.new + 2 ≤ vec_capacity notes.new) }
+        // A failure changes neither the store nor the notes.
         ensures store { OnErr result (self.new ≡ self.old) }
         ensures notes { OnErr result (notes.new.items ≡ notes.old.items) }
     {
@@ -177,14 +202,14 @@ impl Depot {
         })
     }
 
-    /// Those of these messages that wait, which the channel holds, leave their queues because they were acknowledged, one after
-    /// another. The notes tell of each. Where memory is wanting, nothing has changed but that there may be more room.
+    /// Acknowledges those deliveries of `gone` that wait: their messages leave their queues one after another, with a note for each. Fails only if an
+    /// allocation fails; nothing has changed then but that there may be more capacity.
     pub fn ack(
         &mut self,
         alloc: Global,
         id: ChannelId,
         gone: &[Delivery],
-        notes: &mut Vec<Note>,
+        notes: &mut Notes,
     ) -> Result<(), AllocError>
         requires within { AreWithin self.old.topology (waiting gone.now) }
         requires apart { IsApart self.old }
@@ -208,21 +233,23 @@ impl Depot {
         Ok(())
     }
 
-    /// Those of these messages that wait, which the channel holds, leave their queues by a rejection, in the order of their
-    /// tags. Where its queue has a dead-letter exchange, a message comes as a dead letter to the end of each queue that it is
-    /// routed to from there and that is not full then, in the order of the file; a later rejection finds the queues as the
-    /// dead letters of the earlier ones left them. The notes tell of each message that it left, and then of each queue of
-    /// its dead letter. Bodies are shared. Where memory is wanting, nothing has changed but that there may be more room.
+    /// Rejects those deliveries of `gone` that wait: their messages leave their queues in the order of their tags. If its queue has a dead-letter
+    /// exchange, a message is dead-lettered: appended to each queue that it is routed to from there and that is not full then, in the order of the
+    /// definitions. A later rejection finds the queues as the earlier dead letters left them. Appends a note for each message that left, and behind
+    /// it one for each queue of its dead letter. Bodies are shared.
+    /// Fails only if an allocation fails; nothing has changed then but that there may be more capacity.
     pub fn reject(
         &mut self,
         alloc: Global,
         id: ChannelId,
         gone: &[Delivery],
-        notes: &mut Vec<Note>,
+        notes: &mut Notes,
     ) -> Result<(), AllocError>
+        // What the caller knows of the deliveries: queues that exist, ascending tags, one message of a queue under a tag.
         requires within { AreWithin self.old.topology (waiting gone.now) }
         requires ordered { AreByTag (waiting gone.now) }
         requires apart { IsApart self.old }
+        // The promise; a failure changes neither the store nor the notes.
         ensures ok { OnOk result
             (AreSettledBy Rejects self.old id.connection id.number (waiting gone.now)
             notes.old.items notes.new.items self.new) }
@@ -233,8 +260,8 @@ impl Depot {
         reject_in(alloc, &mut self.router, &mut self.queues, id, gone, notes)
     }
 
-    /// Those of these messages that wait, which the channel holds, are ready again, each in its place and marked redelivered.
-    /// It takes no memory.
+    /// Requeues those deliveries of `gone` that wait: each message is ready again in its place, marked redelivered. Never
+    /// allocates.
     pub fn requeue(&mut self, id: ChannelId, gone: &[Delivery])
         requires { AreWithin self.old.topology (waiting gone.now) }
         ensures { AreSettledBy Returns self.old id.connection id.number (waiting gone.now) [] [] self.new }
@@ -243,33 +270,33 @@ impl Depot {
         requeue_in(&mut self.queues, id, gone);
     }
 
-    /// The topology that was handed in.
+    /// Returns the topology of the depot.
     pub fn topology(&self) -> &Topology
         ensures { result.now ≡ self.now.topology }
     {
         self.router.topology()
     }
 
-    /// The router of the topology that was handed in.
+    /// Returns the router of the depot's topology.
     pub fn router(&self) -> &Router
         ensures { result.now ≡ self.now.topology }
     {
         &self.router
     }
 
-    /// How many publishes there were.
+    /// Returns the number of publishes.
     pub fn published(&self) -> u64
         ensures { result ≡ self.now.published }
     {
         self.published
     }
 
-    /// How many messages came to queues that lag behind those who take from them.
+    /// Returns how many messages have entered queues whose consumers lag behind.
     pub fn lagged(&self) -> u64 {
         self.queues.lagged()
     }
 
-    /// How many messages of the queue of this name can be given out, or `None` where there is no such queue.
+    /// Returns the number of messages of the queue `name` that can be given out, or `None` if there is no such queue.
     pub fn ready(&self, name: &[u8]) -> Option<usize>
         ensures { result ≡ option_map (λ _. ready_count (entries_named self.now name.now)) (queue_named self.now.topology.queues name.now) }
     {
@@ -291,7 +318,7 @@ impl Depot {
 
     /// Gives out the first ready message of the queue `name`, as [`Depot::take_at`] does. Does nothing and returns `None` if there
     /// is no such queue. Never allocates.
-    pub fn take(&mut self, name: &[u8], how: Giving, notes: &mut Vec<Note>) -> Option<u64>
+    pub fn take(&mut self, name: &[u8], how: Giving, notes: &mut Notes) -> Option<u64>
         requires free { CanGive how (entries_named self.old name.now) }
         requires room { HasRoomFor how (vec_len notes.old) (vec_capacity notes.old) }
         ensures told { TellsArrival how (find is_ready (entries_named self.old name.now)) result }
@@ -307,12 +334,7 @@ impl Depot {
 
     /// Purges the queue `name`, as [`Depot::purge_at`] does, and returns how many messages left it: 0 if there is no such queue.
     /// Fails only if an allocation fails; nothing has changed then but that there may be more capacity.
-    pub fn purge(
-        &mut self,
-        alloc: Global,
-        name: &[u8],
-        notes: &mut Vec<Note>,
-    ) -> Result<usize, AllocError>
+    pub fn purge(&mut self, name: &[u8], notes: &mut Notes) -> Result<usize, AllocError>
         ensures ok { IfOk result (λ count. IsPurgedBy self.old name.now notes.old.items notes.new.items count self.new) }
         ensures store { OnErr result (self.new ≡ self.old) }
         ensures notes { OnErr result (notes.new.items ≡ notes.old.items) }
@@ -322,17 +344,17 @@ impl Depot {
             return Ok(0);
         };
         self.is_named(place);
-        self.purge_at(alloc, place, notes)
+        self.purge_at(place, notes)
     }
 
-    /// What every depot keeps.
+    /// Shows the invariant of a depot. Does nothing at run time.
     pub fn is_whole(&self)
         ensures { IsStoreWhole self.now }
     {
         self.router.topology().is_well_formed();
     }
 
-    /// What stands at a place of the file stands under its name.
+    /// Shows that the queue at index `place` is the one with its name. Does nothing at run time.
     pub fn is_named(&self, place: usize)
         requires { place < length self.now.topology.queues }
         ensures { IsQueueNamed self.now place }
@@ -340,15 +362,15 @@ impl Depot {
         self.is_whole();
     }
 
-    /// The first place at or behind this one whose queue has a message that can be given out. It takes no time for queues
-    /// that have none, but that of a set of places.
+    /// Returns the index of the first queue at or after `from` with a ready message. Looks at a set of indices, not at queues without
+    /// one.
     pub fn next_ready(&self, from: usize) -> Option<usize>
         ensures told { IsNextReady self.now from result }
     {
         self.queues.next_ready(from)
     }
 
-    /// How many messages of the queue at this place can be given out.
+    /// Returns the number of messages of the queue at index `place` that can be given out.
     pub fn ready_at(&self, place: usize) -> usize
         requires { place < length self.now.topology.queues }
         ensures { result ≡ ready_count (queue_at self.now place) }
@@ -356,7 +378,7 @@ impl Depot {
         self.queues.queue(place).ready()
     }
 
-    /// The first message of the queue at this place that can be given out.
+    /// Returns the first message of the queue at index `place` that can be given out.
     pub fn first_ready_at(&self, place: usize) -> Option<&Entry>
         requires { place < length self.now.topology.queues }
         ensures { option_map (λ e. e.now) result ≡ find is_ready (queue_at self.now place) }
@@ -364,13 +386,15 @@ impl Depot {
         self.queues.queue(place).first_ready()
     }
 
-    /// The first ready message of the queue at this place is given out, if there is one: it is held from now on, and the number
-    /// of its arrival is told, by which it is found again at once; or it leaves the queue, and the notes tell of it. Nothing is
-    /// held there under this tag yet, and there is room for the note. It takes no memory.
-    pub fn take_at(&mut self, place: usize, how: Giving, notes: &mut Vec<Note>) -> Option<u64>
+    /// Gives out the first ready message of the queue at index `place`, if any. As `how` says, it is held, and the number of its arrival is returned,
+    /// by which [`Depot::held`] finds it; or it leaves the queue with a note. Nothing is held there under this tag before, and there is capacity for
+    /// the note. Never allocates.
+    pub fn take_at(&mut self, place: usize, how: Giving, notes: &mut Notes) -> Option<u64>
+        // What the caller knows: nothing is held under the new tag, or there is capacity for the note.
         requires within { place < length self.old.topology.queues }
         requires free { CanGive how (queue_at self.old place) }
         requires room { HasRoomFor how (vec_len notes.old) (vec_capacity notes.old) }
+        // What is returned, what changes, and what is noted.
         ensures told { TellsArrival how (find is_ready (queue_at self.old place)) result }
         ensures store { self.new ≡ with_entries_at self.old place (given_so how (queue_at self.old place)) }
         ensures notes { notes.new.items ≡ notes.old.items ++ given_notes how (find is_ready (queue_at self.old place)) }
@@ -382,8 +406,8 @@ impl Depot {
         arrival
     }
 
-    /// The message of the queue at this place that is held under this tag. It is found at once by the number of its arrival,
-    /// as `take_at` told it.
+    /// Returns the message of the queue at index `place` that is held by `holder`. `arrival` is the number that
+    /// [`Depot::take_at`] returned for it.
     pub fn held(&self, place: usize, holder: &Holder, arrival: u64) -> Option<&Entry>
         requires { place < length self.now.topology.queues }
         ensures { option_map (λ e. e.now) result ≡ find (is_held_as holder.now) (queue_at self.now place) }
@@ -391,15 +415,10 @@ impl Depot {
         self.queues.queue(place).held(holder, arrival)
     }
 
-    /// The ready messages of the queue at this place leave it by a purge, in the order in which they arrived, and the notes tell
-    /// of each. What is held stays. Tells how many they are. Memory is wanting only where there is such a message. Then nothing
-    /// has changed but that there may be more room.
-    pub fn purge_at(
-        &mut self,
-        alloc: Global,
-        place: usize,
-        notes: &mut Vec<Note>,
-    ) -> Result<usize, AllocError>
+    /// Removes the ready messages of the queue at index `place`, in the order in which they arrived, with a note for each, and returns their number.
+    /// What is held stays. Fails only if there is such a message and an allocation fails; nothing has changed then but that there may be more
+    /// capacity.
+    pub fn purge_at(&mut self, place: usize, notes: &mut Notes) -> Result<usize, AllocError>
         requires { place < length self.old.topology.queues }
         ensures ok { IfOk result (λ count.
             IsPurgedBy self.old (queue_name self.old.topology place) notes.old.items notes.new.items count self.new) }
@@ -410,31 +429,33 @@ impl Depot {
         let topology = self.router.topology();
         topology.is_well_formed();
         let name = &topology.queue(place).name;
-        purge_in(alloc, self.queues.queue_mut(place), name, notes)
+        purge_in(self.queues.queue_mut(place), name, notes)
     }
 
-    /// The entries of the queue at this place in the order of arrival, ready and held; none where there is no such queue.
+    /// Returns an iterator over the entries of the queue at index `place`, ready and held, in the order of arrival; empty if there is no such queue.
     pub fn walk(&self, place: usize) -> Walk<'_>
         ensures { result ≡ queue_at self.now place }
     {
         self.queues.walk(place)
     }
 
-    /// For each queue, in the order of the file, the place of the queue of its name in another topology, or one behind its
-    /// end where there is none.
+    /// Returns, for each queue, the index of the queue with its name in `topology`, or the index past its end if there is none. Fails only if an
+    /// allocation fails.
     pub fn places_in(&self, alloc: Global, topology: &Topology) -> Result<Vec<usize>, AllocError>
         ensures { IfOk result (λ places. AreMoved (queue_names self.now.topology.queues) (queue_names topology.now.queues) places.items) }
     {
         places_in(alloc, self.router.topology(), topology)
     }
 
-    /// Takes all messages of another depot over into this one, which has none: each name has the messages that it had there,
-    /// and each of them stood then. The table is `places_in` of the other depot, and no queue that this depot lacks has a
-    /// message there. The number of publishes goes on. It takes no memory, and no time for a message but for its mark.
+    /// Moves all messages of `old` into this depot, which has none: each queue gets the messages of its name, each marked as one that a reload found
+    /// there. `places` is `old.places_in(..)`, and no queue that this depot lacks has a message. The count of publishes goes on. Never
+    /// allocates; the work for a message is setting its mark.
     pub fn take_over(&mut self, old: Depot, places: &[usize])
+        // What the caller knows of the table and of the queues.
         requires moved { AreMoved (queue_names old.topology.queues) (queue_names self.old.topology.queues) places.now }
         requires empty { self.old.queues ≡ replicate (length self.old.topology.queues) [] }
         requires gone { GoneAreEmpty old (queue_names self.old.topology.queues) }
+        // Each queue has the entries of its name; the frame.
         ensures entries { (q : Text) → entries_named self.new q ≡ map stood_now (entries_named old q) }
         ensures published { self.new.published ≡ old.published }
         ensures topology { self.new.topology ≡ self.old.topology }
@@ -445,13 +466,15 @@ impl Depot {
             router: _,
             queues,
             published,
+            keeps_notes,
         } = old;
         self.queues.take_over(queues, places);
         self.published = published;
+        self.keeps_notes = keeps_notes;
     }
 }
 
-/// What stands at a place of the file stands under its name, in whatever depot.
+/// Shows that in any depot the queue at an index is the one with its name. Does nothing at run time.
 pub fn places_are_named()
     ensures { (s : Store) (place : ℕ) → IsStoreWhole s → place < length s.topology.queues → IsQueueNamed s place }
 {}

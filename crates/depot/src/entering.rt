@@ -1,4 +1,4 @@
-//! How a message comes to its queues: its turns are planned, room is made for them, and then they are taken, which cannot
+//! Appends a message to its routed queues. The turns are planned, capacity is reserved, and then they are taken, which can't
 //! fail.
 
 ghost use Rattle.std.specs.Prelude.{
@@ -42,10 +42,11 @@ ghost use Rattle.depot.specs.Turns.{
 use crate::queues::{Queue, Queues};
 use crate::turns::PlannedTurn;
 use model::{DeclaredQueue, Message, Note, Way};
+use notes::Notes;
 use queue::Store;
 use std::alloc::{AllocError, Global};
 
-/// The turns of a message at the queues at these places.
+/// Returns the turns of `message` at the queues with the indices `targets`. Fails only if an allocation fails.
 pub(crate) fn turns(
     alloc: Global,
     declared: &[DeclaredQueue],
@@ -63,7 +64,7 @@ pub(crate) fn turns(
     Ok(turns)
 }
 
-/// The turn of a message at the queue at this place.
+/// Returns the turn of `message` at the queue at index `place`.
 fn turn(
     declared: &[DeclaredQueue],
     place: usize,
@@ -79,7 +80,7 @@ fn turn(
     })
 }
 
-/// Makes room for so many messages in the queue at this place.
+/// Reserves capacity for `more` messages in the queue at index `place`.
 fn make_room_at(queues: &mut Queues, place: usize, more: usize) -> Result<(), AllocError>
     requires { place < length queues.old }
     ensures same { entries_of queues.new ≡ entries_of queues.old }
@@ -90,7 +91,7 @@ fn make_room_at(queues: &mut Queues, place: usize, more: usize) -> Result<(), Al
     queues.queue_mut(place).reserve(more)
 }
 
-/// Makes room for so many messages in each of these queues.
+/// Reserves capacity for `more` messages in each queue of these turns.
 pub(crate) fn make_room(
     queues: &mut Queues,
     turns: &[PlannedTurn],
@@ -108,13 +109,13 @@ pub(crate) fn make_room(
     Ok(())
 }
 
-/// The message comes to the queue of its turn, or is refused there where that is full now. Tells whether it is refused.
+/// Appends the message of `turn` to its queue, or refuses it if that is full now. Returns whether it is refused.
 pub(crate) fn enter(
     declared: &DeclaredQueue,
     queue: &mut Queue,
     turn: PlannedTurn,
     way: Way,
-    notes: &mut Vec<Note>,
+    notes: &mut Notes,
 ) -> bool
     requires room { 0 < queue.old.room }
     requires notes { vec_len notes.old < vec_capacity notes.old }
@@ -148,13 +149,13 @@ pub(crate) fn enter(
     false
 }
 
-/// The same at the queue of this place, which is found once.
+/// Does the same at the queue at the turn's index.
 fn enter_at(
     declared: &[DeclaredQueue],
     queues: &mut Queues,
     turn: PlannedTurn,
     way: Way,
-    notes: &mut Vec<Note>,
+    notes: &mut Notes,
 ) -> bool
     requires len { length queues.old ≡ length declared.now }
     requires within { turn.place < length queues.old }
@@ -176,13 +177,13 @@ fn enter_at(
     is_refused
 }
 
-/// The message comes to each queue or is refused there, one after another. Tells whether some queue refuses it.
+/// Takes these turns, one after another. Returns whether some queue refuses the message.
 pub(crate) fn enter_all(
     declared: &[DeclaredQueue],
     queues: &mut Queues,
     turns: Vec<PlannedTurn>,
     way: Way,
-    notes: &mut Vec<Note>,
+    notes: &mut Notes,
 ) -> bool
     requires len { length queues.old ≡ length declared.now }
     requires within { All (λ i. i < length queues.old) (places turns.items) }

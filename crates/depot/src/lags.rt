@@ -1,19 +1,19 @@
-//! Which queues lag behind those who take from them.
+//! Estimates which queues' consumers lag behind.
 
 use std::alloc::{AllocError, Global};
 
-/// A queue lags if more can be given out behind a message that was taken from it: a round makes so many deliveries.
+/// A queue lags if more messages than this are ready behind one that was taken from it: as many as a round delivers.
 const MANY: usize = 256;
 
-/// Of the messages that come to a queue so many are counted for each that was taken while it lagged. So a queue that is taken from now and
+/// How many entering messages are counted for each one that was taken while its queue lagged. So a queue whose consumers read now and
 /// then slows nobody.
 const COUNTED: u32 = 4;
 
-/// So many messages are counted at most once nobody takes from a queue any more.
+/// How many entering messages are counted at most once the consumers of a queue have stopped taking.
 const MOST_COUNTED: u32 = 1_024;
 
-/// Estimates for each queue how far its consumers lag behind: how many of the messages that come next are counted, and how many were counted
-/// in all. Nothing rests on it.
+/// Estimates, for each queue, how far its consumers lag behind: how many of the next messages to enter it are counted, and how many were in
+/// all. A hint for reading publishers more slowly: correctness does not depend on it.
 #[derive(Drop)]
 pub(crate) struct Lags {
     left: Vec<u32>,
@@ -21,13 +21,13 @@ pub(crate) struct Lags {
 }
 
 impl Lags {
-    /// None of so many queues lags.
+    /// Makes an estimate for `queues` queues, of which none lags. Fails only if an allocation fails.
     pub(crate) fn new(alloc: Global, queues: usize) -> Result<Lags, AllocError> {
         let left = vec![in alloc; 0; queues]?;
         Ok(Lags { left, count: 0 })
     }
 
-    /// A message was taken from the queue at this place, behind which so many can be given out.
+    /// Records that a message was taken from the queue at index `place`, behind which `ready` can be given out.
     pub(crate) fn take(&mut self, place: usize, ready: usize) {
         if place < self.left.len() {
             self.left[place] = if ready > MANY {
@@ -38,7 +38,7 @@ impl Lags {
         }
     }
 
-    /// Counts a message that comes to the queue at this place if that lags, unless `is_exempt`: it was refused there, or is a dead letter.
+    /// Counts a message that enters the queue at index `place` if that lags, unless `is_exempt`: it was refused there, or is a dead letter.
     pub(crate) fn come(&mut self, place: usize, is_exempt: bool) {
         if !is_exempt && place < self.left.len() && self.left[place] > 0 {
             self.left[place] -= 1;
@@ -46,7 +46,7 @@ impl Lags {
         }
     }
 
-    /// How many messages came to queues that lagged.
+    /// Returns how many messages have entered queues that lagged.
     pub(crate) fn count(&self) -> u64 {
         self.count
     }

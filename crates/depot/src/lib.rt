@@ -1,7 +1,7 @@
-//! The depot: all queues of a topology, and how many publishes there were.
+//! The depot: all queues of a topology, and the number of publishes.
 //!
-//! A caller sees a `Depot` as its topology and, of each queue, the list of its entries (`specs/Store.antt`). A publish
-//! is routed, grows all that it needs, and only then changes anything, so it is done whole or not at all.
+//! Start at [`Depot`]. A caller sees it as its topology and, for each queue, the list of its entries (`specs/Store.antt`). A publish
+//! is routed, makes all its allocations, and only then changes anything, so a publish is done whole or not at all.
 #![tactic(auto)]
 
 mod departures;

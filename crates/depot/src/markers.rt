@@ -1,4 +1,4 @@
-//! Contents of dead letters, made one after another.
+//! Makes the contents of dead letters, one after another.
 
 ghost use Rattle.std.specs.Prelude.{◌≡◌, IfOk, IfSome, IsTrue};
 ghost use Rattle.model.specs.declared.contents.Fields.{Fields as Seen};
@@ -11,7 +11,7 @@ use model::{Content, Form, Properties, Text};
 use std::alloc::{AllocError, Global};
 use std::marker::Model;
 
-/// What became of the properties of a message that died in a queue, when it was last sent to an exchange.
+/// The properties of a message that died in a queue, last sent to an exchange: before that and after.
 #[derive(Drop)]
 struct Marking {
     queue: Text,
@@ -20,7 +20,7 @@ struct Marking {
     after: Properties,
 }
 
-/// Whether these are spelled, and spelled alike.
+/// Returns whether both are kept in encoded form and are the same bytes.
 fn are_alike(some: &Properties, others: &Properties) -> bool
     ensures { IsTrue result → some.now ≡ others.now }
 {
@@ -31,7 +31,7 @@ fn are_alike(some: &Properties, others: &Properties) -> bool
     }
 }
 
-/// What becomes of these properties, if it is kept here.
+/// Returns the marked properties, if they are remembered.
 fn kept<'a>(
     last: &'a Option<Marking>,
     queue: &Text,
@@ -53,7 +53,7 @@ fn kept<'a>(
     None
 }
 
-/// What becomes of these properties, which is kept here from now on.
+/// Marks `properties`, and remembers the result, unless it is remembered already. Fails only if an allocation fails.
 fn marked_once(
     alloc: Global,
     last: &mut Option<Marking>,
@@ -78,13 +78,13 @@ fn marked_once(
     Ok(after)
 }
 
-/// Makes the contents of dead letters. What was made last is kept, so that properties that are spelled alike are marked once.
-/// What it answers is the same whatever it keeps.
+/// Makes the contents of dead letters. Remembers the last result, so that properties with the same encoding are marked once.
+/// What it returns doesn't depend on what it remembers.
 pub struct Marker {
     last: Option<Marking>,
 }
 
-/// Written out, so that a drop is one call.
+/// Written out so that a drop is one call.
 impl Drop for Marker {
     fn drop(self) {
         let Marker { last: _ } = self;
@@ -105,13 +105,13 @@ impl Marker {
     ghost use Rattle.std.specs.Prelude.{IfOk};
     ghost use Rattle.depot.specs.Marked.{IsMarked};
 
-    /// A marker that keeps nothing yet. It takes no memory.
+    /// Makes a marker that remembers nothing. Never allocates.
     pub fn new() -> Marker {
         Marker { last: None }
     }
 
-    /// The content of a message that dies in this queue, when it was last sent to this exchange: its headers tell of its first
-    /// death, in whatever queue that was. The body is shared, and the headers too where they told of a death before.
+    /// Returns the content of a message that dies in `queue`, last sent to `exchange`: its headers name its first death, in whatever queue that
+    /// was. The body is shared, and so are the headers if they name a death already. Fails only if an allocation fails.
     pub fn marked(
         &mut self,
         alloc: Global,

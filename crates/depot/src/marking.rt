@@ -9,17 +9,17 @@ use headers::{fields_of, headers_of};
 use model::{Properties, Table, Text};
 use std::alloc::{AllocError, Global};
 
-/// The field that names the queue of the first death.
+/// The header field with the queue of the first death.
 const QUEUE: &[u8] = b"x-first-death-queue";
 
-/// The field that says why.
+/// The header field with the reason of the first death.
 const REASON: &[u8] = b"x-first-death-reason";
 
-/// The field that names the exchange to which the message was sent before.
+/// The header field with the exchange to which the message was sent before its first death.
 const EXCHANGE: &[u8] = b"x-first-death-exchange";
 
-/// The properties of a message that dies in this queue, when it was last sent to this exchange: its headers tell of its first
-/// death, in whatever queue that was. They are shared where they told of a death before.
+/// Returns the properties of a message that dies in `queue`, last sent to `exchange`: its headers name its first death, in whatever queue that
+/// was. They are shared if they name a death already. Fails only if an allocation fails.
 pub(crate) fn marked(
     alloc: Global,
     queue: &Text,
@@ -39,7 +39,7 @@ pub(crate) fn marked(
     with_headers(alloc, properties, &longer)
 }
 
-/// The same properties but for the headers, of which these are the pairs.
+/// Returns the same properties with `headers` as the encoded pairs of their headers.
 fn with_headers(
     alloc: Global,
     properties: &Properties,
@@ -52,7 +52,7 @@ fn with_headers(
     Properties::new(alloc, fields)
 }
 
-/// These headers, and behind them the fields of a first death.
+/// Returns `headers` with the fields of a first death appended.
 fn with_death(
     alloc: Global,
     headers: &[u8],
@@ -69,7 +69,7 @@ fn with_death(
     Ok(bytes)
 }
 
-/// Appends a field that holds a text: a name and, behind the letter of long strings, the text with its length in 4 bytes.
+/// Appends a field with a long string: `name` after its length in one byte, the letter S, and `text` after its length in four bytes.
 fn put_text(out: &mut Vec<u8>, name: &[u8], text: &[u8]) -> Result<(), AllocError>
     requires { length name.now < 256 }
     ensures { OnOk result (out.new.items ≡ out.old.items ++ text_field name.now text.now) }

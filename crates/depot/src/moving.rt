@@ -1,4 +1,4 @@
-//! Queues of one topology taken over into those of another.
+//! Moves the queues of one topology to those of another.
 
 ghost use Rattle.std.specs.Prelude.{◌≡◌, ◌+◌, ◌*◌, ◌<◌, ◌≤◌, ℕ, [], length, drop, map, slice_set, slice_index_or, IfOk};
 ghost use Rattle.model.specs.Topology.{queue_names};
@@ -14,7 +14,7 @@ use queue::Store;
 use std::alloc::{AllocError, Global};
 use std::mem::swap;
 
-/// The place of the queue of this name, or the one behind the end where there is none.
+/// Returns the index of the queue `name`, or the index past the end if there is none.
 fn place_in(topology: &Topology, name: &[u8]) -> usize
     ensures { IsMoved (queue_names topology.now.queues) name.now result }
 {
@@ -24,8 +24,8 @@ fn place_in(topology: &Topology, name: &[u8]) -> usize
     }
 }
 
-/// For each queue of the old topology the place of the queue of its name in the new one, or one behind the end where there is
-/// none. It takes a look-up for each.
+/// Returns, for each queue of `old`, the index of the queue with its name in `new`, or the index past the end if there is none. Looks each name up
+/// once. Fails only if an allocation fails.
 pub(crate) fn places_in(
     alloc: Global,
     old: &Topology,
@@ -40,10 +40,11 @@ pub(crate) fn places_in(
     Ok(places)
 }
 
-/// The queue at this place is the one of `old` at `from` now, and all that is in it stood then.
+/// Swaps the queue at index `place` with the one of `old` at `from`, whose entries are all marked as ones that a reload found there.
 fn exchange_at(queues: &mut [Queue], place: usize, old: &mut [Queue], from: usize)
     requires place { place < length queues.old }
     requires from { from < length old.old }
+    // The queue is at its new index, and later ones are unchanged.
     ensures entries { entries_of queues.new ≡ slice_set (entries_of queues.old) place (map stood_now (slice_index_or (entries_of old.old) from [])) }
     ensures len { length queues.new ≡ length queues.old }
     ensures rest { drop (from + 1) (entries_of old.new) ≡ drop (from + 1) (entries_of old.old) }
@@ -53,7 +54,7 @@ fn exchange_at(queues: &mut [Queue], place: usize, old: &mut [Queue], from: usiz
     swap(&mut queues[place], &mut old[from]);
 }
 
-/// The queue at this place, where there is one, is the one of `old` at `from` now, and has its sign.
+/// Does the same, and updates the queue's bit, if there is a queue at index `place`.
 fn exchange(
     queues: &mut [Queue],
     signs: &mut QueueSigns,
@@ -63,6 +64,7 @@ fn exchange(
 )
     requires from { from < length old.old }
     requires room { length queues.old ≤ length signs.old * 64 }
+    // The queue is at its new index, the bits are right, and later queues are unchanged.
     ensures entries { entries_of queues.new ≡ slice_set (entries_of queues.old) place (map stood_now (slice_index_or (entries_of old.old) from [])) }
     ensures signed { (lent : ℕ) → AreSignedBut lent (entries_of queues.old) signs.old → AreSignedBut lent (entries_of queues.new) signs.new }
     ensures room { length signs.new ≡ length signs.old }
@@ -76,7 +78,7 @@ fn exchange(
     }
 }
 
-/// Each queue of `old` stands at the place that the table has for it. It takes no memory.
+/// Moves each queue of `old` to the index that `places` has for it. Never allocates.
 pub(crate) fn take_over_in(
     queues: &mut [Queue],
     signs: &mut QueueSigns,

@@ -3,13 +3,13 @@
 use crate::turns::PlannedTurn;
 use model::{Holder, Note};
 
-/// A message leaves the queue at a place, and its dead letter has these turns.
+/// A message that leaves the queue at an index, with the turns of its dead letter.
 #[derive(Drop)]
 pub(crate) struct Death {
     pub(crate) place: usize,
     pub(crate) holder: Holder,
     pub(crate) arrival: u64,
-    /// That it leaves.
+    /// The note that it leaves.
     pub(crate) note: Note,
     pub(crate) turns: Vec<PlannedTurn>,
 }

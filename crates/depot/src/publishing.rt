@@ -1,4 +1,4 @@
-//! A publish: planned with all its growths, and then done, which cannot fail.
+//! A publish: planned with all its allocations, and then performed, which can't fail.
 
 ghost use Rattle.std.specs.Prelude.{◌≡◌, ◌+◌, ◌<◌, ◌≤◌, length, All, AllPairs, IfOk, IfSome, OnOk, OnErr, vec_len, vec_capacity};
 ghost use Rattle.std.specs.Arc.{arc_value};
@@ -14,10 +14,11 @@ use crate::entering::{enter_all, make_room, turns};
 use crate::queues::Queues;
 use exchange_graph::{Route, Router, Topology};
 use model::{ChannelId, Message, Note, Publish, Way};
+use notes::Notes;
 use std::alloc::{AllocError, Global};
 use std::sync::Arc;
 
-/// The route of a publish: the one that is known, or else it is learned.
+/// Returns `known`, the route of the publish, or looks it up and remembers it. Fails only if an allocation fails.
 pub(crate) fn route_of(
     alloc: Global,
     router: &mut Router,
@@ -34,7 +35,7 @@ pub(crate) fn route_of(
     }
 }
 
-/// The note of a publish.
+/// Returns the note of a publish. Fails only if an allocation fails.
 pub(crate) fn note_of(
     number: u64,
     id: ChannelId,
@@ -53,7 +54,7 @@ pub(crate) fn note_of(
     })
 }
 
-/// The message comes to each queue that it is routed to, at these places, or is refused there.
+/// Appends `message` to each queue with an index in `targets` that is not full. Fails only if an allocation fails; nothing has changed then.
 pub(crate) fn publish_to_many(
     alloc: Global,
     topology: &Topology,
@@ -61,15 +62,18 @@ pub(crate) fn publish_to_many(
     targets: &[usize],
     message: Message,
     first: Note,
-    notes: &mut Vec<Note>,
+    notes: &mut Notes,
 ) -> Result<Routed, AllocError>
+    // What the caller knows: the targets are queues of the topology, each once.
     requires len { length queues.old ≡ length topology.now.queues }
     requires within { All (λ i. i < length topology.now.queues) targets.now }
     requires rising { AllPairs (λ i j. i < j) targets.now }
+    // The promise.
     ensures ok { IfOk result (λ routed. (p : Seen)
         → AreTargets topology.now p.exchange p.routing_key targets.now
         → Enters topology.now (entries_of queues.old) (entries_of queues.new) p message first notes.old.items notes.new.items routed) }
     ensures len { length queues.new ≡ length queues.old }
+    // A failure changes neither the queues nor the notes.
     ensures room { OnOk result (vec_len notes.new + 2 ≤ vec_capacity notes.new) }
     ensures queues { OnErr result (entries_of queues.new ≡ entries_of queues.old) }
     ensures notes { OnErr result (notes.new.items ≡ notes.old.items) }

@@ -1,4 +1,4 @@
-//! The queues of a topology, and which of them have something ready.
+//! The queues of a topology, and which of them have a ready message.
 
 ghost use Rattle.std.specs.Prelude.{◌≡◌, [], replicate, IfOk};
 ghost use Rattle.depot.specs.Store.{entries_of};
@@ -11,11 +11,11 @@ use queue::{Indexed, Store, Walk};
 use std::alloc::{AllocError, Global};
 use std::marker::Model;
 
-/// The body of each queue. Any other `Store` answers the same.
+/// The implementation of each queue. Any other `Store` behaves the same.
 pub(crate) type Queue = Indexed;
 
-/// The queues of a topology, in the order of the file. The signs say of each whether a message can be given out, so that the
-/// next such queue is found without a scan; but perhaps not of the one that was lent last, which is signed as another is lent.
+/// The queues of a topology, in the order of the definitions. The signs say of each whether a message can be given out, so that the next such
+/// queue is found without a scan. The sign of the queue that was borrowed last may be out of date; it is set when another is borrowed.
 #[derive(Drop)]
 pub(crate) struct Queues {
     queues: Vec<Queue>,
@@ -37,7 +37,7 @@ impl Model for Queues {
     ghost invariant = { λ q. AreSignedBut q.lent (entries_of q.queues.items) q.signs };
 }
 
-/// So many queues with no message.
+/// Returns `count` empty queues. Fails only if an allocation fails.
 fn empty_queues(alloc: Global, count: usize) -> Result<Vec<Queue>, AllocError>
     ensures { IfOk result (λ queues. entries_of queues.items ≡ replicate count []) }
 {
@@ -48,7 +48,7 @@ fn empty_queues(alloc: Global, count: usize) -> Result<Vec<Queue>, AllocError>
     Ok(queues)
 }
 
-/// Another queue is lent from now on: the one that was lent last is signed. It takes no memory.
+/// Sets the sign of the queue that was borrowed last, as the one at index `place` is about to be. Never allocates.
 fn move_loan(queues: &[Queue], signs: &mut QueueSigns, lent: usize, place: usize)
     requires { AreSignedBut lent (entries_of queues.now) signs.old }
     ensures { AreSignedBut place (entries_of queues.now) signs.new }
@@ -59,8 +59,8 @@ fn move_loan(queues: &[Queue], signs: &mut QueueSigns, lent: usize, place: usize
     signs.sign(lent, &queues[lent]);
 }
 
-/// The first queue with a message that can be given out, of those from `from` on. The signs tell it of all queues but the one
-/// that was lent last.
+/// Returns the index of the first queue at or after `from` with a ready message. Uses the signs, except for the queue that was borrowed
+/// last.
 fn next_in(queues: &[Queue], signs: &QueueSigns, lent: usize, from: usize) -> Option<usize>
     requires { AreSignedBut lent (entries_of queues.now) signs.now }
     ensures { TellsNext (ready_places (entries_of queues.now)) from result }
@@ -102,7 +102,7 @@ impl Queues {
     ghost use Rattle.depot.specs.Moving.{taken};
     ghost use Rattle.depot.specs.Lends.{LendsQueue};
 
-    /// So many queues with no message.
+    /// Makes `count` empty queues. Fails only if an allocation fails.
     pub(crate) fn new(alloc: Global, count: usize) -> Result<Queues, AllocError>
         ensures { IfOk result (λ queues. entries_of queues ≡ replicate count []) }
     {
@@ -117,7 +117,7 @@ impl Queues {
         })
     }
 
-    /// The queue at this place.
+    /// Returns the queue at index `place`.
     pub(crate) fn queue(&self, place: usize) -> &Queue
         requires { place < length self.now }
         ensures { result.now.entries ≡ slice_index_or (entries_of self.now) place [] }
@@ -125,7 +125,7 @@ impl Queues {
         &self.queues[place]
     }
 
-    /// The queue at this place, to be changed. It takes no memory.
+    /// Borrows the queue at index `place` mutably. Never allocates.
     pub(crate) fn queue_mut(&mut self, place: usize) -> &mut Queue
         requires { place < length self.old }
         ensures* writes_back { sem 𝓛 (LendsQueue self.entry place result) }
@@ -136,7 +136,7 @@ impl Queues {
         &mut self.queues[place]
     }
 
-    /// The entries of the queue at this place, in the order of arrival; none where there is no such queue.
+    /// Returns an iterator over the entries of the queue at index `place`, in the order of arrival; empty if there is no such queue.
     pub(crate) fn walk(&self, place: usize) -> Walk<'_>
         ensures { result ≡ slice_index_or (entries_of self.now) place [] }
     {
@@ -146,34 +146,34 @@ impl Queues {
         }
     }
 
-    /// The first queue with a message that can be given out, of those from `from` on.
+    /// Returns the index of the first queue at or after `from` with a ready message.
     pub(crate) fn next_ready(&self, from: usize) -> Option<usize>
         ensures { TellsNext (ready_places (entries_of self.now)) from result }
     {
         next_in(&self.queues, &self.signs, self.lent, from)
     }
 
-    /// Counts a message that came to the queue at this place if that lags, unless `is_exempt`.
+    /// Counts a message that entered the queue at index `place` if that lags, unless `is_exempt`.
     pub(crate) fn count_coming(&mut self, place: usize, is_exempt: bool)
         ensures { self.new ≡ self.old }
     {
         self.lags.come(place, is_exempt);
     }
 
-    /// A message was taken from the queue at this place, behind which so many can be given out.
+    /// Records that a message was taken from the queue at index `place`, behind which `ready` can be given out.
     pub(crate) fn count_taking(&mut self, place: usize, ready: usize)
         ensures { self.new ≡ self.old }
     {
         self.lags.take(place, ready);
     }
 
-    /// How many messages came to queues that lagged.
+    /// Returns how many messages have entered queues that lagged.
     pub(crate) fn lagged(&self) -> u64 {
         self.lags.count()
     }
 
-    /// Each queue of `old` stands at the place that the table has for it, where there is one, and all that is in it stood
-    /// then. It takes no memory.
+    /// Moves each queue of `old` to the index that `places` has for it, if there is one, each entry marked as one that a reload found there. Never
+    /// allocates.
     pub(crate) fn take_over(&mut self, old: Queues, places: &[usize])
         requires { length places.now ≡ length old }
         ensures entries { entries_of self.new ≡ taken places.now (entries_of old) (entries_of self.old) }

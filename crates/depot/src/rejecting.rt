@@ -1,4 +1,4 @@
-//! A rejection: each death is planned with its dead letter, then room is made, and then all is done, which cannot fail.
+//! A rejection: each death is planned with its dead letter, capacity is reserved, and then all is performed, which can't fail.
 
 ghost use Rattle.std.specs.Prelude.{◌≡◌, ◌⊎◌, ◌+◌, ◌-◌, ◌^◌, ◌<◌, ◌≤◌, ℕ, ◌++◌, List, length, All};
 ghost use Rattle.std.specs.Prelude.{true, false, IfOk, OnOk, OnErr, vec_len, vec_capacity};
@@ -16,10 +16,11 @@ use crate::queues::Queues;
 use crate::turns::PlannedTurn;
 use exchange_graph::Router;
 use model::{Cause, ChannelId, DeclaredQueue, Delivery, Message, Note, Text, Way};
+use notes::Notes;
 use queue::Store;
 use std::alloc::{AllocError, Global};
 
-/// The key under which a message of this key dies, where its queue may fix one.
+/// Returns the key of a dead letter: `fixed` if its queue has one, otherwise `key`, that of the message.
 fn key_of(fixed: &Option<Text>, key: &Text) -> Result<Text, AllocError>
     ensures { IfOk result (λ k. k ≡ key_after fixed.now key.now) }
 {
@@ -29,7 +30,7 @@ fn key_of(fixed: &Option<Text>, key: &Text) -> Result<Text, AllocError>
     }
 }
 
-/// The turns of the dead letter of a message that dies in the queue at this place: none where the queue has no dead-letter
+/// Returns the turns of the dead letter of a message that dies in the queue at index `place`; none if the queue has no dead-letter
 /// exchange.
 fn letters(
     alloc: Global,
@@ -54,7 +55,7 @@ fn letters(
     turns(alloc, router.topology().queues(), &route.targets, &letter)
 }
 
-/// Puts the death of this message behind the others, if it is there.
+/// Appends the death of the delivery's message, if it is still held.
 fn plan_one(
     alloc: Global,
     router: &mut Router,
@@ -92,7 +93,7 @@ fn plan_one(
     Ok(())
 }
 
-/// The same, if it waits.
+/// Does the same if the delivery waits.
 fn plan_waiting(
     alloc: Global,
     router: &mut Router,
@@ -117,7 +118,7 @@ fn plan_waiting(
     }
 }
 
-/// The deaths of all of these messages that wait and are there.
+/// Returns the deaths of all messages of `gone` that wait and are still held.
 fn plan(
     alloc: Global,
     router: &mut Router,
@@ -153,7 +154,7 @@ fn make_rooms(queues: &mut Queues, deaths: &[Death]) -> Result<(), AllocError>
     Ok(())
 }
 
-/// How many notes these deaths make, or the greatest number if they are more than that: no vector has room for so many.
+/// Returns how many notes these deaths make, or the greatest `usize` if there are more: no vector has that capacity.
 fn count_notes(deaths: &[Death]) -> usize
     ensures { (result ≡ notes_in deaths.now) ⊎ (result ≡ 2 ^ 64 - 1) }
 {
@@ -164,8 +165,8 @@ fn count_notes(deaths: &[Death]) -> usize
     count
 }
 
-/// The message leaves its queue, and then its dead letter comes to each of its queues or is refused there.
-fn die(declared: &[DeclaredQueue], queues: &mut Queues, death: Death, notes: &mut Vec<Note>)
+/// Removes the message from its queue, and appends its dead letter to each routed queue that is not full.
+fn die(declared: &[DeclaredQueue], queues: &mut Queues, death: Death, notes: &mut Notes)
     requires len { length queues.old ≡ length declared.now }
     requires sound { IsSoundDeath (length queues.old) death }
     requires room { IsRoomy queues.old (places death.turns.items) }
@@ -189,13 +190,8 @@ fn die(declared: &[DeclaredQueue], queues: &mut Queues, death: Death, notes: &mu
     enter_all(declared, queues, turns, Way::Dead, notes);
 }
 
-/// These messages die, one after another.
-fn perform(
-    declared: &[DeclaredQueue],
-    queues: &mut Queues,
-    deaths: Vec<Death>,
-    notes: &mut Vec<Note>,
-)
+/// Performs these deaths, one after another.
+fn perform(declared: &[DeclaredQueue], queues: &mut Queues, deaths: Vec<Death>, notes: &mut Notes)
     requires len { length queues.old ≡ length declared.now }
     requires sound { All (IsSoundDeath (length queues.old)) deaths.items }
     requires room { (place : ℕ) → times_in place deaths.items ≤ room_at queues.old place }
@@ -209,17 +205,18 @@ fn perform(
     }
 }
 
-/// Those of these messages that wait, which the channel holds, leave their queues one after another by a rejection.
+/// Rejects those deliveries of `gone` that wait: their messages leave their queues one after another.
 pub(crate) fn reject_in(
     alloc: Global,
     router: &mut Router,
     queues: &mut Queues,
     id: ChannelId,
     gone: &[Delivery],
-    notes: &mut Vec<Note>,
+    notes: &mut Notes,
 ) -> Result<(), AllocError>
     requires len { length queues.old ≡ length router.old.queues }
     requires within { AreWithin router.old (waiting gone.now) }
+    // The promise.
     ensures ok { OnOk result
         (Rejects router.old id.connection id.number (waiting gone.now)
         (entries_of queues.old) (entries_of queues.new) notes.old.items notes.new.items) }

@@ -1,4 +1,4 @@
-//! What was given out is acknowledged, or is ready again in its queue.
+//! Acknowledges and requeues deliveries.
 
 ghost use Rattle.std.specs.Prelude.{◌≡◌, ◌+◌, ◌<◌, ◌≤◌, ◌++◌, ◌∷◌, ℕ, [], true, false, length, map, IfOk, OnOk, OnErr, vec_len, vec_capacity};
 ghost use Rattle.model.specs.Topology.{Topology as Declared, IsWellFormed};
@@ -13,10 +13,11 @@ use crate::departures::Departure;
 use crate::queues::Queues;
 use exchange_graph::Topology;
 use model::{Cause, ChannelId, Delivery, Note, Text};
+use notes::Notes;
 use queue::Store;
 use std::alloc::{AllocError, Global};
 
-/// The name of the queue from which this was given out.
+/// Returns the name of the delivery's queue. Fails only if an allocation fails.
 pub(crate) fn name_of(topology: &Topology, given: &Delivery) -> Result<Text, AllocError>
     requires { given.now.queue < length topology.now.queues }
     ensures { IfOk result (λ name. name ≡ (departure_in topology.now given.now).queue) }
@@ -24,7 +25,7 @@ pub(crate) fn name_of(topology: &Topology, given: &Delivery) -> Result<Text, All
     topology.queue(given.queue).name.clone()
 }
 
-/// Puts this delivery behind the others, if it waits. There is room for it.
+/// Appends this delivery with its queue's name, if it waits. There is capacity for it.
 fn add_departure(
     topology: &Topology,
     given: &Delivery,
@@ -32,6 +33,7 @@ fn add_departure(
 ) -> Result<(), AllocError>
     requires within { is_waiting given.now ≡ true → given.now.queue < length topology.now.queues }
     requires room { vec_len departures.old < vec_capacity departures.old }
+    // The delivery is appended if it waits, and at most one entry is used.
     ensures yes { OnOk result (is_waiting given.now ≡ true
         → departures.new.items ≡ departures.old.items ++ departure_in topology.now given.now ∷ []) }
     ensures no { OnOk result (is_waiting given.now ≡ false → departures.new.items ≡ departures.old.items) }
@@ -49,7 +51,7 @@ fn add_departure(
     Ok(())
 }
 
-/// Those of these messages that wait, each with the name of its queue.
+/// Returns those deliveries of `gone` that wait, each with the name of its queue. Fails only if an allocation fails.
 fn departures_of(
     alloc: Global,
     topology: &Topology,
@@ -66,16 +68,17 @@ fn departures_of(
     Ok(departures)
 }
 
-/// This message leaves its queue, which has this name, and that is noted, if it is there. There is room for the note.
+/// Removes the delivery's message from its queue, whose name is `queue`, with a note, if it is still held. There is capacity for the note.
 pub(crate) fn leave(
     queues: &mut Queues,
     id: ChannelId,
     given: &Delivery,
     queue: Text,
-    notes: &mut Vec<Note>,
+    notes: &mut Notes,
 )
     requires within { given.now.queue < length queues.old }
     requires room { vec_len notes.old < vec_capacity notes.old }
+    // The message leaves, with a note if it was held; at most one note is used.
     ensures entries { entries_of queues.new ≡ left_at id.connection id.number (entries_of queues.old) given.now }
     ensures len { length queues.new ≡ length queues.old }
     ensures notes { notes.new.items ≡ notes.old.items
@@ -94,19 +97,21 @@ pub(crate) fn leave(
     }
 }
 
-/// Those of these messages that wait leave their queues, one after another. All that takes memory is made before the first leaves.
+/// Acknowledges those deliveries of `gone` that wait: their messages leave their queues one after another. All allocations come before that.
 pub(crate) fn ack_all(
     alloc: Global,
     topology: &Topology,
     queues: &mut Queues,
     id: ChannelId,
     gone: &[Delivery],
-    notes: &mut Vec<Note>,
+    notes: &mut Notes,
 ) -> Result<(), AllocError>
+    // What the caller knows of the topology and the deliveries.
     requires formed { IsWellFormed topology.now }
     requires len { length queues.old ≡ length topology.now.queues }
     requires within { AreWithin topology.now (waiting gone.now) }
     requires apart { IsApart (store_of topology.now (entries_of queues.old) 0) }
+    // The promise; a failure changes neither the queues nor the notes.
     ensures ok { OnOk result ((n : ℕ) → AreSettledBy (Leaves Acked) (store_of topology.now (entries_of queues.old) n)
         id.connection id.number (waiting gone.now) notes.old.items notes.new.items (store_of topology.now (entries_of queues.new) n)) }
     ensures len { length queues.new ≡ length queues.old }
@@ -122,7 +127,7 @@ pub(crate) fn ack_all(
     Ok(())
 }
 
-/// This message is ready again, in its place and marked redelivered, if it waits.
+/// Requeues the delivery's message, if it waits: it is ready again in its place, marked redelivered.
 fn put_back(queues: &mut Queues, id: ChannelId, given: &Delivery)
     requires { is_waiting given.now ≡ true → given.now.queue < length queues.old }
     ensures yes { is_waiting given.now ≡ true
@@ -138,7 +143,7 @@ fn put_back(queues: &mut Queues, id: ChannelId, given: &Delivery)
     }
 }
 
-/// Those of these messages that wait, which the channel holds, are ready again, each in its place.
+/// Requeues those deliveries of `gone` that wait: each message is ready again in its place.
 pub(crate) fn requeue_in(queues: &mut Queues, id: ChannelId, gone: &[Delivery])
     requires { AreOf (length queues.old) (waiting gone.now) }
     ensures settled { (t : Declared) (n : ℕ) → IsWellFormed t → length queues.old ≡ length t.queues

@@ -1,4 +1,4 @@
-//! Which queues have something ready.
+//! Which queues have a ready message.
 
 ghost use Rattle.std.specs.Prelude.{◌≡◌, ℕ, ◌<◌, ◌≤◌, ◌*◌, length, cond, IfOk};
 ghost use Rattle.marks.specs.Places.{bit_of, Differs};
@@ -13,7 +13,7 @@ use std::marker::Model;
 /// A bit for each queue.
 type QueueMarks = Over<Flat>;
 
-/// The set of places of queues with a message that can be given out.
+/// The set of the indices of queues with a ready message.
 #[derive(Drop)]
 pub(crate) struct QueueSigns {
     ready: QueueMarks,
@@ -27,14 +27,14 @@ impl Model for QueueSigns {
     ghost view = { λ s. s.ready };
 }
 
-/// Whether a message of the queue can be given out.
+/// Returns whether a message of the queue can be given out.
 pub(crate) fn has_ready(queue: &Queue) -> bool
     ensures { cond result 1 0 ≡ ready_bit queue.now.entries }
 {
     queue.ready() != 0
 }
 
-/// Puts a place in, or takes it out.
+/// Adds index `place` to the set if `is_in`, otherwise removes it.
 fn put(marks: &mut QueueMarks, place: usize, is_in: bool)
     requires { place < length marks.old * 64 }
     ensures bit { Differs (bit_of marks.old) (bit_of marks.new) place (cond is_in 1 0) }
@@ -47,7 +47,7 @@ fn put(marks: &mut QueueMarks, place: usize, is_in: bool)
     }
 }
 
-/// A set with room for all places below this, and with none in it.
+/// Returns an empty set with a bit for each index below `places`. Fails only if an allocation fails.
 fn room_for(alloc: Global, places: usize) -> Result<QueueMarks, AllocError>
     ensures bits { IfOk result (λ marks. (k : ℕ) → bit_of marks k ≡ 0) }
     ensures room { IfOk result (λ marks. places ≤ length marks * 64) }
@@ -62,7 +62,7 @@ impl QueueSigns {
     ghost use Rattle.marks.specs.Places.{bit_of, Differs};
     ghost use Rattle.depot.specs.Signs.{ready_bit, AreSignedBut, TellsNext};
 
-    /// The set of so many queues with no message, with room for all of them.
+    /// Makes the set for `queues` empty queues. Fails only if an allocation fails.
     pub(crate) fn new(alloc: Global, queues: usize) -> Result<QueueSigns, AllocError>
         ensures { IfOk result (λ signs. AreSignedBut 0 (replicate queues []) signs) }
     {
@@ -70,7 +70,7 @@ impl QueueSigns {
         Ok(QueueSigns { ready })
     }
 
-    /// Sets the bit of this place as its queue is now. It takes no memory.
+    /// Sets the bit of index `place` to whether `queue` has a ready message. Never allocates.
     pub(crate) fn sign(&mut self, place: usize, queue: &Queue)
         requires { place < length self.old * 64 }
         ensures bit { Differs (bit_of self.old) (bit_of self.new) place (ready_bit queue.now.entries) }
@@ -79,7 +79,7 @@ impl QueueSigns {
         put(&mut self.ready, place, has_ready(queue));
     }
 
-    /// The first place in the set, of those from `from` on.
+    /// Returns the first index of the set at or after `from`.
     pub(crate) fn next_ready(&self, from: usize) -> Option<usize>
         ensures { TellsNext (bit_of self.now) from result }
     {

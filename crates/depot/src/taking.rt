@@ -1,4 +1,4 @@
-//! Messages that are given out.
+//! Gives messages out.
 
 ghost use Rattle.std.specs.Prelude.{◌≡◌, ◌++◌, find, vec_len, vec_capacity};
 ghost use Rattle.model.specs.Broker.{is_ready};
@@ -7,10 +7,11 @@ ghost use Rattle.depot.specs.Givings.{CanGive, HasRoomFor, TellsArrival, given_n
 use crate::givings::Giving;
 use crate::queues::Queue;
 use model::{Cause, Note};
+use notes::Notes;
 use queue::Store;
 
-/// The first ready message of this queue is given out so, if there is one. Tells the number of the arrival of what is held.
-pub(crate) fn give(queue: &mut Queue, how: Giving, notes: &mut Vec<Note>) -> Option<u64>
+/// Gives out the first ready message of `queue` as `how` says, if any. Returns the number of its arrival if it is held now.
+pub(crate) fn give(queue: &mut Queue, how: Giving, notes: &mut Notes) -> Option<u64>
     requires free { CanGive how queue.old.entries }
     requires room { HasRoomFor how (vec_len notes.old) (vec_capacity notes.old) }
     ensures told { TellsArrival how (find is_ready queue.old.entries) result }

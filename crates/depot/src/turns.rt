@@ -1,8 +1,8 @@
-//! What a message does at one routed queue.
+//! The turn of a message at one routed queue.
 
 use model::{Message, Text};
 
-/// The message is to come to the queue at a place, which has this name.
+/// The turn of a message at the queue at an index, with the queue's name.
 #[derive(Drop)]
 pub(crate) struct PlannedTurn {
     pub(crate) place: usize,

@@ -4,7 +4,7 @@ use Rattle.model.specs.declared.events.Arrival.{Arrival}
 use Rattle.model.specs.declared.events.Arrival.TheVariants as arrival
 use Rattle.runs.specs.Runs.{IsRunOf}
 
--- what stands for itself is told as it is
+-- the world that an engine represents is reported as it is
 told_same : (a : Arrival Config) → told (λ f. f) a ≡ a
 told_same arrival.Open = refl
 told_same (arrival.Ready k) = refl

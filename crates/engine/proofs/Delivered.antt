@@ -1,9 +1,11 @@
 -- A delivery to one connection is a delivery of the world.
-use Rattle.engine.proofs.Names.{◌≡◌, ℕ, List, ◌∷◌, ◌++◌, Bool, true, false, cond, Option, Some, None, get_or, set, remove, length, refl, sym, ap, subst, ◌∙◌, append-nil, ◌&&◌, not, nat_lt, is_some, IfOk, OnErr, false≢true, Broker, Topology, CanDeliver, IsConsistent, Session, is_running, State, spelling, Happening, notes_of, Wire, Same, Pauses, Delivers, delivers, NoneCanDeliver, is_ended, is_past_bound, is_paused, Phase, Note, pump_keeps, Kept, WithTurn, Idles, IsKeptEvent, WaitingBytes, ConnectionPumped, OutputChanges, ConnectionsPumped, ConnectionsNotPumped, IsPump, Parts, connection_in, session_of, wire_in, wire_of, config_of, state_of, world_of, is_connection_gone, AreRising, IsEngine, Becomes, Changes, HasConnection, IsConnectionPlace, Connection}
+use Rattle.engine.proofs.Names.{◌≡◌, ℕ, List, ◌∷◌, ◌++◌, Bool, true, false, cond, Option, Some, None, get_or, set, remove, length, refl, sym, ap, subst, ◌∙◌, append-nil, ◌&&◌, not, nat_lt, is_some, IfOk, OnErr, false≢true, CanDeliver, IsConsistent, Session, is_running, State, spelling, Happening, notes_of, Wire, Same, Pauses, Delivers, delivers, NoneCanDeliver, is_ended, is_past_bound, is_paused, Phase, Note, pump_keeps, Kept, WithTurn, Idles, IsKeptEvent, WaitingBytes, ConnectionPumped, OutputChanges, ConnectionsPumped, ConnectionsNotPumped, IsPumpTo, Parts, connection_in, session_of, wire_in, wire_of, config_of, state_of, world_of, is_connection_gone, AreRising, IsEngine, Becomes, Changes, HasConnection, IsConnectionPlace, Connection}
 use Rattle.std.proofs.Common.{Result, Ok, Err}
 use Rattle.model.specs.declared.events.Phase.TheVariants as phase
 use Rattle.model.specs.declared.events.Event.TheVariants as event
 use Rattle.commands.specs.State as core
+use Rattle.commands.specs.Picked.{DeliversTo}
+use Rattle.commands.specs.declared.picks.Pick.{Pick}
 use Rattle.broker.specs.Turns.{topology_kept, broker_of}
 use Rattle.engine.proofs.Numbered.{connection_in-place}
 use Rattle.engine.proofs.Agreeing.{agreed, same_agrees, delivers_agrees}
@@ -29,7 +31,7 @@ runs p c k made = sym (k.running c) ∙ ap is_some made.taker.runs
 below : (p : Parts) (c : ℕ) → IsConsistent (world_of p) → CanDeliver (broker_of p.broker) c → is_paused (world_of p) c ≡ false
 below p c k made = sym (k.paused c made.taker.connection made.taker.runs) ∙ made.taker.awake
 
--- so it is there
+-- the connection is in the list
 pub picked_there : (p : Parts) (c : ℕ) → IsEngine p → CanDeliver (broker_of p.broker) c → HasConnection p.connections c
 picked_there p c e made = go (connection_in p.connections c) refl
   where
@@ -78,10 +80,15 @@ output_alone false l o = refl
 
 -- ---- the delivery
 
-delivered : (old new : Parts) (l l' : Connection) (notes : List Note) → Becomes old l l' new → connection_in old.connections l.number ≡ Some l → IsConsistent (world_of old) → l' ≡ record l { output = l'.output }
-    → ConnectionPumped (topology_kept old.broker) (broker_of old.broker) l.number l notes (broker_of new.broker) l'
-    → (hs : List Happening) × (notes ≡ notes_of hs) × Delivers (world_of old) l.number hs (world_of new)
-delivered old new l l' notes b found k only p =
+-- the consumer of these numbers on this connection
+abbrev on : ℕ → Pick → Pick
+on c to = record to { connection = c }
+
+delivered : (old new : Parts) (l l' : Connection) (to : Pick) (notes : List Note) → Becomes old l l' new → connection_in old.connections l.number ≡ Some l → IsConsistent (world_of old) → l' ≡ record l { output = l'.output }
+    → ConnectionPumped (topology_kept old.broker) (broker_of old.broker) (on l.number to) l notes (broker_of new.broker) l'
+    → (hs : List Happening) × (notes ≡ notes_of hs) × (d : Delivers (world_of old) l.number hs (world_of new))
+    × DeliversTo (broker_of old.broker) (on l.number to) d.puts.h.sends d.puts.h.notes d.puts.h.after.broker
+delivered old new l l' to notes b found k only p =
     let c = l.number in
     let session_was : session_of (connection_in old.connections c) ≡ l.session = ap session_of found in
     let sessions : (d : ℕ) → session_of (connection_in new.connections d) ≡ session_of (connection_in old.connections d) =
@@ -92,7 +99,7 @@ delivered old new l l' notes b found k only p =
     let output_is : (wire_of (connection_in new.connections c)).output ≡ l'.output.bytes = ap (λ (w : Wire). w.output) wire_is ∙ output_in (is_ended l'.session.phase) l' in
     let mid : State = record { broker = p.mid; session = λ d. session_of (connection_in old.connections d) } in
     let h : Happening = record { config = config_of old; event = event.Deliver c; before = state_of old; sends = p.sends; notes = notes; frame_max = l.session.frame_max; after = mid } in
-    let past_was : is_paused (world_of old) c ≡ false = below old c k p.acts.made in
+    let past_was : is_paused (world_of old) c ≡ false = below old c k p.delivers.delivery.made in
     let past_is : is_paused (world_of new) c ≡ is_past_bound l'.output.bytes = ap is_past_bound output_is in
     let rest : Ended (config_of old) mid c false (is_past_bound l'.output.bytes) (state_of new) = ended (config_of old) mid (state_of new) c false (is_past_bound l'.output.bytes) p.pauses sessions in (
       h ∷ rest.hs,
@@ -103,7 +110,7 @@ delivered old new l l' notes b found k only p =
           rest = rest.hs;
           all = refl;
           mid = mid;
-          happens = record { under = refl; event = refl; before = refl; after = refl; stepped = record { acts = p.acts; session = λ d. refl } };
+          happens = record { under = refl; event = refl; before = refl; after = refl; stepped = record { acts = p.delivers.delivery; session = λ d. refl } };
           own = p.own;
           limit = sym (ap (λ (s : Session). s.frame_max) session_was);
           bounded = p.bounded;
@@ -120,31 +127,33 @@ delivered old new l l' notes b found k only p =
             ∙ ap (λ (w : Wire). record w { output = l'.output.bytes }) (sym wire_was)
             ∙ ap (λ (z : List ℕ). record (wire_of (connection_in old.connections c)) { output = z }) (sym output_is);
       },
+      p.delivers,
     )
 
-made_of : (old new : Parts) (c : ℕ) (notes : List Note) → ConnectionsPumped (topology_kept old.broker) (broker_of old.broker) c old.connections notes (broker_of new.broker) new.connections → CanDeliver (broker_of old.broker) c
-made_of old new c notes p = p.pumped.acts.made
+made_of : (old new : Parts) (to : Pick) (notes : List Note) → ConnectionsPumped (topology_kept old.broker) (broker_of old.broker) to old.connections notes (broker_of new.broker) new.connections
+    → CanDeliver (broker_of old.broker) to.connection
+made_of old new to notes p = p.pumped.delivers.delivery.made
 
-pumps : (old new : Parts) (c : ℕ) (notes : List Note) → IsEngine old → Stays old new
-    → ConnectionsPumped (topology_kept old.broker) (broker_of old.broker) c old.connections notes (broker_of new.broker) new.connections → IsPump (world_of old) c notes (world_of new)
-pumps old new c notes e st p =
+pumps : (old new : Parts) (to : Pick) (notes : List Note) → IsEngine old → Stays old new
+    → ConnectionsPumped (topology_kept old.broker) (broker_of old.broker) to old.connections notes (broker_of new.broker) new.connections → IsPumpTo (world_of old) to notes (world_of new)
+pumps old new to notes e st p =
     let f = p.change in
-    let ch = output_changes old.connections new.connections c f (open_still old c new.connections f e (made_of old new c notes p)) in
+    let ch = output_changes old.connections new.connections to.connection f (open_still old to.connection new.connections f e (made_of old new to notes p)) in
     let b = becomes old new f.place f.old f.new st e.connections.rising ch in
-    let did = delivered old new f.old f.new notes b (found_there old.connections new.connections c f e.connections.rising) e.consistent f.rest
-    (subst (λ (n : ℕ). ConnectionPumped (topology_kept old.broker) (broker_of old.broker) n f.old notes (broker_of new.broker) f.new) (sym f.number) p.pumped) in
-    subst (λ (n : ℕ). IsPump (world_of old) n notes (world_of new)) f.number
-    (record { happenings = did.0; noted = did.1; delivers = did.2; promises = pump_keeps (world_of old) (world_of new) did.0 (sound old e) e.consistent (delivers did.2) })
+    let did = delivered old new f.old f.new to notes b (found_there old.connections new.connections to.connection f e.connections.rising) e.consistent f.rest
+    (subst (λ (n : ℕ). ConnectionPumped (topology_kept old.broker) (broker_of old.broker) (on n to) f.old notes (broker_of new.broker) f.new) (sym f.number) p.pumped) in
+    subst (λ (n : ℕ). IsPumpTo (world_of old) (on n to) notes (world_of new)) f.number
+    (record { pump = record { happenings = did.0; noted = did.1; delivers = did.2; promises = pump_keeps (world_of old) (world_of new) did.0 (sound old e) e.consistent (delivers did.2) }; given = did.3 })
 
-pumps_engine : (old new : Parts) (c : ℕ) (notes : List Note) → IsEngine old → Stays old new
-    → ConnectionsPumped (topology_kept old.broker) (broker_of old.broker) c old.connections notes (broker_of new.broker) new.connections → IsEngine new
-pumps_engine old new c notes e st p =
+pumps_engine : (old new : Parts) (to : Pick) (notes : List Note) → IsEngine old → Stays old new
+    → ConnectionsPumped (topology_kept old.broker) (broker_of old.broker) to old.connections notes (broker_of new.broker) new.connections → IsEngine new
+pumps_engine old new to notes e st p =
     let f = p.change in
-    let done = pumps old new c notes e st p in
-    engine_change old new f.place f.old f.new e st (output_changes old.connections new.connections c f (open_still old c new.connections f e (made_of old new c notes p)))
-    (delivers_agrees (world_of old) (world_of new) c done.happenings (agreed old e) done.delivers)
+    let done = (pumps old new to notes e st p).pump in
+    engine_change old new f.place f.old f.new e st (output_changes old.connections new.connections to.connection f (open_still old to.connection new.connections f e (made_of old new to notes p)))
+    (delivers_agrees (world_of old) (world_of new) to.connection done.happenings (agreed old e) done.delivers)
 
--- ---- memory was wanting
+-- ---- after an allocation failure
 
 not_pumped : (old new : Parts) (c : ℕ) → IsEngine old → Stays old new → CanDeliver (broker_of old.broker) c
     → ConnectionsNotPumped (broker_of old.broker) c old.connections (broker_of new.broker) new.connections → Same (world_of old) (world_of new)
@@ -184,10 +193,10 @@ with_kept old b kept = record old { broker = record b { kept = kept } }
 pub picked_engine : (old : Parts) (b : WithTurn) → b.kept ≡ old.broker.kept → IsEngine old → IsEngine (record old { broker = b })
 picked_engine old b same e = subst (λ (k : Kept). IsEngine (with_kept old b k)) (sym same) (turned_engine old b e)
 
-picked_pumps : (old new : Parts) (b : WithTurn) (c : ℕ) (notes : List Note) → IsEngine old → b.kept ≡ old.broker.kept → Stays (record old { broker = b }) new
-    → ConnectionsPumped (topology_kept b) (broker_of b) c old.connections notes (broker_of new.broker) new.connections → IsPump (world_of old) c notes (world_of new)
-picked_pumps old new b c notes e same st p =
-    subst (λ (k : Kept). IsPump (world_of (with_kept old b k)) c notes (world_of new)) same (pumps (record old { broker = b }) new c notes (picked_engine old b same e) st p)
+picked_pumps : (old new : Parts) (b : WithTurn) (to : Pick) (notes : List Note) → IsEngine old → b.kept ≡ old.broker.kept → Stays (record old { broker = b }) new
+    → ConnectionsPumped (topology_kept b) (broker_of b) to old.connections notes (broker_of new.broker) new.connections → IsPumpTo (world_of old) to notes (world_of new)
+picked_pumps old new b to notes e same st p =
+    subst (λ (k : Kept). IsPumpTo (world_of (with_kept old b k)) to notes (world_of new)) same (pumps (record old { broker = b }) new to notes (picked_engine old b same e) st p)
 
 can_still : (old : Parts) (b : WithTurn) (c : ℕ) → b.kept ≡ old.broker.kept → CanDeliver (broker_of old.broker) c → CanDeliver (broker_of b) c
 can_still old b c same made = subst (λ (k : Kept). CanDeliver (core.broker_of k) c) (sym same) made
@@ -201,26 +210,26 @@ picked_not old new b c e same st made p =
 -- ---- the delivery, whatever it answered
 
 -- what it comes to for the engine
-pub record PumpedAt {V E : Type 0} (r : Result V E) (notes : V → List Note) (old : Parts) (c : ℕ) (new : Parts) : Type 0 where
+pub record PumpedAt {V E : Type 0} (r : Result V E) (notes : V → List Note) (old : Parts) (to : Pick) (new : Parts) : Type 0 where
   pub engine : IsEngine new
-  pub ok : IfOk r (λ v. IsPump (world_of old) c (notes v) (world_of new))
+  pub ok : IfOk r (λ v. IsPumpTo (world_of old) to (notes v) (world_of new))
   pub err : OnErr r (Same (world_of old) (world_of new))
 
--- the connection of this number stands at this place, and became another by it
-pub pumped_at : {V E : Type 0} (r : Result V E) (notes : V → List Note) (old : Parts) (b new_b : WithTurn) (c place : ℕ) (l l' : Connection) → IsEngine old → b.kept ≡ old.broker.kept → topology_kept new_b ≡ topology_kept b
-    → CanDeliver (broker_of old.broker) c → IsConnectionPlace old.connections c (Some place) → get_or old.connections place l ≡ l → l' ≡ record l { output = l'.output }
-    → IfOk r (λ v. ConnectionPumped (topology_kept b) (broker_of b) c l (notes v) (broker_of new_b) l') → OnErr r (new_b ≡ b) → OnErr r (l'.output.bytes ≡ l.output.bytes)
-    → PumpedAt r notes old c (record old { broker = new_b; connections = set old.connections place l' })
-pumped_at (Ok v) notes old b new_b c place l l' e same topology made at here only ok kept output =
+-- the connection with this number is at this index, and became another by it
+pub pumped_at : {V E : Type 0} (r : Result V E) (notes : V → List Note) (old : Parts) (b new_b : WithTurn) (to : Pick) (place : ℕ) (l l' : Connection) → IsEngine old → b.kept ≡ old.broker.kept → topology_kept new_b ≡ topology_kept b
+    → CanDeliver (broker_of old.broker) to.connection → IsConnectionPlace old.connections to.connection (Some place) → get_or old.connections place l ≡ l → l' ≡ record l { output = l'.output }
+    → IfOk r (λ v. ConnectionPumped (topology_kept b) (broker_of b) to l (notes v) (broker_of new_b) l') → OnErr r (new_b ≡ b) → OnErr r (l'.output.bytes ≡ l.output.bytes)
+    → PumpedAt r notes old to (record old { broker = new_b; connections = set old.connections place l' })
+pumped_at (Ok v) notes old b new_b to place l l' e same topology made at here only ok kept output =
     let new : Parts = record old { broker = new_b; connections = set old.connections place l' } in
     let stays : Stays (record old { broker = b }) new = record { topology = topology; guarantees = refl; users = refl; given = refl } in
-    let p : ConnectionsPumped (topology_kept b) (broker_of b) c old.connections (notes v) (broker_of new_b) new.connections = record { change = output_change old.connections c place l l' at here only; pumped = ok } in
-    record { engine = pumps_engine (record old { broker = b }) new c (notes v) (picked_engine old b same e) stays p; ok = picked_pumps old new b c (notes v) e same stays p; err = tt }
-pumped_at (Err x) notes old b new_b c place l l' e same topology made at here only ok kept output =
+    let p : ConnectionsPumped (topology_kept b) (broker_of b) to old.connections (notes v) (broker_of new_b) new.connections = record { change = output_change old.connections to.connection place l l' at here only; pumped = ok } in
+    record { engine = pumps_engine (record old { broker = b }) new to (notes v) (picked_engine old b same e) stays p; ok = picked_pumps old new b to (notes v) e same stays p; err = tt }
+pumped_at (Err x) notes old b new_b to place l l' e same topology made at here only ok kept output =
     let new : Parts = record old { broker = new_b; connections = set old.connections place l' } in
     let stays : Stays (record old { broker = b }) new = record { topology = topology; guarantees = refl; users = refl; given = refl } in
-    let p : ConnectionsNotPumped (broker_of b) c old.connections (broker_of new_b) new.connections = record { change = output_change old.connections c place l l' at here only; broker = ap broker_of kept; output = output } in
-    record { engine = not_pumped_engine (record old { broker = b }) new c (picked_engine old b same e) stays (can_still old b c same made) p; ok = tt; err = picked_not old new b c e same stays made p }
+    let p : ConnectionsNotPumped (broker_of b) to.connection old.connections (broker_of new_b) new.connections = record { change = output_change old.connections to.connection place l l' at here only; broker = ap broker_of kept; output = output } in
+    record { engine = not_pumped_engine (record old { broker = b }) new to.connection (picked_engine old b same e) stays (can_still old b to.connection same made) p; ok = tt; err = picked_not old new b to.connection e same stays made p }
 
 -- nothing can be delivered, and the engine is as before
 pub picked_none : (old : Parts) (b : WithTurn) → b.kept ≡ old.broker.kept → NoneCanDeliver (world_of old) → Idles (world_of old) (world_of (record old { broker = b }))

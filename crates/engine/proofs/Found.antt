@@ -1,4 +1,4 @@
--- Where a connection stands among rising numbers.
+-- The index of a connection among ascending numbers.
 use Rattle.engine.proofs.Names.{◌≡◌, ◌≢◌, ◌<◌, ◌≤◌, ℕ, zero, suc, List, [], ◌∷◌, Bool, true, false, cond, ltb, ltb-true, ltb-false, Some, None, get_or, length, refl, sym, ap, subst, ◌∙◌, arith, ◌==◌, is_some, HoldsAt, eqb-true, false≢true, nat_tests, connection_in, AreRising, HasConnection, IsConnectionPlace, Connection}
 use Rattle.std.specs.List.Sorted.{IsNonDecreasingBy, IsPartitionPoint}
 use Rattle.std.specs.Ordering.{nat_cmp, ordering_index}
@@ -52,7 +52,7 @@ not_found ls c i r parted =
 pub never_less : (ls : List Connection) → AreRising 0 ls → IsNonDecreasingBy (λ (l : Connection). l.number) ls
 never_less ls r i j d le within = pairs_not_fall ls i j d r le within
 
--- one that is there stands at some place
+-- one that is in the list is at some index
 somewhere : (ls : List Connection) (c : ℕ) (l : Connection) → connection_in ls c ≡ Some l → (j : ℕ) × (j < length ls) × ((d : Connection) → (get_or ls j d).number ≡ c)
 somewhere [] c l e = absurd (false≢true (ap is_some e))
 somewhere (x ∷ xs) c l e = go (x.number == c) refl e (somewhere xs c l)

@@ -41,7 +41,7 @@ none_above given [] c a lt = refl
 none_above given (l ∷ ls) c a lt =
     ap (λ (b : Bool). cond b (Some l) (connection_in ls c)) (other_false l.number c (λ k. let w = a.0.within in omega (arith, w, lt, k))) ∙ none_above given ls c a.1 lt
 
--- One more connection stands, under the next number, in this session and with this stream: it is not over.
+-- There is one more connection, with the next number, in this session and with this stream: it is not over.
 record IsOneMore (old new : Parts) (l : Connection) (session : Session) (stream : Stream) : Type 0 where
   pub topology : topology_kept new.broker ≡ topology_kept old.broker
   pub guarantees : new.guarantees ≡ old.guarantees
@@ -125,7 +125,7 @@ opened old new l e sess st a few left m stepped =
       ),
     )
 
--- so it is under the number that was found
+-- the same for the number that was found
 opened_new : (old new : Parts) (l : Connection) (n : ℕ) → AreConnections old.given old.connections → Numbers old.given old.connections (Ok n) → IsOneMore old new l new_session opened_stream → broker_of new.broker ≡ broker_of old.broker
     → IsOpened (event.Open (old.given + 1)) opened_stream (world_of old) (Some n) (world_of new)
 opened_new old new l n a numbers m same =
@@ -153,7 +153,7 @@ engine_opened old new l sess st e m k = record {
 
 -- ---- an opening
 
--- the connection stands under the number that was found, and the broker is this now
+-- the connection has the number that was found, and this is the broker now
 one_more : (old : Parts) (b : WithTurn) (l : Connection) (n : ℕ) (ls new_ls : List Connection) (sess : Session) (st : Stream) → topology_kept b ≡ topology_kept old.broker → n ≡ old.given + 1 → ls ≡ old.connections → new_ls ≡ ls ++ l ∷ []
     → IsNew l n sess st → is_ended sess.phase ≡ false → IsOneMore old (record old { broker = b; given = n; connections = new_ls }) l sess st
 one_more old b l n ls new_ls sess st topology number same more is awake = record {

@@ -1,5 +1,5 @@
 -- What is put in force leaves an engine one.
-use Rattle.engine.proofs.Names.{◌≡◌, ◌∙◌, ℕ, List, [], ◌∷◌, Option, Some, None, refl, sym, ap, subst, Config, World, Same, IsSound, Guarantee, AllHold, Topology, IsWellFormed, User, Obstacle, stay_consistent, worlds_named, IsPutInForce, TellsReload, IsMemory, wanting, Judges, WithTurn, in_force, IsPut, TellsPut, Parts, connection_in, session_of, wire_of, config_of, world_of, AreConnections, IsEngine, Connection}
+use Rattle.engine.proofs.Names.{◌≡◌, ◌∙◌, ℕ, List, Option, Some, None, refl, sym, ap, subst, Config, World, Same, IsSound, Guarantee, AllHold, Topology, IsWellFormed, User, Obstacle, stay_consistent, worlds_named, IsPutInForce, TellsReload, IsMemory, wanting, Judges, WithTurn, in_force, IsPut, TellsPut, Parts, connection_in, session_of, wire_of, config_of, world_of, AreConnections, IsEngine, Connection}
 use Rattle.std.proofs.Common.{Result, Err}
 use Rattle.model.specs.Reloading.{NothingStands}
 use Rattle.runs.proofs.Reloads.{put_reloads}
@@ -94,6 +94,6 @@ pub refused_told : (old : Parts) (b : WithTurn) (offered : Config) (r : Result U
     → TellsReload (world_of old) offered r (world_of (record old { broker = b }))
 refused_told old b offered r f g is same t = subst (λ (z : Result Unit ReloadFault). TellsReload (world_of old) offered z (world_of (record old { broker = b }))) (sym (is ∙ ap Err same)) (not_told old b offered g t)
 
--- what tells an obstacle is no want of memory
+-- what reports an obstacle is no allocation failure
 pub told_is_no_memory : {f : ReloadFault} {o : Obstacle} → obstacle_in f ≡ Some o → IsMemory (Err f) → ⊥
 told_is_no_memory {o = o} e wanting = let none : None ≡ Some o = e in absurd (cc)

@@ -1,5 +1,5 @@
 -- What holds of a call that was made again, since an allocation failed.
-use Rattle.engine.proofs.Names.{◌≡◌, ◌≤◌, ◌+◌, length, Option, Some, None, ap, arith, Stream, Takes, GoesOn, stays, goes, Command, YieldsNext, goes_front}
+use Rattle.engine.proofs.Names.{◌≡◌, ◌≤◌, ◌+◌, length, Option, Some, None, ap, arith, Stream, GoesOn, stays, goes, Command, YieldsNext, goes_front}
 use Rattle.std.specs.Prelude.{Result, Ok, Err}
 use Rattle.assembly.specs.declared.faults.Fault.{Fault}
 use Rattle.assembly.specs.declared.faults.Fault.TheVariants.{Broken, Memory}

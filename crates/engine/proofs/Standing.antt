@@ -1,4 +1,4 @@
--- As many connections stand as are kept.
+-- There are as many connections that are not gone as are kept.
 use Rattle.engine.proofs.Names.{◌≡◌, ◌≢◌, ◌+◌, ◌<◌, ◌≤◌, ℕ, zero, suc, List, [], ◌∷◌, Bool, true, false, cond, eqb, Option, Some, None, length, refl, sym, ap, subst, ◌∙◌, arith, ◌==◌, ◌&&◌, not, nat_lt, nat_le, AllByRecursion, eqb-true, false≢true, nat_tests, is_gone, is_ended, standing, Parts, connection_in, session_of, wire_in, wire_of, world_of, is_connection_gone, IsConnection, AreConnections, AreRising, Connection}
 use Rattle.engine.proofs.Numbered.{none_below}
 

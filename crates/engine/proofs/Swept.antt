@@ -28,7 +28,7 @@ changes_swept ls i old new new_ls lt here number kept swept =
       over = s.over;
     }
 
--- one that is not gone is left where it stands
+-- one that is not gone is left where it is
 pub swept_standing : (ls : List Connection) (i : ℕ) (l : Connection) → is_connection_gone l ≡ false → IsSwept ls i l ls
 swept_standing ls i l stands = record {
   left = ap (λ (b : Bool). cond b (remove ls i) ls) (sym stands);
@@ -51,7 +51,7 @@ unperformed (Ok turn.Paused) r b old new_b new took waits none = ap is_connectio
 unperformed (Ok turn.Over) r b old new_b new took waits none = ap is_connection_gone took.1.connection
 unperformed (Err e) r b old new_b new took waits none = gone_waits b new_b old new waits
 
--- so it is not gone by then
+-- then it is not gone
 pub stands_after : {E : Type 0} (what : Result Turn E) (r : Rules) (b : Broker) (given : ℕ) (ls : List Connection) (i : ℕ) (old new : Connection) (new_b : Broker)
     → AllByRecursion (IsConnection given) ls → i < length ls → get_or ls i old ≡ old → IfOk what (λ x. ConnectionTook r b old x new_b new) → OnErr what (ConnectionWaits b old new_b new)
     → has_performed what ≡ false → IsStanding (set ls i new) i
@@ -94,7 +94,7 @@ pub connections_fed : {T E : Type 0} (r : Result T E) (ls : List Connection) (i 
 connections_fed (Ok x) ls i bytes old new within here fed = record { within = within; old = old; here = here; new = new; fed = fed; left = refl }
 connections_fed (Err x) ls i bytes old new within here fed = tt
 
--- ---- what stands at a place
+-- ---- what is at an index
 
 pub same_at : (ls : List Connection) (i : ℕ) (l m : Connection) → i < length ls → get_or ls i l ≡ l → get_or ls i m ≡ m → l ≡ m
 same_at ls i l m lt here there = sym here ∙ get_or_default ls i l m lt ∙ there
@@ -109,12 +109,12 @@ connections_over r ls i l new lt here over m there is =
     let both = over (subst (λ (k : Connection). is_ended k.session.phase ≡ true) (same_at ls i m l lt there here) is) in
     (both.0, set_same ls i l new here both.1)
 
--- memory was wanting, and it is as it was
+-- an allocation failed, and nothing has changed
 pub connections_err : {T E : Type 0} (r : Result T E) (ls : List Connection) (i : ℕ) (l new : Connection) → get_or ls i l ≡ l → OnErr r (new ≡ l) → OnErr r (set ls i new ≡ ls)
 connections_err (Ok x) ls i l new here same = tt
 connections_err (Err x) ls i l new here same = set_same ls i l new here same
 
--- memory was wanting for more bytes than it had room for
+-- an allocation failed for more bytes than fitted its spare capacity
 pub connections_full : {T E : Type 0} (r : Result T E) (ls : List Connection) (i n : ℕ) (l : Connection) → i < length ls → get_or ls i l ≡ l → OnErr r (l.stream.room < n)
     → (m : Connection) → get_or ls i m ≡ m → OnErr r (m.stream.room < n)
 connections_full r ls i n l lt here full m there = subst (λ (k : Connection). OnErr r (k.stream.room < n)) (same_at ls i l m lt here there) full

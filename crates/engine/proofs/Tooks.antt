@@ -242,7 +242,7 @@ loses_engine old new c i e st place left acts = engine_with old new e st
     (subst (λ (z : List Connection). AreConnections old.given z) (sym left) (record { rising = rising-remove 0 old.connections i e.connections.rising; each = all-remove (Rattle.engine.specs.World.IsConnection old.given) old.connections i e.connections.each }))
     (loses_agrees (world_of old) (world_of new) c (agreed old e) (loses old new c i e st place left acts))
 
--- ---- bytes that are heard, or memory was wanting
+-- ---- bytes that are appended, or an allocation failed
 
 pub fed_engine : {T E : Type 0} (r : Result T E) (old new : Parts) (i : ℕ) (bytes : List ℕ) → IsEngine old → Stays old new → broker_of new.broker ≡ broker_of old.broker → OnOk r (ConnectionsFed old.connections i bytes new.connections) → OnErr r (new.connections ≡ old.connections) → IsEngine new
 fed_engine (Ok x) old new i bytes e st same ok err = feeds_engine old new i bytes e st same ok

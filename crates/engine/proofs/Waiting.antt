@@ -1,5 +1,5 @@
 -- What the calls of an engine leave of turns to be served.
-use Rattle.engine.proofs.Names.{◌≡◌, ◌∙◌, ◌<◌, ℕ, List, Bool, false, Option, Some, None, get_or, length, refl, sym, ap, subst, arith, IfOk, Broker, Stream, Wire, Reads, is_ended, Command, Event, stream_of, IsPick, WithTurn, NobodyIsPutBack, NoneIsLater, IsToldInTurn, ServesSoon, Rules, rules_of, kept_of, ComesNext, DidEvent, DidNext, Parts, connection_in, wire_in, wire_of, world_of, IsEngine, IsConnectionPlace, ConnectionsTook, KeepsTurns, PerformsNext, TurnLeaves, KeepsTold, TellsOne, ServesOne, Connection, Turn}
+use Rattle.engine.proofs.Names.{◌≡◌, ◌∙◌, ◌<◌, ℕ, List, Bool, false, Option, Some, None, get_or, length, refl, sym, ap, subst, arith, IfOk, Broker, Stream, Wire, Reads, is_ended, Command, Event, stream_of, IsPick, WithTurn, Note, IsPumpTo, NobodyIsPutBack, NoneIsLater, IsToldInTurn, ServesSoon, Rules, rules_of, kept_of, ComesNext, DidEvent, DidNext, Parts, connection_in, wire_in, wire_of, world_of, IsEngine, IsConnectionPlace, ConnectionsTook, KeepsTurns, PerformsNext, TurnLeaves, KeepsTold, TellsOne, ServesOne, Connection, Turn}
 use Rattle.std.proofs.Common.{Result, Ok, Err}
 use Rattle.std.proofs.lemmas.Option.{same_Some}
 use Rattle.commands.specs.State as core
@@ -97,13 +97,14 @@ pub tells_one : (old mid : WithTurn) (told : Pick) → mid.kept ≡ old.kept →
     → ((p : Pick) → old.turn ≡ Some p → IsPick (broker_of old) p → Some told ≡ Some p) → TellsOne old mid
 tells_one old mid told kept turns has again = record { told = told; again = told_again old told again; turn = has; kept = kept; in_turn = turns }
 
-pub serves_one : (old mid new : WithTurn) (told : Pick) → mid.kept ≡ old.kept → IsToldInTurn old told mid → mid.turn ≡ Some told
-    → ((p : Pick) → old.turn ≡ Some p → IsPick (broker_of old) p → Some told ≡ Some p) → NoneIsLater mid new → topology_kept new ≡ topology_kept mid → new.turn ≡ None → ServesSoon mid told
-    → ServesOne old told.connection new
-serves_one old mid new told kept turns has again later topology over soon = record {
+pub serves_one : (old : Parts) (mid : WithTurn) (new : Parts) (told : Pick) (notes : List Note) → mid.kept ≡ old.broker.kept → IsToldInTurn old.broker told mid → mid.turn ≡ Some told
+    → ((p : Pick) → old.broker.turn ≡ Some p → IsPick (broker_of old.broker) p → Some told ≡ Some p) → IsPumpTo (world_of old) told notes (world_of new)
+    → NoneIsLater mid new.broker → topology_kept new.broker ≡ topology_kept mid → new.broker.turn ≡ None → ServesSoon mid told → ServesOne old told.connection notes new
+serves_one old mid new told notes kept turns has again served later topology over soon = record {
   mid = mid;
-  told = record { told = told; again = told_again old told again; turn = has; kept = kept; in_turn = turns };
+  told = record { told = told; again = told_again old.broker told again; turn = has; kept = kept; in_turn = turns };
   its = refl;
+  served = served;
   over = over;
   topology = topology ∙ ap core.topology_kept kept;
   later = later;

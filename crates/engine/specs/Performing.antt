@@ -1,4 +1,4 @@
--- What one event of one connection does: by the broker while it runs, and else by its own phase.
+-- What one event of one connection does: a running connection's is performed by the broker, any other's is answered by its phase.
 use Rattle.std.specs.Prelude.{◌≡◌, ℕ, List, [], Bool, true, false}
 use Rattle.model.specs.Topology.{Topology}
 use Rattle.model.specs.Broker.{Broker}
@@ -14,7 +14,7 @@ use Rattle.model.specs.declared.events.Event.{Event}
 use Rattle.model.specs.declared.events.Event.TheVariants.{First, Command, TooLarge, Fault, Pause, Resume}
 use Rattle.model.specs.declared.notes.Note.{Note}
 
--- the first eight bytes, a command or a fault of the stream, which is what a connection's bytes ask for
+-- an event that a connection's bytes can ask for: the first eight bytes, a command or a fault of the stream
 abbrev pub IsAskedBy : ℕ → Event → Type 0
 IsAskedBy c (First d bytes) = d ≡ c
 IsAskedBy c (Command d h m content) = d ≡ c
@@ -22,21 +22,21 @@ IsAskedBy c (TooLarge d h) = d ≡ c
 IsAskedBy c (Fault d code) = d ≡ c
 IsAskedBy c e = ⊥
 
--- the session after an event of the broker
+-- the session after an event that the broker performed
 abbrev pub session_after : Session → Event → List Send → Session
 session_after s (Fault c code) sends = to_phase s phase.Over
 session_after s e sends = to_phase s (after_sends sends)
 
--- what is in force for a connection: the topology that the broker runs, and who may log in
+-- what is in force for a connection: the topology that the broker runs, and the users who may log in
 pub record Rules : Type 0 where
   pub topology : Topology
   pub users : List User
 
--- this topology, for these users
+-- the rules of topology `t` and `users`
 abbrev pub rules_of : Topology → List User → Rules
 rules_of t users = record { topology = t; users = users }
 
--- what a phase other than Running answers to the first eight bytes, a command or a fault, where these are the users
+-- what a phase other than Running answers to an event that the connection's bytes ask for
 abbrev pub IsAnswerTo : List User → Phase → Session → Event → Move → Type 0
 IsAnswerTo users p s (First c bytes) move = move ≡ first_move c s p bytes
 IsAnswerTo users p s (Command c h m content) move = IsAnswered users c s p h m move
@@ -50,7 +50,7 @@ pub record ByBroker (t : Topology) (b : Broker) (s : Session) (e : Event)
   pub acts : Acts t b e sends notes new_b
   pub session : new_s ≡ session_after s e sends
 
--- The phase answers the event of connection c by itself: nothing is noted, and the broker has one connection more where this one runs from now on.
+-- The phase answers connection c's event by itself: nothing is noted, and the broker gets the connection if it is running after that.
 pub record ByPhase (users : List User) (c : ℕ) (p : Phase) (b : Broker) (s : Session) (e : Event)
     (sends : List Send) (notes : List Note) (new_b : Broker) (new_s : Session) : Type 0 where
   pub asked : IsAskedBy c e
@@ -58,20 +58,20 @@ pub record ByPhase (users : List User) (c : ℕ) (p : Phase) (b : Broker) (s : S
   pub noted : notes ≡ []
   pub broker : Is (after_move b c new_s) new_b
 
--- An event of connection c in this phase: in Running the broker performs it, in any other the phase answers.
+-- An event of connection c in phase p: in Running the broker performs it, in any other phase the session answers.
 abbrev pub DecidesByPhase : ℕ → Phase → Rules → Broker → Session → Event → List Send → List Note → Broker → Session → Type 0
 DecidesByPhase c phase.Running r b s e sends notes new_b new_s = ByBroker r.topology b s e sends notes new_b new_s
 DecidesByPhase c p r b s e sends notes new_b new_s = ByPhase r.users c p b s e sends notes new_b new_s
 
--- the broker learns of a pause, and of its end
+-- the broker pauses connection c
 pub record IsPause (t : Topology) (c : ℕ) (b new : Broker) : Type 0 where
   pub acts : Acts t b (Pause c) [] [] new
 
--- the broker learns that a pause has ended
+-- the broker resumes connection c
 pub record IsResume (t : Topology) (c : ℕ) (b new : Broker) : Type 0 where
   pub acts : Acts t b (Resume c) [] [] new
 
--- The pause or resume that an output brings, by whether it was past the bound and is.
+-- the pause or resume that a change of the output causes: `was` and `is` are whether it is past the bound before and after
 abbrev pub PausesOr : Topology → ℕ → Bool → Bool → Broker → Broker → Type 0
 PausesOr t c false true b new = IsPause t c b new
 PausesOr t c true false b new = IsResume t c b new

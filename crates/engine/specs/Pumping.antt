@@ -3,33 +3,33 @@ use Rattle.std.specs.Prelude.{◌≡◌, ◌≤◌, ◌<◌, ◌++◌, ℕ, List
 use Rattle.std.specs.List.{AllByRecursion}
 use Rattle.model.specs.Topology.{Topology}
 use Rattle.model.specs.Broker.{Broker}
-use Rattle.model.specs.Step.{Acts}
 use Rattle.model.specs.Spelling.{receiver, spelling, IsSpelled}
 use Rattle.model.specs.Run.{Happening, notes_of}
 use Rattle.model.specs.Arrivals.{World, Delivers, is_past_bound}
 use Rattle.model.specs.Headline.{KeepsEvents}
 use Rattle.model.specs.declared.events.Send.{Send}
-use Rattle.model.specs.declared.events.Event.TheVariants.{Deliver}
 use Rattle.model.specs.declared.notes.Note.{Note}
+use Rattle.commands.specs.Picked.{DeliversTo}
+use Rattle.commands.specs.declared.picks.Pick.{Pick}
 use Rattle.engine.specs.Performing.{PausesOr}
 use Rattle.engine.specs.declared.connection.Connection.{Connection}
 
 -- ---- one connection
 
--- A message was delivered to a consumer of connection c, what this sent is put out, and the pause that it brings is known.
-pub record ConnectionPumped (t : Topology) (b : Broker) (c : ℕ) (old : Connection) (notes : List Note) (new_b : Broker) (new : Connection) : Type 0 where
+-- A message was delivered to consumer `to` of the connection: the frames are appended to its output, and the broker pauses it if that passed the bound.
+pub record ConnectionPumped (t : Topology) (b : Broker) (to : Pick) (old : Connection) (notes : List Note) (new_b : Broker) (new : Connection) : Type 0 where
   pub sends : List Send
   pub mid : Broker
-  pub acts : Acts t b (Deliver c) sends notes mid
-  pub own : AllByRecursion (λ s. receiver s ≡ c) sends
+  pub delivers : DeliversTo b to sends notes mid
+  pub own : AllByRecursion (λ s. receiver s ≡ to.connection) sends
   pub bounded : old.session.frame_max ≤ 131072
   pub spelled : AllByRecursion (IsSpelled old.session.frame_max) sends
   pub put : new.output.bytes ≡ old.output.bytes ++ spelling old.session.frame_max sends
-  pub pauses : PausesOr t c false (is_past_bound new.output.bytes) mid new_b
+  pub pauses : PausesOr t to.connection false (is_past_bound new.output.bytes) mid new_b
 
 -- ---- the connections
 
--- Of the connection of this number the output became another, and all else of it is as before.
+-- The output of connection c changed, and nothing else of the list did.
 pub record OutputChanges (c : ℕ) (ls new_ls : List Connection) : Type 0 where
   pub place : ℕ
   pub within : place < length ls
@@ -40,13 +40,13 @@ pub record OutputChanges (c : ℕ) (ls new_ls : List Connection) : Type 0 where
   pub rest : new ≡ record old { output = new.output }
   pub left : new_ls ≡ set ls place new
 
--- A delivery to the connection of this number.
-pub record ConnectionsPumped (t : Topology) (b : Broker) (c : ℕ) (ls : List Connection) (notes : List Note)
+-- A message was delivered to the consumer `to` of one of the connections.
+pub record ConnectionsPumped (t : Topology) (b : Broker) (to : Pick) (ls : List Connection) (notes : List Note)
     (new_b : Broker) (new_ls : List Connection) : Type 0 where
-  pub change : OutputChanges c ls new_ls
-  pub pumped : ConnectionPumped t b c change.old notes new_b change.new
+  pub change : OutputChanges to.connection ls new_ls
+  pub pumped : ConnectionPumped t b to change.old notes new_b change.new
 
--- Memory was wanting: nothing was delivered to it, and what waits is as before.
+-- An allocation failed: nothing was delivered to connection c, and the bytes of its output are unchanged.
 pub record ConnectionsNotPumped (b : Broker) (c : ℕ) (ls : List Connection) (new_b : Broker) (new_ls : List Connection) : Type 0 where
   pub change : OutputChanges c ls new_ls
   pub broker : new_b ≡ b
@@ -54,9 +54,14 @@ pub record ConnectionsNotPumped (b : Broker) (c : ℕ) (ls : List Connection) (n
 
 -- ---- the engine
 
--- A message was delivered to a consumer of this connection, and the promises hold of what happened by it.
+-- A message was delivered to a consumer of `connection`, and certified delivery's promises hold of what happened.
 pub record IsPump (old : World) (connection : ℕ) (notes : List Note) (new : World) : Type 0 where
   pub happenings : List Happening
   pub noted : notes ≡ notes_of happenings
   pub delivers : Delivers old connection happenings new
   pub promises : KeepsEvents old.state.broker happenings new.state.broker
+
+-- The same, and the delivery that happened is the one to the consumer `to`.
+pub record IsPumpTo (old : World) (to : Pick) (notes : List Note) (new : World) : Type 0 where
+  pub pump : IsPump old to.connection notes new
+  pub given : DeliversTo old.state.broker to pump.delivers.puts.h.sends pump.delivers.puts.h.notes pump.delivers.puts.h.after.broker

@@ -19,7 +19,7 @@ use Rattle.engine.specs.declared.connection.Connection.{Connection}
 use Rattle.engine.specs.declared.turning.Turn.{Turn}
 use Rattle.engine.specs.declared.turning.Turn.TheVariants as turn
 
--- An event of the connection c was performed, what it sent is put out, and the pause that this brings is known.
+-- An event of connection c was performed: the replies are appended to its output, and the broker pauses it if that passed the bound.
 pub record Performed (r : Rules) (b : Broker) (c : ℕ) (s : Session) (output : List ℕ) (event : Event)
     (notes : List Note) (new_b : Broker) (new_s : Session) (new_output : List ℕ) : Type 0 where
   pub sends : List Send
@@ -31,7 +31,7 @@ pub record Performed (r : Rules) (b : Broker) (c : ℕ) (s : Session) (output : 
   pub put : new_output ≡ output ++ spelling s.frame_max sends
   pub pauses : PausesOr r.topology c false (is_past_bound new_output) mid new_b
 
--- The event was performed, nothing is kept, nothing more is read, and the stream goes by the session, unless it broke.
+-- The event was performed: nothing is pending, no further byte was read, and the stream follows the session unless it broke.
 pub record ConnectionPerformed (r : Rules) (b : Broker) (old : Connection) (event : Event) (notes : List Note)
     (new_b : Broker) (new : Connection) : Type 0 where
   pub performed : Performed r b old.number old.session old.output.bytes event notes new_b new.session new.output.bytes
@@ -50,7 +50,7 @@ DidEvent r b old event turn.Over new_b new = ⊥
 abbrev pub MayTurn : Connection → Type 0
 MayTurn l = (is_ended l.session.phase ≡ false) × (is_past_bound l.output.bytes ≡ false)
 
--- Nothing was performed, and the same is still to come.
+-- Nothing was performed, and what the connection says next is unchanged.
 pub record ConnectionWaits (b : Broker) (old : Connection) (new_b : Broker) (new : Connection) : Type 0 where
   pub broker : new_b ≡ b
   pub number : new.number ≡ old.number
@@ -58,24 +58,24 @@ pub record ConnectionWaits (b : Broker) (old : Connection) (new_b : Broker) (new
   pub output : new.output.bytes ≡ old.output.bytes
   pub coming : SameToCome (kept_of old.kept) (stream_of old.stream) (kept_of new.kept) (stream_of new.stream)
 
--- The connection is as before, but that a fault is kept no more, and that its output holds no storage where nothing waits in it.
+-- The connection is unchanged, except that a fault is no longer pending and that an empty output holds no storage.
 pub record ConnectionStays (old new : Connection) : Type 0 where
   pub rest : new ≡ record old { kept = kept_for old.kept; output = new.output }
   pub bytes : new.output.bytes ≡ old.output.bytes
   pub none : HoldsNone new.output
 
--- Nothing was there to perform.
+-- There was nothing to perform.
 pub record DidNothing (b : WithTurn) (old : Connection) (what : Turn) (new_b : WithTurn) (new : Connection) : Type 0 where
   pub idle : what ≡ turn.Idle
   pub broker : new_b ≡ b
   pub connection : ConnectionStays old new
 
--- the turn performed what was kept, if something was
+-- the turn performed the pending event, if any
 abbrev pub DidNext : Rules → WithTurn → Connection → (kept : Option Event) → Turn → WithTurn → Connection → Type 0
 DidNext r b old (Some event) what new_b new = DidEvent r (broker_of b) old event what (broker_of new_b) new × NobodyIsPutBack b new_b
 DidNext r b old None what new_b new = DidNothing b old what new_b new
 
--- What was read was performed; nothing is kept, and what follows is what the stream says next, in frames as large as the session allows.
+-- The next event was read and performed. Nothing is pending, and the stream goes on behind it, with the session's frame length.
 pub record ConnectionDid (r : Rules) (b : Broker) (old : Connection) (notes : List Note) (new_b : Broker) (new : Connection) : Type 0 where
   pub event : Event
   pub next : Stream
@@ -88,18 +88,18 @@ pub record ConnectionDid (r : Rules) (b : Broker) (old : Connection) (notes : Li
   pub follows : (stream_of new.stream ≡ under_session new.session next) ⊎ (is_ended new.session.phase ≡ true)
   pub fewer : (to_read None (stream_of new.stream) < to_read (kept_of old.kept) (stream_of old.stream)) ⊎ (is_ended new.session.phase ≡ true)
 
--- Nothing was performed, for no whole command and no fault is left to read.
+-- Nothing was performed, since neither a whole command nor a fault is left to read.
 pub record ConnectionIdle (b : Broker) (old : Connection) (new_b : Broker) (new : Connection) : Type 0 where
   pub waits : ConnectionWaits b old new_b new
   pub none_kept : old.kept ≡ None
   pub ends : Ends (stream_of old.stream) None
 
--- all is as before
+-- nothing has changed
 pub record ConnectionSame (b : Broker) (old : Connection) (new_b : Broker) (new : Connection) : Type 0 where
   pub broker : new_b ≡ b
   pub connection : new ≡ old
 
--- The turn of one connection is right: what was performed, or why nothing was.
+-- what each result of a connection's turn means: what was performed, or why nothing was
 abbrev pub ConnectionTook : Rules → Broker → Connection → Turn → Broker → Connection → Type 0
 ConnectionTook r b old (turn.Did notes) new_b new = (is_ended old.session.phase ≡ false)
     × (is_past_bound old.output.bytes ≡ false) × ConnectionDid r b old notes.items new_b new
@@ -107,14 +107,14 @@ ConnectionTook r b old turn.Idle new_b new = (is_ended old.session.phase ≡ fal
 ConnectionTook r b old turn.Paused new_b new = (is_ended old.session.phase ≡ false) × (is_past_bound old.output.bytes ≡ true) × ConnectionSame b old new_b new
 ConnectionTook r b old turn.Over new_b new = (is_ended old.session.phase ≡ true) × ConnectionSame b old new_b new
 
--- this holds where nothing was left to perform
+-- `P` holds if nothing was left to perform
 abbrev pub OnIdle : Turn → Type 0 → Type 0
 OnIdle turn.Idle P = P
 OnIdle (turn.Did notes) P = Unit {0}
 OnIdle turn.Paused P = Unit {0}
 OnIdle turn.Over P = Unit {0}
 
--- something was performed
+-- whether the turn performed something
 abbrev pub has_performed : {E : Type 0} → Result Turn E → Bool
 has_performed (Ok (turn.Did notes)) = true
 has_performed (Ok turn.Idle) = false

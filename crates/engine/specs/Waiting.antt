@@ -1,24 +1,27 @@
--- Nobody waits for ever while others are served: what an engine's calls do to those who wait, and to the lines in which they stand (own).
-use Rattle.std.specs.Prelude.{◌≡◌, ℕ, Some, None}
+-- No consumer starves: what an engine's calls do to consumers that wait, and to their order in each queue (own).
+use Rattle.std.specs.Prelude.{◌≡◌, ℕ, List, Some, None}
 use Rattle.model.specs.Commands.{Stream}
 use Rattle.model.specs.Arrivals.{Wire, Reads}
 use Rattle.model.specs.declared.events.Event.{Event}
+use Rattle.model.specs.declared.notes.Note.{Note}
 use Rattle.commands.specs.Picked.{IsPick}
 use Rattle.commands.specs.declared.picks.Pick.{Pick}
 use Rattle.broker.specs.Turns.{WithTurn, topology_kept, broker_of}
 use Rattle.broker.specs.Waiting.{NobodyIsPutBack, NoneIsLater, LinesStay, IsToldInTurn, ServesSoon}
+use Rattle.engine.specs.Pumping.{IsPumpTo}
+use Rattle.engine.specs.World.{Parts, world_of}
 use Rattle.engine.specs.declared.turning.Turn.{Turn}
 use Rattle.engine.specs.declared.turning.Turn.TheVariants as turn
 
--- ---- where nothing is delivered
+-- ---- calls that deliver nothing
 
--- Whoever has the turn keeps it, nobody comes in, and nobody has more before it than it had.
+-- The picked consumer, if any, stays picked, no consumer is added, and none has more consumers before it than it had.
 pub record KeepsTurns (old new : WithTurn) : Type 0 where
   pub turn : new.turn ≡ old.turn
   pub topology : topology_kept new ≡ topology_kept old
   pub later : NoneIsLater old new
 
--- What the connection c says next was performed: nobody is put back, and whoever comes in is behind all who are there.
+-- The next event of connection c was performed: no consumer is put back, and a new one is added behind all others.
 pub record PerformsNext (c : ℕ) (w : Wire) (old new : WithTurn) : Type 0 where
   pub event : Event
   pub next : Stream
@@ -27,20 +30,20 @@ pub record PerformsNext (c : ℕ) (w : Wire) (old new : WithTurn) : Type 0 where
   pub topology : topology_kept new ≡ topology_kept old
   pub back : NobodyIsPutBack old new
 
--- what a turn of the connection leaves: where nothing was performed, the broker is as it was
+-- what a turn of connection `c` leaves: the broker is unchanged unless something was performed
 abbrev pub TurnLeaves : ℕ → Wire → WithTurn → Turn → WithTurn → Type 0
 TurnLeaves c w old (turn.Did notes) new = PerformsNext c w old new
 TurnLeaves c w old turn.Idle new = new ≡ old
 TurnLeaves c w old turn.Paused new = new ≡ old
 TurnLeaves c w old turn.Over new = new ≡ old
 
--- ---- where somebody is told
+-- ---- calls that pick a consumer
 
--- whoever has the turn, and to whom a delivery can be made, is the one who is told
+-- if a consumer is picked already and still can take a message, it is picked again
 abbrev pub KeepsTold : WithTurn → Pick → Type 0
 KeepsTold old told = (p : Pick) → old.turn ≡ Some p → IsPick (broker_of old) p → told ≡ p
 
--- A consumer was told in its turn, and has the turn; nothing is delivered.
+-- A consumer was picked in round-robin order, or again. Nothing is delivered.
 pub record TellsOne (old new : WithTurn) : Type 0 where
   pub told : Pick
   pub again : KeepsTold old told
@@ -48,18 +51,19 @@ pub record TellsOne (old new : WithTurn) : Type 0 where
   pub kept : new.kept ≡ old.kept
   pub in_turn : IsToldInTurn old told new
 
--- A consumer of this connection was told in its turn, and served: whoever waits in its line was passed over by few deliveries of its queue,
--- this one among them, and nobody is put back.
-pub record ServesOne (old : WithTurn) (connection : ℕ) (new : WithTurn) : Type 0 where
+-- A consumer of this connection was picked in its turn, and a message was delivered to it. Each consumer that waits in its queue was passed over
+-- by few deliveries of that queue, this one among them, and none is put back.
+pub record ServesOne (old : Parts) (connection : ℕ) (notes : List Note) (new : Parts) : Type 0 where
   pub mid : WithTurn
-  pub told : TellsOne old mid
+  pub told : TellsOne old.broker mid
   pub its : told.told.connection ≡ connection
-  pub over : new.turn ≡ None
-  pub topology : topology_kept new ≡ topology_kept old
-  pub later : NoneIsLater mid new
+  pub served : IsPumpTo (world_of old) told.told notes (world_of new)
+  pub over : new.broker.turn ≡ None
+  pub topology : topology_kept new.broker ≡ topology_kept old.broker
+  pub later : NoneIsLater mid new.broker
   pub soon : ServesSoon mid told.told
 
--- Nobody is told: each line is as it was, and nothing changes.
+-- No consumer is picked: the order of each queue is unchanged, and so is everything else.
 pub record TellsNobody (old new : WithTurn) : Type 0 where
   pub turn : new.turn ≡ None
   pub kept : new.kept ≡ old.kept

@@ -1,4 +1,4 @@
--- What an engine may want memory for (own).
+-- When a call of an engine may fail to allocate (own).
 use Rattle.std.specs.Prelude.{◌≡◌, ◌<◌, ◌≤◌, ℕ, length, Bool, true, false, Some}
 use Rattle.reloading.specs.Wanting.{MayWant}
 use Rattle.model.specs.Consuming.{CanDeliver}
@@ -8,9 +8,9 @@ use Rattle.model.specs.declared.events.Event.TheVariants.{Command}
 use Rattle.engine.specs.Reading.{HasMore}
 use Rattle.runs.specs.Wants.{Want, To_open, To_open_ready, To_feed, To_turn, To_pump, To_reload}
 
--- A connection where one can be opened, bytes of one that stands,
--- a turn where a command is kept or there is something to read, and a delivery where one can be made.
--- A reload where no queue in use is gone, or where the first that is has a long name.
+-- opening may if a connection can be opened, feeding if the connection is not over and there are bytes, a turn if a command is pending or there
+-- is something to read, a delivery if one can be made;
+-- a reload if each queue in use is still declared, or if the first that is not has a long name
 abbrev pub engine_lacks : World → Want → Type 0
 engine_lacks w To_open = can_open w ≡ true
 engine_lacks w (To_open_ready k) = can_open w ≡ true
@@ -19,15 +19,15 @@ engine_lacks w (To_turn c) = (is_awake w c ≡ true) × HasMore (w.wire c).kept 
 engine_lacks w To_pump = (c : ℕ) × CanDeliver w.state.broker c
 engine_lacks w (To_reload offered) = MayWant w.config.topology offered.topology w.state.broker
 
--- a command with a content, as a publish is (own)
+-- a command with a content, as a publish has (own)
 abbrev pub brings_message : Event → Bool
 brings_message (Command c h m (Some content)) = true
 brings_message e = false
 
--- the reserve is whole: eight storages are spare
+-- the reserve is whole: at least eight storages are spare
 abbrev pub IsHeld : ℕ → Type 0
 IsHeld spares = 8 ≤ spares
 
--- the reserve was freed but for two storages
+-- the reserve was freed: at most two storages are spare
 abbrev pub IsFreed : ℕ → Type 0
 IsFreed spares = spares ≤ 2

@@ -1,4 +1,4 @@
--- What an engine holds, and the world that it stands for.
+-- The parts of an engine, the world that they represent, and the invariant of an engine.
 use Rattle.std.specs.List.{AllByRecursion}
 use Rattle.std.specs.Prelude.{◌≡◌, ◌<◌, ◌≤◌, ◌==◌, ◌&&◌, not, nat_lt, if◌then◌else◌, ℕ, List, [], ◌∷◌, length, Bool, true, false, Option, Some, None}
 use Rattle.model.specs.Guarantee.{Guarantee, AllHold}
@@ -16,36 +16,36 @@ use Rattle.broker.specs.Turns.{topology_kept, broker_of}
 use Rattle.engine.specs.Reading.{IsKeptEvent, kept_of}
 use Rattle.engine.specs.declared.connection.Connection.{Connection}
 
--- the broker, what is in force, how many numbers were given, and the connections that are not gone
+-- the broker, what is in force, the last number that was given, and the connections that are not gone
 pub record Parts : Type 0 where
   pub broker : broker.WithTurn
   pub guarantees : List Guarantee
   pub users : List User
   pub given : ℕ
-  -- numbers rise
+  -- in ascending order of their numbers
   pub connections : List Connection
 
--- the connection of this number
+-- the connection with number `c`
 abbrev pub connection_in : List Connection → ℕ → Option Connection
 connection_in [] c = None
 connection_in (l ∷ ls) c = if l.number == c then Some l else connection_in ls c
 
--- the session of a connection; of one that was never opened, or is gone, that of one that is over
+-- the session of a connection; one that was never opened or is gone has the session of one that is over
 abbrev pub session_of : Option Connection → Session
 session_of None = no_session
 session_of (Some l) = l.session
 
--- of one that is over nothing more is read
+-- a connection's bytes, in and out; `true` is that it is over, and then nothing further is read
 abbrev pub wire_in : Bool → Connection → Wire
 wire_in true l = record new_wire { output = l.output.bytes }
 wire_in false l = record { kept = kept_of l.kept; stream = stream_of l.stream; output = l.output.bytes }
 
--- a connection's bytes, in and out; of one that was never opened, or is gone, there are none
+-- a connection's bytes, in and out; one that was never opened or is gone has none
 abbrev pub wire_of : Option Connection → Wire
 wire_of None = new_wire
 wire_of (Some l) = wire_in (is_ended l.session.phase) l
 
--- what is in force: the topology that the broker runs, the guarantees, and who may log in
+-- what is in force: the topology that the broker runs, the guarantees, and the users who may log in
 abbrev pub config_of : Parts → Config
 config_of p = record { topology = topology_kept p.broker; guarantees = p.guarantees; users = p.users }
 
@@ -53,28 +53,28 @@ config_of p = record { topology = topology_kept p.broker; guarantees = p.guarant
 abbrev pub state_of : Parts → State
 state_of p = record { broker = broker_of p.broker; session = λ c. session_of (connection_in p.connections c) }
 
--- the world that these parts stand for, in which arrivals come
+-- the world that these parts represent: what the model's arrivals change
 abbrev pub world_of : Parts → World
 world_of p = record { config = config_of p; state = state_of p; given = p.given; wire = λ c. wire_of (connection_in p.connections c) }
 
 -- ---- what every engine keeps
 
--- numbers rise from past this one
+-- the numbers ascend, and the first is greater than `low`
 abbrev pub AreRising : ℕ → List Connection → Type 0
 AreRising low [] = Unit {0}
 AreRising low (l ∷ ls) = (low < l.number) × AreRising l.number ls
 
--- over, with no output left
+-- the connection is over, and its output is empty
 abbrev pub is_connection_gone : Connection → Bool
 is_connection_gone l = is_ended l.session.phase && not (nat_lt 0 (length l.output.bytes))
 
--- a connection that was given its number, and is not gone
+-- a connection whose number was given, and that is not gone
 pub record IsConnection (given : ℕ) (l : Connection) : Type 0 where
   pub within : l.number ≤ given
   pub here : is_connection_gone l ≡ false
   pub kept : IsKeptEvent l.number l.kept l.stream.fault
 
--- a connection as it is opened, in this session and with this stream
+-- a connection that was just opened, in this session and with this stream
 pub record IsNew (l : Connection) (number : ℕ) (session : Session) (stream : Stream) : Type 0 where
   pub number_is : l.number ≡ number
   pub session_is : l.session ≡ session
@@ -82,16 +82,16 @@ pub record IsNew (l : Connection) (number : ℕ) (session : Session) (stream : S
   pub stream_is : stream_of l.stream ≡ stream
   pub output : l.output.bytes ≡ []
 
--- the connections that are not gone, where so many numbers were given
+-- the connections that are not gone, if `given` numbers were given
 pub record AreConnections (given : ℕ) (ls : List Connection) : Type 0 where
   pub rising : AreRising 0 ls
   pub each : AllByRecursion (IsConnection given) ls
 
--- The guarantees hold of the topology, the connections stand in the order of their numbers, and the broker agrees with them.
+-- The guarantees hold of the topology, the connections are in ascending order of their numbers, and the broker agrees with them.
 pub record IsEngine (p : Parts) : Type 0 where
   pub hold : AllHold (topology_kept p.broker) p.guarantees
   pub formed : IsWellFormed (topology_kept p.broker)
   pub connections : AreConnections p.given p.connections
   pub consistent : IsConsistent (world_of p)
-  -- consumers are named as they should be
+  -- the consumers of each channel have distinct tags, ascending numbers, and queues of the topology
   pub named : AreNamed (topology_kept p.broker) (broker_of p.broker)

@@ -1,4 +1,4 @@
-//! What is kept of one connection.
+//! The state of one connection.
 
 ghost use Rattle.std.specs.Prelude.{◌≡◌, IsTrue};
 ghost use Rattle.model.specs.Phases.{is_running, no_session, running_session};
@@ -12,21 +12,21 @@ use outputs::Output;
 use session::Session;
 use std::alloc::Global;
 
-/// An output of so many bytes pauses its connection.
+/// The length in bytes at which an output pauses its connection.
 pub(crate) const BOUND: usize = 1_048_576;
 
 /// A connection that is not gone.
 pub(crate) struct Connection {
-    /// Connections count from 1 in the order of their openings.
+    /// Its number: from 1, in the order of the openings.
     pub(crate) number: u64,
     pub(crate) session: Session,
     pub(crate) stream: Stream,
-    /// What was read and is not performed yet: between turns a command for which memory was wanting.
+    /// The pending event: read and not performed yet. Between turns it is a command for which an allocation failed.
     pub(crate) kept: Option<Event>,
     pub(crate) output: Output,
 }
 
-/// Written out, so that a drop is one call.
+/// Written out so that a drop is one call.
 impl Drop for Connection {
     fn drop(self) {
         let Connection {
@@ -41,7 +41,7 @@ impl Drop for Connection {
 }
 
 impl Connection {
-    /// A connection of which no byte has come.
+    /// Returns connection `number` before its first byte.
     pub(crate) fn new(alloc: Global, number: u64) -> Connection
         ensures { IsNew result number new_session opened_stream }
     {
@@ -56,7 +56,7 @@ impl Connection {
         }
     }
 
-    /// A connection that runs at once.
+    /// Returns connection `number`, which is running at once.
     pub(crate) fn running(alloc: Global, number: u64) -> Connection
         ensures { IsNew result number running_session running_stream }
     {
@@ -69,14 +69,14 @@ impl Connection {
         }
     }
 
-    /// The broker performs its commands.
+    /// Returns whether the broker performs its commands.
     pub(crate) fn runs(&self) -> bool
         ensures { result ≡ is_running self.now.session.phase }
     {
         matches!(self.session.phase(), Phase::Running)
     }
 
-    /// It is over, with no output left. Of one that is over no limits are kept.
+    /// Returns whether it is over and its output is empty. A connection that is over keeps no agreed limits.
     pub(crate) fn is_gone(&self) -> bool
         ensures value { result ≡ is_connection_gone self.now }
         ensures over { IsTrue result → self.now.session ≡ no_session }

@@ -1,4 +1,4 @@
-//! Single connections of an engine, by their places.
+//! Operations on an engine's list of connections, by index.
 
 ghost use Rattle.std.specs.Prelude.{
   ◌≡◌,
@@ -32,7 +32,7 @@ use broker::Broker;
 use outputs::Spares;
 use std::alloc::AllocError;
 
-/// The place of the connection of this number: it is found at once where it stands where it was remembered to, and else by a
+/// Returns the index of connection `number`, if it is in the list. Tries the remembered index first, and falls back to a binary
 /// search.
 pub(crate) fn connection_place(
     connections: &[Connection],
@@ -49,8 +49,8 @@ pub(crate) fn connection_place(
     }
 }
 
-/// The place of the connection of this number, which is there: the first of this number or a greater one, where it does not stand
-/// where it was remembered to.
+/// Returns the index of connection `number`, which is in the list. Tries the remembered index first, and falls back to a binary
+/// search.
 pub(crate) fn known_place(connections: &[Connection], places: &Places, number: u64) -> usize
     requires rising { AreRising 0 connections.now }
     requires there { HasConnection connections.now number }
@@ -63,7 +63,7 @@ pub(crate) fn known_place(connections: &[Connection], places: &Places, number: u
     }
 }
 
-/// This place, if the connection of this number stands there.
+/// Returns `place` if connection `number` is at that index.
 fn place_at_once(connections: &[Connection], place: usize, number: u64) -> Option<usize>
     ensures place { IfSome result (λ i. IsConnectionPlace connections.now number (Some i)) }
 {
@@ -75,7 +75,7 @@ fn place_at_once(connections: &[Connection], place: usize, number: u64) -> Optio
     }
 }
 
-/// The place of the connection of this number, wherever it stands.
+/// Returns the index of connection `number` by binary search.
 fn place_by_search(connections: &[Connection], number: u64) -> Option<usize>
     requires { AreRising 0 connections.now }
     ensures place { IsConnectionPlace connections.now number result }
@@ -87,8 +87,8 @@ fn place_by_search(connections: &[Connection], number: u64) -> Option<usize>
     }
 }
 
-/// Takes the connection at this place out, where it is over with no output left. Those behind it are remembered where they
-/// stand then.
+/// Removes the connection at index `place` if it is over and its output is empty, and remembers the new indices of those
+/// behind it.
 pub(crate) fn sweep(places: &mut Places, connections: &mut Vec<Connection>, place: usize)
     requires { place < length connections.old.items }
     ensures { (l : seen.Connection) → get_or connections.old.items place l ≡ l → IsSwept connections.old.items place l connections.new.items }
@@ -99,7 +99,7 @@ pub(crate) fn sweep(places: &mut Places, connections: &mut Vec<Connection>, plac
     }
 }
 
-/// Sweeps after this turn of the connection at this place, where it performed something. Where it did not, the connection is not gone.
+/// Sweeps after a turn of the connection at index `place`, if the turn performed something. Otherwise the connection is not gone.
 pub(crate) fn sweep_after(
     turn: &Result<Turn, AllocError>,
     places: &mut Places,
@@ -115,7 +115,7 @@ pub(crate) fn sweep_after(
     }
 }
 
-/// Takes bytes from the front of a connection's output, and its storage where none is left.
+/// Takes up to `n` bytes from the front of a connection's output. Frees its storage if it is empty then.
 pub(crate) fn take_from(
     broker: &mut Broker,
     spares: &mut Spares,
@@ -135,8 +135,8 @@ pub(crate) fn take_from(
     resume_if(broker, connection.number, was, is);
 }
 
-/// Takes the connection at this place out. The storage of its output is spare from now on, whatever waits there, unless 16 are spare or it
-/// has grown past 1,125,536 bytes.
+/// Removes the connection at index `place`, which was lost. The storage of its output becomes spare, even if bytes are left in it, unless 256
+/// are spare or it has grown past 1,125,536 bytes.
 pub(crate) fn remove_lost(spares: &mut Spares, connections: &mut Vec<Connection>, place: usize)
     requires { place < length connections.old.items }
     ensures left { connections.new.items ≡ remove connections.old.items place }
@@ -146,7 +146,8 @@ pub(crate) fn remove_lost(spares: &mut Spares, connections: &mut Vec<Connection>
     spares.take_lost(&mut lost.output);
 }
 
-/// Puts bytes behind those that the connection has still to read, unless it is over.
+/// Appends `bytes` to the connection's unread input, unless it is over. Fails only if the input has to grow and the allocation fails; the
+/// connection is unchanged then.
 pub(crate) fn feed_connection(
     spares: &mut Spares,
     connection: &mut Connection,

@@ -1,4 +1,4 @@
-//! The engine.
+//! The engine: the broker with its connections.
 
 mod obstacles;
 mod putting;
@@ -33,10 +33,10 @@ use runs::Delivered;
 use std::alloc::{AllocError, Global};
 use std::marker::Model;
 
-/// How many connections stand at most.
+/// The greatest number of connections that are not gone.
 const MOST_CONNECTIONS: usize = 1024;
 
-/// The number of a connection. They count from 1 in the order of the openings, and none is given twice.
+/// The number of a connection. Numbers count from 1 in the order of the openings, and none is given twice.
 pub type ConnId = u64;
 
 /// Why no connection was opened.
@@ -46,7 +46,7 @@ pub enum Refused {
     Full,
     /// The last number was given.
     Spent,
-    /// A growth was refused.
+    /// An allocation failed.
     Memory,
 }
 
@@ -61,23 +61,23 @@ impl From<AllocError> for Refused {
     }
 }
 
-/// The broker with its connections: bytes of each in, bytes for each out.
+/// A broker with its connections: bytes of each in, bytes for each out.
 ///
 /// Connections are numbered from 1 in the order of their openings, and no number is given twice. A connection is gone
-/// when it is lost, or over with no output left.
+/// when it is lost, or when it is over and its output is empty.
 pub struct Engine {
     broker: Broker,
     guarantees: Vec<Guarantee>,
     users: Vec<User>,
     given: u64,
-    /// Those that are not gone, in the order of their numbers.
+    /// Those that are not gone, in ascending order of their numbers.
     connections: Vec<Connection>,
     places: Places,
     scratch: Scratch,
     spares: Spares,
 }
 
-/// Written out, so that a drop is one call.
+/// Written out so that a drop is one call.
 impl Drop for Engine {
     fn drop(self) {
         let Engine {
@@ -116,7 +116,7 @@ impl Model for Engine {
 }
 
 impl Engine {
-    /// An engine with no connection, over a topology whose guarantees hold.
+    /// Returns an engine without connections that runs `checked`, a topology whose guarantees hold. Fails only if an allocation fails.
     pub fn new(alloc: Global, checked: Checked, users: Vec<User>) -> Result<Engine, AllocError>
         ensures { IfOk result (λ e. world_of e ≡ new_world (in_force checked users.items)) }
     {
@@ -133,10 +133,17 @@ impl Engine {
         })
     }
 
-    /// Opens a connection of which no byte has come: its number. Its first eight bytes are awaited.
+    /// Stops keeping notes, for a caller that reads none: what turns and deliveries return then has none at run time. Contracts see no difference.
+    pub fn drop_notes(&mut self)
+        ensures { self.new ≡ self.old }
+    {
+        self.broker.drop_notes();
+    }
+
+    /// Opens a connection and returns its number. Its first eight bytes are awaited.
     ///
-    /// Refused `Full` where 1,024 connections are not gone, `Spent` where the last number was given, and for memory only
-    /// where neither is so. A refusal changes nothing.
+    /// Refused as [`Refused::Full`] if 1,024 connections are not gone, otherwise as [`Refused::Spent`] if the last number was given. Fails with
+    /// [`Refused::Memory`] only if neither is so and an allocation fails. A refusal changes nothing.
     pub fn open(&mut self, alloc: Global) -> Result<ConnId, Refused>
         ensures opened { OpenedNew (world_of self.old) result (world_of self.new) }
         ensures broker { self.new.broker ≡ self.old.broker }
@@ -149,7 +156,7 @@ impl Engine {
         Ok(number)
     }
 
-    /// Opens a connection that runs at once, with channels 1 to `channels` open: its number.
+    /// Opens a connection that is running at once, with channels 1 to `channels` open, and returns its number.
     ///
     /// It is refused as [`Engine::open`] is.
     pub fn open_ready(&mut self, alloc: Global, channels: u8) -> Result<ConnId, Refused>
@@ -166,13 +173,16 @@ impl Engine {
         Ok(number)
     }
 
-    /// Takes in bytes of the connection `c`. Of one that is over or gone nothing more is read or kept, and no memory is
-    /// wanted; of any other it is wanted only where there is no room for them.
+    /// Appends `bytes` to the unread input of connection `c`. Does nothing if it is over or gone.
+    /// Fails only if the input has to grow and the allocation fails; nothing has changed then.
     pub fn feed(&mut self, c: ConnId, bytes: &[u8]) -> Result<(), AllocError>
+        // The bytes are appended; a connection that is over or gone ignores them, without an allocation.
         ensures ok { OnOk result (Hears (world_of self.old) c bytes.now (world_of self.new)) }
         ensures over { is_over (world_of self.old) c ≡ true → IsOk result × (self.new ≡ self.old) }
+        // After a failure nothing has changed, and the bytes did not fit the input's spare capacity.
         ensures err { OnErr result (self.new ≡ self.old) }
         ensures full { OnErr result (room_for self.old c < length bytes.now) }
+        // The frame: the broker is not touched.
         ensures broker { self.new.broker ≡ self.old.broker }
     {
         match connection_place(&self.connections, &self.places, c) {
@@ -183,18 +193,22 @@ impl Engine {
         }
     }
 
-    /// Performs the next command of the connection `c`, or the fault of its bytes: at most one.
+    /// Performs the next command of connection `c`, or the fault that its bytes end in. Performs at most one.
     ///
-    /// `Idle` where no whole command and no fault is left, `Paused` where the output holds 1,048,576 bytes or more, `Over`
-    /// where the connection is over or gone. Where memory is refused nothing is performed, and the same is still to come;
-    /// of a connection that is over, gone or paused none is wanted, and of any other only where a command is kept or there is
-    /// something to read: the first eight bytes, a whole frame or a broken one.
+    /// Returns [`Turn::Idle`] if neither a whole command nor a fault is left, [`Turn::Paused`] if the output holds 1,048,576 bytes or more, and
+    /// [`Turn::Over`] if the connection is over or gone.
+    ///
+    /// Fails only if an allocation fails; nothing is performed then, and the next turn tries the same again. That needs a connection that is neither
+    /// over, gone nor paused, with a pending command, or with the first eight bytes, a whole frame or a broken one unread.
     pub fn turn(&mut self, alloc: Global, c: ConnId) -> Result<Turn, AllocError>
+        // What each result means, and that each turn that performs something leaves less to do.
         ensures ok { IfOk result (λ t. Turned (world_of self.old) c t (world_of self.new)) }
         ensures fewer { IfOk result (λ t. OnDid t (left_in self.new.connections < left_in self.old.connections)) }
+        // A failure performs nothing, and comes only for a connection that is awake and has something to read or to perform.
         ensures err { OnErr result (Waits (world_of self.old) c (world_of self.new)) }
         ensures awake { OnErr result (is_awake (world_of self.old) c ≡ true) }
         ensures more { OnErr result (HasMore ((world_of self.old).wire c).kept ((world_of self.old).wire c).stream) }
+        // The order of consumers that wait; a failure leaves the broker unchanged.
         ensures turns { IfOk result (λ t. TurnLeaves c ((world_of self.old).wire c) self.old.broker t self.new.broker) }
         ensures broker { OnErr result (self.new.broker ≡ self.old.broker) }
     {
@@ -213,17 +227,20 @@ impl Engine {
         turn
     }
 
-    /// Makes one delivery to a consumer, and tells of which connection, with its notes: none where no delivery can be made.
-    /// Queues and the consumers of each take turns: whoever waits in the same line was passed over by fewer deliveries of its queue than
-    /// it has consumers, this one among them. Where none can be made, every line stays.
+    /// Makes one delivery, to the next consumer in round-robin order, and returns its connection and notes, or `None` if no delivery can be made.
+    /// Queues take turns, and so do the consumers of each: a consumer that waits was passed over by fewer deliveries of its queue than the queue has
+    /// consumers, this one among them. If no delivery can be made the order of every queue is unchanged.
     ///
-    /// Where memory is refused nothing is delivered, and the turn stays with the consumer that was told; it is wanted only where a
-    /// delivery can be made.
+    /// Fails only if a delivery can be made and an allocation fails. Nothing is delivered then, and the picked consumer is picked again next time, if
+    /// a delivery to it can be made still.
     pub fn pump(&mut self, alloc: Global) -> Result<Option<Delivered>, AllocError>
+        // One delivery that keeps certified delivery's promises, or none if none can be made.
         ensures ok { IfOk result (λ did. MatchOption did (Idles (world_of self.old) (world_of self.new))
             (λ d. IsPump (world_of self.old) d.connection d.notes.items (world_of self.new))) }
+        // It goes to the consumer whose turn it is, and no other that waits is put back.
         ensures in_turn { IfOk result (λ did. MatchOption did (TellsNobody self.old.broker self.new.broker)
-            (λ d. ServesOne self.old.broker d.connection self.new.broker)) }
+            (λ d. ServesOne self.old d.connection d.notes.items self.new)) }
+        // A failure delivers nothing, leaves the picked consumer picked, and comes only if a delivery can be made.
         ensures err { OnErr result (Same (world_of self.old) (world_of self.new)) }
         ensures told { OnErr result (TellsOne self.old.broker self.new.broker) }
         ensures wanted { OnErr result ((c : ℕ) × CanDeliver (world_of self.old).state.broker c) }
@@ -244,7 +261,7 @@ impl Engine {
         Ok(Some(Delivered { connection, notes }))
     }
 
-    /// Takes `n` bytes from the front of `c`'s output, at most what is there.
+    /// Takes up to `n` bytes from the front of `c`'s output.
     pub fn sent(&mut self, c: ConnId, n: u64)
         ensures taken { TakesAway (world_of self.old) c n (world_of self.new) }
         ensures turns { KeepsTurns self.old.broker self.new.broker }
@@ -261,7 +278,7 @@ impl Engine {
         sweep(&mut self.places, &mut self.connections, place);
     }
 
-    /// Loses the connection `c`: its output is never taken, and what it held is ready again.
+    /// Drops connection `c`: its remaining output is discarded, and its unacknowledged messages are ready again.
     pub fn lose(&mut self, c: ConnId)
         ensures lost { IsLost (world_of self.old) c (world_of self.new) }
         ensures turns { KeepsTurns self.old.broker self.new.broker }
@@ -273,7 +290,7 @@ impl Engine {
         }
     }
 
-    /// What was put out for `c` and not yet taken.
+    /// Returns the bytes of `c`'s output that were not taken yet.
     pub fn output(&self, c: ConnId) -> &[u8]
         ensures { result.now ≡ ((world_of self.now).wire c).output }
     {
@@ -283,7 +300,7 @@ impl Engine {
         }
     }
 
-    /// Whether `c` is over or lost, or was never opened.
+    /// Returns whether `c` is over or lost, or was never opened.
     pub fn is_over(&self, c: ConnId) -> bool
         ensures { result ≡ is_over (world_of self.now) c }
     {
@@ -293,7 +310,7 @@ impl Engine {
         }
     }
 
-    /// Whether the broker performs the commands of `c`: from the end of its login to its close.
+    /// Returns whether the broker performs the commands of `c`: from the end of its login to its close.
     pub fn runs(&self, c: u64) -> bool
         ensures { result ≡ runs (world_of self.now) c }
     {
@@ -303,32 +320,32 @@ impl Engine {
         }
     }
 
-    /// How many messages came to queues that lag behind those who take from them.
+    /// Returns how many messages have entered queues whose consumers lag behind. A hint for reading publishers more slowly.
     pub fn lagged(&self) -> u64 {
         self.broker.lagged()
     }
 
-    /// What is in force is sound: the topology is well formed, and its guarantees hold.
+    /// Shows that what is in force is sound: the topology is well formed, and its guarantees hold. Does nothing at run time.
     pub fn is_sound(&self)
         ensures { IsSound (world_of self.now).config }
     {
-        // A look at a field, by which what every engine keeps is known.
+        // Borrowing a field brings the invariant of an engine into scope.
         let _connections = &self.connections;
     }
 
-    /// Each message stands in a queue of the topology, and no guarantee forbids it one to which it may still come from there by
-    /// deaths, nor, unless it stood when the last reload was done, the queue where it stands: so none at all before any reload.
+    /// Shows that each message is in a queue of the topology, and that no guarantee forbids it any queue that it can still reach by dead-lettering,
+    /// nor, unless the last reload found it there, the queue that it is in. So before any reload no message is in a queue that is forbidden it.
     pub fn is_safe(&self)
         ensures kept { AreKept (world_of self.now).config (world_of self.now).state.broker }
         ensures safe { NoneStood (world_of self.now).state.broker
             → AreSafe (world_of self.now).config.topology (world_of self.now).config.guarantees (world_of self.now).state.broker }
     {
-        // A look at a field, as above.
+        // Borrowing a field, as above.
         let _connections = &self.connections;
     }
 }
 
-/// The number of one more connection, where `given` were given, with room for it from now on.
+/// Returns the number of the next connection, where `given` is the last one, and reserves capacity for it. A refusal changes nothing.
 fn next_number(connections: &mut Vec<Connection>, given: u64) -> Result<u64, Refused>
     ensures numbers { Numbers given connections.old.items result }
     ensures room { OnOk result (vec_len connections.new < vec_capacity connections.new) }

@@ -1,8 +1,8 @@
 //! The engine: bytes of connections in, bytes out.
 //!
-//! An [`Engine`] has the broker, and of each connection its session, its stream and its output. A turn performs the next
-//! command that a connection's bytes spell, and puts out what the broker sends; what is in force may be changed between
-//! turns. [`run`] does all that arrives.
+//! Start at [`Engine`]. It has the broker, and for each connection its session, its stream and its output. A turn performs the next
+//! command in a connection's bytes and appends the replies to its output; [`Engine::reload`] puts another topology in force between
+//! turns. [`run`] performs a list of arrivals.
 #![tactic(auto)]
 
 mod connection;
@@ -20,6 +20,7 @@ mod turning;
 pub use engines::{ConnId, Engine, Refused};
 pub use machines::run;
 pub use model::{Arrival, Note};
+pub use notes::Notes;
 pub use runs::{ReloadFault, Transcript};
 pub use setups::Setup;
 pub use turning::Turn;

@@ -1,4 +1,4 @@
-//! One event of one connection.
+//! Performs one event of one connection.
 
 ghost use Rattle.std.specs.Prelude.{◌≡◌, ℕ, [], true, false, IfOk, OnErr, OnOk};
 ghost use Rattle.model.specs.Step.{Acts, Is};
@@ -14,11 +14,12 @@ ghost use Rattle.engine.specs.Wanting.{brings_message as brings, IsFreed, IsHeld
 use crate::reserve::{self, hold_for};
 use broker::{Broker, Step};
 use model::{Event, Phase, Send, User};
+use notes::Notes;
 use outputs::Spares;
 use session::Session;
 use std::alloc::{AllocError, Global};
 
-/// Learns in `session`, which ran, what the broker sent at this event.
+/// Updates a running `session` by what the broker sent at this event.
 fn learn(session: &mut Session, event: &Event, sends: &[Send])
     ensures { is_running session.old.phase ≡ true → session.new ≡ session_after session.old event.now sends.now }
 {
@@ -28,7 +29,7 @@ fn learn(session: &mut Session, event: &Event, sends: &[Send])
     }
 }
 
-/// What the phase of the connection `c` answers.
+/// Returns what the phase of connection `c` answers. Fails only if an allocation fails.
 fn sends_of(
     c: u64,
     alloc: Global,
@@ -54,7 +55,7 @@ fn sends_of(
     }
 }
 
-/// The connection `c` is one of the broker's from now on, with no channel open, where it runs now.
+/// Opens connection `c` at the broker, without channels, if it is running now. Fails only if an allocation fails.
 fn open_if(c: u64, alloc: Global, broker: &mut Broker, session: &Session) -> Result<(), AllocError>
     ensures ok { OnOk result (Is (after_move (broker_of broker.old) c session.now) (broker_of broker.new)) }
     ensures err { OnErr result (broker.new ≡ broker.old) }
@@ -68,8 +69,8 @@ fn open_if(c: u64, alloc: Global, broker: &mut Broker, session: &Session) -> Res
     }
 }
 
-/// An event of the connection `c`, which does not run. Where memory is wanting the session is as before: it moves on once the
-/// broker has the connection.
+/// Answers an event of connection `c`, which is not running. If an allocation fails nothing has changed: the session moves only after the
+/// broker has accepted the connection.
 pub(crate) fn by_phase(
     c: u64,
     alloc: Global,
@@ -79,11 +80,14 @@ pub(crate) fn by_phase(
     event: &Event,
 ) -> Result<Step, AllocError>
     requires asked { IsAskedBy c event.now }
+    // The promise: what the phase answers, all of it for this connection.
     ensures ok { IfOk result (λ d. ByPhase users.now c session.old.phase (broker_of broker.old)
         session.old event.now d.sends.items d.notes.items (broker_of broker.new) session.new) }
     ensures own { IfOk result (λ d. AreOwn c d.sends.items) }
+    // A failure changes nothing.
     ensures broker_kept { OnErr result (broker.new ≡ broker.old) }
     ensures session_kept { OnErr result (session.new ≡ session.old) }
+    // The frame: the topology and the picked consumer are unchanged, and no consumer is put back.
     ensures topology { topology_kept broker.new ≡ topology_kept broker.old }
     ensures turn { broker.new.turn ≡ broker.old.turn }
     ensures later { OnOk result (NobodyIsPutBack broker.old broker.new) }
@@ -94,12 +98,12 @@ pub(crate) fn by_phase(
     *session = next;
     Ok(Step {
         sends,
-        notes: Vec::new(alloc),
+        notes: Notes::new(alloc),
     })
 }
 
-/// The first eight bytes of the connection `c`, a command of it, or the fault of its stream: while it runs the broker performs it,
-/// and else its phase answers. A command with a content is performed only while the reserve is whole. Any other event fails only if an
+/// Performs the first eight bytes of connection `c`, a command of it, or the fault of its stream: the broker does while it is running, otherwise
+/// its phase answers. A command with a content is performed only while the reserve is whole. Any other event fails only if an
 /// allocation fails after the reserve was freed for it.
 pub(crate) fn perform(
     c: u64,
@@ -110,17 +114,22 @@ pub(crate) fn perform(
     spares: &mut Spares,
     event: &Event,
 ) -> Result<Step, AllocError>
+    // What the caller knows: the event was read from this connection's bytes.
     requires asked { IsAskedBy c event.now }
     requires said { IsSaid event.now }
     requires carried { AreCarried (broker_of broker.old) }
+    // The promise: the model's step for this phase, whose sends all go to this connection.
     ensures ok { IfOk result (λ d. DecidesByPhase c session.old.phase (rules_of (topology_kept broker.old) users.now)
         (broker_of broker.old) session.old event.now d.sends.items d.notes.items (broker_of broker.new) session.new) }
     ensures own { IfOk result (λ d. AreOwn c d.sends.items) }
+    // A failure changes nothing.
     ensures broker_kept { OnErr result (broker.new ≡ broker.old) }
     ensures session_kept { OnErr result (session.new ≡ session.old) }
+    // The frame: the topology and the picked consumer are unchanged, and no consumer is put back.
     ensures topology { topology_kept broker.new ≡ topology_kept broker.old }
     ensures turn { broker.new.turn ≡ broker.old.turn }
     ensures later { OnOk result (NobodyIsPutBack broker.old broker.new) }
+    // The reserve: a publish needs it whole, anything else fails only after it was freed.
     ensures whole { OnOk result (brings event.now ≡ true → IsHeld spares.new) }
     ensures last { OnErr result (brings event.now ≡ false → IsFreed spares.new) }
 {
@@ -135,7 +144,7 @@ pub(crate) fn perform(
     }
 }
 
-/// The pause that more output brings, where it is past the bound now.
+/// Pauses connection `c` at the broker if `is`: its output is past the bound now.
 pub(crate) fn pause_if(broker: &mut Broker, c: u64, is: bool)
     ensures pauses { PausesOr (topology_kept broker.old) c false is (broker_of broker.old) (broker_of broker.new) }
     ensures topology { topology_kept broker.new ≡ topology_kept broker.old }
@@ -147,7 +156,7 @@ pub(crate) fn pause_if(broker: &mut Broker, c: u64, is: bool)
     }
 }
 
-/// The resumption that less output brings, where it was past the bound and is no more.
+/// Resumes connection `c` at the broker if its output was past the bound and no longer is.
 pub(crate) fn resume_if(broker: &mut Broker, c: u64, was: bool, is: bool)
     requires { is ≡ true → was ≡ true }
     ensures pauses { PausesOr (topology_kept broker.old) c was is (broker_of broker.old) (broker_of broker.new) }

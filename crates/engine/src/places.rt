@@ -1,27 +1,27 @@
-//! Where connections are likely to stand.
+//! Remembers the likely index of each connection.
 
 use crate::connection::Connection;
 use std::alloc::{AllocError, Global};
 
-/// So many places are remembered, each for the numbers of connections that leave the same when divided by this.
+/// The number of remembered indices. Connections whose numbers are equal modulo this share one.
 const REMEMBERED: usize = 4_096;
 
-/// At which place a connection stood when it was last put or moved. It is a guess: another one may have been remembered in its
-/// place.
+/// Remembers the index that a connection had when it was last added or moved. A hint: another connection may have overwritten
+/// it, and correctness doesn't depend on it.
 #[derive(Drop)]
 pub(crate) struct Places {
     places: Vec<u16>,
 }
 
 impl Places {
-    /// Nothing is remembered yet.
+    /// Returns an empty memory. Fails only if an allocation fails.
     pub(crate) fn new(alloc: Global) -> Result<Places, AllocError> {
         Ok(Places {
             places: vec![in alloc; 0; REMEMBERED]?,
         })
     }
 
-    /// The connection of this number stands at this place.
+    /// Remembers that connection `number` is at index `place`.
     pub(crate) fn learn(&mut self, number: u64, place: usize) {
         let at = number as usize % REMEMBERED;
         if at < self.places.len() {
@@ -29,14 +29,14 @@ impl Places {
         }
     }
 
-    /// Those behind this place moved: each stands where it does now.
+    /// Remembers the indices of all connections from index `place` on.
     pub(crate) fn learn_from(&mut self, connections: &[Connection], place: usize) {
         for at in place..connections.len() {
             self.learn(connections[at].number, at);
         }
     }
 
-    /// The place at which a connection is likely to stand.
+    /// Returns the index at which connection `number` is likely to be.
     pub(crate) fn guess(&self, number: u64) -> usize {
         let at = number as usize % REMEMBERED;
         if at < self.places.len() {

@@ -1,4 +1,4 @@
-//! One delivery to one connection.
+//! Makes one delivery to one connection.
 
 ghost use Rattle.std.specs.Prelude.{◌≡◌, None, IfOk, OnOk, OnErr};
 ghost use Rattle.model.specs.Naming.{AreNamed};
@@ -13,12 +13,12 @@ use crate::connection::Connection;
 use crate::reserve::pump;
 use crate::turning::{make_room, put_out};
 use broker::{Broker, Pick};
-use model::Note;
+use notes::Notes;
 use outputs::{Scratch, Spares};
 use std::alloc::{AllocError, Global};
 
-/// The delivery that was picked, to its connection, with room made for the greatest. Where memory is refused an output in which
-/// nothing waits holds no storage.
+/// Delivers to the picked consumer of `connection`, after reserving capacity for the largest delivery. If an allocation fails nothing is
+/// delivered, and an empty output holds no storage.
 pub(crate) fn pump_connection(
     alloc: Global,
     broker: &mut Broker,
@@ -26,16 +26,20 @@ pub(crate) fn pump_connection(
     spares: &mut Spares,
     connection: &mut Connection,
     pick: Pick,
-) -> Result<Vec<Note>, AllocError>
+) -> Result<Notes, AllocError>
+    // What the caller knows: the broker picked this consumer.
     requires picked { IsPick (broker_of broker.old) pick }
     requires carried { AreCarried (broker_of broker.old) }
     requires named { AreNamed (topology_kept broker.old) (broker_of broker.old) }
+    // The promise: this delivery is made, and its frames are appended to the connection's output.
     ensures ok { IfOk result (λ notes. ConnectionPumped (topology_kept broker.old) (broker_of broker.old)
-        pick.connection connection.old notes.items (broker_of broker.new) connection.new) }
+        pick connection.old notes.items (broker_of broker.new) connection.new) }
     ensures rest { connection.new ≡ record connection.old { output = connection.new.output } }
+    // A failure delivers nothing.
     ensures broker_kept { OnErr result (broker.new ≡ broker.old) }
     ensures output_kept { OnErr result (connection.new.output.bytes ≡ connection.old.output.bytes) }
     ensures refused { OnErr result (HoldsNone connection.new.output) }
+    // The frame, and the order of consumers that wait.
     ensures topology { topology_kept broker.new ≡ topology_kept broker.old }
     ensures over { OnOk result (broker.new.turn ≡ None) }
     ensures later { OnOk result (NoneIsLater broker.old broker.new) }

@@ -1,4 +1,4 @@
-//! What a connection's bytes ask for next.
+//! Reads what a connection's bytes ask for next.
 
 ghost use Rattle.std.specs.Prelude.{◌≡◌, None, OnOk, OnErr};
 ghost use Rattle.model.specs.Commands.{IsCommand};
@@ -13,8 +13,8 @@ use model::{Command, Event, Method};
 use outputs::Spares;
 use std::alloc::AllocError;
 
-/// Reads what is next of the connection `number`, if no command is kept: the next command that its bytes spell, or the fault that they
-/// end in. It is kept from then on.
+/// Reads the next event of connection `number` into `kept`, unless one is pending: the next command in its bytes, or the fault that they
+/// end in. Fails only if an allocation fails; nothing is pending then, and the same event comes next.
 pub(crate) fn read_next(
     number: u64,
     spares: &mut Spares,
@@ -44,28 +44,28 @@ pub(crate) fn read_next(
     }
 }
 
-/// Keeps this command of a connection.
+/// Makes `command` of `connection` the pending event.
 fn keep(kept: &mut Option<Event>, connection: u64, command: Command)
     ensures { kept.new ≡ Some (event_of_command connection command) }
 {
     *kept = Some(event_of(connection, command));
 }
 
-/// Keeps the fault of a connection.
+/// Makes the fault of `connection` with reply code `code` the pending event.
 fn keep_fault(kept: &mut Option<Event>, connection: u64, code: u16)
     ensures { kept.new ≡ Some (happens.Fault connection code) }
 {
     *kept = Some(Event::Fault { connection, code });
 }
 
-/// Keeps nothing any more.
+/// Clears the pending event.
 pub(crate) fn forget(kept: &mut Option<Event>)
     ensures { kept.new ≡ None }
 {
     *kept = None;
 }
 
-/// Keeps a fault no more, for the stream answers it again. A command stays.
+/// Clears a pending fault, which the stream yields again. A pending command stays.
 pub(crate) fn forget_fault(kept: &mut Option<Event>)
     ensures { kept.new ≡ kept_for kept.old }
 {
@@ -74,7 +74,7 @@ pub(crate) fn forget_fault(kept: &mut Option<Event>)
     }
 }
 
-/// The command of a connection, as an event.
+/// Converts a command of `connection` into an event.
 fn event_of(connection: u64, command: Command) -> Event
     ensures { result ≡ event_of_command connection command }
 {

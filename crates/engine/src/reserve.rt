@@ -9,13 +9,12 @@ ghost use Rattle.model.specs.Commands.{heard};
 ghost use Rattle.model.specs.Naming.{AreNamed};
 ghost use Rattle.model.specs.Sending.{AreCarried, AreOwn, most_sent};
 ghost use Rattle.model.specs.Step.{Acts};
-ghost use Rattle.model.specs.declared.events.Event.TheVariants as event_is;
 ghost use Rattle.assembly.specs.Held.{stream_of};
 ghost use Rattle.assembly.specs.Onward.{YieldsNext, broken_by};
 ghost use Rattle.broker.specs.Turns.{topology_kept, broker_of};
 ghost use Rattle.broker.specs.Waiting.{NobodyIsPutBack, NoneIsLater, ServesSoon};
 ghost use Rattle.commands.specs.Judged.{IsAsked};
-ghost use Rattle.commands.specs.Picked.{IsPick};
+ghost use Rattle.commands.specs.Picked.{IsPick, DeliversTo};
 ghost use Rattle.replies.specs.Sent.{AreAddressed, connection_of_event};
 ghost use Rattle.engine.specs.Performing.{IsAskedBy, ByPhase};
 ghost use Rattle.engine.specs.Wanting.{brings_message as brings, IsFreed, IsHeld};
@@ -124,13 +123,15 @@ pub(crate) fn pump(
     pick: Pick,
 ) -> Result<Step, AllocError>
     requires { IsPick (broker_of broker.old) pick }
-    ensures ok { IfOk result (λ s. Acts (topology_kept broker.old) (broker_of broker.old)
-        (event_is.Deliver pick.connection) s.sends.items s.notes.items (broker_of broker.new)) }
+    // The promise: this delivery, whose send goes to the consumer's connection.
+    ensures ok { IfOk result (λ s. DeliversTo (broker_of broker.old) pick s.sends.items s.notes.items (broker_of broker.new)) }
     ensures addressed { IfOk result (λ s. AreCarried (broker_of broker.old)
         → AreNamed (topology_kept broker.old) (broker_of broker.old) → AreAddressed pick.connection s.sends.items) }
+    // The turn is over, no consumer is put back, and those that wait were passed over by few deliveries.
     ensures over { OnOk result (broker.new.turn ≡ None) }
     ensures later { OnOk result (NoneIsLater broker.old broker.new) }
     ensures soon { OnOk result (ServesSoon broker.old pick) }
+    // The frame; a failure changes nothing, and comes only after the reserve was freed.
     ensures topology { topology_kept broker.new ≡ topology_kept broker.old }
     ensures err { OnErr result (broker.new ≡ broker.old) }
     ensures last { OnErr result (IsFreed spares.new) }
@@ -153,11 +154,14 @@ pub(crate) fn step(
     event: &Event,
 ) -> Result<Step, AllocError>
     requires asked { IsAsked event.now }
+    // The promise: the model's step, whose sends go to the event's connection.
     ensures ok { IfOk result (λ s. Acts (topology_kept broker.old) (broker_of broker.old) event.now s.sends.items s.notes.items (broker_of broker.new)) }
     ensures addressed { IfOk result (λ s. IsSaid event.now → AreCarried (broker_of broker.old) → AreAddressed (connection_of_event event.now) s.sends.items) }
+    // The frame: the topology and the picked consumer are unchanged, and no consumer is put back.
     ensures topology { topology_kept broker.new ≡ topology_kept broker.old }
     ensures turn { broker.new.turn ≡ broker.old.turn }
     ensures later { OnOk result (NobodyIsPutBack broker.old broker.new) }
+    // A failure changes nothing in the broker. A publish leaves the reserve alone; anything else fails only after it was freed.
     ensures err { OnErr result (broker.new ≡ broker.old) }
     ensures whole { OnOk result (brings event.now ≡ true → spares.new ≡ spares.old) }
     ensures last { OnErr result (brings event.now ≡ false → IsFreed spares.new) }
@@ -183,14 +187,18 @@ pub(crate) fn by_phase(
     event: &Event,
 ) -> Result<Step, AllocError>
     requires asked { IsAskedBy c event.now }
+    // The promise: what the phase answers, all of it for this connection.
     ensures ok { IfOk result (λ d. ByPhase users.now c session.old.phase (broker_of broker.old)
         session.old event.now d.sends.items d.notes.items (broker_of broker.new) session.new) }
     ensures own { IfOk result (λ d. AreOwn c d.sends.items) }
+    // A failure changes neither the broker nor the session.
     ensures broker_kept { OnErr result (broker.new ≡ broker.old) }
     ensures session_kept { OnErr result (session.new ≡ session.old) }
+    // The frame: the topology and the picked consumer are unchanged, and no consumer is put back.
     ensures topology { topology_kept broker.new ≡ topology_kept broker.old }
     ensures turn { broker.new.turn ≡ broker.old.turn }
     ensures later { OnOk result (NobodyIsPutBack broker.old broker.new) }
+    // The reserve: a publish leaves it alone; anything else fails only after it was freed.
     ensures whole { OnOk result (brings event.now ≡ true → spares.new ≡ spares.old) }
     ensures last { OnErr result (brings event.now ≡ false → IsFreed spares.new) }
 {

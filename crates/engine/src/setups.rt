@@ -9,7 +9,7 @@ use model::User;
 use std::alloc::{AllocError, Global};
 use std::marker::Model;
 
-/// These users once more, sharing their texts.
+/// Returns a copy of `users` that shares their texts. Fails only if an allocation fails.
 pub(crate) fn copied_users(alloc: Global, users: &[User]) -> Result<Vec<User>, AllocError>
     ensures { IfOk result (λ copies. copies.items ≡ users.now) }
 {
@@ -23,13 +23,13 @@ pub(crate) fn copied_users(alloc: Global, users: &[User]) -> Result<Vec<User>, A
     Ok(copies)
 }
 
-/// What is to be in force: a topology with guarantees that hold of it, and who may log in.
+/// The setup of an engine or of a reload: a topology with guarantees that hold of it, and the users who may log in.
 pub struct Setup {
     checked: Checked,
     users: Vec<User>,
 }
 
-/// Written out, so that a drop is one call.
+/// Written out so that a drop is one call.
 impl Drop for Setup {
     fn drop(self) {
         let Setup {
@@ -49,14 +49,14 @@ impl Model for Setup {
 }
 
 impl Setup {
-    /// This topology with its guarantees, and these users.
+    /// Makes a setup of the topology with its guarantees, and `users`.
     pub fn new(checked: Checked, users: Vec<User>) -> Setup
         ensures { result ≡ in_force checked users.items }
     {
         Setup { checked, users }
     }
 
-    /// The same once more, sharing its texts.
+    /// Returns a copy that shares the texts. Fails only if an allocation fails.
     pub fn clone(&self, alloc: Global) -> Result<Setup, AllocError>
         ensures { IfOk result (λ copy. copy ≡ self.now) }
     {
@@ -74,14 +74,14 @@ impl Setup {
         &self.checked
     }
 
-    /// What every setup would put in force is sound.
+    /// Shows that what a setup would put in force is sound. Does nothing at run time.
     pub fn is_sound(&self)
         ensures { IsSound self.now }
     {
         self.checked.holds();
     }
 
-    /// Its parts.
+    /// Splits the setup into the topology with its guarantees, and the users.
     pub fn into_parts(self) -> (Checked, Vec<User>)
         ensures { self ≡ in_force result.0 result.1.items }
     {

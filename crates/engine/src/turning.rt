@@ -23,7 +23,8 @@ use crate::reading::{forget, forget_fault, read_next};
 use crate::reserve;
 use assembly::Stream;
 use broker::Broker;
-use model::{Event, Note, Phase, Send, User};
+use model::{Event, Phase, Send, User};
+use notes::Notes;
 use outputs::{Output, Scratch, Spares, put_sends};
 use session::Session;
 use std::alloc::{AllocError, Global};
@@ -31,25 +32,25 @@ use std::alloc::{AllocError, Global};
 /// What a turn did.
 #[derive(Drop)]
 pub enum Turn {
-    /// The next command was performed, or the stream's fault, with these notes.
-    Did(Vec<Note>),
-    /// No whole command is there.
+    /// Performed the next command, or the stream's fault, with these notes.
+    Did(Notes),
+    /// Found no whole command and no fault.
     Idle,
-    /// The output holds 1,048,576 bytes or more.
+    /// Did nothing, since the output holds 1,048,576 bytes or more.
     Paused,
-    /// The connection is over, or gone.
+    /// Did nothing, since the connection is over or gone.
     Over,
 }
 
-/// Whether a turn performed something.
+/// Returns whether a turn performed something.
 pub(crate) fn has_performed(turn: &Result<Turn, AllocError>) -> bool
     ensures { result ≡ performs turn.now }
 {
     matches!(turn, Ok(Turn::Did(_)))
 }
 
-/// Puts out what is sent to the connection `c` at one event, for which there is room, and tells the broker of the pause
-/// that this brings. The output was below the bound.
+/// Appends what is sent to connection `c` at one event to its output, which has capacity for it, and pauses `c` at the broker if the output
+/// is past the bound then. Before it was below the bound.
 pub(crate) fn put_out(
     c: u64,
     broker: &mut Broker,
@@ -58,12 +59,15 @@ pub(crate) fn put_out(
     max: u32,
     sends: &[Send],
 )
+    // What the caller knows: the sends are this connection's, and there is capacity for them.
     requires own { AreOwn c sends.now }
     requires max { 4096 ≤ max }
     requires room { most_sent ≤ output.old.room }
+    // The promise: their frames are appended.
     ensures bytes { output.new.bytes ≡ output.old.bytes ++ spelling max sends.now }
     ensures spelled { AllByRecursion (IsSpelled max) sends.now }
     ensures own { AllByRecursion (λ s. receiver s ≡ c) sends.now }
+    // The connection is paused if its output is past the bound, and nothing else of the broker changes.
     ensures pauses { PausesOr (topology_kept broker.old) c false (is_past_bound output.new.bytes) (broker_of broker.old) (broker_of broker.new) }
     ensures topology { topology_kept broker.new ≡ topology_kept broker.old }
     ensures turn { broker.new.turn ≡ broker.old.turn }
@@ -74,8 +78,8 @@ pub(crate) fn put_out(
     pause_if(broker, c, is_past);
 }
 
-/// Performs what is kept of the connection, which is so no more then, with room for what it sends; nothing where nothing is. Where memory
-/// is refused a command stays kept, and an output in which nothing waits holds no storage.
+/// Performs the pending event of `connection`, if any, and appends its replies to the output. If an allocation fails a command stays pending, so
+/// the next turn tries it again, and an empty output holds no storage.
 fn do_next(
     alloc: Global,
     users: &[User],
@@ -86,11 +90,14 @@ fn do_next(
 ) -> Result<Turn, AllocError>
     requires next { IfSome connection.old.kept (λ e. IsAskedBy connection.old.number e × IsSaid e) }
     requires carried { AreCarried (broker_of broker.old) }
+    // The promise: the pending event is performed.
     ensures ok { IfOk result (λ t. DidNext (rules_of (topology_kept broker.old) users.now) broker.old
         connection.old connection.old.kept t broker.new connection.new) }
+    // A failure needs a pending event, and changes nothing.
     ensures wants { OnErr result (IsSome connection.old.kept) }
     ensures broker_kept { OnErr result (broker.new ≡ broker.old) }
     ensures connection_kept { OnErr result (ConnectionStays connection.old connection.new) }
+    // The frame.
     ensures topology { topology_kept broker.new ≡ topology_kept broker.old }
     ensures turn { broker.new.turn ≡ broker.old.turn }
     // A publish leaves the reserve whole, and anything else is refused memory only after the reserve was freed for it.
@@ -137,7 +144,7 @@ fn do_next(
     }
 }
 
-/// The stream goes by the session from now on: how large a frame may be, and whether contents are kept.
+/// Sets the stream's frame length, and whether it keeps contents, by the session.
 fn follow(stream: &mut Stream, session: &Session)
     ensures { stream.old.fault ≡ None → stream_of stream.new ≡ under_session session.now (stream_of stream.old) }
 {
@@ -145,17 +152,19 @@ fn follow(stream: &mut Stream, session: &Session)
     stream.set_running(is_running(session.phase()));
 }
 
-/// Whether a connection runs in this phase.
+/// Returns whether a connection in `phase` is running.
 fn is_running(phase: Phase) -> bool
     ensures { result ≡ runs phase }
 {
     matches!(phase, Phase::Running)
 }
 
-/// Makes room in an output for what one event sends. Where memory is refused one in which nothing waits holds no storage.
+/// Reserves capacity in `output` for what one event sends. If that fails an empty output holds no storage.
 pub(crate) fn make_room(spares: &mut Spares, output: &mut Output) -> Result<(), AllocError>
+    // The bytes stay, and there is capacity.
     ensures bytes { output.new.bytes ≡ output.old.bytes }
     ensures ok { OnOk result (most_sent ≤ output.new.room) }
+    // When it may fail, and what a failure leaves.
     ensures full { OnErr result (output.old.room < most_sent) }
     ensures enough { output.old.storage ≡ 0 → 0 < spares.old → IsOk result }
     ensures refused { OnErr result (HoldsNone output.new) }
@@ -170,8 +179,8 @@ pub(crate) fn make_room(spares: &mut Spares, output: &mut Output) -> Result<(), 
     }
 }
 
-/// One turn of one connection. Room is made once there is something to perform. Where memory is refused what was read is still to come,
-/// and an output in which nothing waits holds no storage.
+/// Performs one turn of `connection`. Reserves output only if there is something to perform. If an allocation fails the same event comes next,
+/// and an empty output holds no storage.
 pub(crate) fn turn_connection(
     alloc: Global,
     users: &[User],
@@ -180,15 +189,19 @@ pub(crate) fn turn_connection(
     spares: &mut Spares,
     connection: &mut Connection,
 ) -> Result<Turn, AllocError>
+    // What the caller knows of the connection.
     requires kept { IsKeptEvent connection.old.number connection.old.kept connection.old.stream.fault }
     requires carried { AreCarried (broker_of broker.old) }
+    // The promise, for each result; a failure performs nothing, and comes only for a connection that is awake and has something to perform.
     ensures ok { IfOk result (λ t. ConnectionTook (rules_of (topology_kept broker.old) users.now) (broker_of broker.old)
         connection.old t (broker_of broker.new) connection.new) }
     ensures err { OnErr result (ConnectionWaits (broker_of broker.old) connection.old (broker_of broker.new) connection.new) }
     ensures awake { OnErr result (MayTurn connection.old) }
     ensures more { OnErr result (HasMore (kept_of connection.old.kept) (stream_of connection.old.stream)) }
+    // The storage of an empty output is freed.
     ensures idle { IfOk result (λ t. OnIdle t (HoldsNone connection.new.output)) }
     ensures refused { OnErr result (HoldsNone connection.new.output) }
+    // The frame, and the order of consumers that wait.
     ensures kept { IsKeptEvent connection.new.number connection.new.kept connection.new.stream.fault }
     ensures number { connection.new.number ≡ connection.old.number }
     ensures topology { topology_kept broker.new ≡ topology_kept broker.old }

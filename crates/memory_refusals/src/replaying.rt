@@ -7,6 +7,7 @@ use crate::put_out::Outputs;
 use crate::sections::{Section, text_of};
 use engine::{Engine, Refused, Turn};
 use model::{Arrival, Note};
+use notes::Notes;
 use runs::{Delivered, ReloadFault};
 use scripts::{ReloadFiles, put_line};
 use std::alloc::{AllocError, Global};
@@ -36,7 +37,7 @@ fn number_of(opened: Result<u64, Refused>) -> Result<Option<u64>, AllocError> {
 }
 
 /// Returns the notes of the command that `turn` performed, if it performed one.
-fn notes_of(turn: Turn) -> Option<Vec<Note>> {
+fn notes_of(turn: Turn) -> Option<Notes> {
     match turn {
         Turn::Did(notes) => Some(notes),
         _ => None,
@@ -135,6 +136,12 @@ impl Replay {
         }
     }
 
+    /// Writes down the notes of a command or a delivery.
+    fn note(&mut self, notes: Notes) -> Result<(), AllocError> {
+        let mut kept = notes.into_vec().ok_or(AllocError)?;
+        self.notes.append(&mut kept)
+    }
+
     /// Makes a delivery, if one can be made.
     fn pump(&mut self, alloc: Global, counts: &mut Counts) -> Result<(), AllocError> {
         self.look()?;
@@ -150,9 +157,9 @@ impl Replay {
             Some(
                 Delivered {
                     connection: _,
-                    mut notes,
+                    notes,
                 },
-            ) => self.notes.append(&mut notes),
+            ) => self.note(notes),
             None => Ok(()),
         }
     }
@@ -189,7 +196,7 @@ impl Replay {
     fn work(&mut self, alloc: Global, c: u64, counts: &mut Counts) -> Result<(), AllocError> {
         for _ in 0..MOST_COMMANDS {
             match notes_of(self.turn(alloc, c, counts)?) {
-                Some(mut notes) => self.notes.append(&mut notes)?,
+                Some(notes) => self.note(notes)?,
                 None => return Ok(()),
             }
         }

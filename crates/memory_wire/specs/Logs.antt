@@ -1,4 +1,4 @@
--- What a log says (own).
+-- The calls that a log has (own).
 use Rattle.std.specs.Prelude.{ℕ, List, nat_lt, map, take, Option, Some, None, if◌then◌else◌}
 use Rattle.serving.specs.Wire.{Call, Told, Accepted, Not_accepted, Accept_failed, Got, Nothing_got, Read_ended}
 use Rattle.serving.specs.Wire.{Read_failed, Took, Nothing_taken, Write_failed, Closed, Welcomed, Parted, Rested}
@@ -6,7 +6,7 @@ use Rattle.memory_wire.specs.declared.logs.Log.{Log}
 use Rattle.memory_wire.specs.declared.logs.Logged.{Logged}
 use Rattle.memory_wire.specs.declared.logs.Logged.TheVariants as logged
 
--- the call that was logged so
+-- the call of a log entry
 abbrev pub call_of : Logged → Call
 call_of (logged.Accepted s) = Accepted s
 call_of logged.NotAccepted = Not_accepted
@@ -23,10 +23,10 @@ call_of (logged.Welcomed s) = Welcomed s
 call_of (logged.Parted s) = Parted s
 call_of logged.Rested = Rested
 
--- what a wire tells by such calls, where as many sockets came, named by their places
+-- what a wire with these calls knows, if `come` sockets were accepted, named by their indices
 abbrev pub told_with : Option (List Call) → ℕ → Told
 told_with calls come = record { calls = calls; failures = 0; is_given = λ s. nat_lt s come; totals = λ s. None }
 
--- all calls, in order, where the log is whole
+-- all calls, in order, if the log is whole
 abbrev pub told_by : Log → Option (List Call)
 told_by l = if l.is_whole then Some (map call_of l.calls.items) else None

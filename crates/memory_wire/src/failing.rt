@@ -12,7 +12,7 @@ pub enum Asked {
     Write,
 }
 
-/// A wire whose call of this kind fails that comes as the `left`th of them; no other fails.
+/// A wire of which one call fails: the `left`th of its kind from now.
 #[derive(Drop)]
 pub struct Failing<W: Wire> {
     pub wire: W,
@@ -24,7 +24,7 @@ pub struct Failing<W: Wire> {
 }
 
 impl<W: Wire> Failing<W> {
-    /// Over this wire the call of this kind fails that is the `count`th; none does where that is 0.
+    /// Makes a wire over `wire` of which the `count`th call of kind `asked` fails, and no other; none fails if `count` is 0.
     pub fn new(wire: W, asked: Asked, count: u64) -> Failing<W>
     where
         W: Drop,
@@ -40,21 +40,21 @@ impl<W: Wire> Failing<W> {
         }
     }
 
-    /// Whether the call has failed.
+    /// Returns whether the call has failed.
     pub fn has_failed(&self) -> bool
         ensures { result ≡ self.now.has_failed }
     {
         self.has_failed
     }
 
-    /// The socket whose read or write has failed.
+    /// Returns the socket whose read or write has failed.
     pub fn victim(&self) -> Option<u64>
         ensures { result ≡ self.now.victim }
     {
         self.victim
     }
 
-    /// Whether this call is to fail.
+    /// Returns whether this call fails, and counts it.
     fn is_due(&mut self, asked: Asked, socket: Option<u64>) -> bool
         ensures wire { self.new.wire ≡ self.old.wire }
         ensures due { result ≡ true → self.old.has_failed ≡ false }

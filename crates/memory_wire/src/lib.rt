@@ -1,4 +1,4 @@
-//! A wire in memory, which logs its calls and so tells them, and one of which a call fails.
+//! A wire in memory that logs its calls, and a wire of which one call fails. Start at [`MemoryWire`].
 #![tactic(auto)]
 
 mod clients;

@@ -1,4 +1,4 @@
-//! Calls of a wire, written down.
+//! The log of a wire's calls.
 
 ghost use Rattle.std.specs.Prelude.{◌≡◌, ◌≤◌, ℕ, [], ◌∷◌, ◌++◌, length, map, flat_map, IfOk, OnOk, Some};
 ghost use Rattle.serving.specs.Answered.{accept_call, read_call, write_call};
@@ -10,18 +10,18 @@ ghost use Rattle.memory_wire.specs.Logs.{call_of, told_by};
 use serving::{Accept, Read, Write};
 use std::alloc::{AllocError, Global};
 
-/// One call, with its answer.
+/// A call with its answer.
 #[derive(Drop)]
 pub enum Logged {
     Accepted(u64),
     NotAccepted,
     AcceptFailed,
-    /// The socket, the room of the read, and what it got.
+    /// The socket, the length that was offered, and the bytes that were read.
     Got(u64, usize, Vec<u8>),
     NothingGot(u64, usize),
     Ended(u64, usize),
     ReadFailed(u64, usize),
-    /// The socket, what it was offered, and how many bytes of that it took.
+    /// The socket, the bytes that it was offered, and how many of them it took.
     Took(u64, Vec<u8>, usize),
     NothingTaken(u64, Vec<u8>),
     WriteFailed(u64, Vec<u8>),
@@ -31,14 +31,14 @@ pub enum Logged {
     Rested,
 }
 
-/// All calls so far, or none any more: one could not be kept.
+/// All calls so far, if `is_whole`; otherwise an allocation for one failed.
 #[derive(Drop)]
 pub struct Log {
     pub calls: Vec<Logged>,
     pub is_whole: bool,
 }
 
-/// An accept, as it is logged.
+/// Returns the log entry of an accept.
 pub(crate) fn logged_accept(answer: Accept) -> Logged
     ensures { call_of result ≡ accept_call answer }
 {
@@ -49,7 +49,7 @@ pub(crate) fn logged_accept(answer: Accept) -> Logged
     }
 }
 
-/// A read that left this at the front of the buffer, as it is logged.
+/// Returns the log entry of a read; what it got is at the front of `buffer`. Fails only if an allocation fails.
 pub(crate) fn logged_read(
     alloc: Global,
     socket: u64,
@@ -72,7 +72,7 @@ pub(crate) fn logged_read(
     }
 }
 
-/// A write of these bytes, as it is logged.
+/// Returns the log entry of a write. Fails only if an allocation fails.
 pub(crate) fn logged_write(
     alloc: Global,
     socket: u64,
@@ -89,7 +89,7 @@ pub(crate) fn logged_write(
     }
 }
 
-/// Adds the bytes that were taken by this call, if it is a write to this socket.
+/// Appends the bytes that were taken by this call, if it is a write to `socket`.
 fn add_taken(bytes: &mut Vec<u8>, call: &Logged, socket: u64) -> Result<(), AllocError>
     ensures { OnOk result (bytes.new.items ≡ bytes.old.items ++ written_to socket (call_of call.now)) }
 {
@@ -102,7 +102,7 @@ fn add_taken(bytes: &mut Vec<u8>, call: &Logged, socket: u64) -> Result<(), Allo
 }
 
 impl Log {
-    /// One with no call.
+    /// Makes an empty log. Never allocates.
     pub fn new(alloc: Global) -> Log
         ensures { told_by result ≡ Some [] }
     {
@@ -112,7 +112,7 @@ impl Log {
         }
     }
 
-    /// Writes a call down, or none any more where there is no memory.
+    /// Appends a call. If an allocation fails the log is no longer whole.
     pub(crate) fn add(&mut self, call: Result<Logged, AllocError>)
         ensures { (made : Call) → IfOk call (λ l. call_of l ≡ made) → Follows (told_by self.old) (made ∷ []) (told_by self.new) }
     {
@@ -126,7 +126,7 @@ impl Log {
         }
     }
 
-    /// All bytes that writes to this socket took, in order.
+    /// Returns all bytes that writes to `socket` took, in order. Fails only if an allocation fails.
     pub fn taken_by(&self, alloc: Global, socket: u64) -> Result<Vec<u8>, AllocError>
         ensures { IfOk result (λ bytes. bytes.items ≡ flat_map (written_to socket) (map call_of self.now.calls.items)) }
     {

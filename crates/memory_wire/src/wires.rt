@@ -1,4 +1,4 @@
-//! The wire, and what a server does over it.
+//! The wire in memory, and serving over it.
 
 ghost use Rattle.std.specs.Prelude.{◌≡◌, ◌≤◌, ◌<◌, [], true, false, ℕ, List, length, nat_lt, Some, is_some};
 ghost use Rattle.serving.specs.Wire.{is_failed};
@@ -18,7 +18,7 @@ use runs::Machine;
 use serving::{Accept, Read, Server, Wire, Write, new_is_served, serve};
 use std::alloc::Global;
 
-/// Clients, each of which comes at one accept and is a socket by its place, and a log of all calls.
+/// Clients, each of which comes at one accept as the socket with its index, and a log of all calls.
 #[derive(Drop)]
 pub struct MemoryWire {
     pub alloc: Global,
@@ -28,7 +28,7 @@ pub struct MemoryWire {
 }
 
 impl MemoryWire {
-    /// These clients, none of whom has come.
+    /// Makes a wire with these clients, none of which has come.
     pub fn new(alloc: Global, clients: Vec<Client>) -> MemoryWire
         ensures { told_by result.log ≡ Some [] }
     {
@@ -40,7 +40,7 @@ impl MemoryWire {
         }
     }
 
-    /// The next client, if one is left.
+    /// Accepts the next client, if there is one.
     fn next(&mut self) -> Accept
         ensures log { self.new.log ≡ self.old.log }
         ensures come { self.old.come ≤ self.new.come }
@@ -56,7 +56,7 @@ impl MemoryWire {
         Accept::Socket(socket)
     }
 
-    /// What a socket gives.
+    /// Reads from the client of `socket`.
     fn give(&mut self, socket: u64, buffer: &mut [u8]) -> Read
         ensures log { self.new.log ≡ self.old.log }
         ensures come { self.new.come ≡ self.old.come }
@@ -73,7 +73,7 @@ impl MemoryWire {
         }
     }
 
-    /// What a socket takes.
+    /// Writes to the client of `socket`.
     fn take(&self, socket: u64, bytes: &[u8]) -> Write
         ensures within { (n : ℕ) → result ≡ write.Took n → n ≤ length bytes.now }
         ensures unfailing { (s : ℕ) (offered : List ℕ) → is_failed (write_call s result offered) ≡ false }
@@ -128,10 +128,10 @@ impl Wire for MemoryWire {
     }
 }
 
-/// Serves over a wire in memory, and tells whether its log is whole.
+/// Does `turns` rounds over a wire in memory, and returns whether its log is whole.
 ///
-/// Where it is, it says what each socket gave and took, and that is what arrived for its connection and the beginning of
-/// what was put out for it.
+/// If it is, it has what each socket gave and took: that is what arrived for its connection, and a prefix of what was put out
+/// for it.
 pub fn serve_in_memory<M: Machine>(
     alloc: Global,
     server: &mut Server<M>,

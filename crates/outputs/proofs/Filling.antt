@@ -1,7 +1,7 @@
 -- Storages are allocated until enough are there.
 use Rattle.std.specs.Prelude.{◌≡◌, ◌≤◌, ℕ}
 
--- So many storages are kept where so many were, with the same room for more.
+-- The storages after filling up, and the capacity for more, by those before.
 pub record Filling (was was_room is room : ℕ) : Type 0 where
   pub least : was ≤ is
   pub few : was ≤ 8 → is ≤ 8

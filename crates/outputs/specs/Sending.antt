@@ -9,6 +9,6 @@ use Rattle.model.specs.declared.contents.Content.{Content}
 abbrev pub header_frame : ℕ → Content → Frame
 header_frame h content = record { kind = 2; channel = h; payload = header_bytes (length content.body) content.properties }
 
--- a body on channel h, in frames of at most max bytes
+-- a body on channel h, in frames of at most `max` bytes
 abbrev pub body_bytes : ℕ → ℕ → List ℕ → List ℕ
 body_bytes max h body = flat_map frame_bytes (map (body_frame h) (pieces_of (max - 8) (length body) body))

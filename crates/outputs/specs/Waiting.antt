@@ -1,2 +1,2 @@
--- Bytes that wait to be taken.
+-- Bytes that wait to be taken from an output.
 pub use Rattle.frame.specs.Waiting.{WaitingBytes, PutsBytes, HoldsNone}

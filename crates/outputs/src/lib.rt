@@ -1,7 +1,7 @@
-//! What waits to be taken by connections, and what is sent, put there as bytes.
+//! The outputs of connections, and the encoding of what is sent.
 //!
-//! An [`Output`] holds storage only while something waits in it; [`Spares`] keeps storages between. What is sent is put in whole,
-//! frame by frame, in room that was made before (`put_sends`), so that nothing is put out half.
+//! Start at [`Output`]. It holds storage only while it has bytes; [`Spares`] keeps storages between. What is sent is appended whole,
+//! frame by frame, in capacity that was reserved before ([`put_sends`]), so that nothing is put out half.
 #![tactic(auto)]
 
 mod scratch;

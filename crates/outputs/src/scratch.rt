@@ -1,4 +1,4 @@
-//! A place to spell one method, or the header of one content.
+//! A buffer to encode one method, or the header of one content.
 
 ghost use Rattle.std.specs.Prelude.{◌≡◌, ◌≤◌, [], length, vec_len, vec_capacity, IfOk};
 ghost use Rattle.model.specs.Grammar.{IsMethod, method_bytes};
@@ -11,7 +11,7 @@ use model::{Content, Method};
 use std::alloc::{AllocError, Global};
 use std::marker::Model;
 
-/// Room for the payload of a method or of a header that fits the least frame. It is used again for each.
+/// A buffer for the payload of a method or of a header that fits the least frame. It is reused for each.
 #[derive(Drop)]
 pub struct Scratch {
     bytes: Vec<u8>,
@@ -28,7 +28,7 @@ impl Model for Scratch {
 }
 
 impl Scratch {
-    /// Nothing is spelled here yet.
+    /// Makes an empty buffer of 4,096 bytes. Fails only if an allocation fails.
     pub fn new(alloc: Global) -> Result<Scratch, AllocError>
         ensures { IfOk result (λ s. s ≡ []) }
     {
@@ -37,7 +37,7 @@ impl Scratch {
         })
     }
 
-    /// Spells this method in place of what stands here.
+    /// Encodes `method` in place of the contents.
     pub(crate) fn spell(&mut self, method: &Method)
         requires fits { IsMethod method.now }
         requires size { length (method_bytes method.now) ≤ 4088 }
@@ -46,7 +46,7 @@ impl Scratch {
         spell_into(&mut self.bytes, method);
     }
 
-    /// Spells the header of this content in place of what stands here.
+    /// Encodes the header of `content` in place of the contents.
     pub(crate) fn spell_header(&mut self, content: &Content)
         requires { IsStored content.now }
         ensures { self.new ≡ header_bytes (length content.now.body) content.now.properties }
@@ -54,7 +54,7 @@ impl Scratch {
         header_into(&mut self.bytes, content);
     }
 
-    /// What was spelled last.
+    /// Returns what was encoded last.
     pub(crate) fn bytes(&self) -> &[u8]
         ensures { result.now ≡ self.now }
     {

@@ -1,4 +1,4 @@
-//! What is sent, as bytes.
+//! Encodes what is sent.
 
 ghost use Rattle.std.specs.Prelude.{◌≡◌, ◌≤◌, ◌++◌, length, take, drop, flat_map};
 ghost use Rattle.std.specs.List.{AllByRecursion};
@@ -17,7 +17,7 @@ use model::{Content, Method, Send};
 /// The protocol header.
 const EIGHT_BYTES: &[u8] = &[65, 77, 81, 80, 0, 0, 9, 1];
 
-/// Puts the frame of a method in. `scratch` is a place to spell it.
+/// Appends the frame of a method to `output`. `scratch` is a buffer to encode it.
 fn put_method_frame(output: &mut Output, scratch: &mut Scratch, channel: u16, method: &Method)
     requires fits { IsMethod method.now }
     requires size { length (method_bytes method.now) ≤ 4088 }
@@ -32,7 +32,7 @@ fn put_method_frame(output: &mut Output, scratch: &mut Scratch, channel: u16, me
     });
 }
 
-/// Puts the frame of a content's header in. `scratch` is a place to spell it.
+/// Appends the frame of a content's header to `output`. `scratch` is a buffer to encode it.
 fn put_header_frame(output: &mut Output, scratch: &mut Scratch, channel: u16, content: &Content)
     requires stored { IsStored content.now }
     requires room { length (frame_bytes (header_frame channel content.now)) ≤ output.old.room }
@@ -46,7 +46,7 @@ fn put_header_frame(output: &mut Output, scratch: &mut Scratch, channel: u16, co
     });
 }
 
-/// The first piece of a body, of `size` bytes or of all that is left, and what follows it.
+/// Splits the first `size` bytes off `body`, or all if there are fewer.
 fn cut(body: &[u8], size: usize) -> (&[u8], &[u8])
     ensures piece { result.0.now ≡ take size body.now }
     ensures rest { result.1.now ≡ drop size body.now }
@@ -57,7 +57,7 @@ fn cut(body: &[u8], size: usize) -> (&[u8], &[u8])
     body.split_at(size)
 }
 
-/// Puts a body in, in frames of at most `max` bytes.
+/// Appends a body to `output`, in frames of at most `max` bytes.
 fn put_body(output: &mut Output, max: u32, channel: u16, body: &[u8])
     requires max { 4096 ≤ max }
     requires room { length (body_bytes max channel body.now) ≤ output.old.room }
@@ -76,7 +76,7 @@ fn put_body(output: &mut Output, max: u32, channel: u16, body: &[u8])
     }
 }
 
-/// Puts a content in, where there is one: its header, and its body in frames of at most `max` bytes.
+/// Appends a content to `output`, if there is one: its header, and its body in frames of at most `max` bytes.
 fn put_content(
     output: &mut Output,
     scratch: &mut Scratch,
@@ -98,7 +98,7 @@ fn put_content(
     }
 }
 
-/// Puts in what is sent to the connection `c`, whose frames have at most `max` bytes.
+/// Appends `send`, which is for connection `c`, to `output`, in frames of at most `max` bytes.
 fn put_send(c: u64, output: &mut Output, scratch: &mut Scratch, max: u32, send: &Send)
     requires own { IsOwn c send.now }
     requires max { 4096 ≤ max }
@@ -119,7 +119,7 @@ fn put_send(c: u64, output: &mut Output, scratch: &mut Scratch, max: u32, send: 
     }
 }
 
-/// Puts in all that is sent to the connection `c` at one event, one after another.
+/// Appends all of `sends` to `output`, one after another.
 fn put_each(c: u64, output: &mut Output, scratch: &mut Scratch, max: u32, sends: &[Send])
     requires own { AllByRecursion (IsOwn c) sends.now }
     requires max { 4096 ≤ max }
@@ -131,11 +131,14 @@ fn put_each(c: u64, output: &mut Output, scratch: &mut Scratch, max: u32, sends:
     }
 }
 
-/// Puts in all that is sent to the connection `c` at one event, for which there is room.
+/// Appends all that is sent to connection `c` at one event to `output`, in frames of at most `max` bytes. There is capacity for it. Never
+/// allocates.
 pub fn put_sends(c: u64, output: &mut Output, scratch: &mut Scratch, max: u32, sends: &[Send])
+    // What the caller knows: the sends are this connection's, and there is capacity for them.
     requires own { AreOwn c sends.now }
     requires max { 4096 ≤ max }
     requires room { most_sent ≤ output.old.room }
+    // The promise: their frames are appended.
     ensures bytes { output.new.bytes ≡ output.old.bytes ++ spelling max sends.now }
     ensures spelled { AllByRecursion (IsSpelled max) sends.now }
     ensures own { AllByRecursion (λ s. receiver s ≡ c) sends.now }

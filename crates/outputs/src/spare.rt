@@ -5,7 +5,7 @@ ghost use Rattle.model.specs.Sending.{most_sent};
 
 use std::marker::Model;
 
-/// A storage that no output holds. It has room for what one event sends. Contracts see how many had come back when it did.
+/// A storage that no output holds. It has capacity for what one event sends. Contracts see how many had come back when it did.
 #[derive(Drop)]
 pub(crate) struct Spare {
     storage: Vec<u8>,
@@ -24,7 +24,7 @@ impl Model for Spare {
 }
 
 impl Spare {
-    /// Returns this storage as one that came back when `since` had.
+    /// Returns `storage` as one that came back when `since` had.
     pub(crate) fn new(storage: Vec<u8>, since: u64) -> Spare
         requires { most_sent ≤ vec_capacity storage }
         ensures { result ≡ since }

@@ -1,4 +1,4 @@
-//! Storages that no output holds: those of outputs that were wholly taken, for outputs in which something is to wait next.
+//! Storages that no output holds: those of outputs that were emptied, for the next outputs that get bytes.
 
 ghost use Rattle.std.specs.Prelude.{◌≡◌, ◌≢◌, ◌≤◌, ◌<◌, ◌+◌, ℕ, [], drop, slice_get, vec_capacity, vec_len, IfOk, IsOk, OnOk, OnErr, Some};
 ghost use Rattle.model.specs.Sending.{most_sent};
@@ -9,34 +9,34 @@ use crate::spare::Spare;
 use std::alloc::{AllocError, Global};
 use std::marker::Model;
 
-/// How many bytes spell what one event sends, at most.
+/// The most bytes that encode what one event sends.
 const MOST_SENT: usize = 1_060_000;
 
-/// How many bytes the first storage of an output has. Behind the small answers of a round it has room for one event more, so that it
-/// does not move. One that has grown past it is not kept.
+/// The bytes of an output's first storage. Behind the small answers of a round it has capacity for one more event, so that it does not
+/// move. One that has grown past it is not kept.
 const FIRST: usize = MOST_SENT + 65_536;
 
-/// So many storages are kept, as many as a round of deliveries may put out to; what is more is freed.
+/// The most storages that are kept, as many outputs as a round of deliveries may put bytes into; the rest are freed.
 const MOST_SPARE: usize = 256;
 
-/// So many of them are kept however long nobody takes them.
+/// The number of storages that are kept however long nobody takes them.
 const AT_HAND: usize = 16;
 
-/// Past those, one is freed that nobody took while so many came back.
+/// Of more than those, one is freed that nobody took while this many came back.
 const LONG: u64 = 1024;
 
-/// How many storages the reserve has. They are allocated at the start, and again by [`Spares::hold`].
+/// The number of storages of the reserve. They are allocated at the start, and again by [`Spares::hold`].
 const RESERVE: usize = 8;
 
-/// How many storages [`Spares::release`] keeps.
+/// The number of storages that [`Spares::release`] keeps.
 const STAY: usize = 2;
 
-/// Storages for outputs. The one that came last is given first.
+/// Storages for outputs. The one that came back last is given first.
 #[derive(Drop)]
 pub struct Spares {
     alloc: Global,
     spares: Vec<Spare>,
-    /// How many came back.
+    /// The number of storages that came back.
     returned: u64,
 }
 
@@ -50,11 +50,13 @@ impl Model for Spares {
     ghost invariant = { λ s. (vec_len s.spares ≤ 256) × (256 ≤ vec_capacity s.spares) };
 }
 
-/// Frees the first of all, if more than 16 are there and it has not been taken for long: 1,024 came back after it, of `count`.
+/// Frees the first of all, if there are more than 16 and it has not been taken for long: 1,024 came back after it, of `count`.
 fn free_unused(all: &mut Vec<Spare>, count: u64)
+    // Whether one is freed.
     ensures few { vec_len all.old ≤ 16 → all.new ≡ all.old }
     ensures unused { (since : ℕ) → slice_get all.old.items 0 ≡ Some since → 16 < vec_len all.old → since + 1024 < count → all.new.items ≡ drop 1 all.old.items }
     ensures used { (since : ℕ) → slice_get all.old.items 0 ≡ Some since → count ≤ since + 1024 → all.new ≡ all.old }
+    // How many are left.
     ensures least { 16 ≤ vec_len all.old → 16 ≤ vec_len all.new }
     ensures most { vec_len all.new ≤ vec_len all.old }
     ensures capacity { vec_capacity all.new ≡ vec_capacity all.old }
@@ -65,7 +67,7 @@ fn free_unused(all: &mut Vec<Spare>, count: u64)
     drop(all.remove(0));
 }
 
-/// Allocates a storage that came when `since` had come back.
+/// Allocates a storage that came back when `since` had.
 fn new_spare(alloc: Global, since: u64) -> Result<Spare, AllocError> {
     let storage = Vec::with_capacity(alloc, FIRST)?;
     Ok(Spare::new(storage, since))
@@ -74,10 +76,12 @@ fn new_spare(alloc: Global, since: u64) -> Result<Spare, AllocError> {
 /// Allocates storages until `all` has 8. If an allocation fails, those that were allocated stay in `all`.
 fn fill_up(alloc: Global, all: &mut Vec<Spare>, since: u64) -> Result<(), AllocError>
     requires { 256 ≤ vec_capacity all.old }
+    // The storages after it, and when it may fail.
     ensures whole { OnOk result (8 ≤ vec_len all.new) }
     ensures few { vec_len all.old ≤ 8 → vec_len all.new ≤ 8 }
     ensures many { 8 ≤ vec_len all.old → vec_len all.new ≡ vec_len all.old }
     ensures full { OnErr result (vec_len all.old < 8) }
+    // The frame, also after a failure.
     ensures least { vec_len all.old ≤ vec_len all.new }
     ensures capacity { vec_capacity all.new ≡ vec_capacity all.old }
 {
@@ -122,16 +126,17 @@ impl Spares {
         self.spares.truncate(STAY);
     }
 
-    /// Makes room in an output for all that one event sends. One without storage gets a spare one, or if none is spare a new one, with room
-    /// for 65,536 bytes beside. Fails only if an allocation fails: there was less room than one event wants, and no spare storage for an output
-    /// without one.
+    /// Reserves capacity in `output` for all that one event sends. One without storage gets a spare one, or if there is none a new one, with 65,536
+    /// bytes more. Fails only if there is less capacity than that, there is no spare storage for an output without one, and the allocation
+    /// fails.
     pub fn make_room(&mut self, output: &mut Output) -> Result<(), AllocError>
+        // The capacity after it; the bytes are unchanged.
         ensures bytes { output.new.bytes ≡ output.old.bytes }
         ensures ok { OnOk result (most_sent ≤ output.new.room) }
         ensures first { output.old.storage ≡ 0 → self.old ≡ 0 → OnOk result (most_sent + 65536 ≤ output.new.room) }
         ensures kept { output.old.room ≤ output.new.room }
         ensures full { OnErr result (output.old.room < most_sent) }
-        // a spare one has room, and is used before a new one is made
+        // a spare one has that capacity, and is used before a new one is made
         ensures enough { output.old.storage ≡ 0 → 0 < self.old → IsOk result }
         ensures spent { output.old.storage ≡ 0 → 0 < self.old → self.old ≡ self.new + 1 }
         ensures rest { 0 < output.old.storage → self.new ≡ self.old }
@@ -142,19 +147,22 @@ impl Spares {
         output.reserve(wanted)
     }
 
-    /// Takes the storage of an output in which nothing waits. It is spare from now on; or freed if 256 are, if it has grown past 1,125,536
-    /// bytes, or if it has no room for what one event sends. If something waits, nothing is taken. Of more than 16 one is freed that nobody
-    /// took for long.
+    /// Takes the storage of an empty output, and keeps it as a spare one. Frees it if 256 are spare, if it has grown past 1,125,536 bytes, or if it has
+    /// no capacity for what one event sends. If the output has bytes nothing is taken. If more than 16 are spare, frees one that nobody took
+    /// for long.
     pub fn take_back(&mut self, output: &mut Output)
+        // An empty output holds no storage after it.
         ensures bytes { output.new.bytes ≡ output.old.bytes }
         ensures none { HoldsNone output.new }
+        // Whether the storage is kept.
         ensures kept { output.old.bytes ≡ [] → most_sent ≤ output.old.storage → output.old.storage ≤ 1125536 → self.old ≤ 16 → self.new ≡ self.old + 1 }
         ensures large { 1125536 < output.old.storage → self.new ≤ self.old }
         ensures freed { 256 ≤ self.old → self.new ≤ self.old }
+        // How many are spare after it.
         ensures most { self.new ≤ self.old + 1 }
         ensures least { 16 ≤ self.old → 16 ≤ self.new }
         ensures rest { output.old.storage ≡ 0 → self.new ≡ self.old }
-        // one in which something waits stays as it is
+        // an output that has bytes is unchanged
         ensures waits { output.old.bytes ≢ [] → output.new ≡ output.old }
         ensures same { output.old.bytes ≢ [] → self.new ≡ self.old }
     {
@@ -165,8 +173,8 @@ impl Spares {
         self.keep(storage);
     }
 
-    /// Takes the storage of an output that nobody takes from any more, whatever waits in it, which is lost. It is spare from now on, or
-    /// freed as [`Spares::take_back`] does.
+    /// Takes the storage of an output that was lost, and drops its bytes. Keeps or frees the storage as [`Spares::take_back`]
+    /// does.
     pub fn take_lost(&mut self, output: &mut Output)
         ensures bytes { output.new.bytes ≡ [] }
         ensures none { output.new.storage ≡ 0 }
@@ -181,11 +189,13 @@ impl Spares {
 
     /// Gives an output that has no storage a spare one, if there is one.
     fn furnish(&mut self, output: &mut Output)
+        // The output: its bytes stay, and it has a spare storage if there was one.
         ensures bytes { output.new.bytes ≡ output.old.bytes }
         ensures room { output.old.room ≤ output.new.room }
         ensures spent { output.old.storage ≡ 0 → 0 < self.old → self.old ≡ self.new + 1 }
         ensures none { output.old.storage ≡ 0 → self.old ≡ 0 → output.new.storage ≡ 0 }
         ensures enough { output.old.storage ≡ 0 → 0 < self.old → most_sent ≤ output.new.room }
+        // The spare storages that are left.
         ensures rest { 0 < output.old.storage → self.new ≡ self.old }
         ensures most { self.new ≤ self.old }
     {
@@ -197,7 +207,7 @@ impl Spares {
         }
     }
 
-    /// Keeps a storage that came back, unless it is large or small, or as many as can be are kept. One is freed that nobody took for long.
+    /// Keeps a storage that came back, unless it is too large or too small, or 256 are kept. Frees one that nobody took for long.
     fn keep(&mut self, storage: Vec<u8>)
         ensures kept { most_sent ≤ vec_capacity storage → vec_capacity storage ≤ 1125536 → self.old ≤ 16 → self.new ≡ self.old + 1 }
         ensures large { 1125536 < vec_capacity storage → self.new ≤ self.old }

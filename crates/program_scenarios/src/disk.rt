@@ -5,14 +5,14 @@ use scenario_parts::DEFINITIONS;
 use server::{Files, NotWritten, Unread};
 use std::alloc::Global;
 
-/// A disk with the definitions, no guarantees, no certificates, and a script. Nothing is written to it.
+/// A disk with the definitions, no guarantees, no certificates, and a script. Nothing can be written to it.
 #[derive(Drop)]
 pub(crate) struct ScenarioDisk {
     pub(crate) script: &'static [u8],
 }
 
 impl ScenarioDisk {
-    /// The text of the file of this name.
+    /// Returns the text of the file `name`.
     fn text(&self, name: &str) -> &'static [u8] {
         match name {
             "definitions" => DEFINITIONS,

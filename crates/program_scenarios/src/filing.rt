@@ -1,4 +1,4 @@
-//! Certificates that are written to a file, and what is told of that file.
+//! Certificates that are written to a file, and what is reported of that file.
 
 use certificate::{Certificate, Draft, Form, Unwritten};
 use model::{Text, limits};
@@ -7,7 +7,7 @@ use scenario_parts::{Unmet, expect, expect_bytes, expect_number, value_of};
 use server::{Files, NotWritten, Unread, program};
 use std::alloc::{AllocError, Global};
 
-/// A disk with definitions and guarantees, that takes one more file.
+/// A disk with definitions and guarantees, on which one more file can be written.
 #[derive(Drop)]
 struct OpenDisk {
     /// The name of the file that was written last, and its bytes.
@@ -16,7 +16,7 @@ struct OpenDisk {
 }
 
 impl OpenDisk {
-    /// The bytes of the file of this name, where it is there.
+    /// Returns the bytes of the file `name`, if it exists.
     fn bytes(&self, name: &str) -> Option<&[u8]> {
         match (name, &self.written) {
             ("definitions", _) => Some(DEFINITIONS),
@@ -98,13 +98,13 @@ pub(crate) fn certificates_that_are_written_are_accepted(alloc: Global) -> Resul
     expect_printed(alloc, &mut disk, verify.as_slice(), b"1 ok\n")
 }
 
-/// How many states the large certificate has.
+/// The number of states of the large certificate.
 const STATES: u32 = 8_192;
 
-/// How many bytes it has in a file: 82 before its states, 2 behind them, and between these 321 for each, with a comma between two.
+/// Its bytes in a file: 82 before its states, 2 behind them, and between these 321 for each, with a comma between two.
 const LARGE: u64 = 2_637_907;
 
-/// A certificate of 8,192 states with 64 numbers of four digits.
+/// Returns a certificate of 8,192 states with 64 numbers of four digits.
 fn large(alloc: Global) -> Result<Certificate, AllocError> {
     let mut states = Vec::new(alloc);
     for _ in 0..STATES {
@@ -120,7 +120,7 @@ fn large(alloc: Global) -> Result<Certificate, AllocError> {
     ))
 }
 
-/// The file of so many of this certificate.
+/// Returns the file of `count` copies of `certificate`.
 fn file_of(alloc: Global, certificate: &Certificate, count: u8) -> Result<Vec<u8>, Unwritten> {
     let mut draft = Draft::new(alloc);
     for _ in 0..count {
@@ -129,7 +129,7 @@ fn file_of(alloc: Global, certificate: &Certificate, count: u8) -> Result<Vec<u8
     draft.finished()
 }
 
-/// A file of certificates that would be too long to be read back is given up.
+/// A file of certificates that would be too long to be read back is not made.
 pub(crate) fn a_file_past_the_limit_is_given_up(alloc: Global) -> Result<(), Unmet> {
     let certificate = value_of("the certificate", large(alloc))?;
     let six = value_of("the file of six", file_of(alloc, &certificate, 6))?;

@@ -1,6 +1,6 @@
 //! Scenarios of the program: over streams and files that no command line names; `serve` over sockets of the system; `serve --reload`,
 //! whose files are replaced while they are looked at; and over the files and the sockets of the machine. `cases` runs them, in its
-//! folder of data.
+//! folder of data: start at [`tell_all`].
 #![tactic(auto)]
 
 mod disk;
@@ -14,7 +14,7 @@ mod streams;
 use scenario_parts::Sums;
 use std::io;
 
-/// The scenarios of the program over streams and files that no command line names.
+/// Runs the scenarios of the program over streams and files that no command line names.
 fn tell_streams(sums: &mut Sums, rt: &HostRuntime) -> io::Result<()> {
     let alloc = rt.alloc();
     sums.tell(
@@ -39,7 +39,7 @@ fn tell_streams(sums: &mut Sums, rt: &HostRuntime) -> io::Result<()> {
     )
 }
 
-/// The scenarios of `serve` as the program does it.
+/// Runs the scenarios of `serve` as the program does it.
 fn tell_services(sums: &mut Sums, rt: &HostRuntime) -> io::Result<()> {
     let alloc = rt.alloc();
     sums.tell(
@@ -64,7 +64,7 @@ fn tell_services(sums: &mut Sums, rt: &HostRuntime) -> io::Result<()> {
     )
 }
 
-/// The scenarios of `serve --reload`.
+/// Runs the scenarios of `serve --reload`.
 fn tell_looks(sums: &mut Sums, rt: &HostRuntime) -> io::Result<()> {
     let alloc = rt.alloc();
     sums.tell(
@@ -89,7 +89,7 @@ fn tell_looks(sums: &mut Sums, rt: &HostRuntime) -> io::Result<()> {
     )
 }
 
-/// The scenarios of the program over files of the machine.
+/// Runs the scenarios of the program over files of the machine.
 fn tell_files(sums: &mut Sums, rt: &HostRuntime) -> io::Result<()> {
     sums.tell(
         rt,
@@ -118,7 +118,7 @@ fn tell_files(sums: &mut Sums, rt: &HostRuntime) -> io::Result<()> {
     )
 }
 
-/// The scenarios of the program over sockets of the machine.
+/// Runs the scenarios of the program over sockets of the machine.
 fn tell_sockets(sums: &mut Sums, rt: &HostRuntime) -> io::Result<()> {
     sums.tell(
         rt,

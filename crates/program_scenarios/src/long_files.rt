@@ -9,10 +9,10 @@ use std::fs;
 /// The file that is written.
 const WRITTEN: &str = "a_long_file_that_was_written";
 
-/// How many bytes it has.
+/// The number of its bytes.
 const LENGTH: usize = 100_000;
 
-/// As many bytes, which repeat after 251, a prime: so no two parts that begin at powers of two are alike.
+/// Returns the bytes, which repeat after 251, a prime: so no two parts that begin at powers of two are equal.
 fn long_text(alloc: Global) -> Result<Vec<u8>, AllocError> {
     let mut bytes = vec![in alloc; 0u8; LENGTH]?;
     for (place, byte) in bytes.iter_mut().enumerate() {

@@ -13,7 +13,7 @@ use std::alloc::{AllocError, Global};
 use std::io::Write;
 
 /// The front of a definitions file: the user bob, whose password is `wonder`, and the exchange `orders`, up to the first queue. The
-/// hash is of another implementation of SHA-256.
+/// hash is by another implementation of SHA-256.
 const FRONT: &[u8] =
     b"{\"vhosts\":[{\"name\":\"/\"}],\"users\":[{\"name\":\"bob\",\"password_hash\":\"AP8QIP1+hc366UvtXAK3UQ+rq8L0LES3C50CEYORrkee+cR/\",\"hashing_algorithm\":\"rabbit_password_hashing_sha256\"}],\"permissions\":[{\"user\":\"bob\",\"vhost\":\"/\",\"configure\":\"^$\",\"write\":\".*\",\"read\":\".*\"}],\"exchanges\":[{\"name\":\"orders\",\"vhost\":\"/\",\"type\":\"direct\",\"durable\":true,\"auto_delete\":false,\"internal\":false,\"arguments\":{}}],\"queues\":[";
 
@@ -29,15 +29,15 @@ const STOCK: &[u8] =
 const TO_AUDIT: &[u8] =
     b"],\"bindings\":[{\"source\":\"orders\",\"vhost\":\"/\",\"destination\":\"audit\",\"destination_type\":\"queue\",\"routing_key\":\"new\",\"arguments\":{}}]}";
 
-/// The same to `stock`.
+/// The end of a definitions file: `orders` routes the key `new` to `stock`.
 const TO_STOCK: &[u8] =
     b"],\"bindings\":[{\"source\":\"orders\",\"vhost\":\"/\",\"destination\":\"stock\",\"destination_type\":\"queue\",\"routing_key\":\"new\",\"arguments\":{}}]}";
 
-/// The queue `audit`, with another behind it. What dies in it comes to `stock`.
+/// The queue `audit`, with another behind it. What is rejected in it is dead-lettered to `stock`.
 const DYING_AUDIT: &[u8] =
     b"{\"name\":\"audit\",\"vhost\":\"/\",\"durable\":true,\"auto_delete\":false,\"arguments\":{\"x-dead-letter-exchange\":\"\",\"x-dead-letter-routing-key\":\"stock\"}},";
 
-/// The same, where `orders` routes nothing.
+/// The end of a definitions file: `orders` routes nothing.
 const TO_NOTHING: &[u8] = b"],\"bindings\":[]}";
 
 /// No guarantee.
@@ -46,20 +46,20 @@ const NO_GUARANTEES: &[u8] = b"{\"guarantees\":[]}";
 /// No certificate.
 const NO_CERTIFICATES: &[u8] = b"[]";
 
-/// What is sent to `orders` under the key `new` comes to `stock`.
+/// What is published to `orders` with the key `new` reaches `stock`.
 const GUARANTEES: &[u8] =
     b"{\"guarantees\":[{\"mode\":\"reaches\",\"exchange\":\"orders\",\"pattern\":\"new\",\"queue\":\"stock\"}]}";
 
-/// The certificate of that. Two patterns are tracked, the guarantee's and the key, which are alike: no word so far, `new`, and
+/// The certificate of `GUARANTEES`. Two patterns are tracked, the guarantee's and the key, which are alike: no word so far, `new`, and
 /// all else.
 const CERTIFICATES: &[u8] =
     b"[{\"exchange\":\"orders\",\"form\":1,\"mode\":\"reaches\",\"pattern\":\"new\",\"queue\":\"stock\",\"states\":[[0,0],[1,1],[2,2]]}]";
 
-/// What is sent to `orders` under the key `new` never comes to `stock`.
+/// What is published to `orders` with the key `new` never reaches `stock`.
 const FORBIDDEN: &[u8] =
     b"{\"guarantees\":[{\"mode\":\"never\",\"exchange\":\"orders\",\"pattern\":\"new\",\"queue\":\"stock\"}]}";
 
-/// The certificate of that. One pattern is tracked, the guarantee's: all else, no word so far, and `new`.
+/// The certificate of `FORBIDDEN`. One pattern is tracked, the guarantee's: all else, no word so far, and `new`.
 const FORBIDDEN_CERTIFICATES: &[u8] =
     b"[{\"exchange\":\"orders\",\"form\":1,\"mode\":\"never\",\"pattern\":\"new\",\"queue\":\"stock\",\"states\":[[0],[1],[2]]}]";
 
@@ -107,7 +107,7 @@ const REPLACED: Version = Version {
     certificates: CERTIFICATES,
 };
 
-/// `orders` leads nowhere. So what is sent to it never comes to `stock`, but what waits in `audit` could.
+/// `orders` leads nowhere. So what is published to it never reaches `stock`, but a message that is in `audit` could.
 const FORBIDDING: Version = Version {
     definitions: &[FRONT, DYING_AUDIT, STOCK, TO_NOTHING],
     guarantees: FORBIDDEN,
@@ -117,14 +117,14 @@ const FORBIDDING: Version = Version {
 /// Files that are replaced between looks.
 #[derive(Drop)]
 struct Replaced {
-    /// The files as they are each time that the definitions are read, first. From then on they are `REPLACED`.
+    /// The files at each read of the definitions, in order. At all later reads they are `REPLACED`.
     versions: &'static [Version],
-    /// How often the definitions were read, or compared.
+    /// The number of times that the definitions were read, or compared.
     reads: usize,
 }
 
 impl Replaced {
-    /// The files as they are now.
+    /// Returns the files as they are now.
     fn version(&self) -> Version {
         match self.versions.get(self.reads.saturating_sub(1)) {
             Some(version) => *version,
@@ -132,7 +132,7 @@ impl Replaced {
         }
     }
 
-    /// The text of the file of this name.
+    /// Returns the text of the file `name`.
     fn text(&mut self, alloc: Global, name: &str) -> Result<Vec<u8>, AllocError> {
         match name {
             "definitions" => {
@@ -163,7 +163,7 @@ impl Files for Replaced {
     }
 }
 
-/// These pieces as one text.
+/// Joins these pieces.
 fn all_of(alloc: Global, pieces: &[&[u8]]) -> Result<Vec<u8>, AllocError> {
     let mut bytes = Vec::new(alloc);
     for piece in pieces {
@@ -172,7 +172,7 @@ fn all_of(alloc: Global, pieces: &[&[u8]]) -> Result<Vec<u8>, AllocError> {
     Ok(bytes)
 }
 
-/// What opens a wire in memory, once.
+/// Opens a wire in memory, once.
 #[derive(Drop)]
 struct InMemory {
     wire: Option<MemoryWire>,
@@ -192,7 +192,7 @@ impl Listener for InMemory {
     }
 }
 
-/// The words that ask to serve fourteen turns, with a look at the files behind each second one but the last.
+/// The words that ask to serve fourteen rounds, with a look at the files after each second one but the last.
 const WORDS: [&str; 11] = [
     "warren",
     "serve",
@@ -207,11 +207,11 @@ const WORDS: [&str; 11] = [
     "2",
 ];
 
-/// How often the definitions are read where the first of six looks finds others: at the start, and at each look to compare them with
-/// those in force; and once more where they differ.
+/// How often the definitions are read if the first of six looks finds others: at the start, and at each look to compare them with
+/// those in force; and one more time if they differ.
 const READS_OF_OTHERS: u64 = 8;
 
-/// How often the client publishes: in the second turn and in each behind it.
+/// How often the client publishes: in the second round and in each after it.
 const PUBLISHES: u64 = 13;
 
 /// basic.get of `audit` on channel 1, and one of `stock`, to be acknowledged.
@@ -221,15 +221,15 @@ const GETS: &[u8] =
 /// get-ok of a message of `MESSAGE`, up to its delivery tag.
 const GOT: &[u8] = b"\x01\x00\x01\x00\x00\x00\x1c\x00\x3c\x00\x47";
 
-/// The rest of it: the message is given out for the first time, and the last that is ready. Behind it is the content.
+/// What follows the delivery tag: the message is given out for the first time, and is the last that is ready. Then its content.
 const BEHIND_TAG: &[u8] =
     b"\x00\x06orders\x03new\x00\x00\x00\x00\xce\x02\x00\x01\x00\x00\x00\x0e\x00\x3c\x00\x00\x00\x00\x00\x00\x00\x00\x00\x02\x00\x00\xce\x03\x00\x01\x00\x00\x00\x02hi\xce";
 
 /// get-empty.
 const EMPTY: &[u8] = b"\x01\x00\x01\x00\x00\x00\x05\x00\x3c\x00\x48\x00\xce";
 
-/// A client that opens in the first turn, and publishes and gets of both queues in each behind it: what it writes in a turn has as
-/// many bytes as an opening, so a read gives as much.
+/// Returns a client that opens in the first round, and publishes and gets from both queues in each later one: what it writes in a round has
+/// as many bytes as an opening, so a read gets as much.
 fn client(alloc: Global) -> Result<Client, Unmet> {
     let turn = joined(alloc, MESSAGE, GETS)?;
     expect_number(
@@ -252,14 +252,14 @@ fn client(alloc: Global) -> Result<Client, Unmet> {
     })
 }
 
-/// A wire with this client alone.
+/// Returns a wire with this client alone.
 fn wire(alloc: Global) -> Result<MemoryWire, Unmet> {
     let mut clients = Vec::new(alloc);
     value_of("push", clients.push(client(alloc)?))?;
     Ok(MemoryWire::new(alloc, clients))
 }
 
-/// Adds what the gets of a turn are answered, of which one finds the message with this delivery tag, and the other nothing.
+/// Appends the answers to the gets of a round, of which one finds the message with this delivery tag, and the other nothing.
 fn add_gets(answer: &mut Vec<u8>, tag: u64, is_old: bool) -> Result<(), AllocError> {
     if !is_old {
         answer.extend_from_slice(EMPTY)?;
@@ -273,7 +273,7 @@ fn add_gets(answer: &mut Vec<u8>, tag: u64, is_old: bool) -> Result<(), AllocErr
     Ok(())
 }
 
-/// What the client is answered where so many of its publishes come to `audit`, and those behind them to `stock`.
+/// Returns what the client is answered if its first `old` publishes reach `audit`, and those after them `stock`.
 fn answer(alloc: Global, old: u64) -> Result<Vec<u8>, AllocError> {
     let mut answer = Vec::from_slice(alloc, OPENED)?;
     for tag in 1..=PUBLISHES {
@@ -282,8 +282,8 @@ fn answer(alloc: Global, old: u64) -> Result<Vec<u8>, AllocError> {
     Ok(answer)
 }
 
-/// Serves the client over these files, with this stream as standard error, and gives the status. Expects that the definitions were read
-/// so often, and that so many of the publishes came to `audit`, and those behind them to `stock`.
+/// Serves the client over these files, with this stream as standard error, and returns the status. Expects how often the definitions were read,
+/// and that the given number of publishes reached `audit`, and those after them `stock`.
 fn serve_over<E: Write>(
     alloc: Global,
     versions: &'static [Version],
@@ -323,8 +323,8 @@ pub(crate) fn files_that_are_replaced_are_put_in_force(alloc: Global) -> Result<
     expect("nothing is told", err.is_empty())
 }
 
-/// Files that do not fit at five looks, and fit at the sixth. A look compares the definitions with those that stand refused, if there
-/// are any, then with those in force, and reads them where they differ from both.
+/// Files that do not fit at five looks, and fit at the sixth. A look compares the definitions with those that were refused, if there are
+/// any, then with those in force, and reads them if they differ from both.
 const FITTING_IN_THE_END: &[Version] = &[
     STARTED,
     // the first look compares them once, and reads them
@@ -346,10 +346,10 @@ const FITTING_IN_THE_END: &[Version] = &[
 /// How often the definitions are read then: as above, and three times at the sixth look, which compares them with what was admitted, too.
 const READS_IN_THE_END: u64 = 14;
 
-/// How many publishes come before the sixth look, which is behind the twelfth turn.
+/// How many publishes come before the sixth look, which is after the twelfth round.
 const BEFORE_THE_SIXTH: u64 = 11;
 
-/// Each look at files that do not fit tells so in one line, and the client is served by what was in force before.
+/// Each look at files that do not fit reports that in one line, and the client is served by what was in force before.
 pub(crate) fn files_that_do_not_fit_are_told_at_each_look(alloc: Global) -> Result<(), Unmet> {
     let mut err: Vec<u8> = Vec::new(alloc);
     let status = serve_over(
@@ -367,7 +367,7 @@ pub(crate) fn files_that_do_not_fit_are_told_at_each_look(alloc: Global) -> Resu
     )
 }
 
-/// Where such a line is not taken the client is served all the same, and the status is 4.
+/// If such a line is not taken the client is served all the same, and the status is 4.
 pub(crate) fn looks_whose_lines_are_not_taken_have_status_four(alloc: Global) -> Result<(), Unmet> {
     let status = serve_over(
         alloc,
@@ -383,14 +383,14 @@ pub(crate) fn looks_whose_lines_are_not_taken_have_status_four(alloc: Global) ->
 const FITTING_AT_THE_SECOND: &[Version] = &[STARTED, FORBIDDING, FORBIDDING];
 
 /// How often the definitions are read then: as above; three times at the second look, which compares them with what was admitted at the
-/// first, too; and once at each of the four behind it.
+/// first, too; and once at each of the four after it.
 const READS_FROM_THE_SECOND: u64 = 10;
 
-/// How many publishes come before the second look, which is behind the fourth turn.
+/// How many publishes come before the second look, which is after the fourth round.
 const BEFORE_THE_SECOND: u64 = 3;
 
-/// Files under which a message that waits could come by a death to a queue that they forbid it stay out of force until they are replaced. What is
-/// told names the queue, the key under which the message was sent, in hex digits, and the guarantee.
+/// Files under which a message in a queue could reach a queue that they forbid it by dead-lettering stay out of force until they are replaced. The
+/// line names the queue, the key with which the message was published, in hex digits, and the guarantee.
 pub(crate) fn a_message_that_could_come_where_it_is_forbidden_is_told(
     alloc: Global,
 ) -> Result<(), Unmet> {

@@ -1,4 +1,4 @@
-//! The program over the files and the sockets of the machine: files lie in the folder that the run has, and sockets are those of
+//! The program over the files and the sockets of the machine: files are in the folder of the run, and sockets are those of
 //! 127.0.0.1.
 
 use reload_loop::{Disk, System, program_with_sockets};
@@ -8,7 +8,7 @@ use std::alloc::Global;
 use std::fs;
 use std::net::TcpListener;
 
-/// What a call of the program came to.
+/// How a call of the program ended.
 #[derive(Drop)]
 struct Outcome {
     status: u8,
@@ -31,7 +31,7 @@ fn run(rt: &HostRuntime, words: &[&str]) -> Outcome {
     }
 }
 
-/// Expects that these words come to this status, with this output and this complaint.
+/// Expects that these words end with this status, output and complaint.
 fn expect_run(
     rt: &HostRuntime,
     words: &[&str],
@@ -51,16 +51,16 @@ const TWO_KEYS: &str = "definitions/two_keys.json";
 /// The same without the key `orders`.
 const ONE_KEY: &str = "definitions/one_key.json";
 
-/// Each key that `orders.#` matches comes to `audit`.
+/// Each key that `orders.#` matches reaches `audit`.
 const ORDERS: &str = "guarantees/orders_to_audit.json";
 
-/// Of no topology.
+/// A file that doesn't exist.
 const NO_FILE: &str = "definitions/nowhere.json";
 
 /// The file that is written.
 const WRITTEN: &str = "certificates_that_were_written.json";
 
-/// What is written to it: the certificate by the five states that docs/FORMATS.md derives.
+/// What is written to it: the certificate with the five states that docs/FORMATS.md derives.
 const CERTIFICATES: &[u8] =
     b"[{\"exchange\":\"X\",\"form\":1,\"mode\":\"reaches\",\"pattern\":\"orders.#\",\"queue\":\"audit\",\"states\":[[0,0,0],[1,1,1],[4,0,8],[4,0,12],[6,2,2]]}]";
 
@@ -75,7 +75,7 @@ fn remove(rt: &HostRuntime) -> Result<(), Unmet> {
     value_of("remove_file", fs::remove_file(rt, WRITTEN))
 }
 
-/// Expects that the file that was written is found to have these bytes and no others, or not.
+/// Expects that the file that was written has exactly these bytes, or hasn't, as `is` says.
 fn expect_found(disk: &mut Disk<'_>, alloc: Global, bytes: &[u8], is: bool) -> Result<(), Unmet> {
     let found = value_of("has_bytes", disk.has_bytes(alloc, WRITTEN, bytes))?;
     expect("the file is compared rightly", found == is)
@@ -99,7 +99,7 @@ pub(crate) fn a_file_that_is_written_is_read_back(rt: &HostRuntime) -> Result<()
     remove(rt)
 }
 
-/// A file that is longer than a part, and one that differs in its last byte alone.
+/// A file that is longer than a part is compared to its end, also if only the last byte differs.
 pub(crate) fn a_long_file_is_compared_to_its_end(rt: &HostRuntime) -> Result<(), Unmet> {
     let alloc = rt.alloc();
     let mut disk = Disk { rt };
@@ -115,7 +115,7 @@ pub(crate) fn a_long_file_is_compared_to_its_end(rt: &HostRuntime) -> Result<(),
     remove(rt)
 }
 
-/// A file that is not there is neither read nor compared.
+/// A file that doesn't exist is neither read nor compared.
 pub(crate) fn a_file_that_is_not_there_is_unread(rt: &HostRuntime) -> Result<(), Unmet> {
     let alloc = rt.alloc();
     let mut disk = Disk { rt };
@@ -125,7 +125,7 @@ pub(crate) fn a_file_that_is_not_there_is_unread(rt: &HostRuntime) -> Result<(),
     expect("it cannot be compared", compared)
 }
 
-/// Each status, as docs/OPERATIONS.md has them.
+/// Files of the machine lead to each status, as docs/OPERATIONS.md has them.
 pub(crate) fn each_status_comes_of_files_of_the_machine(rt: &HostRuntime) -> Result<(), Unmet> {
     write(rt)?;
     remove(rt)?;
@@ -145,7 +145,7 @@ pub(crate) fn each_status_comes_of_files_of_the_machine(rt: &HostRuntime) -> Res
     expect_run(rt, unread.as_slice(), 4, b"", told)
 }
 
-/// The words that ask to serve these files at this address for three turns, with a look at them behind each but the last.
+/// Returns the words that ask to serve these files at this address for three rounds, with a look at them after each but the last.
 fn words_to_serve(address: &str) -> [&str; 11] {
     [
         "warren", "serve", TWO_KEYS, ORDERS, WRITTEN, "--listen", address, "--turns", "3",
@@ -153,7 +153,7 @@ fn words_to_serve(address: &str) -> [&str; 11] {
     ]
 }
 
-/// The program serves at a port of this machine, and looks at its files, which are as they were.
+/// The program serves at a port of this machine, and looks at its files, which are unchanged.
 pub(crate) fn it_serves_at_a_port_that_is_free(rt: &HostRuntime) -> Result<(), Unmet> {
     write(rt)?;
     let run = run(rt, words_to_serve("127.0.0.1:0").as_slice());
@@ -167,7 +167,7 @@ pub(crate) fn it_serves_at_a_port_that_is_free(rt: &HostRuntime) -> Result<(), U
     )
 }
 
-/// At a port at which another listens no client can come.
+/// At a port at which another program listens no client can connect.
 pub(crate) fn it_does_not_listen_at_a_port_that_is_used(rt: &HostRuntime) -> Result<(), Unmet> {
     let alloc = rt.alloc();
     let other = value_of("TcpListener::bind", TcpListener::bind(rt, "127.0.0.1:0"))?;

@@ -15,16 +15,16 @@ use std::io;
 use std::io::{Read as _, Write, Write as _};
 use std::net::{Net, SocketAddr, TcpStream};
 
-/// What opens sockets of the system, at which a client comes at once that writes an opening and a publish.
+/// Opens sockets of the system, to which a client connects at once that writes an opening and a publish.
 #[derive(Drop)]
 struct Visited<N: Net> {
     net: N,
     client: Option<N::Stream>,
-    /// How often sockets were asked for.
+    /// The number of times that sockets were asked for.
     asked: u64,
 }
 
-/// A client at these sockets, that has written all it will.
+/// Connects a client to these sockets, which has written all it will.
 fn visit<N: Net>(net: &N, alloc: Global, sockets: &Sockets) -> Result<N::Stream, Unmet> {
     let address = value_of("Sockets::local_addr", sockets.local_addr())?;
     let mut client = value_of("TcpStream::connect", TcpStream::connect(net, address))?;
@@ -51,7 +51,7 @@ impl<N: Net> Listener for Visited<N> {
     }
 }
 
-/// The words that ask to serve over this definitions file at this address, for 16 turns.
+/// Returns the words that ask to serve this definitions file at this address, for 16 rounds.
 fn words(alloc: Global, definitions: &str, address: &str) -> Result<Vec<String>, Unmet> {
     let mut words = Vec::new(alloc);
     for word in [
@@ -71,10 +71,10 @@ fn words(alloc: Global, definitions: &str, address: &str) -> Result<Vec<String>,
     Ok(words)
 }
 
-/// An address of this machine with a port that is free.
+/// An address of this machine with a free port.
 const FREE: &str = "127.0.0.1:0";
 
-/// What came of serving.
+/// How serving ended.
 #[derive(Drop)]
 struct ServeOutcome<N: Net> {
     ended: Ended<Watched<Sockets>>,
@@ -82,7 +82,7 @@ struct ServeOutcome<N: Net> {
     err: Vec<u8>,
 }
 
-/// Calls the program to serve over this definitions file at this address.
+/// Calls the program to serve this definitions file at this address.
 fn serve<'a, N: Net, O: Write>(
     net: &'a N,
     alloc: Global,
@@ -113,7 +113,7 @@ fn serve<'a, N: Net, O: Write>(
     })
 }
 
-/// Expects that no client was served, with this status, and that sockets were asked for so often.
+/// Expects that no client was served, with this status, and how often sockets were asked for.
 fn expect_unserved<N: Net>(served: &ServeOutcome<N>, status: u64, asked: u64) -> Result<(), Unmet> {
     expect_number("the status", u64::from(served.ended.status), status)?;
     expect("no client was served", served.ended.service.is_none())?;
@@ -124,7 +124,7 @@ fn expect_unserved<N: Net>(served: &ServeOutcome<N>, status: u64, asked: u64) ->
     )
 }
 
-/// A client of `serve` is answered: where it may come is told, and as many turns are served as were asked for.
+/// A client of `serve` is answered: the address is reported, and as many rounds are served as were asked for.
 pub(crate) fn serve_tells_where_it_listens_and_ends_after_its_turns<N: Net>(
     net: &N,
     alloc: Global,
@@ -153,7 +153,7 @@ pub(crate) fn serve_tells_where_it_listens_and_ends_after_its_turns<N: Net>(
     expect_opened_and_acked(alloc, answer.as_slice())
 }
 
-/// Where a file is refused, no socket is opened.
+/// If a file is refused no socket is opened.
 pub(crate) fn serve_judges_its_files_before_it_listens<N: Net>(
     net: &N,
     alloc: Global,
@@ -169,7 +169,7 @@ pub(crate) fn serve_judges_its_files_before_it_listens<N: Net>(
     )
 }
 
-/// At what is no address no client can come.
+/// No client can connect at what is no address.
 pub(crate) fn serve_tells_that_it_cannot_listen<N: Net>(
     net: &N,
     alloc: Global,
@@ -185,7 +185,7 @@ pub(crate) fn serve_tells_that_it_cannot_listen<N: Net>(
     )
 }
 
-/// Where it cannot be told where clients may come, none is served.
+/// If the address can't be reported no client is served.
 pub(crate) fn serve_ends_where_its_address_is_not_taken<N: Net>(
     net: &N,
     alloc: Global,

@@ -95,7 +95,7 @@ fault_look holds names err kept read a b force (InUse q) whole from f why same t
 fault_look holds names err kept read a b force (Breaks q key number) whole from f why same told = stopped read force (obstacle.Breaks q key number) from f.other f.states why same told
 fault_look holds names err kept read a b force Memory whole from f why same told = wanting read force from f.other f.states why same told
 
--- what stands against it is told, or nothing does
+-- the obstacle to it is reported, or there is none
 pub stands : (w : World) (force : Config) (found : Option Obstacle) (o : Obstacle) (fault : ReloadFault) → found ≡ Some o → TellsWhatStands w force found → obstacle_in fault ≡ Some o → JudgesOffer w force (Err fault)
 stands w force found o fault is t told = subst (λ (z : Option Obstacle). IsWhyNotPut w force z) (sym told) (subst (λ (z : Option Obstacle). TellsWhatStands w force z) is t)
 

@@ -6,7 +6,7 @@ use Rattle.serving.specs.Wire.{Told}
 use Rattle.server.specs.Clients.{Begins, IsTurns, Openings}
 use Rattle.reload_loop.proofs.Outcomes.{same_holds}
 
--- a broker that was just started by what was read, and then so many turns
+-- a broker that was just started by what was read, and then this number of rounds
 pub serves_reloading : (holds : Text → Known) (names : FileNames) (turns : Option Text) (every : Text) (may : Openings) (out : OutputStream) (before said after : Option Text) (first last : Snap) (start end : Served) (count step : ℕ) (whole : Bool)
     → IsReadFrom holds names first → Begins (known_in names first) names.definitions names.guarantees names.certificates may out (change before said) start
     → IsTurns turns count → IsEvery every step → ServesOn holds names step count (standing start first said true) (standing end last after whole)

@@ -1,3 +1,4 @@
+pub mod Disk
 pub mod Looks
 pub mod Program
 pub mod ServesOn

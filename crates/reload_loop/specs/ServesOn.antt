@@ -1,4 +1,4 @@
--- Turns, with looks at files between them (own).
+-- Rounds, with looks at the files between them (own).
 use Rattle.std.specs.Prelude.{◌≡◌, ◌<◌, ◌≤◌, ◌-◌, ◌&&◌, ℕ, Bool, Option}
 use Rattle.model.specs.Words.{Text}
 use Rattle.server.specs.Files.{Known}
@@ -10,8 +10,8 @@ use Rattle.server.specs.Streams.{change}
 use Rattle.reload_loop.specs.Snapshots.{Snap}
 use Rattle.reload_loop.specs.Looks.{Looks}
 
--- where serving stands: what was served, the texts by which what is in force was judged,
--- what the stream holds on which refusals are told, and whether it took each of them whole
+-- the state between rounds: what was served, the texts by which what is in force was judged,
+-- what standard error holds, and whether it took each line whole
 pub record Standing : Type 0 where
   pub served : Served
   pub kept : Snap
@@ -22,14 +22,14 @@ pub record Standing : Type 0 where
 abbrev pub standing : Served → Snap → Option Text → Bool → Standing
 standing v kept told whole = record { served = v; kept = kept; told = told; whole = whole }
 
--- one look, for which no socket is asked
+-- one look, which asks nothing of a socket
 pub record LooksOn (holds : Text → Known) (names : FileNames) (old new : Standing) : Type 0 where
   pub taken : Bool
   pub looks : Looks holds names (change old.told new.told) old.kept old.served.world new.kept new.served.world taken
   pub whole : new.whole ≡ taken && old.whole
   pub rest : new.served ≡ served new.served.world old.served.peers old.served.told
 
--- So many turns, with a look each time that `every` of them are over and more are to come.
+-- `turns` rounds, with a look after every `every` of them, except at the end.
 pub data ServesOn (holds : Text → Known) (names : FileNames) (every : ℕ) : ℕ → Standing → Standing → Type 0 where
   last : {turns : ℕ} {old new : Standing} → turns ≤ every → Rounds engine_lacks turns old.served new.served
       → new ≡ record old { served = new.served } → ServesOn holds names every turns old new

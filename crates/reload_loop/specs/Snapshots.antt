@@ -1,4 +1,4 @@
--- The three files that are looked at, as they were read (own).
+-- The three files of a broker, as they were read (own).
 use Rattle.std.specs.Prelude.{◌≡◌, ℕ, Result, Ok, Err, if◌then◌else◌, ⊤}
 use Rattle.std.specs.Global.{Vec}
 use Rattle.std.specs.Str.{bytes_eq}
@@ -17,6 +17,7 @@ names_of n = record { definitions = n.definitions.now; guarantees = n.guarantees
 abbrev pub known_of : Result (Vec ℕ) Unread → Known
 known_of (Ok bytes) = Holds bytes.items
 known_of (Err unread.Failed) = Absent
+known_of (Err unread.NoDescriptor) = Absent
 known_of (Err unread.TooLong) = Unknown
 known_of (Err unread.Memory) = Unknown
 
@@ -26,7 +27,7 @@ pub record Snap : Type 0 where
   pub guarantees : Known
   pub certificates : Known
 
--- the same of the file of a name, where these are the names of the three; there is no other file
+-- what is known of the file `name`; there is no other file than the three
 abbrev pub known_in : FileNames → Snap → Text → Known
 known_in names s name =
     if bytes_eq name names.definitions then s.definitions
@@ -34,7 +35,7 @@ known_in names s name =
     else if bytes_eq name names.certificates then s.certificates
     else Absent
 
--- so the file of which the first is known was read
+-- a file of which `known` is known was read with this result
 abbrev pub IsSlotOf : Known → Known → Type 0
 IsSlotOf known (Holds text) = IsFileRead known text
 IsSlotOf known Absent = IsUnreadable known
@@ -52,7 +53,7 @@ IsHeld known (Holds text) = HasText known text
 IsHeld known Absent = ⊥
 IsHeld known Unknown = ⊥
 
--- Each of the three was read, and the files of these names have the texts.
+-- Each of the three was read, and the files have these texts.
 pub record AreHeld (holds : Text → Known) (names : FileNames) (s : Snap) : Type 0 where
   pub definitions : IsHeld (holds names.definitions) s.definitions
   pub guarantees : IsHeld (holds names.guarantees) s.guarantees
@@ -64,23 +65,23 @@ WasRead (Holds text) = ⊤
 WasRead Absent = ⊥
 WasRead Unknown = ⊥
 
--- of each of the three
+-- a text was read of each of the three
 pub record AllRead (s : Snap) : Type 0 where
   pub definitions : WasRead s.definitions
   pub guarantees : WasRead s.guarantees
   pub certificates : WasRead s.certificates
 
--- both have a text, which is the same
+-- both have a text, and it is the same
 abbrev pub IsSameText : Known → Known → Type 0
 IsSameText (Holds s) (Holds t) = s ≡ t
 IsSameText one other = ⊥
 
--- Each of the three was read, and had the same text in both.
+-- Each of the three was read in both, with the same text.
 pub record AreSame (one other : Snap) : Type 0 where
   pub definitions : IsSameText one.definitions other.definitions
   pub guarantees : IsSameText one.guarantees other.guarantees
   pub certificates : IsSameText one.certificates other.certificates
 
--- one of the three has another text than the one that is kept, or was not read
+-- one of the three has another text than in `kept`, or was not read
 abbrev pub IsOther : Snap → Snap → Type 0
 IsOther read kept = AreSame read kept → ⊥

@@ -1,6 +1,9 @@
 //! The files of the machine.
 
-ghost use Rattle.std.specs.Prelude.{◌≤◌, length, IfOk};
+ghost use Rattle.std.specs.Prelude.{◌≡◌, ◌≤◌, length, IfOk};
+ghost use Rattle.std.specs.IoError.{raw_os_error};
+ghost use Rattle.server.specs.declared.storage.Unread.TheVariants as why;
+ghost use Rattle.reload_loop.specs.Disk.{IsNoneFree};
 
 use model::limits;
 use server::{Files, NotWritten, Unread, has_bytes_left};
@@ -8,24 +11,40 @@ use std::alloc::Global;
 use std::io::{ErrorKind, Read};
 use std::{fs, io};
 
-/// The files of the machine, by their paths. `/dev/stdin` is read from the standard input that the process has.
+/// The files of the machine, by path. `/dev/stdin` is read from the standard input of the process.
 #[derive(Clone, Copy, Drop)]
 pub struct Disk<'a> {
     pub rt: &'a HostRuntime,
 }
 
-/// The name by which a file is the standard input.
+/// The path that names the standard input.
 const STANDARD_INPUT: &str = "/dev/stdin";
 
-/// Why a read gave nothing.
-fn unread(error: &io::Error) -> Unread {
-    match error.kind() {
+/// Returns why a read failed, by the kind of its error, if a descriptor was free.
+fn unread_by_kind(kind: ErrorKind) -> Unread
+    ensures { result ≡ why.NoDescriptor → ⊥ }
+{
+    match kind {
         ErrorKind::OutOfMemory => Unread::Memory,
         _ => Unread::Failed,
     }
 }
 
-/// What stands in a file up to the limit, and one byte more where it goes on.
+/// Returns why a read failed, by the system's error.
+pub(crate) fn unread(error: &io::Error) -> Unread
+    ensures none_free { IsNoneFree (raw_os_error error.now) → result ≡ why.NoDescriptor }
+    ensures only { result ≡ why.NoDescriptor → IsNoneFree (raw_os_error error.now) }
+{
+    match error.raw_os_error() {
+        // EMFILE: the process has as many descriptors as it may have
+        Some(24) => Unread::NoDescriptor,
+        // ENFILE: the machine has as many open files as it may have
+        Some(23) => Unread::NoDescriptor,
+        _ => unread_by_kind(error.kind()),
+    }
+}
+
+/// Reads a file up to the limit, and one byte more if it is longer.
 fn front_of<R: Read + Drop>(alloc: Global, file: R) -> io::Result<Vec<u8>> {
     let mut bytes = Vec::new(alloc);
     file.take(limits::FILE_BYTES as u64 + 1)
@@ -33,7 +52,7 @@ fn front_of<R: Read + Drop>(alloc: Global, file: R) -> io::Result<Vec<u8>> {
     Ok(bytes)
 }
 
-/// The bytes, unless they are too many.
+/// Returns the bytes, unless there are more than the limit.
 fn within_limit(bytes: Vec<u8>) -> Result<Vec<u8>, Unread>
     ensures { IfOk result (λ kept. length kept.items ≤ 16777216) }
 {
@@ -45,7 +64,7 @@ fn within_limit(bytes: Vec<u8>) -> Result<Vec<u8>, Unread>
 }
 
 impl Disk<'_> {
-    /// What stands in the file of this name up to the limit, and one byte more where it goes on.
+    /// Reads the file `name` up to the limit, and one byte more if it is longer.
     fn front(&self, alloc: Global, name: &str) -> io::Result<Vec<u8>> {
         if name == STANDARD_INPUT {
             front_of(alloc, self.rt.reader())
@@ -54,7 +73,7 @@ impl Disk<'_> {
         }
     }
 
-    /// Whether these bytes stand in the file of this name, and no others.
+    /// Returns whether the file `name` has exactly these bytes.
     fn compare(&self, name: &str, bytes: &[u8]) -> io::Result<bool> {
         if name == STANDARD_INPUT {
             has_bytes_left(&mut self.rt.reader(), bytes)

@@ -1,16 +1,16 @@
-//! What a look found that is not in force.
+//! What a look found and did not put in force.
 
 use crate::snapshots::Snapshot;
 use engine::Setup;
 use server::Told;
 
-/// What files stated that were looked at, where it is not in force.
+/// What the files stated at a look, if it is not in force.
 #[derive(Drop)]
 pub(crate) enum Found<'a> {
-    /// Nothing is kept.
+    /// Nothing is remembered.
     Nothing,
-    /// They were refused, as they were read then, and this is told of it.
+    /// They were refused, as they were read then; `told` is what is reported.
     Refused { read: Snapshot, told: Told<'a> },
-    /// This was admitted of them, as they were read then, and something stood against it or memory was wanting.
+    /// They were admitted, as they were read then, and there was an obstacle, or an allocation failed.
     Admitted { read: Snapshot, setup: Setup },
 }

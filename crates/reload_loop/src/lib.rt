@@ -1,5 +1,5 @@
-//! The program with sockets: serving, with a look at files each time that so many turns are over, which puts in force what they state; and
-//! the files and the sockets of the machine.
+//! The program with sockets: it serves, and looks at its files between rounds to put in force what they state. Also the files and
+//! the sockets of the machine. Start at [`program_with_sockets`].
 #![tactic(auto)]
 
 mod disk;

@@ -25,7 +25,7 @@ use std::alloc::Global;
 use std::io::Write;
 use std::{io, mem};
 
-/// What the files put in force, as they were read; or what is told of one that is refused.
+/// Returns what the files put in force, as they were read, or what is reported of one that is refused.
 fn stated<'a>(alloc: Global, names: Names<'a>, read: &Snapshot) -> Result<Setup, Told<'a>>
     ensures { MatchResult result (IsStated (names_of names.entry) read.now) (λ told. IsWhyRefused (names_of names.entry) read.now told.file.now told.why) }
 {
@@ -44,7 +44,7 @@ fn stated<'a>(alloc: Global, names: Names<'a>, read: &Snapshot) -> Result<Setup,
     }
 }
 
-/// Whether the files are found as they were read when this was found. Want of memory is not found again: it may be over.
+/// Returns whether the files still are as they were read when `found` was. Never after an allocation failure: memory may be free again.
 fn is_found_again<F: Files>(
     alloc: Global,
     names: Names<'_>,
@@ -63,7 +63,7 @@ fn is_found_again<F: Files>(
     }
 }
 
-/// What the files state, as they are read now; nothing where they have the bytes by which what is in force was judged.
+/// Reads the files, and returns what they state, or `Nothing` if they have the bytes by which what is in force was judged.
 fn find<'a, F: Files>(alloc: Global, names: Names<'a>, kept: &Snapshot, files: &mut F) -> Found<'a>
     ensures found { IsFound (F.holds files.old) (names_of names.entry) kept.now result }
     ensures files { AreKept (F.holds files.old) (F.holds files.new) }
@@ -78,8 +78,8 @@ fn find<'a, F: Files>(alloc: Global, names: Names<'a>, kept: &Snapshot, files: &
     }
 }
 
-/// Finds what the files state now. What was found before stays if they are as they were read then; nothing is kept if they have the bytes
-/// by which what is in force was judged.
+/// Updates `found` to what the files state now. It stays if they are as they were read then; it is `Nothing` if they have the bytes by which
+/// what is in force was judged.
 fn find_again<'a, F: Files>(
     alloc: Global,
     names: Names<'a>,
@@ -101,8 +101,8 @@ fn find_again<'a, F: Files>(
     *found = find(alloc, names, kept, files);
 }
 
-/// Judges whether `setup` may be put in force now. Fails with the first thing that stands against it, or if an allocation fails. Copies
-/// nothing of it.
+/// Returns whether `setup` may be put in force now. Fails with the first obstacle, or if an allocation fails. Copies nothing of
+/// it.
 fn judge(alloc: Global, engine: &Engine, setup: &Setup) -> Result<(), ReloadFault>
     ensures { JudgesOffer (world_of engine.now) setup.now result }
 {
@@ -112,7 +112,7 @@ fn judge(alloc: Global, engine: &Engine, setup: &Setup) -> Result<(), ReloadFaul
     Ok(())
 }
 
-/// Puts `setup` in force, and keeps `read`, by which it was judged. If it can't, puts one line on `err` and changes nothing else.
+/// Puts `setup` in force, and keeps `read`, by which it was judged. If it can't, writes one line to `err` and changes nothing else.
 fn put_in_force<E: Write>(
     alloc: Global,
     server: &mut Server<Engine>,
@@ -138,7 +138,7 @@ fn put_in_force<E: Write>(
     }
 }
 
-/// What was found is put in force if it was admitted and nothing stands against it; else it is told why not, and it is found still.
+/// Puts what was found in force if it was admitted and there is no obstacle. Otherwise reports why not, and remembers it still.
 fn act<'a, E: Write>(
     alloc: Global,
     server: &mut Server<Engine>,
@@ -171,11 +171,11 @@ fn act<'a, E: Write>(
     }
 }
 
-/// Puts in force what the files state, if they have other bytes than those by which what is in force was judged. If they are refused, or
-/// something stands against them, puts one line on `err` and changes nothing else. Fails if `err` doesn't take the line whole.
+/// Puts in force what the files state, if they have other bytes than those by which what is in force was judged. If they are refused, or there is
+/// an obstacle, writes one line to `err` and changes nothing else. Fails if `err` doesn't take the line whole.
 ///
-/// What was found and is not in force is kept, as it was read: while the files are found so they are not judged again. A refusal is
-/// told again; of what was admitted the broker is asked again what stands against it.
+/// What was found and is not in force is remembered, as it was read: while the files are the same they are not judged again. A refusal is
+/// reported again; for what was admitted the broker is asked again for an obstacle.
 pub(crate) fn look<'a, F: Files, E: Write>(
     alloc: Global,
     server: &mut Server<Engine>,
@@ -186,9 +186,11 @@ pub(crate) fn look<'a, F: Files, E: Write>(
     err: &mut E,
 ) -> io::Result<()>
     requires { WasFound (names_of names) kept.old found.old }
+    // The promise: what a look does.
     ensures looks { Looks (F.holds files.old) (names_of names.entry)
         (change (E.contents err.old) (E.contents err.new)) kept.old (world_of server.old.machine)
         kept.new (world_of server.new.machine) (is_ok result) }
+    // What is remembered; the peers and the files are unchanged, and what was served before is served after.
     ensures found { WasFound (names_of names.entry) kept.new found.new }
     ensures peers { server.new.peers ≡ server.old.peers }
     ensures served { (f : Config) (told now : wire.Told)

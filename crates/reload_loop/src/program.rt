@@ -1,4 +1,4 @@
-//! The program, with sockets: `serve` too, with looks at its files or without.
+//! The program with sockets: `serve` too, with looks at its files or without.
 
 ghost use Rattle.std.specs.Prelude.{◌≡◌, None, option_map, IfSome, map};
 ghost use Rattle.command_line.specs.CommandLine.{wanted_of};
@@ -21,15 +21,15 @@ use std::alloc::Global;
 use std::convert::AsStr;
 use std::io::Write;
 
-/// What `serve` is asked for.
+/// The arguments of `serve`.
 #[derive(Clone, Copy, Drop)]
 struct AskedToServe<'a> {
     arguments: ServeArguments<'a>,
-    /// How many turns lie between two looks at the files, where they are to be looked at.
+    /// The number of rounds between two looks at the files, if they are looked at.
     every: Option<&'a str>,
 }
 
-/// What `serve` is asked for, where it is.
+/// Returns the arguments of `serve`, if that is asked for.
 fn asked_to_serve(asked: Asked<'_>) -> Option<AskedToServe<'_>>
     ensures some { IfSome result (λ a. wanted_of asked.entry ≡ asked_by a.arguments (file_named a.every)) }
     ensures none { result ≡ None → IsNotServe (wanted_of asked.entry) }
@@ -56,7 +56,7 @@ fn asked_to_serve(asked: Asked<'_>) -> Option<AskedToServe<'_>>
     }
 }
 
-/// How many turns lie between two looks at the files: the number that is given, and at least one.
+/// Returns the number of rounds between two looks at the files: the given number, at least 1.
 fn every_of(given: &str) -> u64
     ensures { IsEvery given.now result }
 {
@@ -67,17 +67,17 @@ fn every_of(given: &str) -> u64
     }
 }
 
-/// The status of serving, by whether each line of a look was taken whole.
+/// Returns the status of serving, by whether each line of a look was taken whole.
 fn status_of(whole: bool) -> u8
     ensures { result ≡ tried whole 0 }
 {
     if whole { 0 } else { 4 }
 }
 
-/// Serves clients as `serve_clients` does, and looks at the files each time that so many turns are over. No file is changed.
+/// Serves clients as `serve_clients` does, and looks at the files after every `every` rounds. No file is changed.
 ///
 /// The files are read once before they are judged, so that what is in force was judged by the bytes that are kept. The
-/// status is 4 where standard error did not take each line whole.
+/// status is 4 if standard error did not take each line whole.
 fn serve_reloading<L: Listener, F: Files, O: Write, E: Write>(
     alloc: Global,
     arguments: ServeArguments<'_>,
@@ -131,9 +131,9 @@ fn serve_reloading<L: Listener, F: Files, O: Write, E: Write>(
     }
 }
 
-/// Does what the words ask for, `serve` too, and gives the exit status; where clients were served, with what served them.
+/// Does what the words ask for, `serve` too, and returns the exit status, and the server if clients were served.
 ///
-/// What isn't `serve` is done as `server::program` does it. `serve` tells on `out` where clients may come, once its files are judged.
+/// Any other command is done as `server::program` does it. `serve` reports on `out` where clients connect, once its files are judged.
 /// With `--reload` it looks at them again while it serves.
 pub fn program_with_sockets<S: AsStr, L: Listener, F: Files, O: Write, E: Write>(
     alloc: Global,

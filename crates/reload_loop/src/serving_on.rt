@@ -1,4 +1,4 @@
-//! Serving with looks in between.
+//! Serves, with looks at the files between rounds.
 
 ghost use Rattle.std.specs.Prelude.{◌≡◌, ◌≤◌, true};
 ghost use Rattle.model.specs.State.{Config};
@@ -20,12 +20,12 @@ use serving::{Server, Wire, serve};
 use std::alloc::Global;
 use std::io::Write;
 
-/// So many turns, and a look at the files each time that `every` of them are over and more are to come.
+/// Does `turns` rounds, with a look at the files after every `every` of them, except at the end.
 ///
-/// Where the files have other bytes than those that are kept, by which what is in force was judged, what they state is put
-/// in force. Where they are refused, or something stands against it, one line is put on `err`, what stands stays in force,
-/// and the next look tries again: files are judged again once they have other bytes, until then a refusal is told at each look, and
-/// what was admitted is put in force at the first at which nothing stands against it. The result says whether `err` took each such line whole.
+/// If the files have other bytes than `kept`, by which what is in force was judged, what they state is put in force. If they are
+/// refused, or there is an obstacle, one line is written to `err`, and what is in force and `kept` stay. The next look tries again: files are
+/// judged again once they have other bytes; until then a refusal is reported at each look, and what was admitted is put in force at the first look
+/// at which there is no obstacle. Returns whether `err` took each such line whole.
 pub fn serve_and_reload<W: Wire, F: Files, E: Write>(
     alloc: Global,
     server: &mut Server<Engine>,
@@ -43,7 +43,7 @@ pub fn serve_and_reload<W: Wire, F: Files, E: Write>(
         kept.old (E.contents err.old) true)
         (standing (served (world_of server.new.machine) server.new.peers (W.told sockets.new))
         kept.new (E.contents err.new) result) }
-    // Whatever was served before is served after: what arrived since the server was new, reloads too, and that the promises are kept.
+    // What was served before is served after: all that arrived since the server was new, reloads included, and certified delivery's promises of it.
     ensures served { (f : Config) (told : Told)
         → IsServed engine_lacks f told (served (world_of server.old.machine) server.old.peers (W.told sockets.old))
         → IsServed engine_lacks f told (served (world_of server.new.machine) server.new.peers (W.told sockets.new)) }

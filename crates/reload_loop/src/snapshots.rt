@@ -1,4 +1,4 @@
-//! What the files that are looked at had when they were read.
+//! The three files of a broker, as they were read.
 
 ghost use Rattle.std.specs.Prelude.{◌≡◌, Decides, MatchResult, true};
 ghost use Rattle.server.specs.Files.{AreKept, IsFileRead, IsUnread};
@@ -9,7 +9,7 @@ use server::{Files, NotWritten, Unread};
 use std::alloc::Global;
 use std::marker::Model;
 
-/// The names of the three files by which a broker serves.
+/// The names of the three files of a broker.
 #[derive(Clone, Copy, Drop)]
 pub struct Names<'a> {
     pub definitions: &'a str,
@@ -17,14 +17,14 @@ pub struct Names<'a> {
     pub certificates: &'a str,
 }
 
-/// The bytes of the three files as each was read once, or why it was not.
+/// The bytes of the three files as each was read once, or why it could not be read.
 pub struct Snapshot {
     definitions: Result<Vec<u8>, Unread>,
     guarantees: Result<Vec<u8>, Unread>,
     certificates: Result<Vec<u8>, Unread>,
 }
 
-/// Written out, so that a drop is one call.
+/// Written out so that a drop is one call.
 impl Drop for Snapshot {
     fn drop(self) {
         let Snapshot {
@@ -44,7 +44,7 @@ impl Model for Snapshot {
 }
 
 impl Snapshot {
-    /// The three files are read. None is changed.
+    /// Reads the three files. None is changed.
     pub fn take<F: Files>(alloc: Global, names: Names<'_>, files: &mut F) -> Snapshot
         ensures read { IsReadFrom (F.holds files.old) (names_of names.entry) result }
         ensures files { AreKept (F.holds files.old) (F.holds files.new) }
@@ -59,14 +59,14 @@ impl Snapshot {
         }
     }
 
-    /// Whether each of the three was read.
+    /// Returns whether each of the three was read.
     fn is_whole(&self) -> bool
         ensures { result ≡ true → AllRead self.now }
     {
         self.definitions.is_ok() & self.guarantees.is_ok() & self.certificates.is_ok()
     }
 
-    /// Whether each of the three was read, and its file is found to have the same bytes. No file is changed.
+    /// Returns whether each of the three was read, and its file still has the same bytes. No file is changed.
     pub(crate) fn is_held<F: Files>(&self, alloc: Global, names: Names<'_>, files: &mut F) -> bool
         ensures held { result ≡ true → AreHeld (F.holds files.old) (names_of names.entry) self.now }
         ensures files { AreKept (F.holds files.old) (F.holds files.new) }
@@ -74,8 +74,8 @@ impl Snapshot {
         self.is_whole() && self.is_found(alloc, names, files)
     }
 
-    /// Whether each file is found as it was read: with the same bytes, or again not read, for the same cause. Bytes are compared as
-    /// they are read. No file is changed.
+    /// Returns whether each file still is as it was read: it has the same bytes, or still can't be read, for the same cause. Compares bytes
+    /// while it reads them. No file is changed.
     pub(crate) fn is_found<F: Files>(&self, alloc: Global, names: Names<'_>, files: &mut F) -> bool
         ensures found { result ≡ true → IsReadFrom (F.holds files.old) (names_of names.entry) self.now }
         ensures files { AreKept (F.holds files.old) (F.holds files.new) }
@@ -85,7 +85,7 @@ impl Snapshot {
             && is_found_in(alloc, files, names.certificates, &self.certificates)
     }
 
-    /// Whether each file was read, and had the same bytes in both.
+    /// Returns whether each file was read in both, with the same bytes.
     pub(crate) fn has_same(&self, other: &Snapshot) -> bool
         ensures { Decides result (AreSame self.now other.now) }
     {
@@ -94,7 +94,7 @@ impl Snapshot {
             && have_same(&self.certificates, &other.certificates)
     }
 
-    /// The bytes of the file of a name, where these are the names of the three.
+    /// Returns a copy of the bytes of the file `name`, which is one of the three.
     fn copy_of(&self, alloc: Global, names: Names<'_>, name: &str) -> Result<Vec<u8>, Unread>
         ensures { MatchResult result
             (λ bytes. IsFileRead (known_in (names_of names.entry) self.now name.now) bytes.items)
@@ -113,7 +113,7 @@ impl Snapshot {
     }
 }
 
-/// Whether both were read, and had the same bytes.
+/// Returns whether both were read, with the same bytes.
 fn have_same(one: &Result<Vec<u8>, Unread>, other: &Result<Vec<u8>, Unread>) -> bool
     ensures { Decides result (IsSameText (known_of one.now) (known_of other.now)) }
 {
@@ -123,7 +123,7 @@ fn have_same(one: &Result<Vec<u8>, Unread>, other: &Result<Vec<u8>, Unread>) -> 
     }
 }
 
-/// Whether the file of this name is found as it was read. One that was too long is read whole; want of memory is never found again.
+/// Returns whether the file `name` still is as it was read. One that was too long is read whole; an allocation failure never counts as the same.
 fn is_found_in<F: Files>(
     alloc: Global,
     files: &mut F,
@@ -139,12 +139,15 @@ fn is_found_in<F: Files>(
             Err(_) => false,
         },
         Err(Unread::Failed) => matches!(files.has_bytes(alloc, name, &[]), Err(Unread::Failed)),
+        Err(Unread::NoDescriptor) => {
+            matches!(files.has_bytes(alloc, name, &[]), Err(Unread::NoDescriptor))
+        }
         Err(Unread::TooLong) => matches!(files.read(alloc, name), Err(Unread::TooLong)),
         Err(Unread::Memory) => false,
     }
 }
 
-/// The bytes of one file, once more.
+/// Returns a copy of the bytes of one file.
 fn copied(alloc: Global, slot: &Result<Vec<u8>, Unread>) -> Result<Vec<u8>, Unread>
     ensures { MatchResult result (λ bytes. IsFileRead (known_of slot.now) bytes.items) (λ why. IsUnread (known_of slot.now) why) }
 {
@@ -162,7 +165,7 @@ fn copied(alloc: Global, slot: &Result<Vec<u8>, Unread>) -> Result<Vec<u8>, Unre
     }
 }
 
-/// The three files as they were read, to be read once more. They can't be written.
+/// The three files as they were read, as `Files`: judging reads them from here. They can't be written.
 #[derive(Clone, Copy, Drop)]
 pub struct Reading<'a> {
     pub names: Names<'a>,

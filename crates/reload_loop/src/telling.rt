@@ -1,4 +1,4 @@
-//! What is told of a reload that is refused.
+//! Reports a reload that is refused.
 
 ghost use Rattle.std.specs.Prelude.{◌≡◌, is_ok, string_bytes, IfOk};
 ghost use Rattle.server.specs.Program.{TellsLine};
@@ -13,7 +13,7 @@ use std::alloc::{AllocError, Global};
 use std::io;
 use std::io::Write;
 
-/// The line of what stands against a reload, as the program tells it.
+/// Returns the line that reports `obstacle`. Fails only if an allocation fails.
 fn line_of(alloc: Global, obstacle: &Obstacle) -> Result<String, AllocError>
     ensures { IfOk result (λ line. string_bytes line ≡ obstacle_told obstacle.now) }
 {
@@ -21,7 +21,7 @@ fn line_of(alloc: Global, obstacle: &Obstacle) -> Result<String, AllocError>
     format!(in alloc; "warren: {line}")
 }
 
-/// Puts what stands against a reload on the stream, whole unless a write fails.
+/// Writes the line of `obstacle` to `err`, whole unless a write fails.
 fn put_obstacle<E: Write>(alloc: Global, err: &mut E, obstacle: Obstacle) -> io::Result<()>
     ensures { TellsLine (change (E.contents err.old) (E.contents err.new)) (obstacle_told obstacle) (is_ok result) }
 {
@@ -31,7 +31,7 @@ fn put_obstacle<E: Write>(alloc: Global, err: &mut E, obstacle: Obstacle) -> io:
     }
 }
 
-/// Puts why a reload was not done on the stream, whole unless a write fails.
+/// Writes why a reload was not done to `err`, whole unless a write fails.
 pub(crate) fn put_fault<E: Write>(alloc: Global, err: &mut E, fault: ReloadFault) -> io::Result<()>
     ensures { IsFaultTold (change (E.contents err.old) (E.contents err.new)) fault (is_ok result) }
 {

@@ -39,7 +39,7 @@ module _ {X Y : Type 0} (Tells : ℕ → X → Option Y → Type 0) (xs : List X
 
 -- ---- a list that is passed from its front
 
--- So many were passed, of which nothing is told, whatever their places are.
+-- This many were passed, of which nothing is reported, whatever their indices are.
 pub record Passed {X : Type 0} (Tells : X → Type 0) (xs rest : List X) : Type 0 where
   pub passed : List X
   pub split : xs ≡ passed ++ rest
@@ -76,7 +76,7 @@ module _ {X : Type 0} (Tells : X → Type 0) (xs : List X) where
         | inr h ↦ (let f : slice_get [] h.0 ≡ Some x = subst (λ (z : List X). slice_get z h.0 ≡ Some x) is h.2 in let g : None ≡ Some x = f in absurd (cc))
       ]
 
-  -- what stands in front of what is left is the first, where something is told of it
+  -- what is in front of the rest is the first, if something is reported of it
   pub passed_front : (x : X) (now then' : List X) → now ≡ x ∷ then' → (p : Passed Tells xs now) → slice_get xs (length p.passed) ≡ Some x
   passed_front x now then' is p = subst (λ (z : List X). slice_get z (length p.passed) ≡ Some x) (sym (p.split ∙ ap (λ (z : List X). p.passed ++ z) is)) (at_front p.passed then' x)
 
@@ -95,6 +95,6 @@ in_get (y ∷ xs) (suc i) d x h e = inr (in_get xs i d x (let k : suc i < suc (l
 pub stranded_not : (t : Topology) (i : ℕ) (q : Text) → i < length t.queues → get_or (queue_names t.queues) i [] ≡ q → (IsIn q (queue_names t.queues) → ⊥) → ⊥
 stranded_not t i q lt e gone = let n : length (queue_names t.queues) ≡ length t.queues = length-map t.queues (λ (z : DeclaredQueue). z.name) in gone (in_get (queue_names t.queues) i [] q (omega (arith, n, lt)) e)
 
--- so many names as queues
+-- as many names as queues
 pub all_named : (qs : List DeclaredQueue) (n : ℕ) → length qs ≤ n → length (queue_names qs) ≤ n
 all_named qs n le = let m : length (queue_names qs) ≡ length qs = length-map qs (λ (z : DeclaredQueue). z.name) in omega (arith, m, le)

@@ -1,4 +1,4 @@
--- From what is told place by place to what stands against a reload.
+-- From what is reported index by index to the obstacle to a reload.
 use Rattle.reloading.proofs.Names.{◌≡◌, ℕ, zero, suc, ◌+◌, List, [], ◌∷◌, Bool, Option, Some, None, refl, sym, subst, ◌∙◌, inl, inr, slice_get, Text, Topology, IsIn, queue_names, Guarantee, Config, IsInUse, by_entry, by_consumer, Endangers, Spot, IsBefore, IsDanger, NoneIsStranded, IsObstacle, NothingStands, Entry, Obstacle, in_from_contains, IsToldFirst, TellsFirst, IsUsed, TellsUse, TellsQueue, TellsEntry, TellsEntries, TellsQueues, Judges}
 use Rattle.model.specs.Broker.{Broker}
 use Rattle.laws.proofs.Returned.{place_of}

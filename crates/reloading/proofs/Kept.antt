@@ -2,7 +2,7 @@
 use Rattle.reloading.proofs.Names.{◌≡◌, ℕ, zero, suc, ◌<◌, List, [], ◌∷◌, length, get_or, set, Option, Some, None, ◌⊎◌, inl, inr, sym, ap, arith, Message, IsIn, kept}
 use Rattle.std.specs.Borrow.{Bor}
 
--- what stands in a slot is kept
+-- what is in a slot is remembered
 pub found_kept : (slots : List (Option (Bor Message))) (i : ℕ) (d : Option (Bor Message)) (m : Bor Message) → i < length slots → get_or slots i d ≡ Some m → IsIn m.now (kept slots)
 found_kept [] i d m lt e = absurd (omega (arith, lt))
 found_kept (None ∷ slots) zero d m lt e = absurd (let f : None ≡ Some m = e in cc)

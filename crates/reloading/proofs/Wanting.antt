@@ -1,4 +1,4 @@
--- What holds where memory was wanting.
+-- What holds after an allocation failure.
 use Rattle.reloading.proofs.Names.{Result, Ok, Err, OnErr}
 
 pub on_err : {T E : Type 0} (r : Result T E) (P : Type 0) → P → OnErr r P

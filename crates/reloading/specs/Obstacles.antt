@@ -1,4 +1,4 @@
--- What stands against a reload, place by place (own).
+-- The obstacles to a reload, index by index (own).
 use Rattle.std.specs.Prelude.{◌≡◌, ◌+◌, ℕ, List, [], Bool, true, Option, Some, None, is_some, ◌⊎◌}
 use Rattle.model.specs.Words.{Text}
 use Rattle.model.specs.Topology.{Topology, IsIn, queue_names}
@@ -16,31 +16,31 @@ use Rattle.model.specs.declared.messages.User.{User}
 use Rattle.reloading.specs.First.{TellsFirst}
 use Rattle.reloading.specs.LiveQueues.{ShowsQueues}
 
--- a queue with these entries is in use
+-- a queue with these entries is in use: it has one, or a consumer takes from it
 abbrev pub IsUsed : List Entry → Bool → Type 0
 IsUsed entries consumed = (entries ≡ [] → ⊥) ⊎ (consumed ≡ true)
 
--- a queue in use is told of
+-- a queue in use is reported
 abbrev pub TellsUse : List Entry → Bool → Text → Option Obstacle → Type 0
 TellsUse entries consumed q (Some o) = IsUsed entries consumed × (o ≡ InUse q)
 TellsUse entries consumed q None = IsUsed entries consumed → ⊥
 
--- a queue in use that the new topology lacks is told of
+-- a queue in use that the new topology lacks is reported
 abbrev pub TellsQueue : Topology → (ℕ → List Entry) → (ℕ → Bool) → ℕ → Text → Option Obstacle → Type 0
 TellsQueue new entries consumed p q (Some o) = (IsIn q (queue_names new.queues) → ⊥) × TellsUse (entries p) (consumed p) q (Some o)
 TellsQueue new entries consumed p q None = (IsIn q (queue_names new.queues) → ⊥) → TellsUse (entries p) (consumed p) q None
 
--- two messages were first sent alike, and have one key now
+-- Two messages were first published alike, and have the same key now.
 pub record AreAlike (m o : Message) : Type 0 where
   pub key : m.key ≡ o.key
   pub exchange : m.first_exchange ≡ o.first_exchange
   pub first_key : m.first_key ≡ o.first_key
 
--- deaths lead no message from this queue to that one, whatever its key is
+-- dead-lettering leads no message from queue `q` to queue `r`, whatever its key is
 abbrev pub LeadsNowhere : Topology → Text → Text → Type 0
 LeadsNowhere new q r = (key : Text) → Later new q key r → ⊥
 
--- the queue fixes the key of what dies in it, if anything does
+-- the queue sets the key of its dead letters, if it makes any
 abbrev pub FixesKey : Topology → Text → Type 0
 FixesKey new q = (exchange : Text) (last : DeclaredQueue) → Dies new q exchange last → is_some last.dead_letter_key ≡ true
 
@@ -48,25 +48,25 @@ FixesKey new q = (exchange : Text) (last : DeclaredQueue) → Dies new q exchang
 abbrev pub EndangersNone : Topology → Guarantee → Text → Type 0
 EndangersNone new g q = (m : Message) → Endangers new g q m → ⊥
 
--- An entry of this queue is told of that is endangered by the guarantee of this number.
+-- an entry of this queue that the guarantee endangers is reported, with the guarantee's number
 abbrev pub TellsEntry : Topology → Guarantee → ℕ → Text → ℕ → Entry → Option Obstacle → Type 0
 TellsEntry new g number q j e (Some o) = Endangers new g q e.message × (o ≡ Breaks q e.message.first_key number)
 TellsEntry new g number q j e None = Endangers new g q e.message → ⊥
 
--- the first entry of the queue
+-- the first such entry of the queue
 abbrev pub TellsEntries : Topology → Guarantee → ℕ → (ℕ → List Entry) → ℕ → Text → Option Obstacle → Type 0
 TellsEntries new g number entries p q o = TellsFirst (TellsEntry new g number q) (entries p) o
 
--- the first queue of which an entry is told, of those with these names
+-- the first such entry, of the queues with these names in order
 abbrev pub TellsQueues : Topology → List Text → (ℕ → List Entry) → ℕ → Guarantee → Option Obstacle → Type 0
 TellsQueues new names entries i g o = TellsFirst (TellsEntries new g (i + 1) entries) names o
 
--- what stands against the reload, or nothing does
+-- this is the first obstacle to the reload, or `None` if there is none
 abbrev pub Judges : Topology → Config → Broker → Option Obstacle → Type 0
 Judges old new b (Some o) = IsObstacle old new b o
 Judges old new b None = NothingStands old new b
 
--- So it is of each broker of which this is what stands, whoever may log in from then on.
+-- the same for each broker that has these entries and consumers, whoever may log in
 abbrev pub JudgesReload : Topology → (ℕ → List Entry) → (ℕ → Bool) → Topology → List Guarantee → Option Obstacle → Type 0
 JudgesReload old entries consumed new gs told =
     (b : Broker) (users : List User) → ShowsQueues old entries consumed b → Judges old (record { topology = new; guarantees = gs; users = users }) b told

@@ -1,9 +1,9 @@
--- Messages that are kept, to tell of those like them (own).
+-- Messages that are remembered, so that those like them are not judged again (own).
 use Rattle.std.specs.Prelude.{List, [], ◌∷◌, Option, Some, None}
 use Rattle.std.specs.Borrow.{Bor}
 use Rattle.model.specs.Message.{Message}
 
--- those that are kept in slots of which some are empty
+-- the messages that are remembered, in slots of which some are empty
 abbrev pub kept : List (Option (Bor Message)) → List Message
 kept [] = []
 kept (None ∷ slots) = kept slots

@@ -1,4 +1,4 @@
--- Where memory may be wanting for a reload (own).
+-- When a reload may fail to allocate (own).
 use Rattle.std.specs.Prelude.{◌<◌, ℕ, List, Bool, length, Some}
 use Rattle.model.specs.Words.{Text}
 use Rattle.model.specs.Topology.{Topology}
@@ -9,11 +9,11 @@ use Rattle.model.specs.declared.obstacles.Obstacle.TheVariants.{InUse}
 use Rattle.reloading.specs.First.{TellsFirst}
 use Rattle.reloading.specs.Obstacles.{TellsQueue}
 
--- a name that is shared where it is told; one of at most 22 bytes is copied, which takes no memory
+-- a name that is shared in a report; one of at most 22 bytes is copied, which doesn't allocate
 abbrev pub IsLong : Text → Type 0
 IsLong q = 22 < length q
 
--- Memory may be wanting for a reload to the new topology: no queue in use is gone, or the first that is has a long name.
+-- A reload to the new topology may fail to allocate: each queue in use is declared in it, or the first that is not has a long name.
 pub data MayWant (old new : Topology) (b : Broker) : Type 0 where
   none_gone : NoneIsStranded old new b → MayWant old new b
   long_name : (q : Text) → IsFirstStranded old new b q → IsLong q → MayWant old new b

@@ -1,4 +1,4 @@
-//! Messages that wait and that a new guarantee endangers.
+//! Finds messages in queues that a new guarantee endangers.
 
 ghost use Rattle.std.specs.Prelude.{◌≡◌, ◌<◌, ◌-◌, ◌^◌, IfOk};
 ghost use Rattle.model.specs.Topology.{queue_names};
@@ -16,7 +16,7 @@ use model::{Message, Mode, Obstacle, Text};
 use paths::Leading;
 use std::alloc::{AllocError, Global};
 
-/// A message in this queue breaks the guarantee of this number.
+/// Returns the obstacle that a message in `queue` breaks the guarantee with this number.
 fn breaks(queue: &Text, message: &Message, guarantee: usize) -> Result<Obstacle, AllocError>
     ensures { IfOk result (λ o. o ≡ Breaks queue.now message.now.first_key guarantee) }
 {
@@ -27,7 +27,7 @@ fn breaks(queue: &Text, message: &Message, guarantee: usize) -> Result<Obstacle,
     })
 }
 
-/// The first message of the queue at this place that the guarantee of this number endangers.
+/// Returns the first message of the queue at index `place` that the guarantee endangers, as an obstacle.
 fn first_of_queue<S: LiveQueues>(
     alloc: Global,
     live: &S,
@@ -59,7 +59,7 @@ fn first_of_queue<S: LiveQueues>(
     Ok(None)
 }
 
-/// What leads to the guarantee's queue.
+/// Finds what leads to the guarantee's queue.
 fn leading_to(
     alloc: Global,
     topology: &Topology,
@@ -70,8 +70,8 @@ fn leading_to(
     Leading::to(alloc, topology, guarantee.queue().as_bytes())
 }
 
-/// The first message of all queues that the guarantee at this place, which forbids, endangers. What leads to its queue is looked
-/// up once.
+/// Returns the first message of all queues that a `never` guarantee endangers; `at` is its index. What leads to its queue is found
+/// once.
 fn first_of_never<S: LiveQueues>(
     alloc: Global,
     live: &S,
@@ -104,7 +104,7 @@ fn first_of_never<S: LiveQueues>(
     Ok(None)
 }
 
-/// The first message of all queues that the guarantee at this place endangers.
+/// Returns the first message of all queues that the guarantee at index `at` endangers.
 fn first_of_guarantee<S: LiveQueues>(
     alloc: Global,
     live: &S,
@@ -122,7 +122,7 @@ fn first_of_guarantee<S: LiveQueues>(
     }
 }
 
-/// The first message that one of the guarantees endangers, guarantee by guarantee.
+/// Returns the first message that one of the guarantees endangers, guarantee by guarantee. Fails only if an allocation fails.
 pub fn first_breach<S: LiveQueues>(
     alloc: Global,
     live: &S,

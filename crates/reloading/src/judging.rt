@@ -1,4 +1,4 @@
-//! The judgement.
+//! Finds the obstacle to a reload. Start here.
 
 ghost use Rattle.std.specs.Prelude.{IfOk, OnErr};
 ghost use Rattle.model.specs.Broker.{Broker};
@@ -14,12 +14,12 @@ use guarantees::Guarantee;
 use model::Obstacle;
 use std::alloc::{AllocError, Global};
 
-/// The first thing that stands against a reload from the old topology to this one with these guarantees, or nothing where
-/// nothing does. Where memory is wanting nothing is told; it may be only where no queue in use is gone, or where the first that is has
-/// a name of more than 22 bytes. It changes nothing.
+/// Returns the first obstacle to a reload from `old` to `topology` and `guarantees`, or `None` if there is none. Changes nothing. Fails only if an
+/// allocation fails. It may allocate only if each queue in use is declared in `topology`, or if the first that is not has a name of more than 22
+/// bytes.
 ///
-/// Queues in use that are gone are looked at first, in the order of the old file; then, guarantee by guarantee, queue by queue
-/// of the old file and entry by entry, messages that could come by deaths where they are forbidden.
+/// First are queues in use that are gone, in the order of `old`; then, guarantee by guarantee, queue by queue of `old` and entry by entry,
+/// messages that could reach a queue that is forbidden them by dead-lettering.
 pub fn obstacle<S: LiveQueues>(
     alloc: Global,
     live: &S,

@@ -1,4 +1,4 @@
-//! What stands against a reload, by which another topology and other guarantees are to be in force while messages wait.
+//! The obstacle to a reload, by which another topology and other guarantees are put in force while messages are in queues. Start at [`obstacle`].
 #![tactic(auto)]
 
 mod breaches;

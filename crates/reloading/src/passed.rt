@@ -1,4 +1,4 @@
-//! Messages that were passed, of which some are kept: each of these tells of those like it.
+//! Remembers messages that were judged, so that those like them are not judged again.
 
 ghost use Rattle.std.specs.Prelude.{◌≡◌, ◌<◌, ◌⊎◌, [], true, IfSome};
 ghost use Rattle.model.specs.Message.{Message as Seen};
@@ -8,23 +8,23 @@ ghost use Rattle.reloading.specs.Passed.{kept};
 
 use model::Message;
 
-/// How many messages are kept at most.
+/// The most messages that are remembered.
 const SLOTS: usize = 2048;
 
-/// In how many slots a message is looked for.
+/// The number of slots in which a message is looked for.
 const TRIES: usize = 16;
 
-/// Messages that were passed. One that is kept may take the place of another. It takes no memory.
+/// Messages that were judged. A later one may overwrite an earlier one. Never allocates.
 pub type Passed<'a> = [Option<&'a Message>; SLOTS];
 
-/// None was passed yet.
+/// Returns an empty memory.
 pub fn none_passed<'a>() -> Passed<'a>
     ensures { kept result ≡ [] }
 {
     [None; SLOTS]
 }
 
-/// Whether two messages were first sent alike and have one key now.
+/// Returns whether two messages were first published alike and have the same key now.
 fn are_alike(one: &Message, other: &Message) -> bool
     ensures { result ≡ true → AreAlike one.now other.now }
 {
@@ -33,7 +33,7 @@ fn are_alike(one: &Message, other: &Message) -> bool
         && one.first_key().as_bytes() == other.first_key().as_bytes()
 }
 
-/// Bytes mixed into a number. Nothing rests on how.
+/// Hashes `bytes` into `from`. Correctness does not depend on how.
 fn mixed(from: u64, bytes: &[u8]) -> u64 {
     let mut mix = from;
     for byte in bytes {
@@ -42,7 +42,7 @@ fn mixed(from: u64, bytes: &[u8]) -> u64 {
     mix
 }
 
-/// The slot on which a message falls.
+/// Returns the slot to which a message hashes.
 fn first_slot(message: &Message) -> usize
     ensures { result < 2048 }
 {
@@ -52,7 +52,7 @@ fn first_slot(message: &Message) -> usize
     ((mix ^ (mix >> 32)) % 2048) as usize
 }
 
-/// What is kept in this slot, if it is like this message.
+/// Returns what is in this slot, if it is like `message`.
 pub fn like_at<'a>(passed: &Passed<'a>, slot: usize, message: &Message) -> Option<&'a Message>
     requires { slot < 2048 }
     ensures kept { IfSome result (λ m. IsIn m.now (kept passed.now)) }
@@ -64,7 +64,7 @@ pub fn like_at<'a>(passed: &Passed<'a>, slot: usize, message: &Message) -> Optio
     }
 }
 
-/// Whether this slot has a message like this one, or none.
+/// Returns whether this slot is empty or has a message like this one.
 fn may_stand(passed: &Passed<'_>, slot: usize, message: &Message) -> bool
     requires { slot < 2048 }
 {
@@ -74,7 +74,7 @@ fn may_stand(passed: &Passed<'_>, slot: usize, message: &Message) -> bool
     }
 }
 
-/// The first of a few slots, from that on which the message falls, that has one like it or none; or that one itself.
+/// Returns the first of the slots that are tried for a message that is empty or has one like it; the first of all if there is none.
 fn found_slot(passed: &Passed<'_>, message: &Message) -> usize
     ensures { result < 2048 }
 {
@@ -88,8 +88,8 @@ fn found_slot(passed: &Passed<'_>, message: &Message) -> usize
     first
 }
 
-/// The slot in which one like this message is kept, if it is found, and else this one is to be kept. That of the message
-/// before is looked at first.
+/// Returns the slot that has a message like this one, if it is found, otherwise the one in which to keep this. Looks at slot `before` first, that
+/// of the message before.
 pub fn slot_of(passed: &Passed<'_>, before: usize, message: &Message) -> usize
     requires { before < 2048 }
     ensures { result < 2048 }
@@ -101,7 +101,7 @@ pub fn slot_of(passed: &Passed<'_>, before: usize, message: &Message) -> usize
     }
 }
 
-/// Keeps this message in this slot, in place of another one or of none.
+/// Remembers `message` in this slot, in place of what is there.
 pub fn keep<'a>(passed: &mut Passed<'a>, slot: usize, message: &'a Message)
     requires { slot < 2048 }
     ensures { (m : Seen) → IsIn m (kept passed.new) → IsIn m (kept passed.old) ⊎ (m ≡ message.now) }

@@ -1,4 +1,4 @@
-//! Queues in use that a new topology lacks.
+//! Finds queues in use that a new topology lacks.
 
 ghost use Rattle.std.specs.Prelude.{◌≡◌, IfOk, OnErr, Decides, Some};
 ghost use Rattle.model.specs.Topology.{queue_names};
@@ -12,17 +12,17 @@ use exchange_graph::Topology;
 use model::{Obstacle, Text};
 use std::alloc::AllocError;
 
-/// How many bytes a name has at most that is told without memory.
+/// The most bytes of a name that is copied without an allocation.
 const MOST_SHORT: usize = 22;
 
-/// Whether a message stands in the queue at this place, ready or held, or a consumer takes from it.
+/// Returns whether a message is in the queue at index `place`, ready or held, or a consumer takes from it.
 fn is_used<S: LiveQueues>(live: &S, place: usize) -> bool
     ensures { Decides result (IsUsed (S.entries live.now place) (S.consumed live.now place)) }
 {
     live.walk(place).next().is_some() || live.is_consumed(place)
 }
 
-/// A name once more, to be told: memory is wanting only for a long one.
+/// Returns a copy of a name. Fails only if the name is long and the allocation fails.
 fn told_name(name: &Text) -> Result<Text, AllocError>
     ensures same { IfOk result (λ t. t ≡ name.now) }
     ensures wants { OnErr result (IsLong name.now) }
@@ -33,7 +33,7 @@ fn told_name(name: &Text) -> Result<Text, AllocError>
     name.clone()
 }
 
-/// The queue at this place, which the new topology lacks, if it is in use.
+/// Returns the obstacle of the queue at index `place`, which the new topology lacks, if it is in use.
 fn gone_at<S: LiveQueues>(
     live: &S,
     place: usize,
@@ -49,7 +49,7 @@ fn gone_at<S: LiveQueues>(
     Ok(None)
 }
 
-/// The queue at this place, if it is in use and the new topology lacks it.
+/// Returns the obstacle of the queue at index `place`, if it is in use and the new topology lacks it.
 fn stranded_at<S: LiveQueues>(
     live: &S,
     topology: &Topology,
@@ -66,7 +66,7 @@ fn stranded_at<S: LiveQueues>(
     }
 }
 
-/// The first queue in use that the new topology lacks. Memory is wanting only to tell a long name.
+/// Returns the first queue in use that the new topology lacks, as an obstacle. Fails only if its name is long and the allocation fails.
 pub fn first_stranded<S: LiveQueues>(
     live: &S,
     old: &Topology,

@@ -1,4 +1,4 @@
--- What is said of every send: whom it goes to, and that its method can be spelled.
+-- What holds of every send: whom it is for, and that its method can be encoded.
 use Rattle.std.specs.Prelude.{ℕ, List, [], ◌∷◌, Bool, true, false, if◌then◌else◌, Option, Some, None}
 use Rattle.std.specs.List.{AllByRecursion}
 use Rattle.model.specs.Sending.{IsAddressed}
@@ -9,21 +9,21 @@ use Rattle.model.specs.declared.events.Send.{Send}
 use Rattle.model.specs.declared.events.Event.{Event}
 use Rattle.model.specs.declared.events.Event.TheVariants.{Open, First, Running, Command, TooLarge, Fault, Lose, Pause, Resume, Deliver}
 
--- each of them goes to this connection, on a channel that a frame can name, and its method has a spelling; of its size nothing is said
+-- each send is for connection c, on a channel that a frame can name, and its method can be encoded; nothing is said of its size
 abbrev pub AreAddressed : ℕ → List Send → Type 0
 AreAddressed c sends = AllByRecursion (IsAddressed c) sends
 
--- what goes back of a publish that is routed nowhere: all of it where it is mandatory, else nothing (AMQP 0-9-1, basic.publish, "mandatory")
+-- what is returned of a publish that is routed nowhere: all of it if it is mandatory, otherwise nothing (AMQP 0-9-1, basic.publish, "mandatory")
 abbrev pub return_if : ℕ → ℕ → Publish → Content → Option Send
 return_if c h p content = if p.mandatory then Some (return_of c h p content) else None
 
--- this goes back of a publish, where that was routed nowhere
+-- what is returned of a publish, if it was routed nowhere
 abbrev pub sent_back : Bool → Option Send → List Send
 sent_back false returned = []
 sent_back true None = []
 sent_back true (Some s) = s ∷ []
 
--- the connection that an event is of
+-- the connection that an event belongs to
 abbrev pub connection_of_event : Event → ℕ
 connection_of_event (Open c) = c
 connection_of_event (First c bytes) = c

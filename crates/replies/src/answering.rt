@@ -1,4 +1,4 @@
-//! Steps that answer a command.
+//! Builds the steps that answer a command.
 
 ghost use Rattle.std.specs.Prelude.{◌≡◌, ◌<◌, [], IfOk, length, vec_len, vec_capacity};
 ghost use Rattle.model.specs.Step.{select_sends, purge_sends, declare_sends, queue_declared, consume_sends, cancel_sends};
@@ -9,7 +9,7 @@ use crate::steps::Step;
 use model::{Cancel, QueueDeclare, Text};
 use std::alloc::{AllocError, Global};
 
-/// The answer to confirm.select, where one is wanted.
+/// Builds the step that sends `confirm.select-ok`, or nothing if `no_wait` is set.
 pub fn answer_select(
     alloc: Global,
     connection: u64,
@@ -27,7 +27,7 @@ pub fn answer_select(
     }
 }
 
-/// The answer to a purge that took out so many messages, where one is wanted.
+/// Builds the step that sends `queue.purge-ok` with the number of messages removed, or nothing if `no_wait` is set.
 pub fn answer_purge(
     alloc: Global,
     connection: u64,
@@ -46,7 +46,8 @@ pub fn answer_purge(
     }
 }
 
-/// The answer to a declare that asks for a queue with so many ready messages and so many consumers, where one is wanted.
+/// Builds the step that sends `queue.declare-ok` with the numbers of ready messages and of consumers, or nothing if `no_wait` is
+/// set.
 pub fn answer_queue_declare(
     alloc: Global,
     connection: u64,
@@ -70,7 +71,7 @@ pub fn answer_queue_declare(
     }
 }
 
-/// The answer to a consume stands in the step, which sends nothing yet, where one is wanted. There is room for it.
+/// Adds `basic.consume-ok` to the step, which sends nothing before and has capacity for it, unless `no_wait` is set.
 pub fn answer_consume(step: &mut Step, connection: u64, channel: u16, no_wait: bool, tag: Text)
     requires empty { step.old.sends.items ≡ [] }
     requires room { vec_len step.old.sends < vec_capacity step.old.sends }
@@ -84,7 +85,7 @@ pub fn answer_consume(step: &mut Step, connection: u64, channel: u16, no_wait: b
     }
 }
 
-/// The answer to a cancel, where one is wanted.
+/// Builds the step that sends `basic.cancel-ok`, or nothing if `no_wait` is set.
 pub fn answer_cancel(
     alloc: Global,
     connection: u64,

@@ -1,4 +1,4 @@
-//! Answers that carry no content, and confirms.
+//! Builds replies without content, and confirms.
 
 ghost use Rattle.std.specs.Prelude.{◌≡◌, ◌<◌, [], true, length};
 ghost use Rattle.model.specs.Deliveries.{written_count};
@@ -9,7 +9,7 @@ ghost use Rattle.model.specs.declared.methods.Method.TheVariants as seen;
 use crate::closes::reply;
 use model::{Ack, Answer, Method, Nack, QueueDeclared, Send, Text};
 
-/// A count as it is written.
+/// Returns a count as a reply has it: at most 2^32 - 1.
 pub(crate) fn written(count: usize) -> u32
     ensures { result ≡ written_count count }
 {
@@ -20,7 +20,7 @@ pub(crate) fn written(count: usize) -> u32
     }
 }
 
-/// channel.open-ok.
+/// Builds `channel.open-ok`.
 pub fn open_ok(connection: u64, channel: u16) -> Send
     ensures send { result ≡ said.reply connection channel (seen.ChannelOpenOk []) }
     ensures addressed { IsAddressed connection result }
@@ -34,7 +34,7 @@ pub fn open_ok(connection: u64, channel: u16) -> Send
     )
 }
 
-/// channel.flow-ok, of a flow that goes on.
+/// Builds `channel.flow-ok`, for a flow that goes on.
 pub fn flow_ok(connection: u64, channel: u16) -> Send
     ensures send { result ≡ said.reply connection channel (seen.ChannelFlowOk true) }
     ensures addressed { IsAddressed connection result }
@@ -42,7 +42,7 @@ pub fn flow_ok(connection: u64, channel: u16) -> Send
     reply(connection, channel, Method::ChannelFlowOk { active: true })
 }
 
-/// exchange.declare-ok.
+/// Builds `exchange.declare-ok`.
 pub fn exchange_ok(connection: u64, channel: u16) -> Send
     ensures send { result ≡ said.reply connection channel seen.ExchangeDeclareOk }
     ensures addressed { IsAddressed connection result }
@@ -50,7 +50,7 @@ pub fn exchange_ok(connection: u64, channel: u16) -> Send
     reply(connection, channel, Method::ExchangeDeclareOk)
 }
 
-/// confirm.select-ok.
+/// Builds `confirm.select-ok`.
 pub(crate) fn select_ok(connection: u64, channel: u16) -> Send
     ensures send { result ≡ said.reply connection channel seen.ConfirmSelectOk }
     ensures addressed { IsAddressed connection result }
@@ -58,7 +58,7 @@ pub(crate) fn select_ok(connection: u64, channel: u16) -> Send
     reply(connection, channel, Method::ConfirmSelectOk)
 }
 
-/// queue.purge-ok, with the number of messages that were taken out, which is at most the greatest of four octets.
+/// Builds `queue.purge-ok` with the number of messages removed, at most 2^32 - 1.
 pub(crate) fn purge_ok(connection: u64, channel: u16, count: usize) -> Send
     ensures send { result ≡ said.reply connection channel (seen.QueuePurgeOk (written_count count)) }
     ensures addressed { IsAddressed connection result }
@@ -67,8 +67,8 @@ pub(crate) fn purge_ok(connection: u64, channel: u16, count: usize) -> Send
     reply(connection, channel, Method::QueuePurgeOk { message_count })
 }
 
-/// queue.declare-ok of the queue of this name, with the numbers of its ready messages and of its consumers, which are each at
-/// most the greatest of four octets.
+/// Builds `queue.declare-ok` for the queue with this name, with the numbers of its ready messages and of its consumers, each at
+/// most 2^32 - 1.
 pub(crate) fn queue_ok(
     connection: u64,
     channel: u16,
@@ -87,7 +87,7 @@ pub(crate) fn queue_ok(
     reply(connection, channel, Method::QueueDeclareOk(declared))
 }
 
-/// basic.consume-ok of the consumer of this tag.
+/// Builds `basic.consume-ok` with this consumer tag.
 pub(crate) fn consume_ok(connection: u64, channel: u16, consumer_tag: Text) -> Send
     ensures send { result ≡ said.reply connection channel (seen.BasicConsumeOk consumer_tag) }
     ensures addressed { length consumer_tag < 256 → IsAddressed connection result }
@@ -95,7 +95,7 @@ pub(crate) fn consume_ok(connection: u64, channel: u16, consumer_tag: Text) -> S
     reply(connection, channel, Method::BasicConsumeOk { consumer_tag })
 }
 
-/// basic.cancel-ok of this tag.
+/// Builds `basic.cancel-ok` with this consumer tag.
 pub(crate) fn cancel_ok(connection: u64, channel: u16, consumer_tag: Text) -> Send
     ensures send { result ≡ said.reply connection channel (seen.BasicCancelOk consumer_tag) }
     ensures addressed { length consumer_tag < 256 → IsAddressed connection result }
@@ -103,7 +103,7 @@ pub(crate) fn cancel_ok(connection: u64, channel: u16, consumer_tag: Text) -> Se
     reply(connection, channel, Method::BasicCancelOk { consumer_tag })
 }
 
-/// basic.qos-ok.
+/// Builds `basic.qos-ok`.
 pub fn qos_ok(connection: u64, channel: u16) -> Send
     ensures send { result ≡ said.reply connection channel seen.BasicQosOk }
     ensures addressed { IsAddressed connection result }
@@ -111,7 +111,7 @@ pub fn qos_ok(connection: u64, channel: u16) -> Send
     reply(connection, channel, Method::BasicQosOk)
 }
 
-/// basic.recover-ok.
+/// Builds `basic.recover-ok`.
 pub fn recover_ok(connection: u64, channel: u16) -> Send
     ensures send { result ≡ said.reply connection channel seen.BasicRecoverOk }
     ensures addressed { IsAddressed connection result }
@@ -119,7 +119,7 @@ pub fn recover_ok(connection: u64, channel: u16) -> Send
     reply(connection, channel, Method::BasicRecoverOk)
 }
 
-/// Nack where some routed queue was full, else ack.
+/// Returns the confirm of a publish: nack if a routed queue was full, otherwise ack.
 pub(crate) fn answer_of(is_some_full: bool) -> Answer
     ensures { result ≡ said.answer_of is_some_full }
 {
@@ -130,7 +130,7 @@ pub(crate) fn answer_of(is_some_full: bool) -> Answer
     }
 }
 
-/// basic.ack or basic.nack of the publish with this confirm number, and of no other.
+/// Builds `basic.ack` or `basic.nack` for the publish with confirm number `number`, and for no other.
 pub(crate) fn confirm(connection: u64, channel: u16, answer: Answer, number: u64) -> Send
     ensures send { result ≡ said.reply connection channel (said.confirm_method answer number) }
     ensures addressed { IsAddressed connection result }
@@ -149,7 +149,7 @@ pub(crate) fn confirm(connection: u64, channel: u16, answer: Answer, number: u64
     reply(connection, channel, method)
 }
 
-/// basic.get-empty.
+/// Builds `basic.get-empty`.
 pub fn get_empty(connection: u64, channel: u16) -> Send
     ensures send { result ≡ said.reply connection channel (seen.BasicGetEmpty []) }
     ensures addressed { IsAddressed connection result }

@@ -1,4 +1,4 @@
-//! Closes, and what agrees to them.
+//! Builds closes, and the replies to them.
 
 ghost use Rattle.std.specs.Prelude.{◌≡◌, ◌<◌, None, length};
 ghost use Rattle.model.specs.Codes.{code_text};
@@ -9,7 +9,7 @@ ghost use Rattle.model.specs.declared.methods.Method.TheVariants as seen;
 
 use model::{Close, Ids, Method, Send, reply_text};
 
-/// A method that carries no content.
+/// Builds a send of a method without content.
 pub(crate) fn reply(connection: u64, channel: u16, method: Method) -> Send
     ensures { result ≡ said.reply connection channel method }
 {
@@ -21,7 +21,7 @@ pub(crate) fn reply(connection: u64, channel: u16, method: Method) -> Send
     }
 }
 
-/// What a close says: this code, and the method that caused it.
+/// Returns the arguments of a close: its reply code and text, and the ids of the method that caused it.
 fn close(code: u16, cause: Ids) -> Close
     ensures close { result ≡ record { reply_code = code; reply_text = code_text code; class_id = cause.class; method_id = cause.method } }
     ensures short { length result.reply_text < 256 }
@@ -34,7 +34,7 @@ fn close(code: u16, cause: Ids) -> Close
     }
 }
 
-/// channel.close, with this reply code, for this method.
+/// Builds `channel.close` with reply code `code`, for the method `cause`.
 pub fn channel_close(connection: u64, channel: u16, code: u16, cause: Ids) -> Send
     ensures send { result ≡ said.channel_close connection channel code (ids cause.class cause.method) }
     ensures addressed { IsAddressed connection result }
@@ -46,7 +46,7 @@ pub fn channel_close(connection: u64, channel: u16, code: u16, cause: Ids) -> Se
     )
 }
 
-/// connection.close, with this reply code, for this method.
+/// Builds `connection.close` with reply code `code`, for the method `cause`.
 pub fn connection_close(connection: u64, code: u16, cause: Ids) -> Send
     ensures send { result ≡ said.connection_close connection code (ids cause.class cause.method) }
     ensures addressed { IsAddressed connection result }
@@ -54,7 +54,7 @@ pub fn connection_close(connection: u64, code: u16, cause: Ids) -> Send
     reply(connection, 0, Method::ConnectionClose(close(code, cause)))
 }
 
-/// channel.close-ok.
+/// Builds `channel.close-ok`.
 pub fn channel_close_ok(connection: u64, channel: u16) -> Send
     ensures send { result ≡ said.reply connection channel seen.ChannelCloseOk }
     ensures addressed { IsAddressed connection result }
@@ -62,7 +62,7 @@ pub fn channel_close_ok(connection: u64, channel: u16) -> Send
     reply(connection, channel, Method::ChannelCloseOk)
 }
 
-/// connection.close-ok.
+/// Builds `connection.close-ok`.
 pub fn connection_close_ok(connection: u64) -> Send
     ensures send { result ≡ said.reply connection 0 seen.ConnectionCloseOk }
     ensures addressed { IsAddressed connection result }

@@ -1,4 +1,4 @@
-//! Messages that are sent with their contents, whose bytes are shared.
+//! Builds sends of messages with their contents, whose bytes are shared.
 
 ghost use Rattle.std.specs.Prelude.{◌≡◌, ◌<◌, length, IfOk, IfSome};
 ghost use Rattle.model.specs.Grammar.{IsMethod};
@@ -11,10 +11,10 @@ use crate::answers::written;
 use model::{Content, Deliver, Entry, GetOk, Method, Publish, Return, Send, Text, reply_text};
 use std::alloc::AllocError;
 
-/// The reply code of a publish that is sent back: no-route.
+/// The reply code of a publish that is returned: no-route.
 const NO_ROUTE: u16 = 312;
 
-/// basic.return of this publish, with its content, whose bytes are shared.
+/// Builds `basic.return` for this publish with its content, whose bytes are shared. Fails only if an allocation fails.
 fn return_of(
     connection: u64,
     channel: u16,
@@ -37,7 +37,7 @@ fn return_of(
     })
 }
 
-/// What goes back of this publish where it is routed nowhere: nothing where it is not mandatory.
+/// Builds the `basic.return` of a mandatory publish, for the case that it is routed nowhere; `None` if it is not mandatory.
 pub fn return_if(
     connection: u64,
     channel: u16,
@@ -54,8 +54,8 @@ pub fn return_if(
     }
 }
 
-/// basic.get-ok of this message under this delivery tag, where so many are ready behind it. It carries the message's content,
-/// whose bytes are shared.
+/// Builds `basic.get-ok` with this message under delivery tag `tag`; `remaining` messages are ready behind it. The content's bytes are shared.
+/// Fails only if an allocation fails.
 pub fn get_ok(
     connection: u64,
     channel: u16,
@@ -81,8 +81,8 @@ pub fn get_ok(
     })
 }
 
-/// basic.deliver of this message under this delivery tag, to the consumer of this tag. It carries the message's content, whose
-/// bytes are shared.
+/// Builds `basic.deliver` with this message under delivery tag `tag`, to the consumer with tag `consumer_tag`. The content's bytes are shared.
+/// Fails only if an allocation fails.
 pub fn deliver(
     connection: u64,
     channel: u16,

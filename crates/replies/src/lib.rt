@@ -1,6 +1,7 @@
 //! The methods that the broker sends, and what a step sends and notes.
 //!
-//! Each method is one of the model's (`Step` and `Deliveries`), sent to the connection that it is said for (`specs/Sent.antt`).
+//! Start at [`Step`]. Each method is one of the model's (`Step` and `Deliveries`), for the connection that it is built for
+//! (`specs/Sent.antt`).
 #![tactic(auto)]
 
 mod answering;

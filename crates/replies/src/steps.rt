@@ -7,28 +7,40 @@ ghost use Rattle.replies.specs.Sent.{AreAddressed, sent_back};
 
 use crate::answers::{answer_of, confirm};
 use model::{Note, Send};
+use notes::Notes;
 use std::alloc::{AllocError, Global};
 
 /// What a step sends, in this order, and what it notes.
 #[derive(Drop)]
 pub struct Step {
     pub sends: Vec<Send>,
-    pub notes: Vec<Note>,
+    pub notes: Notes,
 }
 
 impl Step {
-    /// Nothing is sent and nothing noted. It takes no memory.
+    /// Returns a step that sends and notes nothing. Never allocates.
     pub fn nothing(alloc: Global) -> Step
         ensures sends { result.sends.items ≡ [] }
         ensures notes { result.notes.items ≡ [] }
     {
         Step {
             sends: Vec::new(alloc),
-            notes: Vec::new(alloc),
+            notes: Notes::new(alloc),
         }
     }
 
-    /// This is sent, and nothing noted.
+    /// Returns a step that sends nothing and has these notes. Never allocates.
+    pub fn noting(alloc: Global, notes: Notes) -> Step
+        ensures sends { result.sends.items ≡ [] }
+        ensures notes { result.notes ≡ notes }
+    {
+        Step {
+            sends: Vec::new(alloc),
+            notes,
+        }
+    }
+
+    /// Returns a step that sends `send` and notes nothing. Fails only if an allocation fails.
     pub fn sending(alloc: Global, send: Send) -> Result<Step, AllocError>
         ensures sends { IfOk result (λ s. s.sends.items ≡ send ∷ []) }
         ensures notes { IfOk result (λ s. s.notes.items ≡ []) }
@@ -38,17 +50,19 @@ impl Step {
         sends.push_reserved(send);
         Ok(Step {
             sends,
-            notes: Vec::new(alloc),
+            notes: Notes::new(alloc),
         })
     }
 
-    /// This goes back behind what is there, and that is noted of this publish, where there is something to go back and the
-    /// publish was routed nowhere. There is room for it.
+    /// Appends `returned` to what is sent, with a note for publish `number`, if there is one and the publish was routed nowhere. There is capacity
+    /// for both.
     pub fn send_back(&mut self, number: u64, returned: Option<Send>, is_none: bool)
         requires sends { vec_len self.old.sends < vec_capacity self.old.sends }
         requires notes { vec_len self.old.notes < vec_capacity self.old.notes }
+        // The return is appended if `is_none`.
         ensures sends { self.new.sends.items ≡ self.old.sends.items ++ sent_back is_none returned }
         ensures notes { self.new.notes.items ≡ self.old.notes.items ++ returned_notes number (is_none && is_some returned) }
+        // The frame: at most one send and one note are added.
         ensures sends_len { vec_len self.new.sends ≤ vec_len self.old.sends + cond (is_some returned) 1 0 }
         ensures notes_len { vec_len self.new.notes ≤ vec_len self.old.notes + 1 }
         ensures sends_capacity { vec_capacity self.new.sends ≡ vec_capacity self.old.sends }
@@ -63,8 +77,8 @@ impl Step {
         }
     }
 
-    /// The confirm of this publish is sent and noted behind what is there, where there is a confirm number. There is room
-    /// for it.
+    /// Appends the confirm of publish `number` to what is sent and noted, if it has a confirm number. There is capacity for
+    /// both.
     pub fn confirm(
         &mut self,
         connection: u64,

@@ -111,7 +111,7 @@ reloads_done a b offered s t sound p e =
     let done = put_reloads a b offered p in
     (os, sound, done, subst (λ (z : Seen). TellsEvents a s os b z) (sym e) (tells_reloads a b offered _ s (Reloaded ∷ []) sound refl done))
 
--- something stands against it, which is noted, and nothing is different
+-- there is an obstacle, which is noted, and nothing has changed
 pub reloads_refused : (a b : World) (offered : Config) (o : Obstacle) (s t : Seen) → IsSound offered → IsObstacle a.config.topology offered a.state.broker o → Same a b → t ≡ record s { notes = s.notes ++ ReloadRefused o ∷ [] }
     → AnswersAndTells a (arrival.Reload offered) s b t
 reloads_refused a b offered o s t sound stands same e =

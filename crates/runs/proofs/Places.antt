@@ -9,7 +9,7 @@ with_here f n m a e = ap (λ (b : Bool). cond b a (f m)) (eq-eqb m n e)
 pub with_other : {A : Type 0} (f : ℕ → A) (n m : ℕ) (a : A) → m ≢ n → with_one f n a m ≡ f m
 with_other f n m a ne = ap (λ (b : Bool). cond b a (f m)) (ne_eqb m n ne)
 
--- ---- bytes behind what stands at a place
+-- ---- bytes appended to what is at an index
 
 gathered_place : (ss : List Shown) (i : ℕ) (bytes : List ℕ) → gathered ss (i + 1) bytes ≡ gathered_at ss i bytes
 gathered_place ss i bytes =

@@ -1,4 +1,4 @@
--- What was offered, as a reload between two worlds: it was put in force, or something stood against it.
+-- What was offered, as a reload between two worlds: it was put in force, or there was an obstacle.
 use Rattle.runs.proofs.Names.{◌≡◌, ℕ, List, [], ◌∷◌, refl, inl, inr, Config, Of_reload, Reload, IsDecided, IsObstacle, World, Same, Reloads, Note, Reloaded, ReloadRefused, Obstacle, IsPutInForce}
 
 -- a reload between these worlds, of which this is noted

@@ -1,4 +1,4 @@
--- What the single calls of a machine come to.
+-- What each call of a machine does to its world.
 use Rattle.std.specs.Prelude.{◌≡◌, ◌+◌, ℕ, List, Bool, true, false, Option, Some, None, MatchBool}
 use Rattle.model.specs.Run.{Happening, notes_of}
 use Rattle.model.specs.Phases.{is_running}
@@ -8,24 +8,24 @@ use Rattle.model.specs.declared.events.Event.{Event}
 use Rattle.model.specs.declared.events.Event.TheVariants as event
 use Rattle.model.specs.declared.notes.Note.{Note}
 
--- the broker performs the commands of the connection
+-- the broker performs the connection's commands
 abbrev pub runs : World → ℕ → Bool
 runs w c = is_running (w.state.session c).phase
 
--- the connection that was opened by this event, of which this stream is awaited; none where no more can be opened
+-- the event `e` opened the next connection, whose stream is `s`; `None` if no further connection can be opened
 abbrev pub IsOpened : Event → Stream → World → Option ℕ → World → Type 0
 IsOpened e s old None new = (can_open old ≡ false) × Same old new
 IsOpened e s old (Some n) new = (can_open old ≡ true) × (n ≡ new.given) × ((hs : List Happening) × Opens old e s hs new)
 
--- a connection is opened of which no byte has come
+-- a connection that has sent no byte yet is opened
 abbrev pub OpensNew : World → Option ℕ → World → Type 0
 OpensNew old opened new = IsOpened (event.Open (old.given + 1)) opened_stream old opened new
 
--- a connection is opened that runs at once, with channels 1 to k open
+-- a connection that is running at once is opened, with channels 1 to `k` open
 abbrev pub OpensReady : World → ℕ → Option ℕ → World → Type 0
 OpensReady old k opened new = IsOpened (event.Running (old.given + 1) 255 k) running_stream old opened new
 
--- the bytes are heard, unless the connection is over
+-- `bytes` are appended to the connection's input, unless it is over
 abbrev pub Hears : World → ℕ → List ℕ → World → Type 0
 Hears old c bytes new = MatchBool (is_over old c) (Same old new) (new ≡ with_heard old c bytes)
 
@@ -41,11 +41,11 @@ DidNothing old c new = Rests old c × Waits old c new
 abbrev pub Pumped : World → ℕ → List Note → World → Type 0
 Pumped old c notes new = (hs : List Happening) × (notes ≡ notes_of hs) × Delivers old c hs new
 
--- no delivery can be made, to whatever connection, and nothing was done
+-- no delivery can be made to any connection, and nothing has changed
 abbrev pub Idles : World → World → Type 0
 Idles old new = NoneCanDeliver old × Same old new
 
--- so many bytes of the output are taken, unless the connection is gone
+-- `n` bytes of the output are taken, unless the connection is gone
 abbrev pub TakesAway : World → ℕ → ℕ → World → Type 0
 TakesAway old c n new = MatchBool (is_gone old c) (Same old new) ((hs : List Happening) × Takes_off old c n hs new)
 

@@ -9,11 +9,11 @@ use Rattle.model.specs.declared.events.Arrival.{Arrival}
 use Rattle.laws.specs.Reloading.{IsOffered, AreOffered}
 use Rattle.runs.specs.Told.{TellsEvents}
 
--- all that is to perform for a connection is performed and written down
+-- all that is left to perform for a connection is performed, and recorded
 abbrev pub WorksAndTells : World → ℕ → Seen → World → Seen → Type 0
 WorksAndTells old c seen new after = (hs : List Happening) × WorksOff old c hs new × TellsEvents old seen (map Of_event hs) new after
 
--- what one arrival brings is done and written down; what it offers, if it is a reload, is sound
+-- all that one arrival brings is done, and recorded; if it is a reload, what it offers is sound
 abbrev pub AnswersAndTells : World → Arrival Config → Seen → World → Seen → Type 0
 AnswersAndTells old arrival seen new after = (os : List Occurrence) × IsOffered arrival × Answers old arrival os new × TellsEvents old seen os new after
 
@@ -21,7 +21,7 @@ AnswersAndTells old arrival seen new after = (os : List Occurrence) × IsOffered
 abbrev pub PlaysAndTells : World → List (Arrival Config) → Seen → World → Seen → Type 0
 PlaysAndTells old arrivals seen new after = (os : List Occurrence) × AreOffered arrivals × Plays old arrivals os new × TellsEvents old seen os new after
 
--- What happened from a world with no connection to this one, arrival by arrival, and was seen so.
+-- What happened from a world without connections to `last`, arrival by arrival, and was recorded in `seen`.
 pub record IsRunOf (f : Config) (arrivals : List (Arrival Config)) (last : World) (seen : Seen) : Type 0 where
   pub occurrences : List Occurrence
   pub plays : Plays (new_world f) arrivals occurrences last

@@ -1,11 +1,11 @@
-//! What a pump tells.
+//! A delivery that a machine made.
 
-use model::Note;
+use notes::Notes;
 
 /// A delivery that was made.
 #[derive(Drop)]
 pub struct Delivered {
-    /// The connection whose consumer it was made to.
+    /// The connection of the consumer that it went to.
     pub connection: u64,
-    pub notes: Vec<Note>,
+    pub notes: Notes,
 }

@@ -1,4 +1,4 @@
-//! Why a reload was not done.
+//! Why a reload was refused.
 
 ghost use Rattle.std.specs.Prelude.{◌≡◌, Some};
 ghost use Rattle.runs.specs.Faults.{obstacle_in};
@@ -7,23 +7,23 @@ use model::{Obstacle, Text};
 use std::alloc::AllocError;
 use std::mem;
 
-/// Why a reload was not done. What stands against it is the first that does.
+/// Why a reload was refused: its first obstacle, or an allocation failure.
 #[derive(Drop)]
 pub enum ReloadFault {
-    /// A message stands in this queue, or a consumer takes from it, and the new topology lacks it.
+    /// The new topology lacks this queue, while a message is in it or a consumer takes from it.
     InUse(Text),
-    /// A message stands in this queue that was first sent under this key, and by deaths it could come to a queue that the
-    /// guarantee of this number, counted from 1, forbids it.
+    /// A message in this queue, first published with this key, could reach a queue that a guarantee forbids it by dead-lettering. The
+    /// guarantee's number counts from 1.
     Breaks {
         queue: Text,
         key: Text,
         guarantee: usize,
     },
-    /// Memory was wanting.
+    /// An allocation failed.
     Memory,
 }
 
-/// A text out of its place.
+/// Moves a text out, and leaves an empty one.
 fn taken(text: &mut Text) -> Text
     ensures { result ≡ text.old }
 {
@@ -42,7 +42,7 @@ impl From<AllocError> for ReloadFault {
 }
 
 impl ReloadFault {
-    /// The fault that tells what stands against a reload. It takes no memory.
+    /// Returns the fault of this obstacle. Never allocates.
     pub fn of(mut obstacle: Obstacle) -> ReloadFault
         ensures { obstacle_in result ≡ Some obstacle }
     {
@@ -60,7 +60,7 @@ impl ReloadFault {
         }
     }
 
-    /// What stands against the reload; none where memory was wanting.
+    /// Returns the obstacle, or `None` if an allocation failed.
     pub fn obstacle(self) -> Option<Obstacle>
         ensures { result ≡ obstacle_in self }
     {

@@ -1,4 +1,4 @@
-//! Runs of lists of arrivals, over any machine that takes single turns.
+//! Runs lists of arrivals over any machine that takes single turns. Start at [`run_over`].
 #![tactic(auto)]
 
 mod delivered;

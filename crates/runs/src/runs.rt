@@ -10,7 +10,8 @@ use crate::transcript::Transcript;
 use model::{Arrival, Note};
 use std::alloc::{AllocError, Global};
 
-/// All that arrives at a machine with no connection, in order, each with the commands that it brings.
+/// Runs `arrivals` in order on a machine without connections, each with all commands that it completes. Fails only if an allocation
+/// fails, or if the machine keeps no notes.
 pub fn run_over<M: Machine>(
     alloc: Global,
     machine: &mut M,
@@ -40,7 +41,7 @@ fn play<M: Machine>(
     Ok(())
 }
 
-/// One arrival, and all that it brings.
+/// Does one arrival, and all that it brings.
 fn arrive<M: Machine>(
     alloc: Global,
     machine: &mut M,
@@ -60,7 +61,7 @@ fn arrive<M: Machine>(
     }
 }
 
-/// A connection of which no byte has come is opened, if one can be.
+/// Opens a connection that has sent no byte yet, if one can be opened.
 fn open<M: Machine>(
     alloc: Global,
     machine: &mut M,
@@ -74,7 +75,7 @@ fn open<M: Machine>(
     }
 }
 
-/// A connection that runs at once is opened, if one can be.
+/// Opens a connection that is running at once, if one can be opened.
 fn open_ready<M: Machine>(
     alloc: Global,
     machine: &mut M,
@@ -89,7 +90,7 @@ fn open_ready<M: Machine>(
     }
 }
 
-/// Bytes of a connection, unless it is over.
+/// Feeds `bytes` to connection `c` and performs every command that is complete, unless the connection is over.
 fn hear<M: Machine>(
     alloc: Global,
     machine: &mut M,
@@ -106,7 +107,7 @@ fn hear<M: Machine>(
     work(alloc, machine, c, transcript)
 }
 
-/// Output of a connection is taken, unless it is gone, and what waited for that is performed.
+/// Takes `n` bytes of output of connection `c` and performs what waited for that, unless the connection is gone.
 fn take<M: Machine>(
     alloc: Global,
     machine: &mut M,
@@ -124,7 +125,7 @@ fn take<M: Machine>(
     work(alloc, machine, c, transcript)
 }
 
-/// One delivery is made, if any can be.
+/// Makes one delivery, if one can be made.
 fn pump<M: Machine>(
     alloc: Global,
     machine: &mut M,
@@ -138,7 +139,7 @@ fn pump<M: Machine>(
     }
 }
 
-/// A connection is lost, unless it is gone, and what is left of its output is never taken.
+/// Drops connection `c`, unless it is gone; its remaining output is recorded as never taken.
 fn lose<M: Machine>(machine: &mut M, c: u64, transcript: &mut Transcript) -> Result<(), AllocError>
     ensures { OnOk result (AnswersAndTells (M.world machine.old) (arrival.Lose c) transcript.old (M.world machine.new) transcript.new) }
 {
@@ -150,7 +151,7 @@ fn lose<M: Machine>(machine: &mut M, c: u64, transcript: &mut Transcript) -> Res
     Ok(())
 }
 
-/// What is in force is to be this from now on: it is, or what stands against it is noted.
+/// Puts `setup` in force, or notes the first obstacle to it.
 fn reload<M: Machine>(
     alloc: Global,
     machine: &mut M,
@@ -161,15 +162,15 @@ fn reload<M: Machine>(
 {
     M::offers_sound(&setup);
     match machine.reload(alloc, setup) {
-        Ok(()) => transcript.note(vec![in alloc; Note::Reloaded]?),
+        Ok(()) => transcript.note_one(Note::Reloaded),
         Err(fault) => match fault.obstacle() {
-            Some(obstacle) => transcript.note(vec![in alloc; Note::ReloadRefused(obstacle)]?),
+            Some(obstacle) => transcript.note_one(Note::ReloadRefused(obstacle)),
             None => Err(AllocError),
         },
     }
 }
 
-/// Turns of a connection, until it is idle, paused or over.
+/// Performs turns of a connection until it is idle, paused or over.
 fn work<M: Machine>(
     alloc: Global,
     machine: &mut M,
@@ -184,14 +185,14 @@ fn work<M: Machine>(
     Ok(())
 }
 
-/// Whether the connection is over with no output left.
+/// Returns whether the connection is over and its output is empty.
 fn is_gone<M: Machine>(machine: &M, c: u64) -> bool
     ensures { result ≡ is_gone (M.world machine.now) c }
 {
     machine.is_over(c) && machine.output(c).is_empty()
 }
 
-/// The first `n` bytes, or all if there are fewer.
+/// Returns the first `n` bytes, or all if there are fewer.
 fn front(bytes: &[u8], n: u64) -> &[u8]
     ensures { result.now ≡ take n bytes.now }
 {

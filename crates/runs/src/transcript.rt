@@ -1,14 +1,15 @@
-//! What a run shows.
+//! The record of a run.
 
-ghost use Rattle.std.specs.Prelude.{◌≡◌, ◌++◌, [], false, OnOk, OnErr, unwrap_or, option_copied};
+ghost use Rattle.std.specs.Prelude.{◌≡◌, ◌++◌, ◌∷◌, [], false, OnOk, OnErr, unwrap_or, option_copied};
 ghost use Rattle.runs.specs.Told.{never_given, shown_of, gathered, with_opened, AreFinished};
 
 use crate::machine::Machine;
 use model::Note;
+use notes::Notes;
 use std::alloc::{AllocError, Global};
 use std::marker::Model;
 
-/// All bytes put out for one connection, taken ones too, and whether it is over or lost.
+/// All bytes that were put out for one connection, including those taken, and whether it is over or lost.
 #[derive(Drop)]
 pub struct Shown {
     bytes: Vec<u8>,
@@ -33,14 +34,14 @@ impl Shown {
         }
     }
 
-    /// All bytes put out for the connection.
+    /// Returns all bytes that were put out for the connection.
     pub fn output(&self) -> &[u8]
         ensures { result.now ≡ self.now.output }
     {
         &self.bytes
     }
 
-    /// Whether the connection is over or lost.
+    /// Returns whether the connection is over or lost.
     pub fn is_over(&self) -> bool
         ensures { result ≡ self.now.is_over }
     {
@@ -54,7 +55,7 @@ impl Shown {
         self.bytes.extend_from_slice(more)
     }
 
-    /// Adds what still waits, and says whether the connection is over.
+    /// Appends the rest of the output, and sets whether the connection is over.
     fn finish(&mut self, rest: &[u8], is_over: bool) -> Result<(), AllocError>
         ensures ok { OnOk result (self.new ≡ record { output = self.old.output ++ rest.now; is_over = is_over }) }
         ensures err { OnErr result (self.new ≡ self.old) }
@@ -65,13 +66,13 @@ impl Shown {
     }
 }
 
-/// All bytes put out for each connection, taken ones too, and whether it is over or lost; and all notes in order.
+/// All bytes that were put out for each connection, and whether it is over or lost; and all notes in order.
 pub struct Transcript {
     connections: Vec<Shown>,
     notes: Vec<Note>,
 }
 
-/// Written out, so that a drop is one call.
+/// Written out so that a drop is one call.
 impl Drop for Transcript {
     fn drop(self) {
         let Transcript {
@@ -90,7 +91,7 @@ impl Model for Transcript {
 }
 
 impl Transcript {
-    /// One that shows nothing yet.
+    /// Returns an empty transcript. Never allocates.
     pub(crate) fn new(alloc: Global) -> Transcript
         ensures { result ≡ record { connections = []; notes = [] } }
     {
@@ -100,35 +101,35 @@ impl Transcript {
         }
     }
 
-    /// The connections that were opened, in the order of their numbers, which count from 1.
+    /// Returns the connections that were opened, in the order of their numbers, which count from 1.
     pub fn connections(&self) -> &[Shown]
         ensures { result.now ≡ self.now.connections }
     {
         self.connections.as_slice()
     }
 
-    /// All bytes put out for a connection; none for a number that was never given.
+    /// Returns all bytes that were put out for a connection; none for a number that was never given.
     pub fn output(&self, connection: u64) -> &[u8]
         ensures { result.now ≡ (shown_of self.now.connections connection).output }
     {
         output_of(&self.connections, connection)
     }
 
-    /// Whether a connection is over or lost, or was never opened.
+    /// Returns whether a connection is over or lost, or was never opened.
     pub fn is_over(&self, connection: u64) -> bool
         ensures { result ≡ (shown_of self.now.connections connection).is_over }
     {
         is_over_of(&self.connections, connection)
     }
 
-    /// All notes, in the order in which they were made.
+    /// Returns all notes, in the order in which they were made.
     pub fn notes(&self) -> &[Note]
         ensures { result.now ≡ self.now.notes }
     {
         &self.notes
     }
 
-    /// Writes down that a connection was opened.
+    /// Records that a connection was opened.
     pub(crate) fn add_connection(&mut self, alloc: Global) -> Result<(), AllocError>
         ensures ok { OnOk result (self.new ≡ record self.old { connections = with_opened self.old.connections }) }
         ensures err { OnErr result (self.new ≡ self.old) }
@@ -138,7 +139,7 @@ impl Transcript {
         Ok(())
     }
 
-    /// Writes down that these bytes were put out for a connection.
+    /// Records that `bytes` were put out for a connection.
     pub(crate) fn gather(&mut self, connection: u64, bytes: &[u8]) -> Result<(), AllocError>
         ensures ok { OnOk result (self.new ≡ record self.old { connections = gathered self.old.connections connection bytes.now }) }
         ensures err { OnErr result (self.new ≡ self.old) }
@@ -146,15 +147,26 @@ impl Transcript {
         add_to(&mut self.connections, connection, bytes)
     }
 
-    /// Writes down more notes.
-    pub(crate) fn note(&mut self, mut notes: Vec<Note>) -> Result<(), AllocError>
+    /// Appends `notes`. Fails only if an allocation fails, or if nobody kept the notes; nothing has changed then.
+    pub(crate) fn note(&mut self, notes: Notes) -> Result<(), AllocError>
         ensures ok { OnOk result (self.new ≡ record self.old { notes = self.old.notes ++ notes.items }) }
         ensures err { OnErr result (self.new ≡ self.old) }
     {
-        self.notes.append(&mut notes)
+        let mut kept = notes.into_vec().ok_or(AllocError)?;
+        self.notes.append(&mut kept)
     }
 
-    /// Writes down what still waits in a machine's outputs, and which connections are over.
+    /// Appends one note.
+    pub(crate) fn note_one(&mut self, note: Note) -> Result<(), AllocError>
+        ensures ok { OnOk result (self.new ≡ record self.old { notes = self.old.notes ++ note ∷ [] }) }
+        ensures err { OnErr result (self.new ≡ self.old) }
+    {
+        self.notes.reserve(1)?;
+        self.notes.push_reserved(note);
+        Ok(())
+    }
+
+    /// Records what is left in a machine's outputs, and which connections are over.
     pub(crate) fn finish<M: Machine>(&mut self, machine: &M) -> Result<(), AllocError>
         ensures connections { OnOk result (AreFinished (M.world machine.now) self.old.connections self.new.connections) }
         ensures notes { self.new.notes ≡ self.old.notes }

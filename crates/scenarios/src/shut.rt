@@ -1,6 +1,7 @@
 //! Runs, and rounds over a scripted wire, of a machine that refuses connections.
 
-use model::{Arrival, Note, Text};
+use model::{Arrival, Text};
+use notes::Notes;
 use runs::{Delivered, Machine, ReloadFault, run_over};
 use scenario_parts::{Unmet, expect, expect_number, value_of};
 use serving::{Accept, Read, Server, Wire, Write, serve};
@@ -40,7 +41,7 @@ impl<'a> Machine for Shut<'a> {
         Ok(())
     }
 
-    fn turn(&mut self, _alloc: Global, _c: u64) -> Result<Option<Vec<Note>>, AllocError> {
+    fn turn(&mut self, _alloc: Global, _c: u64) -> Result<Option<Notes>, AllocError> {
         Ok(None)
     }
 

@@ -1,6 +1,6 @@
 //! A machine of which one call fails for memory.
 
-use model::Note;
+use notes::Notes;
 use runs::{Delivered, Machine, ReloadFault};
 use std::alloc::{AllocError, Global};
 
@@ -57,7 +57,7 @@ impl<'a, M: Machine> Machine for Wanting<'a, M> {
         self.machine.feed(alloc, c, bytes)
     }
 
-    fn turn(&mut self, alloc: Global, c: u64) -> Result<Option<Vec<Note>>, AllocError> {
+    fn turn(&mut self, alloc: Global, c: u64) -> Result<Option<Notes>, AllocError> {
         if is_refused(self.left) {
             return Err(AllocError);
         }

@@ -10,13 +10,13 @@ use std::io::{self, Read as _, Write as _};
 use std::net::{Net, OpenStream as _};
 use std::time::Duration;
 
-/// How many milliseconds clients have, who log in within as many first.
+/// The milliseconds that clients have; they log in within that, too.
 const TIME: u64 = 1_000;
 
-/// How many rounds in vain are enough, whatever else the machine does.
+/// The rounds after which a scenario gives up, whatever else the machine does.
 const PATIENCE: u32 = 1_000;
 
-/// Rounds enough for what a client wrote. Those in which nothing comes wait.
+/// The rounds in which all is served that a client wrote. Rounds in which nothing comes wait.
 const TURNS: u64 = 4;
 
 /// connection.open of a connection that is open, which is refused with connection.close and code 503.
@@ -25,7 +25,7 @@ const SECOND_OPEN: &[u8] = b"\x01\x00\x00\x00\x00\x00\x08\x00\x0a\x00\x28\x01/\x
 /// connection.close-ok.
 const CLOSE_OK: &[u8] = b"\x01\x00\x00\x00\x00\x00\x04\x00\x0a\x00\x33\xce";
 
-/// Serves a client until it has been answered as much as this, and expects that it was answered this. It never waits.
+/// Serves a client until it has as many bytes as `expected`, and expects that these are its answer. Never waits.
 fn expect_answer<S: io::Read>(
     alloc: Global,
     served: &mut Served,
@@ -43,7 +43,7 @@ fn expect_answer<S: io::Read>(
     expect_bytes("the answer", answer.as_slice(), expected)
 }
 
-/// A client that has logged in, and never waits.
+/// Returns a client that has logged in, and never waits.
 fn logged_in<N: Net>(net: &N, alloc: Global, served: &mut Served) -> Result<N::Stream, Unmet> {
     let mut client = served.connect(net)?;
     value_of("set_nonblocking", client.set_nonblocking(true))?;
@@ -52,7 +52,7 @@ fn logged_in<N: Net>(net: &N, alloc: Global, served: &mut Served) -> Result<N::S
     Ok(client)
 }
 
-/// Writes what a client sends, and serves it.
+/// Writes `bytes` as a client, and serves it.
 fn say<S: io::Write>(
     alloc: Global,
     served: &mut Served,
@@ -64,7 +64,7 @@ fn say<S: io::Write>(
     Ok(())
 }
 
-/// Expects that one socket more is closed in the end.
+/// Expects that one more socket is closed in the end.
 fn expect_closed(alloc: Global, served: &mut Served) -> Result<(), Unmet> {
     let before = served.sockets.closes;
     for _ in 0..PATIENCE {
@@ -76,8 +76,8 @@ fn expect_closed(alloc: Global, served: &mut Served) -> Result<(), Unmet> {
     Err(Unmet::Claim("a client that never answers connection.close is ended"))
 }
 
-/// Of two clients that are sent connection.close one answers, and is ended at once. The other does not, and is ended once its time is
-/// over. A third one, whose connection runs, is served after that.
+/// Two clients are sent connection.close. One answers, and is ended at once; the other does not, and is ended once its time is over. A third one,
+/// whose connection is running, is served after that.
 pub(crate) fn a_client_that_never_answers_a_close_is_ended(
     rt: &HostRuntime,
     alloc: Global,

@@ -1,6 +1,7 @@
-//! Scenarios of clients that are served, over sockets in memory and over sockets of the system. `cases` runs them.
+//! Scenarios of clients that are served, over sockets in memory and over sockets of the system. `cases` runs them: start at [`tell_all`].
 #![tactic(auto)]
 
+mod called;
 mod farewells;
 mod neighbours;
 mod rounds;
@@ -9,7 +10,7 @@ mod served;
 use scenario_parts::Sums;
 use std::io;
 
-/// The scenarios of rounds: over wires in memory, and over sockets of the system.
+/// Runs the scenarios of rounds: over wires in memory, and over sockets of the system.
 fn tell_rounds(sums: &mut Sums, rt: &HostRuntime) -> io::Result<()> {
     let alloc = rt.alloc();
     sums.tell(
@@ -39,7 +40,7 @@ fn tell_rounds(sums: &mut Sums, rt: &HostRuntime) -> io::Result<()> {
     )
 }
 
-/// The scenarios of several clients of the system.
+/// Runs the scenarios of several clients of the system.
 fn tell_neighbours(sums: &mut Sums, rt: &HostRuntime) -> io::Result<()> {
     let alloc = rt.alloc();
     sums.tell(
@@ -69,8 +70,25 @@ fn tell_neighbours(sums: &mut Sums, rt: &HostRuntime) -> io::Result<()> {
     )
 }
 
+/// Runs the scenarios of the callers that the pages for embedders quote.
+fn tell_called(sums: &mut Sums, rt: &HostRuntime) -> io::Result<()> {
+    let alloc = rt.alloc();
+    sums.tell(rt, "a_route_is_asked", called::a_route_is_asked(alloc))?;
+    sums.tell(
+        rt,
+        "bytes_are_fed_and_taken",
+        called::bytes_are_fed_and_taken(alloc),
+    )?;
+    sums.tell(
+        rt,
+        "a_client_is_served_in_memory",
+        called::a_client_is_served_in_memory(alloc),
+    )
+}
+
 /// Runs these scenarios, and prints a line for each.
 pub fn tell_all(sums: &mut Sums, rt: &HostRuntime) -> io::Result<()> {
     tell_rounds(sums, rt)?;
-    tell_neighbours(sums, rt)
+    tell_neighbours(sums, rt)?;
+    tell_called(sums, rt)
 }

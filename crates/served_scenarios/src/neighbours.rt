@@ -10,14 +10,14 @@ use std::io;
 use std::io::{ErrorKind, Read as _, Write as _};
 use std::net::{Net, OpenStream as _};
 
-/// A client that comes, and never waits.
+/// Connects a client that never waits.
 fn connect<N: Net>(served: &Served, net: &N) -> Result<N::Stream, Unmet> {
     let client = served.connect(net)?;
     value_of("set_nonblocking", client.set_nonblocking(true))?;
     Ok(client)
 }
 
-/// Writes what a client sends, and serves it.
+/// Writes `bytes` as a client, and serves it.
 fn send<S: io::Write>(
     alloc: Global,
     served: &mut Served,
@@ -32,13 +32,13 @@ fn send<S: io::Write>(
 /// How a client's answers ended.
 #[derive(Clone, Copy, PartialEq, Eq, Drop)]
 enum Ending {
-    /// Nothing more is there now.
+    /// Nothing further is there now.
     Open,
     /// The server closed the socket.
     Closed,
 }
 
-/// Reads what is there for a client, behind what it read before.
+/// Appends what is there for a client to `answer`.
 fn read_there<S: io::Read>(client: &mut S, answer: &mut Vec<u8>) -> Result<Ending, Unmet> {
     match client.read_to_end(answer) {
         Ok(_) => Ok(Ending::Closed),
@@ -47,7 +47,7 @@ fn read_there<S: io::Read>(client: &mut S, answer: &mut Vec<u8>) -> Result<Endin
     }
 }
 
-/// Expects that this, and no more, is there for a client, whose socket is open or closed.
+/// Expects that exactly `expected` is there for a client, and that its socket is open or closed as `ending` says.
 fn expect_there<S: io::Read>(
     alloc: Global,
     client: &mut S,
@@ -67,7 +67,7 @@ fn expect_answered<S: io::Read>(alloc: Global, client: &mut S) -> Result<(), Unm
     expect_opened_and_acked(alloc, answer.as_slice())
 }
 
-/// A client that has opened its connection and channel 1.
+/// Returns a client that has opened its connection and channel 1.
 fn open<N: Net>(net: &N, alloc: Global, served: &mut Served) -> Result<N::Stream, Unmet> {
     let mut client = connect(served, net)?;
     send(alloc, served, &mut client, OPENING)?;
@@ -75,7 +75,7 @@ fn open<N: Net>(net: &N, alloc: Global, served: &mut Served) -> Result<N::Stream
     Ok(client)
 }
 
-/// Three clients come at once, and each is answered.
+/// Three clients connect at once, and each is answered.
 pub(crate) fn three_clients_of_the_system_are_served<N: Net>(
     net: &N,
     alloc: Global,
@@ -101,7 +101,7 @@ const CLOSE: &[u8] =
 /// connection.close-ok.
 const CLOSE_OK: &[u8] = b"\x01\x00\x00\x00\x00\x00\x04\x00\x0a\x00\x33\xce";
 
-/// The socket of a client that says goodbye is closed while the server goes on.
+/// The socket of a client that closes its connection is closed while the server goes on.
 pub(crate) fn a_client_that_closes_its_connection_loses_its_socket<N: Net>(
     net: &N,
     alloc: Global,
@@ -150,11 +150,11 @@ pub(crate) fn what_a_client_held_that_went_away_is_given_to_another<N: Net>(
     )
 }
 
-/// basic.publish to `orders` under the key `new` on channel 1, and a header of a body of 1,048,576 bytes.
+/// basic.publish to `orders` with the key `new` on channel 1, and a header of a body of 1,048,576 bytes.
 const LARGE_PUBLISH: &[u8] =
     b"\x01\x00\x01\x00\x00\x00\x12\x00\x3c\x00\x28\x00\x00\x06orders\x03new\x00\xce\x02\x00\x01\x00\x00\x00\x0e\x00\x3c\x00\x00\x00\x00\x00\x00\x00\x10\x00\x00\x00\x00\xce";
 
-/// A body frame of 65,536 bytes on channel 1.
+/// Returns a body frame of 65,536 bytes on channel 1.
 fn body_frame(alloc: Global) -> Result<Vec<u8>, AllocError> {
     let mut frame = Vec::from_slice(alloc, b"\x03\x00\x01\x00\x01\x00\x00")?;
     frame.extend_from_slice(&vec![in alloc; 120; 65_536]?)?;
@@ -180,17 +180,16 @@ fn publish_large<S: io::Write>(
 const GET_AND_RECOVER: &[u8] =
     b"\x01\x00\x01\x00\x00\x00\x0d\x00\x3c\x00\x46\x00\x00\x05audit\x00\xce\x01\x00\x01\x00\x00\x00\x05\x00\x3c\x00\x6e\x01\xce";
 
-/// How often the message is got: more often than the system keeps answers for.
+/// How often the message is got: more often than the system buffers answers.
 const GETS: u64 = 12;
 
-/// What each time has: the frames of get-ok, a header, and the body in nine frames, with 8 bytes beside each payload, and
-/// recover-ok.
+/// The frames of each answer: get-ok, a header, the body in nine frames, and recover-ok.
 const GET_FRAMES: u64 = 12;
 
-/// .. and their bytes: 36 and 22, 1,048,576 and 72, and 12.
+/// The bytes of each answer: 36 and 22, 1,048,576 and 72, and 12; 8 bytes of a frame are beside its payload.
 const GET_BYTES: u64 = 1_048_718;
 
-/// What is behind the frame at the front.
+/// Returns what follows the first frame of `bytes`.
 fn behind_frame(bytes: &[u8]) -> Option<&[u8]> {
     let [_, _, _, a, b, c, d, ref rest @ ..] = *bytes else {
         return None;
@@ -203,7 +202,7 @@ fn behind_frame(bytes: &[u8]) -> Option<&[u8]> {
     }
 }
 
-/// How many frames these bytes are, if they are frames.
+/// Returns how many frames `bytes` are, if they are frames.
 fn count_frames(bytes: &[u8]) -> Option<u64> {
     let mut rest = bytes;
     let mut count = 0u64;
@@ -217,7 +216,7 @@ fn count_frames(bytes: &[u8]) -> Option<u64> {
     if rest.is_empty() { Some(count) } else { None }
 }
 
-/// Reads what comes for a client while it is served, until it has so many bytes.
+/// Reads what comes for a client while it is served, until it has `wanted` bytes.
 fn read_served<S: io::Read>(
     alloc: Global,
     served: &mut Served,
@@ -235,7 +234,7 @@ fn read_served<S: io::Read>(
     Ok(answer)
 }
 
-/// A client that does not read, so that its socket takes a part of what is written, gets each byte once when it does.
+/// A client that does not read, so that its socket takes only a part of a write, gets each byte once when it does.
 pub(crate) fn a_client_that_reads_late_gets_each_byte_once<N: Net>(
     net: &N,
     alloc: Global,

@@ -17,10 +17,10 @@ use std::io;
 use std::io::{Read as _, Write as _};
 use std::net::Net;
 
-/// How many rounds in vain are enough.
+/// The rounds after which a scenario gives up.
 const PATIENCE: u32 = 64;
 
-/// Rounds enough for all that a client of the system wrote. Those in which nothing comes wait.
+/// The rounds in which all is served that a client of the system wrote. Rounds in which nothing comes wait.
 const TURNS: u64 = 16;
 
 /// More messages than are read in the rounds of a scenario.
@@ -29,11 +29,11 @@ const MANY: u64 = 8_000;
 /// No bytes.
 const NOTHING: &[u8] = &[];
 
-/// A publish to `orders` under the key `old`, which is routed to no queue.
+/// A publish to `orders` with the key `old`, which is routed to no queue.
 const LOST: &[u8] =
     b"\x01\x00\x01\x00\x00\x00\x12\x00\x3c\x00\x28\x00\x00\x06orders\x03old\x00\xce\x02\x00\x01\x00\x00\x00\x0e\x00\x3c\x00\x00\x00\x00\x00\x00\x00\x00\x00\x02\x00\x00\xce\x03\x00\x01\x00\x00\x00\x02hi\xce";
 
-/// A client that writes these two, of which a read gives at most as much as the first, and that takes all that it is offered.
+/// Returns a client that writes `first` and `second`. A read gets at most as many bytes as `first` has, and a write takes all that it is offered.
 fn client(alloc: Global, first: &[u8], second: &[u8]) -> Result<Client, Unmet> {
     Ok(Client {
         input: joined(alloc, first, second)?,
@@ -43,8 +43,8 @@ fn client(alloc: Global, first: &[u8], second: &[u8]) -> Result<Client, Unmet> {
     })
 }
 
-/// Two sockets. Each has a whole opening at its first read; at its second the one has a publish that stops inside its body,
-/// and the other a whole one.
+/// Returns two sockets. Each has a whole opening at its first read; at its second the one has a publish that stops inside its body, and the other
+/// a whole one.
 fn two(alloc: Global) -> Result<MemoryWire, Unmet>
     ensures { IfOk result (λ w. told_by w.log ≡ Some []) }
 {
@@ -66,7 +66,7 @@ pub(crate) fn a_client_is_served_beside_one_that_stops_inside_a_body(
     expect_opened_and_acked(alloc, written.as_slice())
 }
 
-/// An opening, this many times a message, and what is behind them.
+/// Returns an opening, `count` times `message`, and `last`.
 fn words_of(alloc: Global, count: u64, message: &[u8], last: &[u8]) -> Result<Vec<u8>, Unmet> {
     let mut words = joined(alloc, OPENING, NOTHING)?;
     for _ in 0..count {
@@ -76,7 +76,7 @@ fn words_of(alloc: Global, count: u64, message: &[u8], last: &[u8]) -> Result<Ve
     Ok(words)
 }
 
-/// A client that writes this, of which a read gives as much as it has room for.
+/// Returns a client that writes `input`. A read gets as many bytes as it is offered.
 fn one_that_writes(input: Vec<u8>) -> Client {
     Client {
         input,
@@ -86,7 +86,7 @@ fn one_that_writes(input: Vec<u8>) -> Client {
     }
 }
 
-/// One socket, which publishes so many messages that are routed to `audit`, and then consumes from it.
+/// Returns one socket that publishes `count` messages that are routed to `audit`, and then consumes from it.
 fn one_that_publishes_and_consumes(alloc: Global, count: u64) -> Result<MemoryWire, Unmet> {
     let input = words_of(alloc, count, MESSAGE, CONSUME)?;
     let mut clients = Vec::new(alloc);
@@ -94,7 +94,7 @@ fn one_that_publishes_and_consumes(alloc: Global, count: u64) -> Result<MemoryWi
     Ok(MemoryWire::new(alloc, clients))
 }
 
-/// Goes one round more, and tells how many deliveries the socket has taken since it came.
+/// Does one more round, and returns how many deliveries the socket has taken since it was accepted.
 fn deliveries_after_one_more(
     alloc: Global,
     server: &mut Server<Engine>,
@@ -106,7 +106,7 @@ fn deliveries_after_one_more(
     Ok(deliveries_in(written.as_slice()))
 }
 
-/// Goes on to the first round that delivers something, and tells how many deliveries it makes.
+/// Does rounds up to the first that delivers something, and returns how many deliveries that makes.
 fn first_deliveries(
     alloc: Global,
     server: &mut Server<Engine>,
@@ -121,7 +121,7 @@ fn first_deliveries(
     Ok(0)
 }
 
-/// Of 300 messages that wait for one consumer a round delivers 256, and the next one the others.
+/// Of 300 messages for one consumer a round delivers 256, and the next one the others.
 pub(crate) fn a_round_makes_256_of_300_deliveries(alloc: Global) -> Result<(), Unmet> {
     let mut server = new_server(alloc)?;
     let mut wire = one_that_publishes_and_consumes(alloc, 300)?;
@@ -131,7 +131,7 @@ pub(crate) fn a_round_makes_256_of_300_deliveries(alloc: Global) -> Result<(), U
     expect_number("the number of deliveries of two rounds", both, 300)
 }
 
-/// Three sockets: one consumes from `audit`, one publishes to it without a pause, and one publishes as much to no queue.
+/// Returns three sockets: one consumes from `audit`, one publishes to it without a pause, and one publishes as much to no queue.
 fn one_that_fills_and_one_that_does_not(alloc: Global) -> Result<MemoryWire, Unmet> {
     let mut clients = Vec::new(alloc);
     for (count, message, last) in [
@@ -145,7 +145,7 @@ fn one_that_fills_and_one_that_does_not(alloc: Global) -> Result<MemoryWire, Unm
     Ok(MemoryWire::new(alloc, clients))
 }
 
-/// The room of a read that gave something to this socket.
+/// Returns how many bytes a read of this socket was offered, if it got any.
 fn room_of(call: &Logged, socket: u64) -> Option<usize> {
     match call {
         Logged::Got(name, room, _) if *name == socket => Some(*room),
@@ -153,7 +153,7 @@ fn room_of(call: &Logged, socket: u64) -> Option<usize> {
     }
 }
 
-/// The room of the last read that gave something to this socket, or none.
+/// Returns how many bytes the last read of this socket was offered that got any; 0 if there is none.
 fn last_room(wire: &MemoryWire, socket: u64) -> u64 {
     let mut last = 0;
     for call in &wire.log.calls {
@@ -164,8 +164,8 @@ fn last_room(wire: &MemoryWire, socket: u64) -> u64 {
     last
 }
 
-/// Of clients that never pause each is offered room for few of its commands: the one that publishes to a queue with a consumer, and the one
-/// whose messages are routed to no queue.
+/// Clients that never pause are offered room for few of their commands: the one that publishes to a queue with a consumer, and the one whose
+/// messages are routed to no queue.
 pub(crate) fn those_that_never_pause_are_offered_less(alloc: Global) -> Result<(), Unmet> {
     let mut server = new_server(alloc)?;
     let mut wire = one_that_fills_and_one_that_does_not(alloc)?;
@@ -179,7 +179,7 @@ pub(crate) fn those_that_never_pause_are_offered_less(alloc: Global) -> Result<(
     Ok(())
 }
 
-/// Writes what a client sends.
+/// Writes `bytes` as a client.
 fn send<S: io::Write>(client: &mut S, bytes: &[u8]) -> Result<(), Unmet> {
     value_of("write_all", client.write_all(bytes))
 }
@@ -225,7 +225,7 @@ pub(crate) fn a_client_that_is_reset_is_lost_alone<N: Net>(
     send(&mut reset, OPENING)?;
     send(&mut client, OPENING)?;
     service.serve(alloc, TURNS);
-    // its answers are there and were not read, so that the system resets the connection
+    // its answers were not read, so the system resets the connection
     drop(reset);
     send(&mut client, PUBLISH)?;
     service.serve(alloc, TURNS);

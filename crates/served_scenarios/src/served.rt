@@ -1,4 +1,4 @@
-//! A broker that is served over sockets of the system, which are watched.
+//! A broker that is served over sockets of the system, whose calls are counted.
 
 use engine::Engine;
 use scenario_parts::{Unmet, Watched, new_broker, value_of};
@@ -8,7 +8,7 @@ use std::alloc::Global;
 use std::net::{Net, SocketAddr, TcpStream};
 use std::time::Duration;
 
-/// A server of a broker, with no socket yet.
+/// Makes a server of a broker, without sockets.
 pub(crate) fn new_server(alloc: Global) -> Result<Server<Engine>, Unmet> {
     let broker = new_broker(alloc)?;
     match Server::new(alloc, broker) {
@@ -24,14 +24,14 @@ pub(crate) struct Served {
     pub(crate) sockets: Watched<Sockets>,
 }
 
-/// Sockets at a port that is free.
+/// Listens at a free port.
 fn at_a_free_port<N: Net>(net: &N, alloc: Global) -> Result<Sockets, Unmet> {
     let address = value_of("parse", "127.0.0.1:0".parse::<SocketAddr>())?;
     value_of("Sockets::bind", Sockets::bind(net, alloc, address))
 }
 
 impl Served {
-    /// Over these sockets.
+    /// Makes a server over `sockets`.
     fn over(alloc: Global, sockets: Sockets) -> Result<Served, Unmet> {
         let server = new_server(alloc)?;
         Ok(Served {
@@ -40,13 +40,13 @@ impl Served {
         })
     }
 
-    /// At a port that is free.
+    /// Makes a server that listens at a free port.
     pub(crate) fn new<N: Net>(net: &N, alloc: Global) -> Result<Served, Unmet> {
         let sockets = at_a_free_port(net, alloc)?;
         Served::over(alloc, sockets)
     }
 
-    /// At a port that is free. A client whose connection does not run has so much time.
+    /// Makes a server that listens at a free port. A client whose connection is not running has `patience`.
     pub(crate) fn with_patience(
         rt: &HostRuntime,
         alloc: Global,
@@ -56,13 +56,13 @@ impl Served {
         Served::over(alloc, sockets.with_patience(rt, patience))
     }
 
-    /// A client that comes.
+    /// Connects a client.
     pub(crate) fn connect<N: Net>(&self, net: &N) -> Result<N::Stream, Unmet> {
         let address = value_of("Sockets::local_addr", self.sockets.sockets.local_addr())?;
         value_of("TcpStream::connect", TcpStream::connect(net, address))
     }
 
-    /// So many rounds. Those in which nothing comes wait.
+    /// Does `turns` rounds. Rounds in which nothing comes wait.
     pub(crate) fn serve(&mut self, alloc: Global, turns: u64) {
         serve(alloc, &mut self.server, &mut self.sockets, turns);
     }

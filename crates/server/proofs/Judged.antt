@@ -1,5 +1,5 @@
 -- Why files are refused has to do with no socket.
-use Rattle.server.proofs.Names.{◌≡◌, List, Option, sym, subst, Text, Topology, Guarantee, Known, FileRefusal, CommandRefusal, Line, Refused, TooLong, Unread, Unwritten, NoExchange, NotListening, of_refused, FailsOver, IsWhyUnadmitted, not_set_up, not_certified, not_admitted, no_memory, IsOfFiles}
+use Rattle.server.proofs.Names.{◌≡◌, List, Option, sym, subst, Text, Topology, Guarantee, Known, FileRefusal, CommandRefusal, Line, Refused, TooLong, Unread, NoDescriptor, Unwritten, NoExchange, NotListening, of_refused, FailsOver, IsWhyUnadmitted, not_set_up, not_certified, not_admitted, no_memory, IsOfFiles}
 use Rattle.model.specs.Certificates.{Certificate as Shown}
 use Rattle.server.specs.declared.file_refusals.FileRefusal.TheVariants as file
 use Rattle.server.specs.declared.refusals.CommandRefusal.TheVariants.{Certificate, Memory}
@@ -8,6 +8,7 @@ of_cause : (cause : FileRefusal) → IsOfFiles (of_refused cause)
 of_cause (file.Refused n) = tt
 of_cause file.TooLong = tt
 of_cause file.Unread = tt
+of_cause file.NoDescriptor = tt
 of_cause file.Memory = tt
 
 by_cause : (why : CommandRefusal) (cause : FileRefusal) → why ≡ of_refused cause → IsOfFiles why
@@ -18,6 +19,7 @@ of_certificates t gs cs (Line n) h = tt
 of_certificates t gs cs (Refused n) h = tt
 of_certificates t gs cs TooLong h = tt
 of_certificates t gs cs Unread h = tt
+of_certificates t gs cs NoDescriptor h = tt
 of_certificates t gs cs Unwritten h = tt
 of_certificates t gs cs NoExchange h = tt
 of_certificates t gs cs (Certificate n k) h = tt

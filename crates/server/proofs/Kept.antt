@@ -1,5 +1,5 @@
 -- What is known of files that are kept stays known.
-use Rattle.server.proofs.Names.{◌≡◌, ◌≤◌, ℕ, List, [], Option, Some, None, length, sym, subst, inl, inr, arith, slice_get_within, Text, Topology, Guarantee, FailsFirst, Verdict, CommandRefusal, Line, Refused, TooLong, Unread, Unwritten, NoExchange, NotListening, Adds, Draft, Wanted, Known, AreKept, SetsUp, FailsToSetUp, FailsToCertify, IsWhyUncertified, JudgesAll, FileRefusal, of_refused, IsOfFile, Drafts, IsJudgedUnfiled, IsNotAnswered, FilesAreLeft, IsUnfiled, IsFiled, WritesOut, unnamed, doubtful, filed}
+use Rattle.server.proofs.Names.{◌≡◌, ◌≤◌, ℕ, List, [], Option, Some, None, length, sym, subst, inl, inr, arith, slice_get_within, Text, Topology, Guarantee, FailsFirst, Verdict, CommandRefusal, Line, Refused, TooLong, Unread, NoDescriptor, Unwritten, NoExchange, NotListening, Adds, Draft, Wanted, Known, AreKept, SetsUp, FailsToSetUp, FailsToCertify, IsWhyUncertified, JudgesAll, FileRefusal, of_refused, IsOfFile, Drafts, IsJudgedUnfiled, IsNotAnswered, FilesAreLeft, IsUnfiled, IsFiled, WritesOut, unnamed, doubtful, filed}
 use Rattle.std.proofs.Math.Path.{fun_ext}
 use Rattle.model.specs.Certificates.{Certificate}
 use Rattle.certificate.specs.declared.faults.CertFault.{CertFault}
@@ -16,6 +16,7 @@ left_of_kept before after file (Line n) h = h
 left_of_kept before after file (Refused n) h = h
 left_of_kept before after file TooLong h = h
 left_of_kept before after file Unread h = h
+left_of_kept before after file NoDescriptor h = h
 left_of_kept before after file Unwritten h = λ name other. h name
 left_of_kept before after file NoExchange h = h
 left_of_kept before after file (OfCertificate n fault) h = h
@@ -60,6 +61,7 @@ unfiled_then a b c file (Line n) k h = absurd h.0
 unfiled_then a b c file (Refused n) k h = absurd h.0
 unfiled_then a b c file TooLong k h = absurd h.0
 unfiled_then a b c file Unread k h = absurd h.0
+unfiled_then a b c file NoDescriptor k h = absurd h.0
 unfiled_then a b c file Unwritten k h = (h.0, kept_but_then file a b c k h.1)
 unfiled_then a b c file NoExchange k h = absurd h.0
 unfiled_then a b c file (OfCertificate n fault) k h = absurd h.0

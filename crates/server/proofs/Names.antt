@@ -26,7 +26,7 @@ pub use Rattle.server.specs.Streams.{GetsNothing, GetsText, OutputStream, PutsOu
 pub use Rattle.server.specs.Verdicts.{EachWith, FindsVerdicts, IsMeant, Judges, JudgesAll, certificates_in, is_no, is_undecided, names_text, path_text, path_words, status_by, status_of_verdicts, verdict_line, verdict_lines}
 pub use Rattle.server.specs.declared.file_refusals.FileRefusal.{FileRefusal}
 pub use Rattle.server.specs.declared.refusals.CommandRefusal.{CommandRefusal}
-pub use Rattle.server.specs.declared.refusals.CommandRefusal.TheVariants.{Line, NoExchange, NotListening, Refused, TooLong, Unread, Unwritten}
+pub use Rattle.server.specs.declared.refusals.CommandRefusal.TheVariants.{Line, NoDescriptor, NoExchange, NotListening, Refused, TooLong, Unread, Unwritten}
 pub use Rattle.std.proofs.Common.{Bool, List, None, Option, Some, [], ap, append-nil, append_assoc, arith, drop, false, get_or, inl, inr, length, length-append, ltb, map, refl, subst, suc, sym, take, take-append-drop, true, zero, ℕ, ◌++◌, ◌+◌, ◌<◌, ◌∙◌, ◌∷◌, ◌≡◌, ◌≤◌}
 pub use Rattle.std.proofs.lemmas.List.{length-take-le, take_more}
 pub use Rattle.std.proofs.lemmas.Option.{same_Some, slice_get_read, slice_get_within}

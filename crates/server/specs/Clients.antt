@@ -11,7 +11,8 @@ use Rattle.serving.specs.Whole.{IsServed}
 use Rattle.engine.specs.Wanting.{engine_lacks}
 use Rattle.server.specs.Files.{Known}
 use Rattle.server.specs.declared.refusals.CommandRefusal.{CommandRefusal}
-use Rattle.server.specs.declared.refusals.CommandRefusal.TheVariants.{Line, Refused, TooLong, Unread, Unwritten, NoExchange, Certificate, NotListening, Memory}
+use Rattle.server.specs.declared.refusals.CommandRefusal.TheVariants.{Line, Refused, TooLong, Unread, NoDescriptor, Unwritten}
+use Rattle.server.specs.declared.refusals.CommandRefusal.TheVariants.{NoExchange, Certificate, NotListening, Memory}
 use Rattle.server.specs.Streams.{OutputStream, GetsNothing, GetsText, PutsOut, TriesPut}
 use Rattle.server.specs.Program.{FailsOver, IsInForce, RefusesWith, out_of_memory}
 
@@ -23,6 +24,7 @@ IsOfFiles (Line n) = ⊤
 IsOfFiles (Refused n) = ⊤
 IsOfFiles TooLong = ⊤
 IsOfFiles Unread = ⊤
+IsOfFiles NoDescriptor = ⊤
 IsOfFiles Unwritten = ⊤
 IsOfFiles NoExchange = ⊤
 IsOfFiles (Certificate n fault) = ⊤

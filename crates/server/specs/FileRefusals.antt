@@ -3,13 +3,14 @@ use Rattle.std.specs.Prelude.{◌==◌, if◌then◌else◌}
 use Rattle.json_file.specs.Causes.{cause_number}
 use Rattle.json_file.specs.declared.causes.FileCause.{FileCause}
 use Rattle.server.specs.declared.file_refusals.FileRefusal.{FileRefusal}
-use Rattle.server.specs.declared.file_refusals.FileRefusal.TheVariants.{Refused, TooLong, Unread, Memory}
+use Rattle.server.specs.declared.file_refusals.FileRefusal.TheVariants.{Refused, TooLong, Unread, NoDescriptor, Memory}
 use Rattle.server.specs.declared.storage.Unread.{Unread as Why}
 use Rattle.server.specs.declared.storage.Unread.TheVariants as why
 
--- a file that could not be read, is too long, or for which an allocation failed
+-- a file that could not be read, for which no descriptor is free, that is too long, or for which an allocation failed
 abbrev pub of_file : Why → FileRefusal
 of_file why.Failed = Unread
+of_file why.NoDescriptor = NoDescriptor
 of_file why.TooLong = TooLong
 of_file why.Memory = Memory
 

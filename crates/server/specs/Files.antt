@@ -64,5 +64,6 @@ TellsLeft (Some left) text false = text ≡ left → ⊥
 -- why a file could not be read; an allocation failure promises nothing
 abbrev pub IsUnread : Known → Unread → Type 0
 IsUnread known unread.Failed = IsUnreadable known
+IsUnread known unread.NoDescriptor = IsUnreadable known
 IsUnread known unread.TooLong = IsTooLong known
 IsUnread known unread.Memory = ⊤

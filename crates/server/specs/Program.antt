@@ -22,7 +22,8 @@ use Rattle.command_line.specs.CommandLine.{Wanted, Check, Verify, Replay, Serve,
 use Rattle.server.specs.declared.refusals.CommandRefusal.{CommandRefusal}
 use Rattle.server.specs.declared.refusals.Told.{Told}
 use Rattle.server.specs.declared.replaying.BrokerFiles.{BrokerFiles}
-use Rattle.server.specs.declared.refusals.CommandRefusal.TheVariants.{Line, Refused, TooLong, Unread, Unwritten, NoExchange, Certificate, NotListening, Memory}
+use Rattle.server.specs.declared.refusals.CommandRefusal.TheVariants.{Line, Refused, TooLong, Unread, NoDescriptor, Unwritten}
+use Rattle.server.specs.declared.refusals.CommandRefusal.TheVariants.{NoExchange, Certificate, NotListening, Memory}
 use Rattle.server.specs.Refusals.{IsOfFile}
 use Rattle.scripts.specs.FileNames.{FileNames}
 use Rattle.scripts.specs.Script.{ScriptArrival, script}
@@ -122,6 +123,7 @@ FilesAreLeft before after file (Line n) = AreKept before after
 FilesAreLeft before after file (Refused n) = AreKept before after
 FilesAreLeft before after file TooLong = AreKept before after
 FilesAreLeft before after file Unread = AreKept before after
+FilesAreLeft before after file NoDescriptor = AreKept before after
 FilesAreLeft before after file Unwritten = AreKeptBut file before after
 FilesAreLeft before after file NoExchange = AreKept before after
 FilesAreLeft before after file (Certificate n fault) = AreKept before after
@@ -134,6 +136,7 @@ IsUnwritten (Line n) = ⊥
 IsUnwritten (Refused n) = ⊥
 IsUnwritten TooLong = ⊥
 IsUnwritten Unread = ⊥
+IsUnwritten NoDescriptor = ⊥
 IsUnwritten Unwritten = ⊤
 IsUnwritten NoExchange = ⊥
 IsUnwritten (Certificate n fault) = ⊥
@@ -185,6 +188,7 @@ refusal_line file (Line n) = told file (codes "line " ++ decimal n)
 refusal_line file (Refused n) = told file (codes "refused " ++ decimal n)
 refusal_line file TooLong = told file (codes "refused 10")
 refusal_line file Unread = told file (codes "cannot read")
+refusal_line file NoDescriptor = told file (codes "no descriptor is free")
 refusal_line file Unwritten = told file (codes "cannot write")
 refusal_line file NoExchange = no_exchange
 refusal_line file (Certificate n fault) = codes "warren: certificate " ++ (decimal n ++ (codes ": fault " ++ (decimal fault ++ 10 ∷ [])))
@@ -197,6 +201,7 @@ status_of (Line n) = 3
 status_of (Refused n) = 3
 status_of TooLong = 3
 status_of Unread = 4
+status_of NoDescriptor = 4
 status_of Unwritten = 4
 status_of NoExchange = 3
 status_of (Certificate n fault) = 3
@@ -209,6 +214,7 @@ IsWhyOfFile (Line n) known = (text : Text) × HasText known text × (script text
 IsWhyOfFile (Refused n) known = ⊥
 IsWhyOfFile TooLong known = IsTooLong known
 IsWhyOfFile Unread known = IsUnreadable known
+IsWhyOfFile NoDescriptor known = IsUnreadable known
 IsWhyOfFile Unwritten known = ⊥
 IsWhyOfFile NoExchange known = ⊥
 IsWhyOfFile (Certificate n fault) known = ⊥
@@ -227,6 +233,7 @@ IsWhyUnadmitted t gs cs (Line n) = ⊥
 IsWhyUnadmitted t gs cs (Refused n) = ⊥
 IsWhyUnadmitted t gs cs TooLong = ⊥
 IsWhyUnadmitted t gs cs Unread = ⊥
+IsWhyUnadmitted t gs cs NoDescriptor = ⊥
 IsWhyUnadmitted t gs cs Unwritten = ⊥
 IsWhyUnadmitted t gs cs NoExchange = ⊥
 IsWhyUnadmitted t gs cs (Certificate n k) = (fault : CertFault) × (place : ℕ) × (n ≡ place + 1) × (k ≡ fault_number fault) × FailsFirst t gs cs place fault

@@ -6,11 +6,12 @@ use Rattle.server.specs.declared.file_refusals.FileRefusal.TheVariants as file
 use Rattle.server.specs.declared.storage.Unread.{Unread as Why}
 use Rattle.server.specs.declared.storage.Unread.TheVariants as why
 use Rattle.server.specs.declared.refusals.CommandRefusal.{CommandRefusal}
-use Rattle.server.specs.declared.refusals.CommandRefusal.TheVariants.{Refused, TooLong, Unread, Memory}
+use Rattle.server.specs.declared.refusals.CommandRefusal.TheVariants.{Refused, TooLong, Unread, NoDescriptor, Memory}
 
--- a file that could not be read, is too long, or for which an allocation failed
+-- a file that could not be read, for which no descriptor is free, that is too long, or for which an allocation failed
 abbrev pub of_unread : Why → CommandRefusal
 of_unread why.Failed = Unread
+of_unread why.NoDescriptor = NoDescriptor
 of_unread why.TooLong = TooLong
 of_unread why.Memory = Memory
 
@@ -19,6 +20,7 @@ abbrev pub of_refused : FileRefusal → CommandRefusal
 of_refused (file.Refused n) = Refused n
 of_refused file.TooLong = TooLong
 of_refused file.Unread = Unread
+of_refused file.NoDescriptor = NoDescriptor
 of_refused file.Memory = Memory
 
 -- the command is refused because a file is, in this way

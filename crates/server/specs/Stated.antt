@@ -13,7 +13,7 @@ use Rattle.definitions.specs.Reads.{Stated, ReadsDefinitions, IsFirst}
 use Rattle.guarantees.specs.Reads.{AreAccepted, IsFirstAgainst}
 use Rattle.certificate.specs.Reads.{IsCertificatesFile, ReadsCertificateFile}
 use Rattle.server.specs.declared.file_refusals.FileRefusal.{FileRefusal}
-use Rattle.server.specs.declared.file_refusals.FileRefusal.TheVariants.{Refused, TooLong, Unread, Memory}
+use Rattle.server.specs.declared.file_refusals.FileRefusal.TheVariants.{Refused, TooLong, Unread, NoDescriptor, Memory}
 use Rattle.server.specs.Files.{Known, HasText, IsTooLong, IsUnreadable}
 
 -- the name of a file, if one is given
@@ -68,6 +68,7 @@ abbrev pub IsWhyNot : (ℕ → Text → Type 0) → FileRefusal → Known → Ty
 IsWhyNot Stands (Refused n) known = (text : Text) × HasText known text × Stands n text
 IsWhyNot Stands TooLong known = IsTooLong known
 IsWhyNot Stands Unread known = IsUnreadable known
+IsWhyNot Stands NoDescriptor known = IsUnreadable known
 IsWhyNot Stands Memory known = ⊤
 
 -- the cause of this number applies to the definitions, and none of a lower number

@@ -13,6 +13,8 @@ pub(crate) enum FileRefusal {
     TooLong,
     /// The file cannot be read.
     Unread,
+    /// The file cannot be opened, since no descriptor is free.
+    NoDescriptor,
     /// An allocation failed.
     Memory,
 }
@@ -34,6 +36,7 @@ impl From<storage::Unread> for FileRefusal {
     fn from(why: storage::Unread) -> FileRefusal {
         match why {
             storage::Unread::Failed => FileRefusal::Unread,
+            storage::Unread::NoDescriptor => FileRefusal::NoDescriptor,
             storage::Unread::TooLong => FileRefusal::TooLong,
             storage::Unread::Memory => FileRefusal::Memory,
         }

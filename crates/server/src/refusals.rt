@@ -32,6 +32,8 @@ pub enum CommandRefusal {
     TooLong,
     /// The file cannot be read.
     Unread,
+    /// The file cannot be opened, since no descriptor is free.
+    NoDescriptor,
     /// The file cannot be written.
     Unwritten,
     /// The file has no exchange of this name.
@@ -73,6 +75,7 @@ impl From<Unread> for CommandRefusal {
     fn from(why: Unread) -> CommandRefusal {
         match why {
             Unread::Failed => CommandRefusal::Unread,
+            Unread::NoDescriptor => CommandRefusal::NoDescriptor,
             Unread::TooLong => CommandRefusal::TooLong,
             Unread::Memory => CommandRefusal::Memory,
         }
@@ -90,6 +93,7 @@ impl From<FileRefusal> for CommandRefusal {
             FileRefusal::Refused(number) => CommandRefusal::Refused(number),
             FileRefusal::TooLong => CommandRefusal::TooLong,
             FileRefusal::Unread => CommandRefusal::Unread,
+            FileRefusal::NoDescriptor => CommandRefusal::NoDescriptor,
             FileRefusal::Memory => CommandRefusal::Memory,
         }
     }
@@ -150,6 +154,7 @@ fn message(alloc: Global, file: &str, refusal: CommandRefusal) -> Result<String,
         CommandRefusal::Refused(n) => numbered_message(alloc, file, "refused", u64::from(n)),
         CommandRefusal::TooLong => file_message(alloc, file, "refused 10"),
         CommandRefusal::Unread => file_message(alloc, file, "cannot read"),
+        CommandRefusal::NoDescriptor => file_message(alloc, file, "no descriptor is free"),
         CommandRefusal::Unwritten => file_message(alloc, file, "cannot write"),
         CommandRefusal::NoExchange => String::from_str(alloc, NO_EXCHANGE),
         CommandRefusal::Certificate { number, fault } => certificate_message(alloc, number, fault),
@@ -167,6 +172,7 @@ fn status_of(refusal: CommandRefusal) -> u8
         CommandRefusal::Refused(_) => 3,
         CommandRefusal::TooLong => 3,
         CommandRefusal::Unread => 4,
+        CommandRefusal::NoDescriptor => 4,
         CommandRefusal::Unwritten => 4,
         CommandRefusal::NoExchange => 3,
         CommandRefusal::Certificate { .. } => 3,

@@ -37,7 +37,10 @@ pub fn started<'a, F: Files>(
         Err(told) => return Err(told),
     };
     match Engine::new(alloc, checked, users) {
-        Ok(engine) => Ok(engine),
+        Ok(mut engine) => {
+            engine.drop_notes();
+            Ok(engine)
+        }
         Err(error) => Err(Told::from(error)),
     }
 }

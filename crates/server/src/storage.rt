@@ -10,6 +10,8 @@ use std::alloc::Global;
 pub enum Unread {
     /// The file doesn't exist, or a read failed.
     Failed,
+    /// The process, or the machine, has as many open files and sockets as it may have.
+    NoDescriptor,
     /// The file has more than 16,777,216 bytes.
     TooLong,
     /// An allocation failed.

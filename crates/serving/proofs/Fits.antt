@@ -152,7 +152,7 @@ serves_fit {L = L} a b xs p s f = fit_story L s.deeds a b s.occurrences s.story 
 pub seated_on : {L : Lacks} (a b : Served) (xs : List Ask) (p : Bool) (ms ns : List Bool) → Serves L a xs p b → AreSeated a.world a.peers ms → AreQuiet b.world b.peers ns → AreSeated b.world b.peers ns
 seated_on a b xs p ms ns s k quiet = record { fit = serves_fit a b xs p s k.fit; quiet = quiet }
 
--- where no more numbers are given, the slots fit as they did
+-- if no further number is given the slots fit as they did
 pub fit_on : (a b : World) (ps : List (Option Peer)) → b.given ≡ a.given → IsFit a ps → IsFit b ps
 fit_on a b ps e fit = record { apart = fit.apart; numbered = fit.numbered; given = λ i p at. let le = fit.given i p at in omega (arith, le, e) }
 

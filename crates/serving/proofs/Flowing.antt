@@ -386,7 +386,7 @@ beginning d taken put w acc = go acc.fits
 new_accounts : (f : Config) (d : ℕ) → Accounts d [] [] (new_world f)
 new_accounts f d = record { fits = inl refl; unopened = λ lt. (refl, refl, refl) }
 
--- of all that a server did from there on
+-- of all that a server did after that
 pub story_accounts : (L : Lacks) (f : Config) (p : Peer) (ds : List Deed) (told : Told) (new : Served) (os : List Occurrence) → IsSound f → Story L (served (new_world f) [] told) ds os new → AllByRecursion (λ d. PairsWith p (peer_of d)) ds
     → Accounts p.connection (flat_map (written_to p.socket) (flat_map calls ds)) (put_out p.connection (events_of os)) new.world
 story_accounts L f p ds told new os sound s pairs = (flows_story L p ds (served (new_world f) [] told) new os (new_is_consistent f sound) s pairs).keeps [] [] (new_accounts f p.connection)

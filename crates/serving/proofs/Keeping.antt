@@ -11,7 +11,7 @@ use Rattle.serving.proofs.Joining.{are_joined}
 use Rattle.serving.proofs.Flowing.{are_beginnings}
 use Rattle.serving.proofs.Counting.{are_counted}
 
--- ---- what is performed of an arrival that met want of memory
+-- ---- what is performed of an arrival that failed to allocate
 
 told_part : {L : Lacks} (c : ℕ) (a b : World) (hs : List Happening) → WorksPartly L a c hs b → ToldOf a hs b
 told_part c a b hs l = told_waits c a l.mid b hs (told_works c a l.mid hs l.works) l.waits

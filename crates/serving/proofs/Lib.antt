@@ -9,6 +9,7 @@ pub mod Fits
 pub mod Quieting
 pub mod Seating
 pub mod Loudness
+pub mod Waiting
 pub mod Pairs
 pub mod Joining
 pub mod Flowing

@@ -93,7 +93,7 @@ next_in loud marks from slot are next =
     let within = here.0 in
     record { least = next.least; loud = here.1; before = λ i le less. marked_out loud marks are i (omega (arith, less, within)) (next.before i le less) }
 
--- where the set has no more, the next is the first behind the end of the marks
+-- if the set has no further slot, the next is the first past the end of the marks
 pub next_behind : (loud : List ℕ) (marks : List Bool) (from : ℕ) → AreLoud loud marks → ((i : ℕ) → from ≤ i → bit_of loud i ≡ 0) → IsNextLoud marks from (max from (length marks))
 next_behind loud marks from are none = go (cases_lt from (length marks))
   where

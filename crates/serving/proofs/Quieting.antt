@@ -186,3 +186,14 @@ ended_apart a b ps qs i p fit here apart slots j ne ended = λ q at.
 
 pub ended_before : (w : World) (ps qs : List (Option Peer)) (i : ℕ) → StaysOrFrees ps i qs → (j : ℕ) → HasEnded w ps j → HasEnded w qs j
 ended_before w ps qs i slots j ended = λ q at. ended q (at_before ps qs i slots j q at)
+
+never_gone : (over out : Bool) → out ≡ true → over && not out ≡ false
+never_gone true true e = refl
+never_gone false true e = refl
+never_gone over false e = absurd (false≢true e)
+
+-- the connection of a slot that has output is not gone
+pub with_output_stands : (w : World) (ps : List (Option Peer)) (i : ℕ) (p q : Peer) → At ps i p → At ps i q → has_output w p.connection ≡ true → is_gone w q.connection ≡ false
+with_output_stands w ps i p q here there output =
+    let same : p ≡ q = same_Some p q (sym here ∙ there) in
+    subst (λ (r : Peer). is_gone w r.connection ≡ false) same (never_gone (is_over w p.connection) (has_output w p.connection) output)

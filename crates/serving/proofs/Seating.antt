@@ -1,14 +1,14 @@
--- Where a connection can be opened a slot is free: each slot that is taken has a connection of its own, which stands.
-use Rattle.serving.proofs.Names.{◌≡◌, ◌≢◌, ◌≤◌, ◌<◌, ◌+◌, ◌-◌, ◌++◌, ℕ, zero, suc, List, [], ◌∷◌, Bool, true, false, cond, Option, Some, None, refl, sym, ap, ◌∙◌, ◌⊎◌, inl, inr, drop, flat_map, count_by, slice_index_or, arith, false≢true, cases_eq, leb-true, le-leb, lt-leb, ltb-true, eqb-true, eq-eqb, ne_eqb, is_some, nat_le, nat_lt, ◌==◌, ◌&&◌, if◌then◌else◌, World, standing, is_gone, can_open, Ask, At, IsFit, HasEnded, Peer}
+-- If a connection can be opened a slot is free: each taken slot has a connection of its own that is not gone.
+use Rattle.serving.proofs.Names.{◌≡◌, ◌≢◌, ◌≤◌, ◌<◌, ◌+◌, ◌-◌, ◌++◌, ℕ, zero, suc, List, [], ◌∷◌, length, Bool, true, false, cond, Option, Some, None, refl, sym, ap, ◌∙◌, ◌⊎◌, inl, inr, drop, flat_map, count_by, slice_index_or, arith, false≢true, cases_eq, leb-true, le-leb, lt-leb, ltb-true, eqb-true, eq-eqb, ne_eqb, is_some, nat_le, nat_lt, ◌==◌, ◌&&◌, if◌then◌else◌, World, standing, is_gone, can_open, Ask, At, IsFit, HasEnded, Peer}
 use Rattle.std.proofs.lemmas.List.Recursion.{is_count_by}
 
 -- ---- how many slots pass a test
 
-abbrev tally : (Option Peer → Bool) → List (Option Peer) → ℕ
+abbrev pub tally : (Option Peer → Bool) → List (Option Peer) → ℕ
 tally f [] = 0
 tally f (o ∷ ps) = cond (f o) (1 + tally f ps) (tally f ps)
 
-tally_counts : (f : Option Peer → Bool) (ps : List (Option Peer)) → tally f ps ≡ count_by f ps
+pub tally_counts : (f : Option Peer → Bool) (ps : List (Option Peer)) → tally f ps ≡ count_by f ps
 tally_counts f ps = is_count_by (tally f) f refl (λ o os. refl) ps
 
 tally_none : (f : Option Peer → Bool) (ps : List (Option Peer)) → ((i : ℕ) → f (slice_index_or ps i None) ≡ false) → tally f ps ≡ 0
@@ -145,14 +145,24 @@ tally_from (None ∷ ps) zero = omega arith
 tally_from (Some p ∷ ps) zero = refl
 tally_from (o ∷ ps) (suc i) = tally_from ps i
 
-taken_from : (ps : List (Option Peer)) (i : ℕ) → count_by is_some (drop i ps) ≡ cond (is_some (slice_index_or ps i None)) 1 0 + count_by is_some (drop (i + 1) ps)
+pub taken_from : (ps : List (Option Peer)) (i : ℕ) → count_by is_some (drop i ps) ≡ cond (is_some (slice_index_or ps i None)) 1 0 + count_by is_some (drop (i + 1) ps)
 taken_from ps i =
     let next : suc i ≡ i + 1 = omega arith in
     sym (tally_counts is_some (drop i ps)) ∙ tally_from ps i
     ∙ ap (λ (n : ℕ). cond (is_some (slice_index_or ps i None)) 1 0 + n) (tally_counts is_some (drop (suc i) ps))
     ∙ ap (λ (k : ℕ). cond (is_some (slice_index_or ps i None)) 1 0 + count_by is_some (drop k ps)) next
 
--- how many are left behind a slot that has so many
+tally_within : (ps : List (Option Peer)) (i : ℕ) → 0 < tally is_some (drop i ps) → i < length ps
+tally_within [] zero some = absurd (omega (arith, some))
+tally_within [] (suc i) some = absurd (omega (arith, some))
+tally_within (o ∷ ps) zero some = omega arith
+tally_within (o ∷ ps) (suc i) some = let lt = tally_within ps i some in omega (arith, lt)
+
+-- a slot from which on some are taken is one of them
+pub taken_within : (ps : List (Option Peer)) (i left : ℕ) → count_by is_some (drop i ps) ≡ left → 0 < left → i < length ps
+taken_within ps i left is some = let same = tally_counts is_some (drop i ps) in tally_within ps i (omega (arith, same, is, some))
+
+-- how many are left behind a slot that has this many
 pub left_behind : (ps qs : List (Option Peer)) (i left n : ℕ) → n ≡ cond (is_some (slice_index_or ps i None)) 1 0 → drop (i + 1) qs ≡ drop (i + 1) ps → count_by is_some (drop i ps) ≡ left
     → count_by is_some (drop (i + 1) qs) ≡ left - n
 left_behind ps qs i left n is later was =

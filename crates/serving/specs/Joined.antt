@@ -14,7 +14,7 @@ use Rattle.serving.specs.declared.peers.Peer.{Peer}
 
 -- ---- of one connection
 
--- a piece of its bytes that came
+-- the bytes of an attempt that feeds connection c
 abbrev pub piece_for : ℕ → Attempt → Option (List ℕ)
 piece_for c a = piece a.arrival
   where
@@ -22,7 +22,7 @@ piece_for c a = piece a.arrival
     piece (In d bytes) = if d == c then Some bytes else None
     piece other = None
 
--- so many bytes of its output were taken
+-- the number of bytes of an attempt that takes output of connection c
 abbrev pub amount_for : ℕ → Attempt → Option ℕ
 amount_for c a = amount a.arrival
   where
@@ -30,7 +30,7 @@ amount_for c a = amount a.arrival
     amount (Sent d n) = if d == c then Some n else None
     amount other = None
 
--- it is lost
+-- whether it is a loss of connection c
 abbrev pub is_loss_of : ℕ → Attempt → Bool
 is_loss_of c a = is_loss a.arrival
   where
@@ -38,7 +38,7 @@ is_loss_of c a = is_loss a.arrival
     is_loss (Lose d) = d == c
     is_loss other = false
 
--- memory was refused for it
+-- whether it is for connection c and failed to allocate
 abbrev pub is_short_for : ℕ → Attempt → Bool
 is_short_for c a = not a.is_whole && is_of a.arrival
   where
@@ -49,22 +49,22 @@ is_short_for c a = not a.is_whole && is_of a.arrival
 
 -- ---- of one socket
 
--- what a read of it gave
+-- the bytes that a read of socket s got
 abbrev pub got_of : ℕ → Call → Option (List ℕ)
 got_of s (Got t room bytes) = if t == s then Some bytes else None
 got_of s call = None
 
--- the bytes that a write to it took
+-- the bytes that a write to socket s took
 abbrev pub written_to : ℕ → Call → List ℕ
 written_to s (Took t offered taken) = if t == s then taken else []
 written_to s call = []
 
--- how many bytes a write to it took
+-- the number of bytes that a write to socket s took
 abbrev pub count_of : ℕ → Call → Option ℕ
 count_of s (Took t offered taken) = if t == s then Some (length taken) else None
 count_of s call = None
 
--- its input ended, or a read of it or a write to it failed
+-- whether the input of socket s ended, or a read of it or a write to it failed
 abbrev pub is_end_of : ℕ → Call → Bool
 is_end_of s (Read_ended t room) = t == s
 is_end_of s (Read_failed t room) = t == s
@@ -73,29 +73,29 @@ is_end_of s call = false
 
 -- ---- whose socket is which
 
--- the socket that was met, and its connection
+-- the socket that was accepted, with its connection
 abbrev pub met_by : Deed → List Peer
 met_by (Met i p) = p ∷ []
 met_by deed = []
 
--- all that were met, in order
+-- all that were accepted, in order
 abbrev pub all_met : List Deed → List Peer
 all_met deeds = flat_map met_by deeds
 
 -- Of one socket and its connection:
 pub record IsJoined (p : Peer) (asked : List Call) (arrived : List Attempt) : Type 0 where
-  -- each piece that came in for the connection was read from the socket, and each read came in
+  -- each piece that arrived for the connection was read from the socket, and all that was read arrived
   pub pieces : filter_map (piece_for p.connection) arrived ≡ filter_map (got_of p.socket) asked
-  -- the amounts that were taken of its output are what the socket took
+  -- the numbers of bytes taken of its output are what the socket took
   pub amounts : filter_map (amount_for p.connection) arrived ≡ filter_map (count_of p.socket) asked
-  -- it was lost as often as the socket ended or failed, or memory was refused for it
+  -- it was lost as often as the socket ended or failed, or an allocation for it failed
   pub losses : count_by (is_loss_of p.connection) arrived ≡ count_by (is_end_of p.socket) asked + count_by (is_short_for p.connection) arrived
 
--- each socket that was met has its own connection
+-- this holds of each socket that was accepted
 abbrev pub AreJoined : List Deed → Type 0
 AreJoined deeds = (p : Peer) → IsIn p (all_met deeds) → IsJoined p (flat_map calls deeds) (flat_map attempts deeds)
 
--- how many bytes came in for a connection
+-- how many bytes arrived for a connection
 abbrev pub bytes_in : ℕ → List Attempt → ℕ
 bytes_in c arrived = sum_by length (filter_map (piece_for c) arrived)
 
@@ -103,13 +103,13 @@ bytes_in c arrived = sum_by length (filter_map (piece_for c) arrived)
 abbrev pub bytes_out : ℕ → List Attempt → ℕ
 bytes_out c arrived = sum_by (λ (n : ℕ). n) (filter_map (amount_for c) arrived)
 
--- where the totals of a socket that was met are told, as many bytes came in for its connection and were taken of its output
+-- if the wire knows the totals of an accepted socket, as many bytes arrived for its connection, and were taken of its output
 abbrev pub AreCounted : List Deed → Told → Type 0
 AreCounted deeds told = (p : Peer) → IsIn p (all_met deeds) → (t : Totals) → told.totals p.socket ≡ Some t
     → (t.got ≡ bytes_in p.connection (flat_map attempts deeds))
     × (t.taken ≡ bytes_out p.connection (flat_map attempts deeds))
 
--- all that a socket took, in order, is a beginning of what was put out for its connection
+-- all that a socket took, in order, is a prefix of what was put out for its connection
 abbrev pub AreBeginnings : List Deed → List Occurrence → Type 0
 AreBeginnings deeds os = (p : Peer) → IsIn p (all_met deeds) → (rest : List ℕ)
     × (flat_map (written_to p.socket) (flat_map calls deeds) ++ rest ≡ put_out p.connection (events_of os))

@@ -1,4 +1,4 @@
--- Which slots there is nothing to do for until something comes for them (own).
+-- Slots for which there is nothing to do until something comes for them (own).
 use Rattle.std.specs.Prelude.{◌≡◌, ◌≢◌, ◌↔◌, ◌≤◌, ◌<◌, ◌*◌, ℕ, List, length, Bool, true, false, cond, Option, slice_index_or}
 use Rattle.model.specs.Arrivals.{World, is_awake, has_output}
 use Rattle.serving.specs.Story.{At, read_room}
@@ -8,29 +8,29 @@ use Rattle.marks.specs.Places.{bit_of}
 use Rattle.serving.specs.Fit.{IsFit, most_peers}
 use Rattle.serving.specs.declared.peers.Peer.{Peer}
 
--- It is awake, and nothing is put out for it.
+-- The connection is awake, and has no output.
 pub record IsQuiet (w : World) (c : ℕ) : Type 0 where
   pub awake : is_awake w c ≡ true
   pub silent : has_output w c ≡ false
 
--- this slot is marked
+-- the slot is marked
 abbrev pub IsMarkedAt : List Bool → ℕ → Type 0
 IsMarkedAt marks i = slice_index_or marks i false ≡ true
 
--- each slot that is marked and holds a peer is quiet
+-- each marked slot that holds a peer is quiet
 abbrev pub AreQuiet : World → List (Option Peer) → List Bool → Type 0
 AreQuiet w ps marks = (i : ℕ) (p : Peer) → At ps i p → IsMarkedAt marks i → IsQuiet w p.connection
 
--- the bit of a slot in the set of those that have no mark: 0 too behind the end of the marks
+-- the bit of a slot in the set of slots without a mark; 0 past the end of the marks
 abbrev pub loud_bit : List Bool → ℕ → ℕ
 loud_bit marks i = cond (slice_index_or marks i true) 0 1
 
--- This set has those slots that have no mark, up to the end of the marks.
+-- `loud` is the set of the slots without a mark, up to the end of the marks.
 pub record AreLoud (loud : List ℕ) (marks : List Bool) : Type 0 where
   pub room : length marks ≤ length loud * 64
   pub each : (i : ℕ) → bit_of loud i ≡ loud_bit marks i
 
--- This is the first slot with no mark, of those from `from` on.
+-- `slot` is the first slot without a mark at or after `from`.
 pub record IsNextLoud (marks : List Bool) (from slot : ℕ) : Type 0 where
   pub least : from ≤ slot
   pub loud : slice_index_or marks slot false ≡ false
@@ -40,22 +40,22 @@ pub record IsNextLoud (marks : List Bool) (from slot : ℕ) : Type 0 where
 abbrev pub IsOther : ℕ → List (Option Peer) → ℕ → Type 0
 IsOther c ps i = (p : Peer) → At ps i p → p.connection ≢ c
 
--- exactly those slots are marked that were marked, but for the slot of connection c
+-- the marks are unchanged, except that the slot of connection c has none
 abbrev pub Wakes : ℕ → List (Option Peer) → List Bool → List Bool → Type 0
 Wakes c ps old new = (i : ℕ) → IsMarkedAt new i ↔ IsMarkedAt old i × IsOther c ps i
 
--- The slots within a round: each that is taken has a connection of its own, which is quiet where the slot is marked.
+-- The slots within a round: each taken one has a connection of its own, which is quiet if the slot is marked.
 pub record AreSeated (w : World) (ps : List (Option Peer)) (marks : List Bool) : Type 0 where
   pub fit : IsFit w ps
   pub quiet : AreQuiet w ps marks
 
--- The slots between two rounds: none has a connection that is over with no output left either, and there is a slot for all that may stand.
+-- The slots between two rounds: also, no connection in a slot is over with an empty output, and there are enough slots.
 pub record AreSettled (w : World) (peers : Slab Peer) (marks : List Bool) : Type 0 where
   pub seated : AreSeated w peers.slots marks
   pub ended : (i : ℕ) → HasEnded w peers.slots i
   pub most : most_peers ≤ peers.capacity
 
--- What a server keeps between its rounds: the slots are settled, and the buffer has its room.
+-- The invariant of a server between rounds: the slots are settled, and the buffer has its full length.
 pub record IsServerKept (w : World) (peers : Slab Peer) (marks : List Bool) (buffer : List ℕ) : Type 0 where
   pub settled : AreSettled w peers marks
   pub room : length buffer ≡ read_room

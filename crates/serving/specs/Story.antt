@@ -1,4 +1,4 @@
--- What a server does: what it asks of its wire, what is answered, and which arrivals it makes of that,
+-- What a server does: what it asks of its wire and is answered, the arrivals that it makes of that,
 -- the pumps that it makes by itself, and the reloads that it is called for (own).
 use Rattle.std.specs.Prelude.{◌≡◌, ◌≢◌, ◌≤◌, ◌+◌, ℕ, zero, suc, List, [], ◌∷◌, ◌++◌, length, take, flat_map}
 use Rattle.std.specs.Prelude.{Bool, true, false, Option, Some, None, slice_index_or, slice_set, if◌then◌else◌, MatchBool}
@@ -16,7 +16,7 @@ use Rattle.runs.specs.Wants.{Lacks, To_open}
 use Rattle.runs.specs.Opened.{runs}
 use Rattle.serving.specs.declared.peers.Peer.{Peer}
 
--- a machine's world, whose socket is which by slot, and what the wire tells
+-- the machine's world, the peer in each slot, and what the wire knows
 pub record Served : Type 0 where
   pub world : World
   pub peers : List (Option Peer)
@@ -26,69 +26,69 @@ pub record Served : Type 0 where
 abbrev pub served : World → List (Option Peer) → Told → Served
 served w ps t = record { world = w; peers = ps; told = t }
 
--- the most room that a server offers to a read: its whole buffer, of 65,536 bytes
+-- the greatest length that a read is offered: the whole buffer, 65,536 bytes
 abbrev pub read_room : ℕ
 read_room = 65536
 
--- the room that a read is offered: at least 16 bytes, and at most 65,536
+-- the length that a read is offered: from 16 to 65,536 bytes
 abbrev pub IsOffer : ℕ → Type 0
 IsOffer room = (16 ≤ room) × (room ≤ read_room)
 
--- what becomes of a connection by a deed: it comes to run, it ceases to, or neither
+-- what a deed does to a connection: it starts running, it stops running, or neither
 pub data Passage : Type 0 where
   Enters : Passage
   Leaves : Passage
   Stays : Passage
 
--- by whether it ran before and runs after
+-- by whether it was running before and is after
 abbrev pub passage_of : Bool → Bool → Passage
 passage_of false true = Enters
 passage_of true false = Leaves
 passage_of false false = Stays
 passage_of true true = Stays
 
--- One thing that a server does: what it makes of one answer of its wire, a pump, a rest, or a reload between two calls that serve.
+-- One thing that a server does: what it makes of one answer of its wire, a pump, a rest, or a reload between two calls of `serve`.
 pub data Deed : Type 0 where
-  -- a socket came, and a connection was opened for it in this slot
+  -- a socket was accepted, and a connection was opened for it in this slot
   Met : (slot : ℕ) → (peer : Peer) → Deed
-  -- a socket came, and no connection could be opened, or memory was refused: none was opened
+  -- a socket was accepted, but no connection was opened: none can be, or an allocation failed
   Turned_away : (socket : ℕ) → (opening : Attempt) → Deed
   Met_no_one : (is_failure : Bool) → Deed
-  -- bytes came into so much room, and this became of the connection by them
+  -- a read of length `room` got these bytes, which did this to the connection
   Heard : (slot : ℕ) → (peer : Peer) → (room : ℕ) → (bytes : List ℕ) → (passage : Passage) → Deed
-  -- memory was refused on the way
+  -- an allocation for these bytes failed
   Heard_partly : (slot : ℕ) → (peer : Peer) → (room : ℕ) → (bytes : List ℕ) → Deed
   Heard_nothing : (slot : ℕ) → (peer : Peer) → (room : ℕ) → Deed
-  -- the input of a socket ended, or its read failed
+  -- the input of the socket ended, or its read failed
   Heard_end : (slot : ℕ) → (peer : Peer) → (room : ℕ) → (is_failure : Bool) → Deed
-  -- bytes of its output were taken, and this became of the connection by what waited for that
+  -- the socket took bytes of the output, and what waited for that did this to the connection
   Gave : (slot : ℕ) → (peer : Peer) → (offered taken : List ℕ) → (passage : Passage) → Deed
-  -- memory was refused for what waited
+  -- an allocation for what waited failed
   Gave_partly : (slot : ℕ) → (peer : Peer) → (offered taken : List ℕ) → Deed
   Gave_nothing : (slot : ℕ) → (peer : Peer) → (offered : List ℕ) → Deed
   -- the write failed
   Gave_up : (slot : ℕ) → (peer : Peer) → (offered : List ℕ) → Deed
-  -- a pump by which a message was delivered
+  -- a pump that delivered a message
   Pumped : Deed
   -- a pump for which no delivery could be made
   Pumped_nothing : Deed
-  -- a pump for which memory was refused
+  -- a pump that failed to allocate
   Pump_refused : Deed
-  -- it is over with no output left
+  -- the connection is over with an empty output
   Let_go : (slot : ℕ) → (peer : Peer) → Deed
   Paused : Deed
-  -- this was offered, and is in force, or something stood against it
+  -- this was offered, and is in force now, or there was an obstacle
   Reload_decided : (offered : Config) → Deed
-  -- memory was refused for it
+  -- the reload failed to allocate
   Reload_undecided : (offered : Config) → Deed
 
--- a socket whose connection comes to run is welcomed, and one whose connection ceases to is bidden farewell
+-- a socket whose connection starts running is welcomed; one whose connection stops running is bidden farewell
 abbrev pub greeting : ℕ → Passage → List Call
 greeting s Enters = Welcomed s ∷ []
 greeting s Leaves = Parted s ∷ []
 greeting s Stays = []
 
--- what was asked of the wire by it, and answered
+-- what was asked of the wire, with its answers
 abbrev pub calls : Deed → List Call
 calls (Met i p) = Accepted p.socket ∷ []
 calls (Turned_away s o) = Accepted s ∷ Closed s ∷ []
@@ -109,7 +109,7 @@ calls Paused = Rested ∷ []
 calls (Reload_decided g) = []
 calls (Reload_undecided g) = []
 
--- what arrives at the machine by it
+-- what arrives at the machine
 abbrev pub attempts : Deed → List Attempt
 attempts (Met i p) = whole arrival.Open ∷ []
 attempts (Turned_away s o) = o ∷ []
@@ -130,7 +130,7 @@ attempts Paused = []
 attempts (Reload_decided g) = whole (arrival.Reload g) ∷ []
 attempts (Reload_undecided g) = short (arrival.Reload g) ∷ []
 
--- something was done: a rest stands only where nothing was
+-- whether something was done: a server rests only if nothing was
 abbrev pub is_done : Deed → Bool
 is_done (Met_no_one failed) = false
 is_done (Heard_nothing i p room) = false
@@ -141,14 +141,14 @@ is_done Paused = false
 is_done (Reload_undecided g) = false
 is_done deed = true
 
--- it is a pump, for which nothing is asked of the wire
+-- whether it is a pump, which asks nothing of the wire
 abbrev pub is_pump : Deed → Bool
 is_pump Pumped = true
 is_pump Pumped_nothing = true
 is_pump Pump_refused = true
 is_pump deed = false
 
--- it is a pump, a rest or a reload, which stands for no answer of the wire
+-- whether it is a pump, a rest or a reload, none of which is an answer of the wire
 abbrev pub is_unasked : Deed → Bool
 is_unasked Pumped = true
 is_unasked Pumped_nothing = true
@@ -160,21 +160,21 @@ is_unasked deed = false
 
 -- ---- the slots
 
--- this slot holds this peer
+-- slot i holds this peer
 abbrev pub At : List (Option Peer) → ℕ → Peer → Type 0
 At ps i p = slice_index_or ps i None ≡ Some p
 
--- this slot was free and holds this peer, and every other slot is as it was
+-- Slot i was free and holds this peer now; every other slot is unchanged.
 pub record Filled (old : List (Option Peer)) (i : ℕ) (p : Peer) (new : List (Option Peer)) : Type 0 where
   pub free : slice_index_or old i None ≡ None
   pub here : At new i p
   pub others : (j : ℕ) → j ≢ i → slice_index_or new j None ≡ slice_index_or old j None
 
--- this slot held this peer and is free
+-- slot i held this peer and is free now
 abbrev pub Freed : List (Option Peer) → ℕ → Peer → List (Option Peer) → Type 0
 Freed old i p new = At old i p × (new ≡ slice_set old i None)
 
--- this slot holds this peer, and nothing changes
+-- slot i holds this peer, and nothing changes
 abbrev pub KeepsPeer : List (Option Peer) → ℕ → Peer → List (Option Peer) → Type 0
 KeepsPeer old i p new = At old i p × (new ≡ old)
 
@@ -182,17 +182,17 @@ KeepsPeer old i p new = At old i p × (new ≡ old)
 abbrev pub IsOutput : World → ℕ → List ℕ → Type 0
 IsOutput w c bytes = bytes ≡ (w.wire c).output
 
--- these bytes are the first of c's output
+-- these bytes are a prefix of c's output
 abbrev pub IsFront : World → ℕ → List ℕ → Type 0
 IsFront w c bytes = (n : ℕ) × (n ≤ length (w.wire c).output) × (bytes ≡ take n (w.wire c).output)
 
--- why a socket is turned away: no more connections can be opened, or memory was wanting for one
+-- why a socket is turned away: no further connection can be opened, or an allocation for one failed
 abbrev pub MayTurnAway : Lacks → World → Bool → Type 0
 MayTurnAway L w true = can_open w ≡ false
 MayTurnAway L w false = L w To_open
 
--- what a deed is about stands so in the slots, a read is offered at least 16 and at most 65,536 bytes, what a write was offered is all of
--- the connection's own output and what it took the first of that, a delivery could be made where one was, and what a reload offers is sound
+-- what each deed needs and does to the slots: a read is offered 16 to 65,536 bytes, a write all output of its connection, of which it takes
+-- a prefix; a delivery could be made if one was; and what a reload offers is sound
 abbrev pub Table : Lacks → Served → Deed → List (Option Peer) → Type 0
 Table L v (Met i p) new = (can_open v.world ≡ true) × (p.connection ≡ v.world.given + 1) × IsFresh p.socket v.told × Filled v.peers i p new
 Table L v (Turned_away s o) new = (o.arrival ≡ arrival.Open) × MayTurnAway L v.world o.is_whole × IsFresh s v.told × (new ≡ v.peers)
@@ -213,7 +213,7 @@ Table L v Paused new = new ≡ v.peers
 Table L v (Reload_decided g) new = IsSound g × (new ≡ v.peers)
 Table L v (Reload_undecided g) new = IsSound g × (new ≡ v.peers)
 
--- A socket that came is taken in, or it is not and nothing changes.
+-- what becomes of an accepted socket: it gets a connection and a slot, or nothing changes
 abbrev pub TakesIn : Lacks → World → List (Option Peer) → ℕ → Bool → World → List (Option Peer) → Type 0
 TakesIn L old ps s true new now = (can_open old ≡ true) × ((os : List Occurrence) × Answers old arrival.Open os new)
     × ((i : ℕ) × Filled ps i (record { connection = old.given + 1; socket = s }) now)
@@ -223,26 +223,26 @@ TakesIn L old ps s false new now = ((o : Attempt) × (o.arrival ≡ arrival.Open
 abbrev pub passage_between : World → World → ℕ → Passage
 passage_between old new c = passage_of (runs old c) (runs new c)
 
--- a socket is welcomed exactly where its connection comes to run by the deed, and bidden farewell exactly where it ceases to
+-- a socket is welcomed exactly if the deed lets its connection start running, and bidden farewell exactly if it lets it stop
 abbrev pub Greets : World → Deed → World → Type 0
 Greets old (Heard i p room bytes passage) new = passage ≡ passage_between old new p.connection
 Greets old (Gave i p offered taken passage) new = passage ≡ passage_between old new p.connection
 Greets old d new = Unit {0}
 
--- One deed.
+-- One deed, with what occurs by it.
 pub record DoesDeed (L : Lacks) (old : Served) (d : Deed) (os : List Occurrence) (new : Served) : Type 0 where
   pub table : Table L old d new.peers
   pub brings : Attempts L old.world (attempts d) os new.world
   pub greets : Greets old.world d new.world
   pub told : Tells old.told (calls d) new.told
 
--- These deeds, one after another.
+-- these deeds, one after another
 abbrev pub Story : Lacks → Served → List Deed → List Occurrence → Served → Type 0
 Story L old [] os new = (os ≡ []) × (new ≡ old)
 Story L old (d ∷ ds) os new = (mid : Served) × (first : List Occurrence) × (rest : List Occurrence)
     × (os ≡ first ++ rest) × DoesDeed L old d first mid × Story L mid ds rest new
 
--- A server goes on so: it asks this of its wire, makes no pump, no rest and no reload, and does something or not.
+-- A part of a round: it asks this of the wire, with no pump, rest or reload, and `acted` is whether something was done.
 pub record Serves (L : Lacks) (old : Served) (asked : List Ask) (acted : Bool) (new : Served) : Type 0 where
   pub deeds : List Deed
   pub occurrences : List Occurrence
@@ -251,7 +251,7 @@ pub record Serves (L : Lacks) (old : Served) (asked : List Ask) (acted : Bool) (
   pub all_asked : list_any is_unasked deeds ≡ false
   pub done : list_any is_done deeds ≡ acted
 
--- One pump, and whether a message was delivered by it.
+-- One pump, and whether it delivered a message.
 pub record PumpsOnce (L : Lacks) (old : Served) (acted : Bool) (new : Served) : Type 0 where
   pub deed : Deed
   pub occurrences : List Occurrence
@@ -259,13 +259,13 @@ pub record PumpsOnce (L : Lacks) (old : Served) (acted : Bool) (new : Served) : 
   pub pump : is_pump deed ≡ true
   pub done : is_done deed ≡ acted
 
--- pumps, so many at most, and fewer only where the last delivered nothing: no delivery could be made, or there was no memory
+-- at most `n` pumps, and fewer only if the last one delivered nothing: no delivery could be made, or an allocation failed
 abbrev pub ArePumps : ℕ → List Deed → Type 0
 ArePumps zero deeds = deeds ≡ []
 ArePumps (suc n) [] = ⊥
 ArePumps (suc n) (d ∷ ds) = (is_pump d ≡ true) × MatchBool (is_done d) (ArePumps n ds) (ds ≡ [])
 
--- A server makes so many pumps at most, and delivers something by them or not.
+-- At most `most` pumps, and whether they delivered anything.
 pub record PumpsUp (L : Lacks) (most : ℕ) (old : Served) (acted : Bool) (new : Served) : Type 0 where
   pub deeds : List Deed
   pub occurrences : List Occurrence

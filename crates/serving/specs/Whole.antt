@@ -1,4 +1,4 @@
--- All that a server did from its start, and what is promised of it (own).
+-- All that a server did since its start, and what is promised of it (own).
 use Rattle.std.specs.Prelude.{◌≡◌, ◌+◌, ◌⊎◌, ℕ, zero, suc, List, [], ◌∷◌, ◌++◌, map, flat_map, Option}
 use Rattle.std.specs.List.{AllByRecursion}
 use Rattle.model.specs.Topology.{IsIn}
@@ -32,49 +32,49 @@ seen_after hs w k (suc n) = shown hs w (k + 1) ∷ seen_after hs w (k + 1) n
 abbrev pub seen_of : List Happening → World → List Shown
 seen_of hs w = seen_after hs w 0 w.given
 
--- What a server did from a world with no connection under this topology and these guarantees, over a wire that had told this: rounds, and reloads between them.
+-- What a server did since its world had no connection, under configuration `f` and over a wire that knew `told`: rounds, and reloads between them.
 pub record IsServed (L : Lacks) (f : Config) (told : Told) (new : Served) : Type 0 where
-  -- what was in force at first is sound
+  -- what was in force at the start is sound
   pub sound : IsSound f
   pub deeds : List Deed
   pub occurrences : List Occurrence
   pub story : Story L (served (new_world f) [] told) deeds occurrences new
-  -- the wire was asked and answered this, and no more
+  -- these are all calls of the wire, with their answers
   pub asked : Tells told (flat_map calls deeds) new.told
-  -- this arrived, each arrival whole or as far as memory went
+  -- these are all arrivals, each performed whole or up to an allocation failure
   pub arrives : Attempts L (new_world f) (arrived deeds) occurrences new.world
-  -- where memory was never refused, the arrivals are played exactly
+  -- if no allocation failed, the arrivals are played exactly
   pub plays : AllByRecursion IsWhole (arrived deeds) → Plays (new_world f) (arrivals_of (arrived deeds)) occurrences new.world
-  -- certified delivery, by what was in force at each event, also where memory was refused
+  -- certified delivery, by what was in force at each event, even after an allocation failure
   pub promises : KeepsPromises f occurrences new.world.state.broker (seen_of (events_of occurrences) new.world)
   -- what arrived for a connection is what its socket gave and took
   pub joined : AreJoined deeds
-  -- what its socket took is a beginning of what was put out for it
+  -- what its socket took is a prefix of what was put out for it
   pub written : AreBeginnings deeds occurrences
-  -- and where the wire tells how many bytes its socket gave and took, so many arrived and were taken
+  -- if the wire knows how many bytes a socket gave and took, as many arrived and were taken
   pub counted : AreCounted deeds new.told
 
--- ---- one call
+-- ---- one call of `serve`
 
--- the peer has a slot at first, or is met by these deeds
+-- the peer has a slot at the start, or is accepted by one of these deeds
 abbrev pub IsOf : List (Option Peer) → List Deed → Peer → Type 0
 IsOf ps deeds p = ((i : ℕ) × At ps i p) ⊎ IsIn p (all_met deeds)
 
--- what its socket takes by these deeds goes on from the output that was not yet written, behind which stands what is put out meanwhile
+-- what its socket takes continues with the output that was not written yet, and then with what is put out meanwhile
 abbrev pub TakesOn : Served → List Deed → List Occurrence → Peer → Type 0
 TakesOn old deeds os p = (rest : List ℕ)
     × (flat_map (written_to p.socket) (flat_map calls deeds) ++ rest ≡ (old.world.wire p.connection).output ++ put_out p.connection (events_of os))
 
--- What a server does goes on from where it stands:
+-- What a server does continues where it stopped:
 pub record GoesOn (L : Lacks) (old new : Served) : Type 0 where
   pub deeds : List Deed
   pub occurrences : List Occurrence
   pub story : Story L old deeds occurrences new
-  -- the wire was asked and answered this, and no more
+  -- these are all calls of the wire, with their answers
   pub asked : Tells old.told (flat_map calls deeds) new.told
-  -- this arrived: commands go on from bytes that were not yet performed, with what comes behind them
+  -- these are all arrivals: commands continue with bytes that were not performed yet, and then with what is fed
   pub arrives : Attempts L old.world (arrived deeds) occurrences new.world
   -- what arrived for a connection is what its socket gave and took
   pub joined : (p : Peer) → IsOf old.peers deeds p → IsJoined p (flat_map calls deeds) (arrived deeds)
-  -- and what its socket took goes on from what was not yet written
+  -- what its socket took continues with the output that was not written yet
   pub written : (p : Peer) → IsOf old.peers deeds p → TakesOn old deeds occurrences p

@@ -1,8 +1,10 @@
 -- What is asked of a wire, and what it answers (own).
-use Rattle.std.specs.Prelude.{◌≡◌, ◌+◌, ℕ, List, [], ◌∷◌, ◌++◌, length, Option, Some, None, Bool, true, false, ◌==◌, if◌then◌else◌, filter_map, count_by}
+use Rattle.std.specs.Prelude.{◌≡◌, ◌+◌, ℕ, zero, suc, List, [], ◌∷◌, ◌++◌, length, Option, Some, None, Bool, true, false}
+use Rattle.std.specs.Prelude.{◌==◌, if◌then◌else◌, filter_map, count_by}
 use Rattle.model.specs.Topology.{IsIn}
+use Rattle.serving.specs.declared.peers.Peer.{Peer}
 
--- One call of a wire, with its answer: a read with the room that it was offered, and a write with all bytes that it was offered.
+-- One call of a wire, with its answer: a read with the length that it was offered, a write with all bytes that it was offered.
 pub data Call : Type 0 where
   Accepted : (socket : ℕ) → Call
   Not_accepted : Call
@@ -15,9 +17,9 @@ pub data Call : Type 0 where
   Nothing_taken : (socket : ℕ) → (offered : List ℕ) → Call
   Write_failed : (socket : ℕ) → (offered : List ℕ) → Call
   Closed : (socket : ℕ) → Call
-  -- its connection has come to run
+  -- the connection of the socket started running
   Welcomed : (socket : ℕ) → Call
-  -- its connection has ceased to run
+  -- the connection of the socket stopped running
   Parted : (socket : ℕ) → Call
   Rested : Call
 
@@ -27,7 +29,7 @@ pub data Ask : Type 0 where
   To_read : (socket : ℕ) → Ask
   To_write : (socket : ℕ) → (bytes : List ℕ) → Ask
 
--- the ask of a call, if it is an accept, a read or a write
+-- the ask of a call that is an accept, a read or a write
 abbrev pub ask : Call → Option Ask
 ask (Accepted s) = Some To_accept
 ask Not_accepted = Some To_accept
@@ -55,26 +57,26 @@ is_failed (Read_failed s room) = true
 is_failed (Write_failed s offered) = true
 is_failed call = false
 
--- how many bytes a socket gave and took since it came
+-- how many bytes a socket gave and took since it was accepted
 pub record Totals : Type 0 where
   pub got : ℕ
   pub taken : ℕ
 
--- as a socket comes
+-- the totals of a socket that was just accepted
 abbrev pub no_bytes : Totals
 no_bytes = record { got = 0; taken = 0 }
 
--- so many more were got
+-- `n` more bytes were got
 abbrev pub with_got : ℕ → Option Totals → Option Totals
 with_got n None = None
 with_got n (Some t) = Some (record { got = t.got + n; taken = t.taken })
 
--- so many more were taken
+-- `n` more bytes were taken
 abbrev pub with_taken : ℕ → Option Totals → Option Totals
 with_taken n None = None
 with_taken n (Some t) = Some (record { got = t.got; taken = t.taken + n })
 
--- the totals of the socket s after a call: from the call on that accepted it
+-- the totals of socket s after a call; they begin with the call that accepted it
 abbrev pub total_after : ℕ → Option Totals → Call → Option Totals
 total_after s t (Accepted r) = if r == s then Some no_bytes else t
 total_after s t (Got r room bytes) = if r == s then with_got (length bytes) t else t
@@ -86,33 +88,44 @@ abbrev pub totals_after : ℕ → Option Totals → List Call → Option Totals
 totals_after s t [] = t
 totals_after s t (call ∷ more) = totals_after s (total_after s t call) more
 
--- What a wire tells.
+-- What a wire knows.
 pub record Told : Type 0 where
-  -- its calls so far, or none where it can't tell them
+  -- its calls so far, or `None` if it doesn't know them
   pub calls : Option (List Call)
   -- how many of them failed
   pub failures : ℕ
   -- whether a socket had this name
   pub is_given : ℕ → Bool
-  -- what the socket of this name gave and took, or none where it can't tell that
+  -- what the socket of this name gave and took, or `None` if it doesn't know that
   pub totals : ℕ → Option Totals
 
--- the calls that are told after these: those before and these, or none are told any more
+-- the known calls after these: those before and these; or none are known any longer
 abbrev pub Follows : Option (List Call) → List Call → Option (List Call) → Type 0
 Follows old more None = Unit {0}
 Follows old more (Some calls) = (before : List Call) × (old ≡ Some before) × (calls ≡ before ++ more)
 
--- What a wire tells after these calls too.
+-- What a wire knows after these calls.
 pub record Tells (old : Told) (more : List Call) (new : Told) : Type 0 where
   pub calls : Follows old.calls more new.calls
   pub failures : new.failures ≡ old.failures + count_by is_failed more
   -- a name that was given stays given
   pub kept : (s : ℕ) → old.is_given s ≡ true → new.is_given s ≡ true
-  -- and so is one that is accepted
+  -- the name of an accepted socket is given
   pub given : (s : ℕ) → IsIn (Accepted s) more → new.is_given s ≡ true
-  -- where totals are told, they are those before with what these calls gave and took
+  -- if totals are known, they are those before with what these calls gave and took
   pub totals : (s : ℕ) (t : Totals) → new.totals s ≡ Some t → totals_after s (old.totals s) more ≡ Some t
 
--- no socket of this name came before
+-- the length in bytes that a read is said to be offered if the wire knows that nothing comes
+abbrev pub least_room : ℕ
+least_room = 16
+
+-- the first n of these slots are taken, and a read of their sockets was asked one after another, and each had nothing
+abbrev pub AllWait : ℕ → List (Option Peer) → Told → Told → Type 0
+AllWait zero ps old new = new ≡ old
+AllWait (suc n) [] old new = ⊥
+AllWait (suc n) (None ∷ ps) old new = ⊥
+AllWait (suc n) (Some p ∷ ps) old new = (mid : Told) × Tells old (Nothing_got p.socket least_room ∷ []) mid × AllWait n ps mid new
+
+-- no earlier socket had this name
 abbrev pub IsFresh : ℕ → Told → Type 0
 IsFresh s told = told.is_given s ≡ false

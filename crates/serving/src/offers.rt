@@ -1,9 +1,9 @@
-//! How much room a read of each slot is offered.
+//! Decides how many bytes a read of each slot is offered.
 //!
-//! All clients wait for the round to end, so a round is short, whoever floods: a read is offered room for a part of the commands that one
+//! All clients wait for a round to end, so a round is short even if a client floods: a read is offered room for a part of the commands that one
 //! round performs, by the bytes that its client's commands took so far. A slot that gave all that it was offered is greedy. Greedy slots share
-//! [`GREEDY_COMMANDS`], and all others [`COMMANDS`]; together that is as much as a round delivers. A consumer is offered room for its answers,
-//! too, so that it is not greedy by them. A connection that fills a queue which lags is offered less. Nothing is promised of it but the bounds.
+//! [`GREEDY_COMMANDS`], and all others share [`COMMANDS`]; together that is as much as a round delivers. A consumer is offered room for its
+//! acknowledgements, too, so that they don't make it greedy. A connection that fills a queue that lags is offered less. Only the bounds are promised.
 
 ghost use Rattle.std.specs.Prelude.{◌≤◌};
 ghost use Rattle.serving.specs.Story.{IsOffer, read_room};
@@ -11,39 +11,39 @@ ghost use Rattle.serving.specs.Story.{IsOffer, read_room};
 use crate::peers::SLOTS;
 use std::alloc::{AllocError, Global};
 
-/// The room of a read, at least and at most.
+/// The least and the greatest offer, in bytes.
 const LEAST: usize = 256;
 
 const MOST: usize = 65_536;
 
-/// What a socket is offered at most until its connection runs.
+/// The greatest offer, in bytes, to a socket whose connection is not running yet.
 const LOGIN: usize = 512;
 
-/// How many commands the greedy slots are offered room for in a round, all together.
+/// The number of commands that all greedy slots together are offered room for in a round.
 const GREEDY_COMMANDS: usize = 64;
 
-/// How many commands all other slots are offered room for in a round, all together.
+/// The number of commands that all other slots together are offered room for in a round.
 const COMMANDS: usize = 192;
 
-/// How many bytes a slot is offered besides for each delivery that it has got since it was heard: an acknowledgement takes 21.
+/// The bytes that a slot is offered for each delivery that it has got since its last read: an acknowledgement takes 21.
 const ANSWER: usize = 32;
 
 /// What is known of a slot.
 #[derive(Clone, Copy, Drop)]
 struct Offer {
-    /// The room by what came to queues that lag.
+    /// The greatest offer, in bytes, by whether its reads filled queues that lag.
     room: usize,
-    /// How many bytes a command took in its last read.
+    /// The bytes that a command of its last read took.
     size: usize,
-    /// How many deliveries it has got since then.
+    /// The number of deliveries that it has got since then.
     delivered: usize,
-    /// Whether its connection ran when it was last heard.
+    /// Whether its connection was running at its last read.
     runs: bool,
-    /// Whether it gave all that it was offered last.
+    /// Whether it gave all that it was offered at its last read.
     is_greedy: bool,
 }
 
-/// The offer of a slot that nothing was read for yet.
+/// The offer of a slot that was not read yet.
 const FIRST: Offer = Offer {
     room: MOST,
     size: MOST,
@@ -52,43 +52,47 @@ const FIRST: Offer = Offer {
     is_greedy: false,
 };
 
-/// What came of a read that gave bytes.
+/// The outcome of a read that got bytes.
 #[derive(Clone, Copy, Drop)]
 pub(crate) struct Heard {
-    /// How many bytes came, into how much room.
+    /// The number of bytes, and the number that was offered.
     pub(crate) bytes: usize,
     pub(crate) room: usize,
-    /// How many turns the connection took by them.
+    /// The number of turns that the connection took for them.
     pub(crate) turns: usize,
-    /// Whether the connection ran as they came.
+    /// Whether the connection was running before.
     pub(crate) has_run: bool,
-    /// Whether messages came to queues that lag by them.
+    /// Whether messages entered queues that lag.
     pub(crate) has_filled: bool,
 }
 
-/// Commands of a round that are shared by the slots that gave bytes in the rounds before.
+/// Commands of a round, shared by the slots that gave bytes in the rounds before.
 #[derive(Clone, Copy, Drop)]
 struct Share {
     commands: usize,
-    /// Among how many slots they are shared.
+    /// The number of slots that share them.
     among: usize,
-    /// How many gave bytes in this round.
+    /// The number of commands for each.
+    each: usize,
+    /// The number of slots that gave bytes in this round.
     given: usize,
 }
 
 impl Share {
-    /// Nobody gave bytes.
+    /// Makes a share of `commands` for a single slot.
     fn new(commands: usize) -> Share {
         Share {
             commands,
             among: 1,
+            each: commands,
             given: 0,
         }
     }
 
-    /// Begins a round. If fewer gave bytes than before, the number of those who share falls by one.
+    /// Begins a round. If fewer slots gave bytes than before, the number of those that share falls by one only.
     fn pass(&mut self) {
         self.among = self.given.max(self.among.saturating_sub(1));
+        self.each = self.commands / self.among.max(1);
         self.given = 0;
     }
 
@@ -97,10 +101,9 @@ impl Share {
         self.given = self.given.saturating_add(1);
     }
 
-    /// Returns the room for a slot's part, of commands of `size` bytes.
+    /// Returns the bytes of one slot's part, if its commands take `size` bytes.
     fn room(&self, size: usize) -> usize {
-        let among = self.among.max(1);
-        size.saturating_mul(self.commands / among)
+        size.saturating_mul(self.each)
     }
 }
 
@@ -113,7 +116,7 @@ pub(crate) struct Offers {
 }
 
 impl Offers {
-    /// Nobody came.
+    /// Makes the offers of slots that were not read yet. Fails only if an allocation fails.
     pub(crate) fn new(alloc: Global) -> Result<Offers, AllocError> {
         Ok(Offers {
             offers: vec![in alloc; FIRST; SLOTS]?,
@@ -128,14 +131,14 @@ impl Offers {
         self.others.pass();
     }
 
-    /// A socket came, and has this slot.
+    /// Resets the offer of `slot`, which a new socket has.
     pub(crate) fn begin(&mut self, slot: usize) {
         if slot < self.offers.len() {
             self.offers[slot] = FIRST;
         }
     }
 
-    /// A delivery goes to this slot.
+    /// Counts a delivery to `slot`.
     pub(crate) fn deliver(&mut self, slot: usize) {
         if slot < self.offers.len() {
             let offer = self.offers[slot];
@@ -146,7 +149,7 @@ impl Offers {
         }
     }
 
-    /// What is known of a slot.
+    /// Returns what is known of `slot`.
     fn own(&self, slot: usize) -> Offer {
         if slot < self.offers.len() {
             self.offers[slot]
@@ -155,7 +158,7 @@ impl Offers {
         }
     }
 
-    /// What a slot is offered at most in this round.
+    /// Returns the most bytes that a slot is offered in this round.
     fn most(&self, offer: Offer) -> usize
         ensures { result ≤ read_room }
     {
@@ -169,7 +172,7 @@ impl Offers {
             .min(if offer.runs { MOST } else { LOGIN })
     }
 
-    /// The room that a read for this slot is offered.
+    /// Returns how many bytes a read of `slot` is offered.
     pub(crate) fn room(&self, slot: usize) -> usize
         ensures { IsOffer result }
     {
@@ -177,7 +180,7 @@ impl Offers {
         offer.room.min(self.most(offer)).max(LEAST)
     }
 
-    /// Learns what came of a read for this slot.
+    /// Learns from a read of `slot` that got bytes.
     pub(crate) fn learn(&mut self, slot: usize, heard: Heard) {
         if slot < self.offers.len() {
             let old = self.offers[slot];
@@ -197,7 +200,7 @@ impl Offers {
     }
 }
 
-/// Returns the room behind a read: half of it if messages came to queues that lag, and else a quarter more.
+/// Returns the greatest offer after a read: half of `room` if messages entered queues that lag, otherwise a quarter more.
 fn room_after(room: usize, has_filled: bool) -> usize {
     if has_filled {
         (room / 2).max(LEAST)

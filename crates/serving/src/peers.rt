@@ -1,6 +1,6 @@
-//! Whose socket is which.
+//! Peers: which connection has which socket.
 
-/// So many slots there are at least: as many as connections may stand at a time.
+/// The least number of slots: as many as there can be connections that are not gone.
 pub(crate) const SLOTS: usize = 1_024;
 
 /// A connection, and the socket that its bytes come from and go to.

@@ -1,4 +1,4 @@
-//! Which slots there is nothing to do for until something comes for them.
+//! Marks slots for which there is nothing to do until something comes for them.
 
 ghost use Rattle.std.specs.Prelude.{◌≡◌, ◌<◌, ◌≤◌, ◌*◌, ℕ, IfOk, cond, length, replicate, slice_index_or, slice_set, false, true};
 ghost use Rattle.marks.specs.Places.{Differs, bit_of};
@@ -8,19 +8,19 @@ use marks::{Flat, Over, Places};
 use std::alloc::{AllocError, Global};
 use std::marker::Model;
 
-/// So many places remember a slot, each for the numbers of connections that leave the same remainder when divided by this.
+/// The number of remembered slots. Connections whose numbers are equal modulo this share one.
 const REMEMBERED: usize = 16_384;
 
-/// A set of slots, of which the next is found without a look at each.
+/// A set of slots, in which the next one is found without looking at each.
 type SlotSet = Over<Flat>;
 
-/// Slots that are marked as quiet: one without a mark is loud, and is looked at.
+/// The slots that are marked as quiet. A slot without a mark is loud.
 #[derive(Drop)]
 pub(crate) struct Quiet {
     marks: Vec<bool>,
-    /// Those without a mark.
+    /// The slots without a mark.
     loud: SlotSet,
-    /// By place, the slot of the connection that was remembered there last. It is a guess: connections share places.
+    /// The slot of the connection that was remembered last, by the connection's number. A hint: connections share entries.
     slots: Vec<u16>,
 }
 
@@ -35,7 +35,7 @@ impl Model for Quiet {
     ghost invariant = { λ q. AreLoud q.loud q.marks.items };
 }
 
-/// A mark for each of so many slots.
+/// Returns a mark for each of `slots` slots.
 fn all_marked(alloc: Global, slots: usize) -> Result<Vec<bool>, AllocError>
     ensures { IfOk result (λ marks. marks.items ≡ replicate slots true) }
 {
@@ -43,7 +43,7 @@ fn all_marked(alloc: Global, slots: usize) -> Result<Vec<bool>, AllocError>
     Ok(marks)
 }
 
-/// A set with room for so many slots, and with none in it.
+/// Returns an empty set with a bit for each of `slots` slots.
 fn room_for(alloc: Global, slots: usize) -> Result<SlotSet, AllocError>
     ensures none { IfOk result (λ set. (i : ℕ) → bit_of set i ≡ 0) }
     ensures room { IfOk result (λ set. slots ≤ length set * 64) }
@@ -53,7 +53,7 @@ fn room_for(alloc: Global, slots: usize) -> Result<SlotSet, AllocError>
     Ok(set)
 }
 
-/// Puts a slot in, or takes it out.
+/// Adds `slot` to the set if `is_in`, otherwise removes it.
 fn put(set: &mut SlotSet, slot: usize, is_in: bool)
     requires { slot < length set.old * 64 }
     ensures bit { Differs (bit_of set.old) (bit_of set.new) slot (cond is_in 1 0) }
@@ -67,7 +67,7 @@ fn put(set: &mut SlotSet, slot: usize, is_in: bool)
 }
 
 impl Quiet {
-    /// So many slots, all of them marked: none has a peer yet.
+    /// Marks all of `slots` slots, none of which has a peer yet. Fails only if an allocation fails.
     pub(crate) fn new(alloc: Global, slots: usize) -> Result<Quiet, AllocError>
         ensures { IfOk result (λ q. q ≡ replicate slots true) }
     {
@@ -80,7 +80,7 @@ impl Quiet {
         })
     }
 
-    /// Remembers which slot a connection has.
+    /// Remembers that `connection` has `slot`.
     pub(crate) fn learn(&mut self, connection: u64, slot: usize)
         ensures { self.new ≡ self.old }
     {
@@ -90,7 +90,7 @@ impl Quiet {
         }
     }
 
-    /// The slot that a connection is likely to have.
+    /// Returns the slot that `connection` is likely to have.
     pub(crate) fn guess(&self, connection: u64) -> usize {
         let place = connection as usize % REMEMBERED;
         if place < self.slots.len() {
@@ -100,14 +100,14 @@ impl Quiet {
         }
     }
 
-    /// Whether this slot is marked.
+    /// Returns whether `slot` is marked.
     pub(crate) fn contains(&self, slot: usize) -> bool
         ensures { result ≡ slice_index_or self.now slot false }
     {
         slot < self.marks.len() && self.marks[slot]
     }
 
-    /// Marks a slot, or takes its mark away.
+    /// Marks `slot` if `is_quiet`, otherwise removes its mark.
     pub(crate) fn mark(&mut self, slot: usize, is_quiet: bool)
         ensures { self.new ≡ slice_set self.old slot is_quiet }
     {
@@ -117,7 +117,7 @@ impl Quiet {
         }
     }
 
-    /// The first slot without a mark, of those from `from` on. Those behind the end of the marks have none.
+    /// Returns the first slot without a mark at or after `from`. Slots past the end of the marks have none.
     pub(crate) fn next_loud(&self, from: usize) -> usize
         ensures { IsNextLoud self.now from result }
     {

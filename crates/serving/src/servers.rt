@@ -1,4 +1,4 @@
-//! A server, and how long it serves.
+//! The server, and its rounds.
 
 ghost use Rattle.std.specs.Prelude.{◌≡◌, IfOk, []};
 ghost use Rattle.model.specs.Arrivals.{new_world};
@@ -21,10 +21,10 @@ use slab::Slab;
 use std::alloc::{AllocError, Global};
 use std::marker::Model;
 
-/// The room that a read is offered at most, in bytes: it is the whole buffer.
+/// The greatest number of bytes that a read is offered: the length of the buffer.
 const READ_ROOM: usize = 65_536;
 
-/// A machine, whose socket is which, which slots are quiet, what reads are offered, and the buffer that they go into.
+/// A server: a machine, its peers by slot, which slots are quiet, what reads are offered, and the buffer that they fill.
 pub struct Server<M: Machine> {
     machine: M,
     peers: Slab<Peer>,
@@ -33,7 +33,7 @@ pub struct Server<M: Machine> {
     buffer: Vec<u8>,
 }
 
-/// Written out, so that a drop is one call.
+/// Written out so that a drop is one call.
 impl<M: Machine + Drop> Drop for Server<M> {
     fn drop(self) {
         let Server {
@@ -58,7 +58,8 @@ impl<M: Machine> Model for Server<M> {
 }
 
 impl<M: Machine> Server<M> {
-    /// A server of this machine, with no socket yet, and with a slot for each connection that may stand at a time.
+    /// Makes a server of `machine`, without sockets, and with a slot for each connection that can be open at a time. Fails only if an allocation
+    /// fails; no later call allocates of its own.
     pub fn new(alloc: Global, machine: M) -> Result<Server<M>, AllocError>
     where
         M: Drop,
@@ -84,10 +85,11 @@ impl<M: Machine> Server<M> {
         &self.machine
     }
 
-    /// One round: an accept, a read into 16 to 65,536 bytes of each connection that is neither paused nor over, at most 256 pumps, a
-    /// write of all that waits for each with output, the end of those that are over with no output left, and a rest where nothing
-    /// was done. A socket is welcomed exactly as its connection comes to run.
+    /// Does one round: an accept, a read of 16 to 65,536 bytes of each connection that is neither paused nor over, at most 256 pumps, a write of
+    /// all output of each that has any, the end of those that are over with an empty output, and a rest if nothing was done. Welcomes a socket
+    /// exactly when its connection starts running. An allocation failure is not reported: it ends the connection that needed the memory.
     pub fn round<W: Wire>(&mut self, alloc: Global, wire: &mut W)
+        // The promise: exactly these calls of the wire, and what follows from each answer.
         ensures { IsRound M.lacks (served (M.world self.old.machine) self.old.peers (W.told wire.old))
             (served (M.world self.new.machine) self.new.peers (W.told wire.new)) }
     {
@@ -102,13 +104,13 @@ impl<M: Machine> Server<M> {
         );
     }
 
-    /// Puts this in force between two rounds, which asks nothing of a wire: connections stay, with their sockets. Where something
-    /// stands against it, that is told, and nothing is different; nor is it where memory is wanting.
+    /// Puts `setup` in force between two rounds, and asks nothing of a wire: connections stay, with their sockets. Refused by the first obstacle, and
+    /// if an allocation fails; nothing has changed then.
     pub fn reload(&mut self, alloc: Global, setup: M::Setup) -> Result<(), ReloadFault>
         ensures told { TellsReload (M.world self.old.machine) (M.config setup) result (M.world self.new.machine) }
         ensures wants { IsMemory result → M.lacks (M.world self.old.machine) (To_reload (M.config setup)) }
         ensures peers { self.new.peers ≡ self.old.peers }
-        // Whatever was served before is served after, over whatever a wire told.
+        // What was served before is served after, over whatever a wire knew.
         ensures served { (f : Config) (told now : Told)
             → IsServed M.lacks f told (served (M.world self.old.machine) self.old.peers now)
             → IsServed M.lacks f told (served (M.world self.new.machine) self.new.peers now) }
@@ -117,7 +119,7 @@ impl<M: Machine> Server<M> {
         self.machine.reload(alloc, setup)
     }
 
-    /// What the machine has in force is sound: the topology is well formed, and its guarantees hold.
+    /// Shows that what the machine has in force is sound: the topology is well formed, and its guarantees hold.
     fn is_sound(&self)
         ensures { IsSound (M.world self.now.machine).config }
     {
@@ -125,7 +127,7 @@ impl<M: Machine> Server<M> {
     }
 }
 
-/// A new server of a machine with no connection is served: nothing was done yet.
+/// Shows that a new server of a machine without connections is served: nothing was done yet. Does nothing at run time.
 pub fn new_is_served<M: Machine, W: Wire>(server: &Server<M>, wire: &W)
     ensures { (f : Config) → M.world server.now.machine ≡ new_world f → server.now.peers ≡ []
         → IsServed M.lacks f (W.told wire.now) (served (M.world server.now.machine) server.now.peers (W.told wire.now)) }
@@ -133,15 +135,16 @@ pub fn new_is_served<M: Machine, W: Wire>(server: &Server<M>, wire: &W)
     server.is_sound();
 }
 
-/// That many rounds.
+/// Does `turns` rounds.
 pub fn serve<M: Machine, W: Wire>(alloc: Global, server: &mut Server<M>, wire: &mut W, turns: u64)
+    // The promise: exactly these rounds.
     ensures rounds { Rounds M.lacks turns (served (M.world server.old.machine) server.old.peers (W.told wire.old))
         (served (M.world server.new.machine) server.new.peers (W.told wire.new)) }
-    // Whatever was served before is served after: what arrived since the server was new, and that the promises are kept.
+    // What was served before is served after: all that arrived since the server was new, and certified delivery's promises of it.
     ensures served { (f : Config) (told : Told)
         → IsServed M.lacks f told (served (M.world server.old.machine) server.old.peers (W.told wire.old))
         → IsServed M.lacks f told (served (M.world server.new.machine) server.new.peers (W.told wire.new)) }
-    // It goes on from where the server stood: from bytes not yet performed, and from output not yet written.
+    // It continues where the server stopped: with bytes that were not performed yet, and with output that was not written yet.
     ensures goes_on { (f : Config) (told : Told)
         → IsServed M.lacks f told (served (M.world server.old.machine) server.old.peers (W.told wire.old))
         → GoesOn M.lacks (served (M.world server.old.machine) server.old.peers (W.told wire.old))

@@ -9,11 +9,11 @@ use std::io;
 use std::io::Write as _;
 use std::net::Net;
 
-/// How often the socket is filled. One of these times the system may tell of its room late, on a machine that does other work.
+/// How often the socket is filled. Once the system may report its room late, on a machine that does other work.
 const TIMES: u32 = 4;
 
-/// Whether a socket that has room again takes a write in the first round behind a rest, which also tells of another socket. So no socket
-/// is asked for the sake of its turn, but in each 16th round.
+/// Returns whether a socket that has room again takes a write in the first round after a rest, which also names another socket. So no socket is
+/// asked only since it has its turn, except in each 16th round.
 fn is_written_at_once<S: io::Write>(
     sockets: &mut Sockets,
     full: u64,

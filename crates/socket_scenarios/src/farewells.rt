@@ -8,16 +8,16 @@ use std::alloc::Global;
 use std::net::SocketAddr;
 use std::time::Duration;
 
-/// How many milliseconds a socket has that was bidden farewell.
+/// The milliseconds that a socket has that was bidden farewell.
 const TIME: u64 = 200;
 
-/// How many rounds in vain are enough, whatever else the machine does.
+/// The rounds after which a scenario gives up, whatever else the machine does.
 const PATIENCE: u32 = 1_000;
 
-/// How many writes fill a socket that nobody reads, whatever room the system gives it.
+/// The writes that fill a socket that nobody reads, however much the system buffers.
 const MOST_WRITES: u32 = 100_000;
 
-/// Sockets that listen at a port that is free, and have this patience.
+/// Listens at a free port, with this patience.
 fn listening(rt: &HostRuntime, alloc: Global) -> Result<Sockets, Unmet> {
     let address = value_of("parse", "127.0.0.1:0".parse::<SocketAddr>())?;
     let sockets = value_of("Sockets::bind", Sockets::bind(rt, alloc, address))?;
@@ -36,8 +36,8 @@ fn expect_no_read(sockets: &mut Sockets, socket: u64) -> Result<(), Unmet> {
     Err(Unmet::Claim("a socket that was bidden farewell is ended"))
 }
 
-/// A socket that was welcomed and then bidden farewell is ended once its time is over that began with the farewell, and not before.
-/// One that was welcomed is not.
+/// A socket that was welcomed and then bidden farewell is ended once the time is over that began with the farewell, and not before. One that was
+/// welcomed is not ended.
 pub(crate) fn a_socket_that_was_bidden_farewell_is_ended(
     rt: &HostRuntime,
     alloc: Global,
@@ -57,7 +57,7 @@ pub(crate) fn a_socket_that_was_bidden_farewell_is_ended(
     expect("a socket that was bidden no farewell is not ended", waits)
 }
 
-/// Writes to a socket until it takes no more.
+/// Writes to a socket until it takes nothing.
 fn fill(sockets: &mut Sockets, socket: u64) -> Result<(), Unmet> {
     let bytes = [0u8; 4096];
     for _ in 0..MOST_WRITES {
@@ -84,7 +84,7 @@ fn expect_no_write(sockets: &mut Sockets, socket: u64) -> Result<(), Unmet> {
     Err(Unmet::Claim("a full socket that was bidden farewell is ended"))
 }
 
-/// A socket that takes nothing is ended too once its time is over: a server writes to it, and reads no more.
+/// A socket that takes nothing is ended, too, once its time is over: a server writes to it, and no longer reads.
 pub(crate) fn a_full_socket_that_was_bidden_farewell_is_ended(
     rt: &HostRuntime,
     alloc: Global,

@@ -1,10 +1,11 @@
-//! Scenarios of sockets of the system, without a server: which of them are asked, and when; how long they rest; and whom they end.
-//! `cases` runs them.
+//! Scenarios of sockets of the system, without a server: which of them are asked, and when; how long they rest; and which they end.
+//! `cases` runs them: start at [`tell_all`].
 #![tactic(auto)]
 
 mod beside;
 mod farewells;
 mod listening;
+mod passed;
 mod patience;
 mod pieces;
 mod rests;
@@ -13,7 +14,7 @@ mod silent;
 use scenario_outcomes::Sums;
 use std::io;
 
-/// The scenarios of sockets that have nothing.
+/// Runs the scenarios of sockets that have nothing.
 fn tell_silent(sums: &mut Sums, rt: &HostRuntime) -> io::Result<()> {
     let alloc = rt.alloc();
     sums.tell(
@@ -40,10 +41,15 @@ fn tell_silent(sums: &mut Sums, rt: &HostRuntime) -> io::Result<()> {
         rt,
         "silent_sockets_are_asked_in_turn",
         silent::silent_sockets_are_asked_in_turn(rt, alloc),
+    )?;
+    sums.tell(
+        rt,
+        "silent_sockets_are_passed_by_up_to_one_that_speaks",
+        passed::silent_sockets_are_passed_by_up_to_one_that_speaks(rt, alloc),
     )
 }
 
-/// The scenarios of where sockets listen, of those that have no room, and of the time that they have.
+/// Runs the scenarios of where sockets listen, of those that have no room, and of the time that they have.
 fn tell_bounds(sums: &mut Sums, rt: &HostRuntime) -> io::Result<()> {
     let alloc = rt.alloc();
     sums.tell(
@@ -78,7 +84,7 @@ fn tell_bounds(sums: &mut Sums, rt: &HostRuntime) -> io::Result<()> {
     )
 }
 
-/// The scenarios of when rests end, and when pieces are sent.
+/// Runs the scenarios of when rests end, and when pieces are sent.
 fn tell_times(sums: &mut Sums, rt: &HostRuntime) -> io::Result<()> {
     let alloc = rt.alloc();
     sums.tell(

@@ -5,13 +5,13 @@ use sockets::Sockets;
 use std::alloc::Global;
 use std::net::{Net, SocketAddr};
 
-/// The address at which sockets listen that are asked to listen at this one.
+/// Returns the address at which sockets listen that are asked to listen at `asked`.
 fn address_of<N: Net>(net: &N, alloc: Global, asked: SocketAddr) -> Result<SocketAddr, Unmet> {
     let sockets = value_of("Sockets::bind", Sockets::bind(net, alloc, asked))?;
     value_of("Sockets::local_addr", sockets.local_addr())
 }
 
-/// Sockets listen at the address that is asked for, and at a port that the system chose only where port 0 is.
+/// Sockets listen at the address that is asked for, and at a port that the system chose only if port 0 is asked for.
 pub(crate) fn sockets_listen_at_the_address_that_is_asked_for<N: Net>(
     net: &N,
     alloc: Global,

@@ -1,4 +1,4 @@
-//! Sockets of the system that are not welcomed after they came.
+//! Sockets of the system that are not welcomed after they were accepted.
 
 use crate::silent::{got_in_the_end, met, round};
 use scenario_outcomes::{Unmet, expect, value_of};
@@ -9,23 +9,23 @@ use std::io;
 use std::net::SocketAddr;
 use std::time::Duration;
 
-/// How many milliseconds a socket has until it is to be welcomed.
+/// The milliseconds that a socket has until it has to be welcomed.
 const TIME: u64 = 200;
 
-/// How many rounds in vain are enough, whatever else the machine does.
+/// The rounds after which a scenario gives up, whatever else the machine does.
 const PATIENCE: u32 = 1_000;
 
-/// As many bytes as a login has, and more.
+/// More bytes than a login has.
 const WORDS: [u8; 200] = [0; 200];
 
-/// Sockets that listen at a port that is free, and end those that are not welcomed in time.
+/// Listens at a free port, and ends sockets that are not welcomed in time.
 fn listening(rt: &HostRuntime, alloc: Global) -> Result<Sockets, Unmet> {
     let address = value_of("parse", "127.0.0.1:0".parse::<SocketAddr>())?;
     let sockets = value_of("Sockets::bind", Sockets::bind(rt, alloc, address))?;
     Ok(sockets.with_patience(rt, Duration::from_millis(TIME)))
 }
 
-/// A client writes this, and its socket gives all of it.
+/// Writes as a client, and expects that its socket gives all of it.
 fn say<S: io::Write>(
     sockets: &mut Sockets,
     client: &mut S,
@@ -56,8 +56,8 @@ fn expect_ended(sockets: &mut Sockets, socket: u64) -> Result<(), Unmet> {
     Err(Unmet::Claim("a socket that is not welcomed is ended"))
 }
 
-/// A socket that says nothing in its time is ended, and one that says much. One that is welcomed is heard long after, though it
-/// said nothing.
+/// A socket that says nothing in its time is ended, and so is one that says much. One that is welcomed is heard long after, though it said
+/// nothing.
 pub(crate) fn a_socket_that_is_not_welcomed_is_ended(
     rt: &HostRuntime,
     alloc: Global,

@@ -9,11 +9,11 @@ use std::io;
 use std::io::{Read as _, Write as _};
 use std::time::{Duration, Instant};
 
-/// How many exchanges there are.
+/// The number of exchanges.
 const EXCHANGES: u32 = 16;
 
-/// How many milliseconds the answer of an exchange takes at most, if its second piece doesn't wait. Otherwise it waits until the client's
-/// system acknowledges the first, which takes 40 and more.
+/// The most milliseconds that the answer of an exchange takes, if its second piece doesn't wait. Otherwise it waits until the client's system
+/// acknowledges the first, which takes at least 40.
 const AT_ONCE: u64 = 20;
 
 /// Writes a piece of three bytes to a socket that has room.
@@ -24,7 +24,7 @@ fn write(sockets: &mut Sockets, socket: u64, piece: &[u8; 3]) -> Result<(), Unme
     }
 }
 
-/// A client asks, and is answered by two pieces: how long it takes until it has both.
+/// Returns how long it takes until a client that asks has both pieces of its answer.
 fn answer_time<S: io::Read + io::Write>(
     sockets: &mut Sockets,
     client: &mut S,

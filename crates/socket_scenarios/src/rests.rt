@@ -10,29 +10,29 @@ use std::io::Write as _;
 use std::net::{Net, TcpStream};
 use std::time::{Duration, Instant};
 
-/// How many rests are looked at.
+/// The number of rests that are looked at.
 const RESTS: u32 = 4;
 
-/// How many milliseconds the shortest rest lasts at least, if nothing comes.
+/// The least milliseconds of the shortest rest, if nothing comes.
 const SHORTEST: u64 = 20;
 
-/// How many milliseconds the shortest rest lasts at most, if nothing comes: ten times as many as are promised.
+/// The most milliseconds of the shortest rest, if nothing comes: ten times as many as are promised.
 const LONGEST: u64 = 1_000;
 
-/// How many milliseconds the shortest rest lasts at most that has something to tell of: half of what one lasts that has nothing.
+/// The most milliseconds of the shortest rest that has an event: half of what one lasts that has none.
 const AT_ONCE: u64 = 50;
 
-/// How many clients come, one after another. Of one the system may tell late, on a machine that does other work.
+/// The number of clients that connect, one after another. The system may report one late, on a machine that does other work.
 const CLIENTS: u32 = 4;
 
-/// How long a rest lasts.
+/// Returns how long a rest lasts.
 fn rest_time(sockets: &mut Sockets, clock: &HostRuntime) -> Result<Duration, Unmet> {
     let began = value_of("Instant::now", Instant::now(clock))?;
     sockets.rest();
     value_of("Instant::elapsed", began.elapsed(clock))
 }
 
-/// Rounds that rest, until every event that there was is told.
+/// Does rounds that rest, until every earlier event is reported.
 fn hear_all(sockets: &mut Sockets, socket: u64) {
     for _ in 0..3 {
         round(sockets, socket);
@@ -80,7 +80,7 @@ pub(crate) fn a_rest_ends_once_a_client_writes(
     )
 }
 
-/// Whether the client that came is accepted in the round behind the rest that it ended. All that the system tells of it is heard then.
+/// Returns whether a client that has connected is accepted in the round after the rest that it ended. All that the system reports of it is heard then.
 fn is_accepted_at_once(sockets: &mut Sockets) -> Result<bool, Unmet> {
     sockets.rest();
     let is_at_once = matches!(sockets.accept(), Accept::Socket(_));
@@ -92,7 +92,7 @@ fn is_accepted_at_once(sockets: &mut Sockets) -> Result<bool, Unmet> {
     Ok(is_at_once)
 }
 
-/// A client that comes is accepted in the round behind the rest that it ends: it waits for no turn of the listening socket.
+/// A client that connects is accepted in the round after the rest that it ends: it waits for no turn of the listening socket.
 pub(crate) fn a_client_is_accepted_behind_the_rest_that_it_ends<N: Net>(
     net: &N,
     alloc: Global,

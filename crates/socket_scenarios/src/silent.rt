@@ -7,25 +7,25 @@ use std::alloc::Global;
 use std::io::{self, Read as _, Write as _};
 use std::net::{Net, SocketAddr, TcpStream};
 
-/// How many sockets there are at once: twice as many files are open, and a process may have 1,024.
+/// The number of sockets at once: twice as many files are open, and a process may have 1,024.
 const MANY: usize = 400;
 
-/// How many silent sockets a round asks at most.
+/// The most silent sockets that a round asks.
 const ASKED_AT_MOST: u64 = 8;
 
-/// How many writes fill a socket that nobody reads, whatever room the system gives it.
+/// The writes that fill a socket that nobody reads, however much the system buffers.
 const MOST_WRITES: u32 = 100_000;
 
-/// How many rounds in vain are enough, whatever else the machine does.
+/// The rounds after which a scenario gives up, whatever else the machine does.
 const PATIENCE: u32 = 1_000;
 
-/// Sockets that listen at a port that is free.
+/// Listens at a free port.
 pub(crate) fn listening<N: Net>(net: &N, alloc: Global) -> Result<Sockets, Unmet> {
     let address = value_of("parse", "127.0.0.1:0".parse::<SocketAddr>())?;
     value_of("Sockets::bind", Sockets::bind(net, alloc, address))
 }
 
-/// The next socket that comes.
+/// Returns the next socket that is accepted.
 pub(crate) fn accepted(sockets: &mut Sockets) -> Result<u64, Unmet> {
     for _ in 0..PATIENCE {
         match sockets.accept() {
@@ -37,7 +37,7 @@ pub(crate) fn accepted(sockets: &mut Sockets) -> Result<u64, Unmet> {
     Err(Unmet::Claim("a socket came"))
 }
 
-/// A client that comes, and the name of its socket.
+/// Connects a client, and returns it with the name of its socket.
 pub(crate) fn met<N: Net>(net: &N, sockets: &mut Sockets) -> Result<(N::Stream, u64), Unmet> {
     let address = value_of("Sockets::local_addr", sockets.local_addr())?;
     let client = value_of("TcpStream::connect", TcpStream::connect(net, address))?;
@@ -45,14 +45,14 @@ pub(crate) fn met<N: Net>(net: &N, sockets: &mut Sockets) -> Result<(N::Stream, 
     Ok((client, name))
 }
 
-/// A round that reads from one socket.
+/// Does a round that reads from one socket.
 pub(crate) fn round(sockets: &mut Sockets, socket: u64) -> Read {
     let mut buffer = [0u8; 16];
     sockets.accept();
     sockets.read(socket, &mut buffer)
 }
 
-/// How many bytes a socket gives, in rounds of which each that gets nothing rests.
+/// Returns how many bytes a socket gives, in rounds of which each that gets nothing rests.
 pub(crate) fn got_in_the_end(sockets: &mut Sockets, socket: u64) -> Result<usize, Unmet> {
     for _ in 0..PATIENCE {
         match round(sockets, socket) {
@@ -64,7 +64,7 @@ pub(crate) fn got_in_the_end(sockets: &mut Sockets, socket: u64) -> Result<usize
     Err(Unmet::Claim("bytes came"))
 }
 
-/// How many bytes a socket gives after a rest, which may first tell of what was before.
+/// Returns how many bytes a socket gives after a rest, which may first report earlier events.
 fn told_by_a_rest(sockets: &mut Sockets, socket: u64) -> Result<usize, Unmet> {
     for _ in 0..3 {
         sockets.rest();
@@ -75,7 +75,7 @@ fn told_by_a_rest(sockets: &mut Sockets, socket: u64) -> Result<usize, Unmet> {
     Err(Unmet::Claim("a rest tells of what came before it"))
 }
 
-/// Bytes that come between a read that emptied a socket and a rest are not asked for in the next round, and the rest tells of
+/// Bytes that come between a read that emptied a socket and a rest are not asked for in the next round, and the rest reports
 /// them.
 pub(crate) fn bytes_between_a_read_and_a_rest_are_told_by_it<N: Net>(
     net: &N,
@@ -134,7 +134,7 @@ pub(crate) fn an_end_behind_the_last_bytes_is_read<N: Net>(
     Err(Unmet::Claim("the end is read"))
 }
 
-/// Many clients, and the names of their sockets, of which none has anything.
+/// Connects many clients, of which none sends anything, and returns them with the names of their sockets.
 fn many_met<N: Net>(
     net: &N,
     alloc: Global,
@@ -153,7 +153,7 @@ fn many_met<N: Net>(
     Ok(clients)
 }
 
-/// How many sockets give bytes in one round.
+/// Returns how many sockets give bytes in one round.
 fn speaking<S>(sockets: &mut Sockets, clients: &[(S, u64)]) -> u64 {
     let mut buffer = [0u8; 16];
     let mut count = 0u64;
@@ -166,7 +166,7 @@ fn speaking<S>(sockets: &mut Sockets, clients: &[(S, u64)]) -> u64 {
     count
 }
 
-/// How many sockets give bytes after a rest, which may first tell of what was before.
+/// Returns how many sockets give bytes after a rest, which may first report earlier events.
 fn spoken_after_a_rest<S>(sockets: &mut Sockets, clients: &[(S, u64)]) -> u64 {
     for _ in 0..3 {
         sockets.rest();
@@ -178,7 +178,7 @@ fn spoken_after_a_rest<S>(sockets: &mut Sockets, clients: &[(S, u64)]) -> u64 {
     0
 }
 
-/// Of many silent sockets a rest tells which one has something, and the next round gets it.
+/// A rest reports which of many silent sockets has something, and the next round gets it.
 pub(crate) fn a_rest_tells_of_one_among_many<N: Net>(net: &N, alloc: Global) -> Result<(), Unmet> {
     let mut sockets = listening(net, alloc)?;
     let mut clients = many_met(net, alloc, &mut sockets)?;
@@ -193,7 +193,7 @@ pub(crate) fn a_rest_tells_of_one_among_many<N: Net>(net: &N, alloc: Global) -> 
     Ok(())
 }
 
-/// Where no round rests, many silent sockets are asked in turn, few in each round, and each that has something gives it.
+/// If no round rests many silent sockets are asked in turn, few in each round, and each that has something gives it.
 pub(crate) fn silent_sockets_are_asked_in_turn<N: Net>(
     net: &N,
     alloc: Global,
@@ -215,7 +215,7 @@ pub(crate) fn silent_sockets_are_asked_in_turn<N: Net>(
     Err(Unmet::Claim("each of them is asked"))
 }
 
-/// Writes until a socket takes less than it is offered: how many bytes it took.
+/// Writes until a socket takes less than it is offered, and returns how many bytes it took.
 pub(crate) fn fill(sockets: &mut Sockets, socket: u64) -> Result<u64, Unmet> {
     let bytes = [0u8; 4096];
     let mut taken = 0u64;
@@ -235,7 +235,7 @@ pub(crate) fn fill(sockets: &mut Sockets, socket: u64) -> Result<u64, Unmet> {
     Err(Unmet::Claim("a socket that nobody reads gets full"))
 }
 
-/// A client reads so many bytes.
+/// Reads `count` bytes as a client.
 pub(crate) fn read_all<S: io::Read>(client: &mut S, count: u64) -> Result<(), Unmet> {
     let mut buffer = [0u8; 4096];
     let mut left = count;
@@ -249,7 +249,7 @@ pub(crate) fn read_all<S: io::Read>(client: &mut S, count: u64) -> Result<(), Un
     expect_number("the number of bytes that are missing", left, 0)
 }
 
-/// A socket that took less than it was offered takes no more by itself, and takes more once its client has read and a rest told of it.
+/// A socket that took less than it was offered takes nothing further by itself, and takes more once its client has read and a rest reported that.
 pub(crate) fn a_full_socket_takes_more_once_its_client_reads<N: Net>(
     net: &N,
     alloc: Global,

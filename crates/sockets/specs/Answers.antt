@@ -1,8 +1,8 @@
--- What the system's answers say (POSIX, `read` and `write` of a socket that does not block).
+-- What the system's answers mean (POSIX, `read` and `write` of a socket that does not block).
 use Rattle.std.specs.Prelude.{◌≡◌, ◌⊎◌}
 use Rattle.std.specs.declared.io.ErrorKind.{ErrorKind}
 use Rattle.std.specs.declared.io.ErrorKind.TheVariants as kind
 
--- there is nothing now, but may be later: the call would have waited, or a signal interrupted it
+-- there is nothing now, but may be later: the call would have blocked, or a signal interrupted it
 abbrev pub IsLater : ErrorKind → Type 0
 IsLater k = (k ≡ kind.WouldBlock) ⊎ (k ≡ kind.Interrupted)

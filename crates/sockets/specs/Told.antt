@@ -1,5 +1,6 @@
--- What sockets tell (own).
-use Rattle.std.specs.Prelude.{Option, Some, None}
+-- What the sockets know, as a wire (own).
+use Rattle.std.specs.Prelude.{ℕ, Option, Some, None, option_map}
+use Rattle.std.specs.Duration.{as_nanos}
 use Rattle.serving.specs.Wire
 use Rattle.serving.specs.Wire.{Told}
 use Rattle.sockets.specs.Counts.{told_with}
@@ -10,7 +11,11 @@ use Rattle.sockets.specs.declared.sockets.Sockets.{Sockets}
 abbrev pub told_by : Sockets → Told
 told_by s = told_with s.failures s.given s.counts.items
 
--- these totals, as a wire tells them
+-- for how many nanoseconds a socket may stay whose connection is not running, if there is a clock
+abbrev pub patience_of : Sockets → Option ℕ
+patience_of s = option_map (λ clock. as_nanos s.watch.patience) s.watch.clock
+
+-- these totals, as a wire has them
 abbrev pub seen : Option Totals → Option Wire.Totals
 seen None = None
 seen (Some t) = Some (record { got = t.got; taken = t.taken })

@@ -1,4 +1,4 @@
-//! What the system answered, as the wire answers it.
+//! Converts the system's answers into those of a wire.
 
 ghost use Rattle.std.specs.Prelude.{◌≡◌, ◌<◌, ℕ, Ok, Err, true, false};
 ghost use Rattle.std.specs.IoError.{error_kind};
@@ -10,7 +10,7 @@ ghost use Rattle.sockets.specs.Answers.{IsLater};
 use serving::{Read, Write};
 use std::io::{self, ErrorKind};
 
-/// Whether there is nothing now, but may be later.
+/// Returns whether an error says that there is nothing now, but may be later.
 pub(crate) fn is_later(error: &io::Error) -> bool
     ensures later { IsLater (error_kind error.now) → result ≡ true }
     ensures only { result ≡ true → IsLater (error_kind error.now) }
@@ -18,12 +18,12 @@ pub(crate) fn is_later(error: &io::Error) -> bool
     matches!(error.kind(), ErrorKind::WouldBlock | ErrorKind::Interrupted)
 }
 
-/// What a read into so much room came to.
+/// Converts the answer of a read of `room` bytes.
 pub(crate) fn read_answer(answer: io::Result<usize>, room: usize) -> Read
-    // all bytes that came are told
+    // all bytes that came are reported
     ensures got { (n : ℕ) → answer ≡ Ok n → 0 < n → result ≡ read.Got n }
     ensures only { (n : ℕ) → result ≡ read.Got n → answer ≡ Ok n }
-    // none into some room are the end, and into no room are nothing
+    // no byte is the end if some were asked for, and otherwise nothing
     ensures end { answer ≡ Ok 0 → 0 < room → result ≡ read.End }
     ensures no_room { answer ≡ Ok 0 → room ≡ 0 → result ≡ read.Wait }
     // an error is a failure, unless it says that there is nothing now
@@ -39,9 +39,9 @@ pub(crate) fn read_answer(answer: io::Result<usize>, room: usize) -> Read
     }
 }
 
-/// What a write came to.
+/// Converts the answer of a write.
 pub(crate) fn write_answer(answer: io::Result<usize>) -> Write
-    // all bytes that were taken are told, and no more
+    // exactly the bytes that were taken are reported
     ensures took { (n : ℕ) → answer ≡ Ok n → 0 < n → result ≡ write.Took n }
     ensures only { (n : ℕ) → result ≡ write.Took n → answer ≡ Ok n }
     ensures none { answer ≡ Ok 0 → result ≡ write.Wait }

@@ -1,4 +1,4 @@
-//! How many bytes sockets gave and took, at the places in their names.
+//! Counts the bytes that sockets gave and took, at the indices in their names.
 
 ghost use Rattle.std.specs.Prelude.{◌≡◌, ◌≤◌, ◌%◌, ℕ, List, length, Some, IfSome};
 ghost use Rattle.serving.specs.Wire.{Accepted, Got, Took, Totals as Told, with_got, with_taken};
@@ -10,10 +10,10 @@ ghost use Rattle.sockets.specs.Told.{seen};
 
 use serving::{Accept, Read, Write};
 
-/// How many places there are for sockets, which are more than a server has connections.
+/// The number of indices for sockets, more than a server has connections.
 pub(crate) const PLACES: u64 = 4096;
 
-/// What the socket of this name gave and took since it came, in bytes.
+/// The bytes that the socket with this name gave and took since it was accepted.
 #[derive(Clone, Copy, Drop)]
 pub(crate) struct Count {
     pub(crate) name: u64,
@@ -21,21 +21,21 @@ pub(crate) struct Count {
     pub(crate) taken: u64,
 }
 
-/// How many bytes a socket gave and took since it came.
+/// How many bytes a socket gave and took since it was accepted.
 #[derive(Clone, Copy, PartialEq, Eq, Debug, Drop)]
 pub struct Totals {
     pub got: u64,
     pub taken: u64,
 }
 
-/// The place in a name.
+/// Returns the index in a name.
 pub(crate) fn place_in(name: u64) -> usize
     ensures { result ≡ name % 4096 }
 {
     (name % PLACES) as usize
 }
 
-/// This count, where it is of the socket of this name.
+/// Returns `count` if it is that of the socket `name`.
 fn count_of(count: Option<Count>, name: u64) -> Option<Count>
     ensures same { totals_of name result ≡ totals_of name count }
     ensures name { IfSome result (λ c. c.name ≡ name) }
@@ -47,7 +47,7 @@ fn count_of(count: Option<Count>, name: u64) -> Option<Count>
     Some(own)
 }
 
-/// This count with so many bytes more that were got: none where it is of another socket, or no longer fits.
+/// Adds `n` bytes that the socket `name` gave. Returns `None` if `count` is another socket's, or the sum doesn't fit a `u64`.
 fn with_more_got(count: Option<Count>, name: u64, n: usize) -> Option<Count>
     ensures totals { (t : Told) → totals_of name result ≡ Some t → with_got n (totals_of name count) ≡ Some t }
     ensures name { IfSome result (λ c. c.name ≡ name) }
@@ -57,7 +57,7 @@ fn with_more_got(count: Option<Count>, name: u64, n: usize) -> Option<Count>
     Some(Count { got, ..count })
 }
 
-/// This count with so many bytes more that were taken: none where it is of another socket, or no longer fits.
+/// Adds `n` bytes that the socket `name` took. Returns `None` if `count` is another socket's, or the sum doesn't fit a `u64`.
 fn with_more_taken(count: Option<Count>, name: u64, n: usize) -> Option<Count>
     ensures totals { (t : Told) → totals_of name result ≡ Some t → with_taken n (totals_of name count) ≡ Some t }
     ensures name { IfSome result (λ c. c.name ≡ name) }
@@ -67,7 +67,7 @@ fn with_more_taken(count: Option<Count>, name: u64, n: usize) -> Option<Count>
     Some(Count { taken, ..count })
 }
 
-/// Counts a socket that came, from nothing on.
+/// Begins the counts of a socket that was just accepted.
 fn count_new(counts: &mut Vec<Option<Count>>, name: u64)
     ensures { Counts counts.old.items (Accepted name) counts.new.items }
 {
@@ -81,7 +81,7 @@ fn count_new(counts: &mut Vec<Option<Count>>, name: u64)
     }
 }
 
-/// Counts bytes that a socket gave.
+/// Counts `n` bytes that `socket` gave.
 fn count_got(counts: &mut Vec<Option<Count>>, socket: u64, n: usize)
     ensures { (room : ℕ) (bytes : List ℕ) → length bytes ≡ n → Counts counts.old.items (Got socket room bytes) counts.new.items }
 {
@@ -91,7 +91,7 @@ fn count_got(counts: &mut Vec<Option<Count>>, socket: u64, n: usize)
     }
 }
 
-/// Counts bytes that a socket took.
+/// Counts `n` bytes that `socket` took.
 fn count_taken(counts: &mut Vec<Option<Count>>, socket: u64, n: usize)
     ensures { (offered bytes : List ℕ) → length bytes ≡ n → Counts counts.old.items (Took socket offered bytes) counts.new.items }
 {
@@ -101,7 +101,7 @@ fn count_taken(counts: &mut Vec<Option<Count>>, socket: u64, n: usize)
     }
 }
 
-/// Counts a socket, if one came.
+/// Begins the counts of a socket, if one was accepted.
 pub(crate) fn count_accept(counts: &mut Vec<Option<Count>>, answer: Accept)
     ensures { Counts counts.old.items (accept_call answer) counts.new.items }
 {
@@ -112,7 +112,7 @@ pub(crate) fn count_accept(counts: &mut Vec<Option<Count>>, answer: Accept)
     }
 }
 
-/// Counts what a read gave.
+/// Counts what a read got.
 pub(crate) fn count_read(counts: &mut Vec<Option<Count>>, socket: u64, answer: Read)
     ensures { (room : ℕ) (buffer : List ℕ) → ((n : ℕ) → answer ≡ read.Got n → n ≤ length buffer)
         → Counts counts.old.items (read_call socket room answer buffer) counts.new.items }
@@ -137,7 +137,7 @@ pub(crate) fn count_write(counts: &mut Vec<Option<Count>>, socket: u64, answer: 
     }
 }
 
-/// What is counted of the socket of this name.
+/// Returns the totals of the socket `name`, if they are counted.
 pub(crate) fn totals_at(counts: &Vec<Option<Count>>, name: u64) -> Option<Totals>
     ensures { seen result ≡ totals_in counts.now.items name }
 {

@@ -1,4 +1,4 @@
-//! Sockets of the operating system, as a wire.
+//! Sockets of the operating system, as a wire of crate `serving`. Start at [`Sockets`].
 #![tactic(auto)]
 
 mod answers;

@@ -1,4 +1,4 @@
-//! A listening socket and those that it accepted, none of which blocks.
+//! A listening socket and those that it accepted, all non-blocking.
 
 ghost use Rattle.std.specs.Prelude.{◌≡◌, ◌≤◌, ◌<◌, ◌+◌, ◌*◌, ℕ, length};
 ghost use Rattle.serving.specs.Answered.{accept_call, read_call, write_call};
@@ -16,7 +16,7 @@ use crate::watch::Watch;
 use mio::event::Event;
 use mio::net::{TcpListener, TcpStream};
 use mio::{Events, Interest, Poll, Token};
-use serving::{Accept, Read, Wire, Write};
+use serving::{Accept, Peer, Read, Wire, Write};
 use slab::Slab;
 use std::alloc::Global;
 use std::io::{self, Read as _, Write as _};
@@ -24,56 +24,59 @@ use std::net::{Net, SocketAddr};
 use std::rt::HostRuntime;
 use std::time::{Duration, Instant};
 
-/// The token of the listening socket. The others have their names, which are never so great.
+/// The token of the listening socket. The others have their names, which are less than this.
 const LISTENER: Token = Token(usize::MAX);
 
-/// How many sockets are accepted at most, so that each name is a number of its own, and none is the listener's token.
+/// The greatest number of sockets that are ever accepted, so that each name is distinct, and none is the listener's token.
 const MOST_GIVEN: u64 = u64::MAX / PLACES - 1;
 
-/// How many sockets a rest tells of at most: as many as a server has connections, and the one that listens.
+/// The seconds that a client has to log in, and to answer a close.
+const PATIENCE: u64 = 30;
+
+/// The most events of a rest: as many as a server has connections, and one for the listening socket.
 const MOST_EVENTS: usize = 1025;
 
 /// A socket that was accepted.
 #[derive(Drop)]
 struct Accepted {
-    /// How many were accepted before it, times the number of places, and its place: so it is found at once, and the socket that
-    /// stands at its place later has another name.
+    /// How many were accepted before it, times `PLACES`, plus its index: a socket is found in constant time, and a later socket at the same index has
+    /// another name.
     name: u64,
     stream: TcpStream,
     voice: Voice,
-    /// Since which turn a write waits for room, if one does.
+    /// The turn since which a write waits for room, if one does.
     full: Option<u64>,
-    /// By when its connection is to run, or to be over and written, if it does not run.
+    /// When it is ended, if its connection is not running: by then that has to run, or to be over and all its output written.
     ends: Option<Instant>,
-    /// Whether its connection does not run.
+    /// Whether its connection is not running.
     is_stranger: bool,
 }
 
-/// The sockets of a server: one that listens, and those that it accepted, named by numbers that are never used again. None of
-/// them blocks but in `rest`, which waits at most 100 milliseconds for one of them to have something. A socket that had
-/// nothing, or that gave less than it was asked for, is silent, and one that took less than it was offered is full: it is asked in
-/// its turn, or once an event of a rest names it.
+/// The sockets of a server: one that listens, and those that it accepted, with names that are never used again. None blocks
+/// except in `rest`, which waits at most 100 milliseconds for one of them to have something. A socket that had nothing, or gave
+/// less than was asked for, is silent, and one that took less than it was offered is full: the system is asked about it again in its turn, or once an
+/// event of a rest names it.
 #[derive(Drop)]
 pub struct Sockets {
     listener: TcpListener,
     poll: Poll,
     events: Events,
-    /// By the places in their names.
+    /// By the index in their names.
     accepted: Slab<Accepted>,
-    /// How many sockets were accepted and kept.
+    /// The number of sockets that were accepted and kept.
     given: u64,
     /// Whose turn it is to be asked.
     rounds: Rounds,
-    /// Who has taken too long to log in.
+    /// The clock by which sockets are ended.
     watch: Watch,
-    /// Whether a socket may have come.
+    /// Whether a new socket may have come.
     voice: Voice,
     failures: u64,
-    /// What each socket gave and took, by the places in their names.
+    /// The bytes that each socket gave and took, by the index in their names.
     counts: Vec<Option<Count>>,
 }
 
-/// What an event says of a socket's reads, whose voice was this.
+/// Returns the voice of a socket after an event; it was `voice` before.
 fn heard(event: &Event, voice: Voice) -> Voice {
     if event.is_read_closed() || event.is_error() {
         Voice::Ending
@@ -84,7 +87,7 @@ fn heard(event: &Event, voice: Voice) -> Voice {
     }
 }
 
-/// The voice of a socket whose connection has come to run, or has ceased to. If it is greedy it waits no longer among those beside which it did.
+/// Returns the voice of a socket whose connection has started or stopped running. If it was greedy, it leaves the cycle that it was in.
 fn in_new_cycle(voice: Voice) -> Voice {
     match voice {
         Voice::Greedy(_) => Voice::Speaking,
@@ -92,7 +95,7 @@ fn in_new_cycle(voice: Voice) -> Voice {
     }
 }
 
-/// Since when a socket is still full behind an event: no longer where it has room, or will never have any, which a write then tells.
+/// Returns the turn since which a socket is still full after an event, if it is: no longer if it has room, or never will, which a write then finds.
 fn still_full(event: &Event, full: Option<u64>) -> Option<u64> {
     if event.is_writable() || event.is_write_closed() || event.is_error() {
         None
@@ -101,7 +104,7 @@ fn still_full(event: &Event, full: Option<u64>) -> Option<u64> {
     }
 }
 
-/// The socket of this name, where it is still there.
+/// Returns the socket with this name, if it is still there.
 fn named(accepted: &mut Slab<Accepted>, name: u64) -> Option<&mut Accepted> {
     match accepted.get_mut(place_in(name)) {
         Some(found) if found.name == name => Some(found),
@@ -109,7 +112,7 @@ fn named(accepted: &mut Slab<Accepted>, name: u64) -> Option<&mut Accepted> {
     }
 }
 
-/// Listens at this address, and has a poll tell of those who come.
+/// Listens at `address`, and registers the listening socket with `poll`.
 fn listen(net: &impl Net, poll: &Poll, address: SocketAddr) -> io::Result<TcpListener> {
     let mut listener = TcpListener::bind(net, address)?;
     poll.registry()
@@ -117,7 +120,7 @@ fn listen(net: &impl Net, poll: &Poll, address: SocketAddr) -> io::Result<TcpLis
     Ok(listener)
 }
 
-/// Has a socket send small pieces at once, and a poll tell of it under its name: what there is to read, and room for a write.
+/// Sets a socket to send small pieces at once, and registers it with `poll` under its name, for reads and writes.
 fn set_up(poll: &Poll, stream: &mut TcpStream, name: u64) -> io::Result<()> {
     stream.set_nodelay(true)?;
     let both = Interest::READABLE | Interest::WRITABLE;
@@ -125,10 +128,11 @@ fn set_up(poll: &Poll, stream: &mut TcpStream, name: u64) -> io::Result<()> {
 }
 
 impl Sockets {
-    ghost use Rattle.std.specs.Prelude.{◌≡◌, ◌+◌, ◌≤◌, ◌<◌, ◌*◌, ℕ, List, length, IfSome, cond};
-    ghost use Rattle.sockets.specs.Told.{seen, told_by};
+    ghost use Rattle.std.specs.Prelude.{◌≡◌, ◌+◌, ◌≤◌, ◌<◌, ◌*◌, ℕ, List, Some, None, length, IfOk, IfSome, cond, is_some, slice_index_or, true};
+    ghost use Rattle.std.specs.Duration.{as_nanos};
+    ghost use Rattle.sockets.specs.Told.{patience_of, seen, told_by};
 
-    /// Listens at this address.
+    /// Listens at `address`.
     pub fn bind(net: &impl Net, alloc: Global, address: SocketAddr) -> io::Result<Sockets> {
         let poll = Poll::new(net)?;
         let listener = listen(net, &poll, address)?;
@@ -147,27 +151,38 @@ impl Sockets {
         })
     }
 
-    /// The same sockets. A read of one fails that was not welcomed in so much time since it was accepted, whatever it sent.
+    /// Listens at `address` for the clients of a server. Each socket has 30 seconds until its connection has to run, and 30 seconds after its
+    /// farewell ([`Sockets::with_patience`]).
+    pub fn for_clients(rt: &HostRuntime, alloc: Global, address: SocketAddr) -> io::Result<Sockets>
+        ensures patience { IfOk result (λ s. patience_of s ≡ Some 30000000000) }
+    {
+        let sockets = Sockets::bind(rt, alloc, address)?;
+        Ok(sockets.with_patience(rt, Duration::from_secs(PATIENCE)))
+    }
+
+    /// Sets how long a socket may stay whose connection is not running: reads and writes fail if it was not welcomed within `patience` after it was
+    /// accepted, or is still there `patience` after its farewell, whatever it sent.
     pub fn with_patience(mut self, clock: &HostRuntime, patience: Duration) -> Sockets
-        ensures { told_by result ≡ told_by self }
+        ensures told { told_by result ≡ told_by self }
+        ensures patience { patience_of result ≡ Some (as_nanos patience) }
     {
         self.watch = Watch::new(*clock, patience);
         self
     }
 
-    /// The address at which it listens.
+    /// Returns the address at which it listens.
     pub fn local_addr(&self) -> io::Result<SocketAddr> {
         self.listener.local_addr()
     }
 
-    /// How many bytes the socket of this name gave and took since it came, if that is counted.
+    /// Returns how many bytes the socket `name` gave and took since it was accepted, if that is counted.
     pub fn totals(&self, name: u64) -> Option<Totals>
         ensures { seen result ≡ (told_by self.now).totals name }
     {
         totals_at(&self.counts, name)
     }
 
-    /// Counts a failure, where one can still be counted.
+    /// Counts a failure, and returns whether it could be counted.
     fn fail(&mut self) -> bool
         ensures failures { self.new.failures ≡ self.old.failures + cond result 1 0 }
         ensures given { self.new.given ≡ self.old.given }
@@ -180,7 +195,7 @@ impl Sockets {
         true
     }
 
-    /// Keeps a socket that came, under a new name; it is closed where that cannot be.
+    /// Keeps an accepted socket under a new name, and returns that. Closes the socket and returns `None` if it can't be kept.
     fn keep(&mut self, mut stream: TcpStream) -> Option<u64>
         ensures failures { self.new.failures ≡ self.old.failures }
         ensures counts { self.new.counts ≡ self.old.counts }
@@ -208,7 +223,7 @@ impl Sockets {
         Some(name)
     }
 
-    /// Asks for a socket that came.
+    /// Accepts a socket, unless it is known that none has come.
     fn ask(&mut self) -> Accept
         ensures failures { self.new.failures ≡ self.old.failures + fails (accept_call result) }
         ensures counts { self.new.counts ≡ self.old.counts }
@@ -237,7 +252,7 @@ impl Sockets {
         }
     }
 
-    /// A read that failed, where that can still be counted, and else the end.
+    /// Returns the answer of a read that failed: a failure if it can be counted, otherwise the end.
     fn failed_read(&mut self) -> Read
         ensures failures { (s room : ℕ) (bytes : List ℕ) → self.new.failures ≡ self.old.failures + fails (read_call s room result bytes) }
         ensures counts { self.new.counts ≡ self.old.counts }
@@ -250,7 +265,7 @@ impl Sockets {
         Read::End
     }
 
-    /// A write that failed, where that can still be counted.
+    /// Returns the answer of a write that failed: a failure if it can be counted, otherwise that it has to wait.
     fn failed_write(&mut self) -> Write
         ensures failures { (s : ℕ) (bytes : List ℕ) → self.new.failures ≡ self.old.failures + fails (write_call s result bytes) }
         ensures counts { self.new.counts ≡ self.old.counts }
@@ -263,7 +278,7 @@ impl Sockets {
         Write::Wait
     }
 
-    /// Reads from a socket. One whose time is over fails.
+    /// Reads from `socket`. Fails if the socket's time is over.
     fn read_from(&mut self, socket: u64, buffer: &mut [u8]) -> Read
         ensures failures { (s room : ℕ) → self.new.failures ≡ self.old.failures + fails (read_call s room result buffer.new) }
         ensures counts { self.new.counts ≡ self.old.counts }
@@ -296,7 +311,44 @@ impl Sockets {
         }
     }
 
-    /// Writes to a socket. One whose time is over fails.
+    /// Returns whether a read of a slot's socket is answered without a look at it: it is silent, it is not its turn, and its connection runs.
+    fn waits(&mut self, peers: &Slab<Peer>, slot: usize) -> bool
+        ensures failures { self.new.failures ≡ self.old.failures }
+        ensures counts { self.new.counts ≡ self.old.counts }
+        ensures given { self.new.given ≡ self.old.given }
+        ensures taken { result ≡ true → is_some (slice_index_or peers.now.slots slot None) ≡ true }
+    {
+        let Some(peer) = peers.get(slot).copied() else {
+            return false;
+        };
+        match self.accepted.get(place_in(peer.socket)) {
+            Some(found) if found.name == peer.socket && found.ends.is_none() => {
+                self.rounds.passes(found.voice)
+            }
+            _ => false,
+        }
+    }
+
+    /// Returns the first slot at or after `from` whose socket has to be asked: at most `end`.
+    fn first_asked(&mut self, peers: &Slab<Peer>, from: usize, end: usize) -> usize
+        requires { from ≤ end }
+        // The frame: what the sockets know is unchanged.
+        ensures failures { self.new.failures ≡ self.old.failures }
+        ensures counts { self.new.counts ≡ self.old.counts }
+        ensures given { self.new.given ≡ self.old.given }
+        // The slots before the result are taken.
+        ensures least { from ≤ result }
+        ensures most { result ≤ end }
+        ensures taken { (i : ℕ) → from ≤ i → i < result → is_some (slice_index_or peers.now.slots i None) ≡ true }
+    {
+        let mut slot = from;
+        while slot < end && self.waits(peers, slot) {
+            slot += 1;
+        }
+        slot
+    }
+
+    /// Writes to `socket`. Fails if the socket's time is over.
     fn write_to(&mut self, socket: u64, bytes: &[u8]) -> Write
         ensures failures { (s : ℕ) → self.new.failures ≡ self.old.failures + fails (write_call s result bytes.now) }
         ensures counts { self.new.counts ≡ self.old.counts }
@@ -321,7 +373,7 @@ impl Sockets {
         }
     }
 
-    /// Those that an event of the last rest names are asked at once. If there was one, the others have nothing.
+    /// Updates the sockets that events of the last rest name, which are asked at once. If there was one, all others have nothing.
     fn hear(&mut self)
         ensures failures { self.new.failures ≡ self.old.failures }
         ensures counts { self.new.counts ≡ self.old.counts }
@@ -356,6 +408,10 @@ impl Wire for Sockets {
         let answer = self.read_from(socket, buffer);
         count_read(&mut self.counts, socket, answer);
         answer
+    }
+
+    fn pass_silent(&mut self, peers: &Slab<Peer>, from: usize, end: usize) -> usize {
+        self.first_asked(peers, from, end)
     }
 
     fn write(&mut self, socket: u64, bytes: &[u8]) -> Write {

@@ -1,4 +1,4 @@
-//! Whose turn it is among the sockets that have nothing to read, and among those that have no room for a write.
+//! Decides when the system is asked again about sockets that had nothing to read, no room for a write, or more than they were asked for.
 
 ghost use Rattle.std.specs.Prelude.{◌≡◌, ◌≢◌, ◌≤◌, ◌<◌, ◌+◌, ◌/◌, ◌%◌, ℕ, Some, None, cond, true, false};
 ghost use Rattle.serving.specs.declared.wire.Write.TheVariants as write;
@@ -6,43 +6,43 @@ ghost use Rattle.sockets.specs.declared.turns.Voice.TheVariants as voices;
 
 use serving::Write;
 
-/// How many silent sockets are asked at most in a round, and how many that had no room.
+/// The most silent sockets that are asked in a round, and the most full ones.
 const MOST_ASKED: u64 = 8;
 
-/// In how many rounds after a rest that told of a socket no turn is taken, for that rest told of all.
+/// The number of rounds after a rest that named a socket in which no turn is taken, since that rest spoke for all.
 const TOLD_ROUNDS: u64 = 2;
 
-/// In each round of so many a turn is taken, whatever rests told.
+/// Every round whose number is divisible by this takes a turn, whatever rests named.
 const SURE: u64 = 16;
 
-/// How many greedy sockets of clients that have logged in are asked at most in a round.
+/// The most greedy sockets of clients that have logged in that are asked in a round.
 const MOST_GREEDY: u64 = 2;
 
-/// How many greedy sockets of clients that have not logged in are asked at most in a round.
+/// The most greedy sockets of clients that have not logged in that are asked in a round.
 const MOST_STRANGERS: u64 = 1;
 
-/// How many milliseconds a rest lasts at most.
+/// The most milliseconds that a rest lasts.
 const LONGEST_REST: u64 = 100;
 
-/// Whether a socket may have something.
+/// Whether a socket may have something to read.
 #[derive(Clone, Copy, Drop)]
 pub(crate) enum Voice {
-    /// It may, and is asked: it came, or an event named it.
+    /// It may, and is asked: it was just accepted, or an event named it.
     Speaking,
     /// It gave all that it was offered in this cycle, so it may have more. It is asked in a later cycle.
     Greedy(u64),
     /// It has had nothing since this turn, and is asked in a later one.
     Silent(u64),
-    /// Its peer ends it, of which no later event tells: it is asked until the end is read.
+    /// Its peer has ended it, of which no later event tells: it is asked until the end is read.
     Ending,
 }
 
-/// Those that are asked in turn in one round.
+/// Sockets that are asked in turn.
 #[derive(Clone, Copy, Drop)]
 struct Line {
     /// How many of them there were in the round before.
     length: u64,
-    /// How many there were in this one so far.
+    /// How many there were in this round so far.
     met: u64,
     /// How many of those were asked.
     asked: u64,
@@ -57,7 +57,7 @@ struct Cycle {
     most: u64,
     /// How many were asked in this round.
     asked: u64,
-    /// Whether one that this cycle still owes its turn was passed over in this round.
+    /// Whether one that is owed its turn in this cycle was passed over in this round.
     is_owing: bool,
     /// Whether any was passed over in this round.
     is_waiting: bool,
@@ -67,13 +67,13 @@ struct Cycle {
 /// The rounds, and the turns that are taken in some of them.
 #[derive(Drop)]
 pub(crate) struct Rounds {
-    /// The number of this one.
+    /// The number of this round.
     number: u64,
-    /// The number of the last one before a rest that told of a socket.
+    /// The number of the last round before a rest that named a socket.
     told: u64,
-    /// Whether a turn is taken in this one.
+    /// Whether a turn is taken in this round.
     is_turn: bool,
-    /// How many turns there were.
+    /// The number of turns so far.
     turn: u64,
     /// The sockets that are silent.
     silent: Line,
@@ -86,7 +86,7 @@ pub(crate) struct Rounds {
 }
 
 impl Cycle {
-    /// No socket is greedy.
+    /// Makes a cycle without sockets.
     fn new(most: u64) -> Cycle
         ensures { result.most ≡ most }
     {
@@ -99,12 +99,14 @@ impl Cycle {
         }
     }
 
-    /// Begins a round: in the same cycle if that owes a socket its turn, and else in the next one.
+    /// Begins a round: in the same cycle if a socket is owed its turn in that, otherwise in the next one.
     fn begin(&mut self)
+        // Nothing was asked in the new round.
         ensures asked { self.new.asked ≡ 0 }
         ensures most { self.new.most ≡ self.old.most }
         ensures waiting { self.new.is_waiting ≡ false }
         ensures owing { self.new.is_owing ≡ false }
+        // The cycle goes on while a socket is owed its turn.
         ensures same { self.old.is_owing ≡ true → self.new.number ≡ self.old.number }
         ensures next { self.old.is_owing ≡ false → self.old.number < 18446744073709551615 → self.new.number ≡ self.old.number + 1 }
     {
@@ -116,18 +118,18 @@ impl Cycle {
         self.is_waiting = false;
     }
 
-    /// Returns whether a socket is asked in this round that was asked last in cycle `last`.
+    /// Returns whether a socket is asked in this round whose last cycle was `last`.
     ///
-    /// A socket that the cycle owes its turn is passed over only if `most` others were asked in this round, and then the cycle goes on. So
-    /// between two questions to one socket each other is asked at most twice, and each round asks `most` of them, or all that were owed.
+    /// A socket that is owed its turn is passed over only if `most` others were asked in this round, and then the cycle goes on. So
+    /// between two questions to one socket each other is asked at most twice, and each round asks `most` of them, or all that are owed.
     fn asks(&mut self, last: u64) -> bool
         ensures most { self.new.most ≡ self.old.most }
         ensures number { self.new.number ≡ self.old.number }
         ensures asked { self.new.asked ≡ self.old.asked + cond result 1 0 }
-        // One that had its turn in this cycle is not asked, and one that did not is asked while fewer than `most` were.
+        // One that had its turn in this cycle is not asked, and one that had not is asked if fewer than `most` were.
         ensures had { self.old.number ≤ last → result ≡ false }
         ensures due { last < self.old.number → self.old.asked < self.old.most → result ≡ true }
-        // The cycle goes on until none is owed its turn, and while one waits no rest waits.
+        // The cycle goes on until none is owed its turn, and no rest waits while a socket does.
         ensures owing { last < self.old.number → result ≡ false → self.new.is_owing ≡ true }
         ensures waiting { result ≡ false → self.new.is_waiting ≡ true }
     {
@@ -143,7 +145,7 @@ impl Cycle {
 }
 
 impl Line {
-    /// Nobody waits.
+    /// Makes a line without sockets.
     fn new() -> Line {
         Line {
             length: 0,
@@ -152,7 +154,7 @@ impl Line {
         }
     }
 
-    /// One round more.
+    /// Begins a round.
     fn begin(&mut self)
         ensures length { self.new.length ≡ self.old.met }
         ensures met { self.new.met ≡ 0 }
@@ -163,24 +165,32 @@ impl Line {
         self.asked = 0;
     }
 
-    /// Whether one that has waited since a turn is asked in this one.
+    /// Returns whether a socket that has waited since turn `since` is asked in turn `turn`.
     ///
-    /// It is once an eighth of their number of turns is over, if fewer than 8 were asked. So all come round: between two questions to
-    /// one of them each other has one at most, for which an eighth of their number of turns has room.
+    /// It is if an eighth of their number of turns is over, and fewer than 8 were asked. So all are asked in turn: between two questions to one of
+    /// them each other is asked at most once, for which an eighth of their number of turns suffices.
     fn asks(&mut self, turn: u64, since: u64) -> bool
         ensures asked { self.new.asked ≡ self.old.asked + cond result 1 0 }
         ensures due { since + self.old.length / 8 < turn → self.old.asked < 8 → result ≡ true }
         ensures later { turn ≤ since + self.old.length / 8 → result ≡ false }
     {
-        let is_due = turn > since.saturating_add(self.length / MOST_ASKED);
-        if self.asked >= MOST_ASKED || !is_due {
+        if !self.is_next(turn, since) {
             return false;
         }
         self.asked += 1;
         true
     }
 
-    /// One more waits.
+    /// Returns whether a socket that has waited since turn `since` would be asked in turn `turn`.
+    fn is_next(&self, turn: u64, since: u64) -> bool
+        ensures due { since + self.now.length / 8 < turn → self.now.asked < 8 → result ≡ true }
+        ensures later { turn ≤ since + self.now.length / 8 → result ≡ false }
+        ensures most { 8 ≤ self.now.asked → result ≡ false }
+    {
+        self.asked < MOST_ASKED && turn > since.saturating_add(self.length / MOST_ASKED)
+    }
+
+    /// Counts one more that waits.
     fn meet(&mut self)
         ensures asked { self.new.asked ≡ self.old.asked }
         ensures length { self.new.length ≡ self.old.length }
@@ -190,7 +200,7 @@ impl Line {
 }
 
 impl Rounds {
-    /// No round has begun.
+    /// Makes the state before the first round.
     pub(crate) fn new() -> Rounds {
         Rounds {
             number: 0,
@@ -204,7 +214,7 @@ impl Rounds {
         }
     }
 
-    /// One round more. Each 16th takes a turn, whatever rests told, and so does each but the two behind a rest that told of a socket.
+    /// Begins a round. It takes a turn if its number is divisible by 16, or if it isn't one of the two after a rest that named a socket.
     pub(crate) fn begin(&mut self)
         ensures silent { self.new.silent.asked ≡ 0 }
         ensures full { self.new.full.asked ≡ 0 }
@@ -224,22 +234,22 @@ impl Rounds {
         self.strangers.begin();
     }
 
-    /// A rest told of a socket, so that all others have nothing.
+    /// Records that a rest named a socket, so that all others have nothing.
     pub(crate) fn tell(&mut self)
         ensures { self.new ≡ record self.old { told = self.old.number } }
     {
         self.told = self.number;
     }
 
-    /// A socket that had nothing in this round.
+    /// Returns the voice of a socket that had nothing in this round.
     pub(crate) fn silent(&self) -> Voice
         ensures { result ≡ voices.Silent self.now.turn }
     {
         Voice::Silent(self.turn)
     }
 
-    /// A socket of which a read got bytes in this round. If it gave all that it was offered it is greedy. Otherwise it has no more,
-    /// and is not asked in the next turn: what comes later is a new event.
+    /// Returns the voice of a socket of which a read got bytes in this round. If it gave all that it was offered it is greedy. Otherwise it is
+    /// empty, and is not asked in the next turn: what comes later is a new event.
     pub(crate) fn after_read(&self, voice: Voice, is_short: bool, is_stranger: bool) -> Voice
         ensures ending { voice ≡ voices.Ending → result ≡ voices.Ending }
         ensures stranger { is_short ≡ false → voice ≢ voices.Ending → is_stranger ≡ true → result ≡ voices.Greedy self.now.strangers.number }
@@ -254,11 +264,11 @@ impl Rounds {
         }
     }
 
-    /// Since when a socket is full, of which a write was asked in this round: not where it took all that it was offered.
+    /// Returns the turn since which a socket is full after a write in this round, or `None` if it took all that it was offered.
     ///
-    /// No wake-up is lost. Where a write took less than it was offered, or nothing, the system tells of room by an event that comes
-    /// later than the write, and events are fetched by a rest alone, which comes later than this mark. Should a signal have interrupted
-    /// the write, no event need come: then its turn does.
+    /// No wake-up is lost. If a write took less than it was offered, or nothing, the system reports room by an event after the
+    /// write, and events are fetched by a rest alone, which comes after this mark. If a signal interrupted the write no event need
+    /// come: then its turn does.
     pub(crate) fn after_write(&self, answer: Write, offered: usize) -> Option<u64>
         ensures all { answer ≡ write.Took offered → result ≡ None }
         ensures part { (n : ℕ) → answer ≡ write.Took n → n < offered → result ≡ Some self.now.turn }
@@ -272,7 +282,7 @@ impl Rounds {
         }
     }
 
-    /// Whether a socket is asked for a read in this round. One that speaks or ends is, and a silent or a greedy one in its turn.
+    /// Returns whether a socket is asked for a read in this round: one that speaks or ends is, a silent or a greedy one in its turn.
     pub(crate) fn asks_read(&mut self, voice: Voice, is_stranger: bool) -> bool
         ensures speaking { voice ≡ voices.Speaking → result ≡ true }
         ensures ending { voice ≡ voices.Ending → result ≡ true }
@@ -288,7 +298,7 @@ impl Rounds {
         }
     }
 
-    /// Whether a socket is asked that has been silent since a turn.
+    /// Returns whether a socket is asked that has been silent since turn `since`.
     fn asks_silent(&mut self, since: u64) -> bool
         ensures silent { self.new.silent.asked ≡ self.old.silent.asked + cond result 1 0 }
         ensures full { self.new.full ≡ self.old.full }
@@ -297,7 +307,25 @@ impl Rounds {
         self.is_turn && self.silent.asks(self.turn, since)
     }
 
-    /// Returns how many milliseconds a rest lasts at most: none while a greedy socket waits for its turn.
+    /// Returns whether a read of a socket is answered in this round without asking the system: it is silent, and it is not its turn.
+    pub(crate) fn passes(&mut self, voice: Voice) -> bool
+        ensures only { result ≡ true → (since : ℕ) × (voice ≡ voices.Silent since) }
+        ensures due { (since : ℕ) → voice ≡ voices.Silent since → self.old.is_turn ≡ true
+            → since + self.old.silent.length / 8 < self.old.turn → self.old.silent.asked < 8 → result ≡ false }
+        ensures silent { self.new.silent.asked ≡ self.old.silent.asked }
+        ensures full { self.new.full ≡ self.old.full }
+    {
+        let Voice::Silent(since) = voice else {
+            return false;
+        };
+        if self.is_turn && self.silent.is_next(self.turn, since) {
+            return false;
+        }
+        self.silent.meet();
+        true
+    }
+
+    /// Returns the most milliseconds that a rest lasts: 0 while a greedy socket waits for its turn.
     pub(crate) fn rest_millis(&self) -> u64
         ensures most { result ≤ 100 }
         ensures greedy { self.now.greedy.is_waiting ≡ true → result ≡ 0 }
@@ -310,7 +338,7 @@ impl Rounds {
         }
     }
 
-    /// Whether a socket is asked for a write in this round: one that has been full since a turn is in its turn, and any other.
+    /// Returns whether a socket is asked for a write in this round: one that has been full since a turn in its turn, any other always.
     pub(crate) fn asks_write(&mut self, since: Option<u64>) -> bool
         ensures free { since ≡ None → result ≡ true }
         ensures full { (s : ℕ) → since ≡ Some s → self.new.full.asked ≡ self.old.full.asked + cond result 1 0 }

@@ -1,11 +1,13 @@
-//! How long a socket may take to log in.
+//! How long a socket may stay whose connection is not running.
 
-ghost use Rattle.std.specs.Prelude.{◌≡◌, None, false};
+ghost use Rattle.std.specs.Prelude.{◌≡◌, ◌≤◌, ◌+◌, ◌↔◌, Some, None, true, false, IfSome};
+ghost use Rattle.std.specs.Time.{instant_nanos};
+ghost use Rattle.std.specs.Duration.{as_nanos};
 
 use std::rt::HostRuntime;
 use std::time::{Duration, Instant};
 
-/// The clock by which sockets are ended that came and are not welcomed, and what it showed in this round.
+/// The clock by which sockets are ended, and its time in this round.
 #[derive(Clone, Copy, Drop)]
 pub(crate) struct Watch {
     /// Without a clock no socket is ended.
@@ -15,7 +17,7 @@ pub(crate) struct Watch {
 }
 
 impl Watch {
-    /// No socket is ended.
+    /// Makes a watch without a clock: no socket is ended.
     pub(crate) fn none() -> Watch
         ensures { result.clock ≡ None }
     {
@@ -26,8 +28,11 @@ impl Watch {
         }
     }
 
-    /// A socket has so much time by this clock.
-    pub(crate) fn new(clock: HostRuntime, patience: Duration) -> Watch {
+    /// Makes a watch that gives each socket `patience` by this clock.
+    pub(crate) fn new(clock: HostRuntime, patience: Duration) -> Watch
+        ensures clock { result.clock ≡ Some clock }
+        ensures patience { result.patience ≡ patience }
+    {
         Watch {
             clock: Some(clock),
             patience,
@@ -35,7 +40,7 @@ impl Watch {
         }
     }
 
-    /// Reads the clock, as is done once a round.
+    /// Reads the clock, once a round.
     pub(crate) fn look(&mut self)
         ensures { self.old.clock ≡ None → self.new.time ≡ None }
     {
@@ -45,20 +50,22 @@ impl Watch {
         };
     }
 
-    /// By when a socket is to be welcomed that came in this round: never where the clock tells no time.
+    /// Returns when a socket is ended that was accepted or bidden farewell in this round, or `None` if there is no time.
     pub(crate) fn ends(&self) -> Option<Instant>
-        ensures { self.now.time ≡ None → result ≡ None }
+        ensures timeless { self.now.time ≡ None → result ≡ None }
+        ensures time { IfSome self.now.time (λ time. IfSome result (λ ends. instant_nanos ends ≡ instant_nanos time + as_nanos self.now.patience)) }
     {
         self.time?.checked_add(self.patience)
     }
 
-    /// Whether the time of a socket is over: not where it was welcomed, or the clock tells no time.
+    /// Returns whether the time of a socket is over. It is not if the socket was welcomed, or if there is no time.
     pub(crate) fn is_over(&self, ends: Option<Instant>) -> bool
         ensures welcomed { ends ≡ None → result ≡ false }
         ensures timeless { self.now.time ≡ None → result ≡ false }
+        ensures time { IfSome self.now.time (λ time. IfSome ends (λ e. (result ≡ true) ↔ (instant_nanos e ≤ instant_nanos time))) }
     {
         match (self.time, ends) {
-            (Some(time), Some(ends)) => time >= ends,
+            (Some(time), Some(ends)) => time.checked_duration_since(ends).is_some(),
             _ => false,
         }
     }

@@ -1,4 +1,4 @@
-//! The program `warren`: its words and its streams are those of the process, its files and sockets those of the machine.
+//! The program `warren`: its words and streams are those of the process, its files and sockets those of the machine.
 #![tactic(auto)]
 
 use reload_loop::{Disk, System, program_with_sockets};
@@ -6,7 +6,7 @@ use std::io::Write;
 use std::process::ExitCode;
 use std::{env, io};
 
-/// The words of the command line.
+/// Returns the words of the command line. Fails if one is not UTF-8, or if an allocation fails.
 fn words(rt: &HostRuntime) -> io::Result<Vec<String>> {
     let mut words = Vec::new(rt.alloc());
     for word in env::args(rt)? {
@@ -15,7 +15,7 @@ fn words(rt: &HostRuntime) -> io::Result<Vec<String>> {
     Ok(words)
 }
 
-/// Says why there are no words, and with which status the program ends.
+/// Reports why there are no words, and returns the exit status: 4 after an allocation failure, 3 otherwise.
 fn refuse<W: Write>(err: &mut W, error: &io::Error) -> u8 {
     if error.kind() == io::ErrorKind::OutOfMemory {
         let _ = writeln!(err, "warren: memory");
@@ -28,7 +28,7 @@ fn refuse<W: Write>(err: &mut W, error: &io::Error) -> u8 {
     3
 }
 
-/// Does what the words ask for, and gives the status.
+/// Does what the words ask for, and returns the exit status.
 fn run<O: Write, E: Write>(rt: &HostRuntime, words: &[String], out: &mut O, err: &mut E) -> u8 {
     let mut files = Disk { rt };
     let mut system = System { rt };

@@ -45,6 +45,39 @@ class Dialect(unittest.TestCase):
         self.assertEqual(told, ['PAGE:5: "stands"; instead: is, lies, waits; or the verb of what it does'])
 
 
+class Calling(unittest.TestCase):
+    CALLER = "//! A caller.\n\n/// Returns one.\npub fn one() -> u64\n    ensures { result ≡ 1 }\n{\n    1\n}\n"
+    PAGE = "# Calling `it`\n\n```rust\npub fn one() -> u64\n    ensures { result ≡ 1 }\n{\n    1\n}\n```\n"
+
+    def said(self, page):
+        with tempfile.TemporaryDirectory() as root:
+            for name, text in (("src/ones.rt", self.CALLER), ("specs/Ones.antt", "-- one\none = 1\n")):
+                path = os.path.join(root, "crates/callers", name)
+                os.makedirs(os.path.dirname(path))
+                with open(path, "w", encoding="utf-8") as file:
+                    file.write(text)
+            return list(prose.wrong_calling(root, "PAGE", page))
+
+    def test_the_code_of_a_caller(self):
+        self.assertEqual(self.said(self.PAGE), [])
+        self.assertEqual(self.said(self.PAGE + "\n```antt\none = 1\n```\n\n```text\nfn one() -> u64\n```\n"), [])
+
+    def test_other_code(self):
+        self.assertEqual(self.said(self.PAGE.replace("    1", "    2")), ["PAGE: no caller has the code that begins with 'pub fn one() -> u64'"])
+
+    def test_a_contract_that_is_left_out(self):
+        self.assertEqual(len(self.said(self.PAGE.replace("    ensures { result ≡ 1 }\n", ""))), 1)
+
+    def test_parts_of_lines(self):
+        self.assertEqual(self.said(self.PAGE + "\n```antt\none\n```\n"), ["PAGE: no caller has the code that begins with 'one'"])
+
+    def test_no_caller(self):
+        self.assertEqual(self.said("# Calling `it`\n\n```antt\none = 1\n```\n"), ["PAGE: it quotes no caller"])
+
+    def test_a_long_page(self):
+        self.assertEqual(self.said(self.PAGE + "\n" * 80), ["PAGE: 89 lines; 80 are the most"])
+
+
 class Pages(unittest.TestCase):
     def setUp(self):
         self.work = tempfile.TemporaryDirectory()
@@ -77,7 +110,8 @@ class Pages(unittest.TestCase):
 
     def test_pages_are_found(self):
         found = prose.found(self.root, prose.PAGES)
-        self.assertLessEqual({"README.md", "docs/COSTS.md", "docs/inside/DECISIONS.md", "tools/README.md", "examples/shop/README.md"}, set(found))
+        self.assertLessEqual({"README.md", "docs/COSTS.md", "docs/inside/DECISIONS.md", "tools/README.md", "examples/shop/README.md",
+                              "crates/queue/CALLING.md"}, set(found))
 
     def test_a_word_of_the_dialect(self):
         self.add("docs/LIMITS.md", "Here it stands.")

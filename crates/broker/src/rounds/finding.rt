@@ -9,25 +9,25 @@ ghost use Rattle.broker.specs.Rounds.{is_able, is_of, FindsWaiter};
 use crate::rounds::waiters::Waiter;
 use commands::{Core, Pick, Taking};
 
-/// What a pick finds at a waiter of the round of a queue that has something ready.
+/// What a pick finds at a waiter in the round of a queue that has a ready message.
 #[derive(Clone, Copy, PartialEq, Eq, Debug, Drop)]
 pub(crate) enum Found {
     /// It is awake, and a delivery can be made to its consumer.
     Able,
-    /// It is awake, and its consumer may take nothing now.
+    /// It is awake, and its consumer can't take a message now.
     Unable,
-    /// Picks may pass over it: it sleeps, or its consumer is gone, or takes from another queue.
+    /// It can be passed over: it sleeps, or its consumer is gone or takes from another queue.
     Over,
 }
 
-/// Whether a delivery can be made.
+/// Returns whether a delivery can be made.
 pub(crate) fn is_able(found: Found) -> bool
     ensures { result ≡ is_able found }
 {
     matches!(found, Found::Able)
 }
 
-/// Whether the consumer of these numbers is there, and takes from the queue at this place.
+/// Returns whether the consumer `pick` exists and takes from the queue at index `queue`.
 pub(crate) fn is_of(core: &Core, queue: usize, pick: Pick) -> bool
     ensures { result ≡ is_of core.now queue pick }
 {
@@ -39,7 +39,7 @@ pub(crate) fn is_of(core: &Core, queue: usize, pick: Pick) -> bool
     }
 }
 
-/// This, where the place is the queue's; else picks may pass over.
+/// Returns `found` if `place` is the queue's index, otherwise [`Found::Over`].
 fn found_at(place: usize, queue: usize, found: Found) -> Found
     ensures here { place ≡ queue → result ≡ found }
     ensures elsewhere { (place ≡ queue → ⊥) → result ≡ Over }
@@ -47,7 +47,7 @@ fn found_at(place: usize, queue: usize, found: Found) -> Found
     if place == queue { found } else { Found::Over }
 }
 
-/// What a pick finds at this waiter of the round of the queue at this place. Its consumer is looked up once.
+/// Returns what a pick finds at `waiter` in the round of the queue at index `queue`. Looks the consumer up once.
 pub(crate) fn find(core: &Core, queue: usize, waiter: Waiter) -> Found
     requires within { queue < length (topology_kept core.now).queues }
     requires ready { HasReady core.now.store queue }

@@ -1,8 +1,8 @@
-//! The rounds of all queues, over which picks go round.
+//! The rounds of all queues, over which picks go.
 //!
-//! A bit for each queue is 1 where some waiter of its round is awake. What is picked is found by going round the queues that have
-//! something ready and whose bit is 1. A pick that finds none to whom it may deliver at a queue leaves no waiter awake there, and
-//! clears the bit, and the next waiter that is woken or made there sets it. So a queue that lacks one of the two is passed over.
+//! Each queue has a bit that is 1 if a waiter in its round is awake. A pick goes round-robin over the queues that have a ready
+//! message and whose bit is 1. If it finds no consumer that can take a message it leaves no waiter awake there and clears the bit; the next
+//! waiter that is woken or made there sets it. So a queue that lacks one of the two costs nothing.
 
 ghost use Rattle.std.specs.Prelude.{◌≡◌, ◌<◌, ◌≤◌, ◌*◌, [], ℕ, List, None, true, IfSome, IfOk, OnOk, length};
 ghost use Rattle.marks.specs.Places.{bit_of};
@@ -24,14 +24,14 @@ use std::alloc::{AllocError, Global};
 use std::marker::Model;
 use std::mem::swap;
 
-/// A consumer to which a delivery can be made, from the queue at this place.
+/// A consumer to which a delivery can be made, with the index of its queue.
 #[derive(Clone, Copy, PartialEq, Eq, Debug, Drop)]
 pub(crate) struct FoundWaiter {
     pub queue: usize,
     pub pick: Pick,
 }
 
-/// So many rounds with no waiter.
+/// Returns `count` empty rounds.
 fn empty_rounds(alloc: Global, count: usize) -> Result<Vec<Round>, AllocError>
     ensures len { IfOk result (λ rounds. length rounds.items ≡ count) }
     ensures empty { IfOk result (λ rounds. (place : ℕ) → (round_at rounds.items place).waiters ≡ []) }
@@ -43,7 +43,7 @@ fn empty_rounds(alloc: Global, count: usize) -> Result<Vec<Round>, AllocError>
     Ok(rounds)
 }
 
-/// A bit for each of so many queues, none of which is 1.
+/// Returns a bit for each of `count` queues, all 0.
 fn empty_marks(alloc: Global, count: usize) -> Result<PlaceMarks, AllocError>
     ensures { IfOk result (λ marks. count ≤ length marks * 64) }
 {
@@ -52,7 +52,7 @@ fn empty_marks(alloc: Global, count: usize) -> Result<PlaceMarks, AllocError>
     Ok(marks)
 }
 
-/// There is room for one waiter more in the round of the queue at this place from now on. No waiter has changed.
+/// Reserves capacity for one more waiter in the round of the queue at index `queue`. The waiters are unchanged.
 fn reserve_at(rounds: &mut [Round], queue: usize) -> Result<(), AllocError>
     requires { queue < length rounds.old }
     ensures room { OnOk result (HasRoom (round_at rounds.new queue)) }
@@ -62,12 +62,13 @@ fn reserve_at(rounds: &mut [Round], queue: usize) -> Result<(), AllocError>
     rounds[queue].reserve()
 }
 
-/// This consumer, for whose waiter there is room, waits in the round of the queue at this place from now on, and is awake. All others stay.
-/// It takes no memory.
+/// Adds the waiter of `consumer`, awake, to the round of the queue at index `queue`, which has capacity for it. All others stay. Never
+/// allocates.
 fn join_at(rounds: &mut [Round], awake: &mut PlaceMarks, queue: usize, consumer: Pick)
     requires within { queue < length rounds.old }
     requires room { HasRoom (round_at rounds.old queue) }
     requires marked { QueuesAreMarked rounds.old awake.old }
+    // The waiter is added, all others stay, and the bits are right.
     ensures joined { IsAwake (round_at rounds.new queue) consumer }
     ensures kept { (k : Kept) → KeepRounds k rounds.old rounds.new }
     ensures adds { (k : Kept) → is_of k queue consumer ≡ true → AllAddTheirOwn k rounds.old rounds.new }
@@ -77,7 +78,7 @@ fn join_at(rounds: &mut [Round], awake: &mut PlaceMarks, queue: usize, consumer:
     rounds[queue].join(consumer);
 }
 
-/// This consumer's waiter is awake from now on in the round of the queue at this place, where it is looked for at this place first.
+/// Wakes the waiter of `consumer` in the round of the queue at index `queue`. Looks at index `guess` first.
 fn wake_at(rounds: &mut [Round], awake: &mut PlaceMarks, queue: usize, consumer: Pick, guess: usize)
     requires within { queue < length rounds.old }
     requires marked { QueuesAreMarked rounds.old awake.old }
@@ -89,8 +90,8 @@ fn wake_at(rounds: &mut [Round], awake: &mut PlaceMarks, queue: usize, consumer:
     rounds[queue].wake(consumer, guess);
 }
 
-/// The first place at or behind this one whose queue has something ready and whose bit is 1. The two sets are gone over by
-/// turns, so that no queue is looked at that is in one of them alone.
+/// Returns the index of the first queue at or after `from` with a ready message and a bit that is 1. Steps over the two sets in turn, so that
+/// it looks at no queue that is in one of them alone.
 fn next_both(core: &Core, awake: &PlaceMarks, from: usize) -> Option<usize>
     ensures { IsNextMarked core.now awake.now from result }
 {
@@ -105,7 +106,7 @@ fn next_both(core: &Core, awake: &PlaceMarks, from: usize) -> Option<usize>
     None
 }
 
-/// The first delivery that can be made from the queue at this place, which has something ready and whose bit is 1.
+/// Picks from the queue at index `queue`, which has a ready message and whose bit is 1.
 fn pick_at(
     rounds: &mut [Round],
     awake: &mut PlaceMarks,
@@ -113,16 +114,19 @@ fn pick_at(
     sleepers: &mut Sleepers,
     queue: usize,
 ) -> Option<Pick>
+    // What the caller knows of the queue.
     requires within { queue < length rounds.old }
     requires placed { queue < length (topology_kept core.now).queues }
     requires ready { HasReady core.now.store queue }
     requires noted { AllAreNoted (topology_kept core.now) (broker_of core.now) sleepers.old.entries }
     requires here { bit_of awake.old queue ≡ 1 }
     requires marked { QueuesAreMarked rounds.old awake.old }
+    // The frame: waiters and listings stay.
     ensures len { length rounds.new ≡ length rounds.old }
     ensures kept { KeepsWaiters core.now (rounds_of rounds.old sleepers.old.entries) (rounds_of rounds.new sleepers.new.entries) }
     ensures more { ListsMore sleepers.old.entries sleepers.new.entries }
     ensures marked { QueuesAreMarked rounds.new awake.new }
+    // What is picked, and that nothing comes before it.
     ensures some { IfSome result (λ p. IsPickFrom core.now queue p) }
     ensures none { result ≡ None → NoneInRound core.now sleepers.old.entries queue (round_at rounds.old queue) }
     ensures told { IfSome result (λ p. PicksFrom core.now sleepers.old.entries rounds.old rounds.new queue p) }
@@ -137,7 +141,7 @@ fn pick_at(
     }
 }
 
-/// The first delivery that can be made from one of the queues from this place on, up to that one.
+/// Picks from the first queue of the indices `from..to` from which a delivery can be made.
 fn first_between(
     rounds: &mut [Round],
     awake: &mut PlaceMarks,
@@ -149,9 +153,11 @@ fn first_between(
     requires len { length rounds.old ≡ length (topology_kept core.now).queues }
     requires noted { AllAreNoted (topology_kept core.now) (broker_of core.now) sleepers.old.entries }
     requires marked { QueuesAreMarked rounds.old awake.old }
+    // The frame: waiters and listings stay.
     ensures kept { KeepsWaiters core.now (rounds_of rounds.old sleepers.old.entries) (rounds_of rounds.new sleepers.new.entries) }
     ensures more { ListsMore sleepers.old.entries sleepers.new.entries }
     ensures marked { QueuesAreMarked rounds.new awake.new }
+    // What is found, and that nothing comes before it.
     ensures within { IfSome result (λ f. f.queue < length rounds.new) }
     ensures some { IfSome result (λ f. IsPickFrom core.now f.queue f.pick) }
     ensures none { result ≡ None → NoneBetween core.now (rounds_of rounds.old sleepers.old.entries) from to }
@@ -174,7 +180,7 @@ fn first_between(
     None
 }
 
-/// The first delivery that can be made from one of the queues, from this place on and then from the front.
+/// Picks from the first queue from which a delivery can be made, from index `next` on and then from the front.
 fn first_from(
     rounds: &mut [Round],
     awake: &mut PlaceMarks,
@@ -185,9 +191,11 @@ fn first_from(
     requires len { length rounds.old ≡ length (topology_kept core.now).queues }
     requires noted { AllAreNoted (topology_kept core.now) (broker_of core.now) sleepers.old.entries }
     requires marked { QueuesAreMarked rounds.old awake.old }
+    // The frame: waiters and listings stay.
     ensures kept { KeepsWaiters core.now (rounds_of rounds.old sleepers.old.entries) (rounds_of rounds.new sleepers.new.entries) }
     ensures more { ListsMore sleepers.old.entries sleepers.new.entries }
     ensures marked { QueuesAreMarked rounds.new awake.new }
+    // What is found, and that nothing comes before it.
     ensures within { IfSome result (λ f. f.queue < length rounds.new) }
     ensures some { IfSome result (λ f. IsPickFrom core.now f.queue f.pick) }
     ensures none { result ≡ None → NoneBetween core.now (rounds_of rounds.old sleepers.old.entries) 0 (length rounds.old) }
@@ -202,7 +210,7 @@ fn first_from(
     }
 }
 
-/// The bit of the queue at this place is 1 from now on if picks look at some waiter of this round, which is to stand there.
+/// Sets the bit of the queue at index `place` if picks look at a waiter of `round`, which is going to be there.
 fn mark_round(awake: &mut PlaceMarks, round: &Round, place: usize)
     requires { place < length awake.old * 64 }
     ensures len { length awake.new ≡ length awake.old }
@@ -214,7 +222,8 @@ fn mark_round(awake: &mut PlaceMarks, round: &Round, place: usize)
     }
 }
 
-/// The waiters of this connection's consumers that are gone leave the round of the queue at this place. The others are gone round as before.
+/// Removes the waiters of those consumers of `connection` that are gone from the round of the queue at index `queue`. The order of the others is
+/// unchanged.
 fn leave_at(
     rounds: &mut [Round],
     awake: &mut PlaceMarks,
@@ -224,6 +233,7 @@ fn leave_at(
 )
     requires within { queue < length rounds.old }
     requires marked { QueuesAreMarked rounds.old awake.old }
+    // Those of existing consumers stay, the others of this connection are removed, and the bits are right.
     ensures kept { KeepRounds core.now rounds.old rounds.new }
     ensures here { LeaveLine core.now queue connection (round_at rounds.old queue) (round_at rounds.new queue) }
     ensures others { (i : ℕ) → (i ≡ queue → ⊥) → round_at rounds.new i ≡ round_at rounds.old i }
@@ -233,7 +243,7 @@ fn leave_at(
     mark_round(awake, &rounds[queue], queue);
 }
 
-/// They leave each round.
+/// Does the same in each round.
 fn leave_each(rounds: &mut [Round], awake: &mut PlaceMarks, core: &Core, connection: u64)
     requires { QueuesAreMarked rounds.old awake.old }
     ensures kept { KeepRounds core.now rounds.old rounds.new }
@@ -245,10 +255,11 @@ fn leave_each(rounds: &mut [Round], awake: &mut PlaceMarks, core: &Core, connect
     }
 }
 
-/// The waiters of this round stand in that of the queue at this place from now on, and all are awake. What stood there stands in this.
+/// Swaps `round`, all its waiters awake, with the round of the queue at index `place`.
 fn take_round(rounds: &mut [Round], awake: &mut PlaceMarks, place: usize, round: &mut Round)
     requires within { place < length rounds.old }
     requires marked { QueuesAreMarked rounds.old awake.old }
+    // The round is at this index, all others are unchanged, and the bits are right.
     ensures moved { IsMoved round.old (round_at rounds.new place) }
     ensures others { (i : ℕ) → (i ≡ place → ⊥) → round_at rounds.new i ≡ round_at rounds.old i }
     ensures came { (i : ℕ) → IsOfEither place i (round_at rounds.old i) round.old (round_at rounds.new i) }
@@ -259,7 +270,7 @@ fn take_round(rounds: &mut [Round], awake: &mut PlaceMarks, place: usize, round:
     swap(&mut rounds[place], round);
 }
 
-/// The same, where the place is there.
+/// Does the same if there is such a queue.
 fn move_round(rounds: &mut [Round], awake: &mut PlaceMarks, place: usize, round: &mut Round)
     requires { QueuesAreMarked rounds.old awake.old }
     ensures moved { place < length rounds.old → IsMoved round.old (round_at rounds.new place) }
@@ -272,11 +283,12 @@ fn move_round(rounds: &mut [Round], awake: &mut PlaceMarks, place: usize, round:
     }
 }
 
-/// The waiters of each round of `old` stand, awake, in the round at the place that the table has for it, where that is there.
+/// Moves each round of `old`, its waiters awake, to the index that `places` has for it, if there is such a queue.
 fn move_rounds(rounds: &mut [Round], awake: &mut PlaceMarks, old: &mut [Round], places: &[usize])
     requires len { length places.now ≡ length old.old }
     requires apart { ArePlacesApart places.now (length rounds.old) }
     requires marked { QueuesAreMarked rounds.old awake.old }
+    // Each round is at its new index, nothing else is, and the bits are right.
     ensures moved { RoundsAreMoved places.now old.old rounds.new }
     ensures came { LinesCome places.now old.old rounds.old rounds.new }
     ensures marked { QueuesAreMarked rounds.new awake.new }
@@ -286,14 +298,14 @@ fn move_rounds(rounds: &mut [Round], awake: &mut PlaceMarks, old: &mut [Round], 
     }
 }
 
-/// The rounds of all queues, in the order of the file.
+/// The rounds of all queues, in the order of the definitions.
 pub(crate) struct QueueRounds {
     rounds: Vec<Round>,
-    /// A bit for each queue, 1 where some waiter of its round is awake.
+    /// A bit for each queue, 1 if a waiter in its round is awake.
     awake: PlaceMarks,
 }
 
-/// Written out, so that a drop is one call.
+/// Written out so that a drop is one call.
 impl Drop for QueueRounds {
     fn drop(self) {
         let QueueRounds {
@@ -322,7 +334,7 @@ impl QueueRounds {
     ghost use Rattle.broker.specs.Rounds.{LeaveLines, KeepsWaiters, ListsMore, AllWaken, NoneBetween, NonePassed, PicksFrom, SameOrders, AllAreEmpty};
     ghost use Rattle.broker.specs.Moving.{ArePlacesApart, RoundsAreMoved, LinesCome};
 
-    /// So many rounds with no waiter.
+    /// Makes empty rounds for `queues` queues. Fails only if an allocation fails.
     pub fn new(alloc: Global, queues: usize) -> Result<QueueRounds, AllocError>
         ensures len { IfOk result (λ s. length s ≡ queues) }
         ensures empty { IfOk result AllAreEmpty }
@@ -332,7 +344,7 @@ impl QueueRounds {
         Ok(QueueRounds { rounds, awake })
     }
 
-    /// There is room for one waiter more in the round of the queue at this place from now on. No waiter has changed.
+    /// Reserves capacity for one more waiter in the round of the queue at index `queue`. The waiters are unchanged.
     pub fn reserve(&mut self, queue: usize) -> Result<(), AllocError>
         requires { queue < length self.old }
         ensures room { OnOk result (HasRoom (round_at self.new queue)) }
@@ -342,11 +354,12 @@ impl QueueRounds {
         reserve_at(&mut self.rounds, queue)
     }
 
-    /// This consumer, for whose waiter there is room, waits in the round of the queue at this place from now on, and is awake. All others
-    /// stay. It takes no memory.
+    /// Adds the waiter of `consumer`, awake, to the round of the queue at index `queue`, which has capacity for it. All others stay. Never
+    /// allocates.
     pub fn join(&mut self, queue: usize, consumer: Pick)
         requires within { queue < length self.old }
         requires room { HasRoom (round_at self.old queue) }
+        // The waiter is added, and all others stay.
         ensures joined { IsAwake (round_at self.new queue) consumer }
         ensures kept { (k : Kept) → KeepRounds k self.old self.new }
         ensures adds { (k : Kept) → is_of k queue consumer ≡ true → AllAddTheirOwn k self.old self.new }
@@ -355,7 +368,7 @@ impl QueueRounds {
         join_at(&mut self.rounds, &mut self.awake, queue, consumer);
     }
 
-    /// The waiters of this connection's consumers that are gone are gone too. The others are gone round as before. It takes no memory.
+    /// Removes the waiters of those consumers of `connection` that are gone. The order of the others is unchanged. Never allocates.
     pub fn leave(&mut self, core: &Core, connection: u64)
         ensures kept { KeepRounds core.now self.old self.new }
         ensures lines { LeaveLines core.now connection self.old self.new }
@@ -364,8 +377,8 @@ impl QueueRounds {
         leave_each(&mut self.rounds, &mut self.awake, core, connection);
     }
 
-    /// This consumer's waiter is awake from now on in the round of the queue at this place, if it is there; it is looked for at this
-    /// place first. It takes no memory.
+    /// Wakes the waiter of `consumer` in the round of the queue at index `queue`, if it is there. Looks at index `guess` first. Never
+    /// allocates.
     pub fn wake(&mut self, queue: usize, consumer: Pick, guess: usize)
         ensures woken { IsAsleep (round_at self.old queue) consumer → IsAwake (round_at self.new queue) consumer }
         ensures wakens { AllWaken self.old self.new }
@@ -376,8 +389,8 @@ impl QueueRounds {
         }
     }
 
-    /// The waiters of each round of `old` stand from now on, awake, in the round at the place that the table has for it; those of a
-    /// round whose place is behind the end are gone. It takes no memory.
+    /// Moves each round of `old`, its waiters awake, to the index that `places` has for it. Those of a round whose new index is past the end are
+    /// removed. Never allocates.
     pub fn take_over(&mut self, old: QueueRounds, places: &[usize])
         requires len { length places.now ≡ length old }
         requires apart { ArePlacesApart places.now (length self.old) }
@@ -392,17 +405,20 @@ impl QueueRounds {
         move_rounds(&mut self.rounds, &mut self.awake, &mut left, places);
     }
 
-    /// The first delivery that can be made from one of the queues, from this place on and then from the front.
+    /// Picks from the first queue from which a delivery can be made, from index `next` on and then from the front.
     pub fn pick(&mut self, core: &Core, sleepers: &mut Sleepers, next: usize) -> Option<FoundWaiter>
         requires len { length self.old ≡ length (topology_kept core.now).queues }
         requires noted { AllAreNoted (topology_kept core.now) (broker_of core.now) sleepers.old.entries }
+        // The frame: waiters and listings stay.
         ensures kept { KeepsWaiters core.now (rounds_of self.old sleepers.old.entries) (rounds_of self.new sleepers.new.entries) }
         ensures more { ListsMore sleepers.old.entries sleepers.new.entries }
         ensures len { length self.new ≡ length self.old }
+        // What is found, and that nothing comes before it.
         ensures within { IfSome result (λ f. f.queue < length self.new) }
         ensures fits { IfSome result (λ f. f.queue + 1 < 2 ^ 64) }
         ensures some { IfSome result (λ f. IsPickFrom core.now f.queue f.pick) }
         ensures none { result ≡ None → NoneBetween core.now (rounds_of self.old sleepers.old.entries) 0 (length self.old) }
+        // Nothing comes before it in the order.
         ensures passed { IfSome result (λ f. NonePassed core.now (rounds_of self.old sleepers.old.entries) next f.queue) }
         ensures told { IfSome result (λ f. PicksFrom core.now sleepers.old.entries self.old self.new f.queue f.pick) }
         ensures same { result ≡ None → SameOrders self.old self.new }

@@ -1,9 +1,9 @@
-//! The consumers of one queue, over which its deliveries go round.
+//! The consumers of one queue, over which its deliveries go round-robin.
 //!
-//! Each consumer waits in the round, by its numbers, as long as it is there: the waiters of a connection's consumers are gone over as some
-//! of them may have left, and those of the others go. What is picked is found by looking at one waiter after another, from the one behind
-//! that which was picked last. A waiter whose consumer may take nothing then falls asleep, and is passed over until it is woken. Picks look
-//! at the waiters whose bit is 1: that of a waiter that sleeps may be, after others left, until one looks at it.
+//! Each consumer of the queue has a waiter in the round. When consumers of a connection may have left, the waiters are checked, and those of
+//! consumers that are gone are removed. A pick looks at one waiter after another, starting behind the one picked last. A waiter whose consumer
+//! can't take a message falls asleep, and is passed over until it is woken. Picks look at the waiters whose bit is 1. The bit of a waiter that
+//! sleeps may be 1, too: after others were removed, until a pick looks at it.
 
 ghost use Rattle.std.specs.Prelude.{◌≡◌, ◌<◌, ◌≤◌, ◌+◌, ◌*◌, ◌⊎◌, ◌++◌, ◌∷◌, [], ℕ, true, false};
 ghost use Rattle.std.specs.Prelude.{None, IfSome, OnOk, length, count_by, filter, min, slice_index_or, vec_len, vec_capacity};
@@ -29,7 +29,7 @@ use marks::{Flat, Over, Places};
 use std::alloc::{AllocError, Global};
 use std::marker::Model;
 
-/// The first place at which this consumer's waiter stands.
+/// Returns the index of the first waiter of `consumer`.
 fn search(waiters: &[Waiter], consumer: Pick) -> Option<usize>
     ensures is { result ≡ position_from (is_waiter_of consumer) 0 waiters.now }
     ensures within { IfSome result (λ i. i < length waiters.now) }
@@ -40,7 +40,7 @@ fn search(waiters: &[Waiter], consumer: Pick) -> Option<usize>
         .position(|waiter| is_same(consumer, waiter.pick))
 }
 
-/// The place at which this consumer's waiter stands; this one is looked at first.
+/// Returns the index of the waiter of `consumer`. Looks at `guess` first.
 fn place_of(waiters: &[Waiter], consumer: Pick, guess: usize) -> Option<usize>
     ensures within { IfSome result (λ i. i < length waiters.now) }
     ensures there { IfSome result (λ i. (d : InRound) → (slice_index_or waiters.now i d).pick ≡ consumer) }
@@ -52,7 +52,7 @@ fn place_of(waiters: &[Waiter], consumer: Pick, guess: usize) -> Option<usize>
     search(waiters, consumer)
 }
 
-/// The waiter at this place is awake from now on.
+/// Wakes the waiter at index `place`.
 fn rouse(waiters: &mut [Waiter], awake: &mut PlaceMarks, place: usize)
     requires within { place < length waiters.old }
     requires room { length waiters.old ≤ length awake.old * 64 }
@@ -64,9 +64,10 @@ fn rouse(waiters: &mut [Waiter], awake: &mut PlaceMarks, place: usize)
     awake.set(place);
 }
 
-/// This consumer's waiter is awake from now on, if it is there; it is looked for at this place first. Tells whether it is there.
+/// Wakes the waiter of `consumer`, and returns whether there is one. Looks at index `guess` first.
 fn wake_waiter(waiters: &mut [Waiter], awake: &mut PlaceMarks, consumer: Pick, guess: usize) -> bool
     requires { length waiters.old ≤ length awake.old * 64 }
+    // Whether there is a waiter, and that others stay.
     ensures len { length awake.new ≡ length awake.old }
     ensures yes { result ≡ true → IsAwake (round_of waiters.new awake.new) consumer }
     ensures no { result ≡ false → IsAsleep (round_of waiters.old awake.old) consumer → ⊥ }
@@ -82,7 +83,7 @@ fn wake_waiter(waiters: &mut [Waiter], awake: &mut PlaceMarks, consumer: Pick, g
     }
 }
 
-/// Each of the waiters is awake from now on.
+/// Wakes each waiter.
 fn rouse_each(waiters: &mut [Waiter])
     ensures { waiters.new ≡ all_awake waiters.old }
 {
@@ -91,14 +92,14 @@ fn rouse_each(waiters: &mut [Waiter])
     }
 }
 
-/// Whether this consumer is of another connection than this, or is there and takes from the queue at this place.
+/// Returns whether `consumer` is of another connection than `connection`, or exists and takes from the queue at index `queue`.
 fn remains(core: &Core, queue: usize, connection: u64, consumer: Pick) -> bool
     ensures { result ≡ remains core.now queue connection consumer }
 {
     consumer.connection != connection || is_of(core, queue, consumer)
 }
 
-/// Takes out the waiters of this connection's consumers that are gone, or take from another queue than that at this place.
+/// Removes the waiters of those consumers of `connection` that are gone or take from another queue than that at index `queue`.
 fn sweep(waiters: &mut Vec<Waiter>, core: &Core, queue: usize, connection: u64)
     ensures waiters { waiters.new.items ≡ filter (has_remained core.now queue connection) waiters.old.items }
     ensures capacity { vec_capacity waiters.new ≡ vec_capacity waiters.old }
@@ -106,7 +107,7 @@ fn sweep(waiters: &mut Vec<Waiter>, core: &Core, queue: usize, connection: u64)
     waiters.retain(|waiter| remains(core, queue, connection, waiter.pick));
 }
 
-/// How many of the waiters are of consumers of other connections than this, or of such that are there and take from the queue at this place.
+/// Returns the number of waiters that `sweep` leaves.
 fn staying(waiters: &[Waiter], core: &Core, queue: usize, connection: u64) -> usize
     ensures { result ≡ count_by (has_remained core.now queue connection) waiters.now }
 {
@@ -119,9 +120,10 @@ fn staying(waiters: &[Waiter], core: &Core, queue: usize, connection: u64) -> us
     count
 }
 
-/// Room for one waiter more, and for its bit.
+/// Reserves capacity for one more waiter and its bit. Fails only if an allocation fails.
 fn grow(waiters: &mut Vec<Waiter>, awake: &mut PlaceMarks) -> Result<(), AllocError>
     requires { length waiters.old.items ≤ length awake.old * 64 }
+    // The capacity after it; waiters and bits are unchanged.
     ensures room { OnOk result (length waiters.new.items < vec_capacity waiters.new) }
     ensures mark { OnOk result (length waiters.new.items + 1 ≤ length awake.new * 64) }
     ensures marks { length waiters.new.items ≤ length awake.new * 64 }
@@ -132,8 +134,8 @@ fn grow(waiters: &mut Vec<Waiter>, awake: &mut PlaceMarks) -> Result<(), AllocEr
     waiters.reserve(1)
 }
 
-/// The waiters of this connection's consumers that are gone, or take from another queue than that at this place, are taken out. Those that
-/// are left are gone round as before, and picks look at them. It takes no memory.
+/// Removes the waiters of those consumers of `connection` that are gone or take from another queue than that at index `queue`. The order of the
+/// others is unchanged, and picks look at them. Never allocates.
 fn let_go(
     waiters: &mut Vec<Waiter>,
     awake: &mut PlaceMarks,
@@ -157,7 +159,7 @@ fn let_go(
     }
 }
 
-/// Returns the place at which the last of a line of `count` stands, which is gone round from `next`: behind it a newcomer comes in.
+/// Returns the index behind the end of the order of `count` waiters that begins at `next`: a new waiter is inserted there.
 fn line_end(next: usize, count: usize) -> usize
     ensures within { result ≤ count }
     ensures end { (next ≡ 0) × (result ≡ count) ⊎ (result ≡ min next count) }
@@ -168,11 +170,12 @@ fn line_end(next: usize, count: usize) -> usize
     next.min(count)
 }
 
-/// Adds a waiter for `consumer`, awake, as the last of the line, which is gone round from `next`. There is room for it. Picks look at it and
-/// at all whose places move. Never allocates.
+/// Adds a waiter for `consumer`, awake, at the end of the order that begins at `next`. There is capacity for it. Picks look at it, and at all
+/// whose indices change. Never allocates.
 fn add_waiter(waiters: &mut Vec<Waiter>, awake: &mut PlaceMarks, next: &mut usize, consumer: Pick)
     requires room { length waiters.old.items < vec_capacity waiters.old }
     requires mark { length waiters.old.items + 1 ≤ length awake.old * 64 }
+    // The waiter is last in order and awake, and all others stay.
     ensures marks { length waiters.new.items ≤ length awake.new * 64 }
     ensures last { turned next.new (picks waiters.new.items) ≡ turned next.old (picks waiters.old.items) ++ consumer ∷ [] }
     ensures joined { IsAwake (round_of waiters.new.items awake.new) consumer }
@@ -189,7 +192,7 @@ fn add_waiter(waiters: &mut Vec<Waiter>, awake: &mut PlaceMarks, next: &mut usiz
     *next = place + 1;
 }
 
-/// Whether picks look at one of the waiters at places below this.
+/// Returns whether picks look at a waiter at an index below `count`.
 fn any_marked(awake: &PlaceMarks, count: usize) -> bool
     ensures yes { result ≡ true → (i : ℕ) × (i < count) × (bit_of awake.now i ≡ 1) }
     ensures no { result ≡ false → (i : ℕ) → i < count → bit_of awake.now i ≡ 0 }
@@ -200,8 +203,8 @@ fn any_marked(awake: &PlaceMarks, count: usize) -> bool
     }
 }
 
-/// The waiter at this place, which is awake and whose consumer may take nothing now, falls asleep: its listing tells so. It takes no
-/// memory.
+/// Puts the waiter at index `place` to sleep, which is awake and whose consumer can't take a message now, and marks its listing. Never
+/// allocates.
 fn doze(
     core: &Core,
     queue: usize,
@@ -210,14 +213,17 @@ fn doze(
     sleepers: &mut Sleepers,
     place: usize,
 )
+    // What the caller knows of the waiter: it is awake and listed, and its consumer can't take a message.
     requires within { place < length waiters.old }
     requires room { length waiters.old ≤ length awake.old * 64 }
     requires cannot { (d : InRound) → CannotTake (broker_of core.now) (slice_index_or waiters.old place d).pick }
     requires up { (d : InRound) → (slice_index_or waiters.old place d).asleep ≡ false }
     requires noted { (d : InRound) → IsNoted sleepers.old.entries (listing queue (slice_index_or waiters.old place d).pick) }
+    // The frame: waiters and listings stay.
     ensures len { length awake.new ≡ length awake.old }
     ensures kept { KeepsIn core.now queue sleepers.old.entries sleepers.new.entries (round_of waiters.old awake.old) (round_of waiters.new awake.new) }
     ensures more { ListsMore sleepers.old.entries sleepers.new.entries }
+    // Picks pass over this one, and over no other.
     ensures others { (i : ℕ) → (i ≡ place → ⊥) → StaysAt (round_of waiters.old awake.old) (round_of waiters.new awake.new) i }
     ensures passed { bit_of awake.new place ≡ 0 }
     ensures fewer { (i : ℕ) → bit_of awake.old i ≡ 0 → bit_of awake.new i ≡ 0 }
@@ -228,7 +234,7 @@ fn doze(
     awake.clear(place);
 }
 
-/// Picks pass over the waiter at this place from now on, at which this was found, and to which nothing can be delivered.
+/// Makes picks pass over the waiter at index `place`, at which `found` was found: no delivery can be made to it.
 fn rest(
     core: &Core,
     queue: usize,
@@ -238,14 +244,17 @@ fn rest(
     place: usize,
     found: Found,
 )
+    // What the caller knows of the waiter.
     requires within { place < length waiters.old }
     requires room { length waiters.old ≤ length awake.old * 64 }
     requires noted { AllAreNoted (topology_kept core.now) (broker_of core.now) sleepers.old.entries }
     requires found { (d : InRound) → FindsWaiter core.now queue (slice_index_or waiters.old place d) found }
     requires unable { is_able found ≡ false }
+    // The frame: waiters and listings stay.
     ensures len { length awake.new ≡ length awake.old }
     ensures kept { KeepsIn core.now queue sleepers.old.entries sleepers.new.entries (round_of waiters.old awake.old) (round_of waiters.new awake.new) }
     ensures more { ListsMore sleepers.old.entries sleepers.new.entries }
+    // Picks pass over this one, and over no other.
     ensures others { (i : ℕ) → (i ≡ place → ⊥) → StaysAt (round_of waiters.old awake.old) (round_of waiters.new awake.new) i }
     ensures passed { bit_of awake.new place ≡ 0 }
     ensures fewer { (i : ℕ) → bit_of awake.old i ≡ 0 → bit_of awake.new i ≡ 0 }
@@ -258,8 +267,8 @@ fn rest(
     }
 }
 
-/// The place of the first of the waiters from this one on, up to that one, to whose consumer a delivery can be made from the queue
-/// at this place. Those that are looked at before it and may take nothing fall asleep.
+/// Returns the index of the first waiter in `from..to` to whose consumer a delivery can be made from the queue at index `queue`. Waiters that it
+/// looks at before, and whose consumer can't take a message, fall asleep.
 fn first_between(
     core: &Core,
     queue: usize,
@@ -274,10 +283,12 @@ fn first_between(
     requires noted { AllAreNoted (topology_kept core.now) (broker_of core.now) sleepers.old.entries }
     requires within { to ≤ length waiters.old }
     requires room { length waiters.old ≤ length awake.old * 64 }
+    // The frame: waiters and listings stay.
     ensures len { length awake.new ≡ length awake.old }
     ensures kept { KeepsIn core.now queue sleepers.old.entries sleepers.new.entries (round_of waiters.old awake.old) (round_of waiters.new awake.new) }
     ensures more { ListsMore sleepers.old.entries sleepers.new.entries }
     ensures before { (i : ℕ) → i < from → StaysAt (round_of waiters.old awake.old) (round_of waiters.new awake.new) i }
+    // What is found, and that nothing comes before it.
     ensures within { IfSome result (λ i. i < length waiters.new) }
     ensures some { IfSome result (λ i. (d : InRound) → IsPickFrom core.now queue (slice_index_or waiters.new i d).pick) }
     ensures none { result ≡ None → NoneAwake core.now queue (round_of waiters.old awake.old) from to }
@@ -304,7 +315,7 @@ fn first_between(
     None
 }
 
-/// The place of the first waiter to whose consumer a delivery can be made, from this one on and then from the front.
+/// Returns the index of the first waiter to whose consumer a delivery can be made, from `next` on and then from the front.
 fn first_from(
     core: &Core,
     queue: usize,
@@ -317,9 +328,11 @@ fn first_from(
     requires ready { HasReady core.now.store queue }
     requires noted { AllAreNoted (topology_kept core.now) (broker_of core.now) sleepers.old.entries }
     requires room { length waiters.old ≤ length awake.old * 64 }
+    // The frame: waiters and listings stay.
     ensures len { length awake.new ≡ length awake.old }
     ensures kept { KeepsIn core.now queue sleepers.old.entries sleepers.new.entries (round_of waiters.old awake.old) (round_of waiters.new awake.new) }
     ensures more { ListsMore sleepers.old.entries sleepers.new.entries }
+    // What is found, and that nothing comes before it.
     ensures within { IfSome result (λ i. i < length waiters.new) }
     ensures some { IfSome result (λ i. (d : InRound) → IsPickFrom core.now queue (slice_index_or waiters.new i d).pick) }
     ensures none { result ≡ None → NoneAwake core.now queue (round_of waiters.old awake.old) 0 (length waiters.old) }
@@ -334,16 +347,16 @@ fn first_from(
     }
 }
 
-/// The waiters of the consumers of one queue, in the order in which they were made.
+/// The waiters of the consumers of one queue.
 pub(crate) struct Round {
     waiters: Vec<Waiter>,
-    /// A bit for each waiter, 1 where picks look at it: where it is awake, and after others left until one has looked.
+    /// A bit for each waiter, 1 if picks look at it: if it is awake, and after others were removed until a pick has looked at it.
     awake: PlaceMarks,
-    /// The place behind the waiter that was picked last.
+    /// The index behind the waiter picked last.
     next: usize,
 }
 
-/// Written out, so that a drop is one call.
+/// Written out so that a drop is one call.
 impl Drop for Round {
     fn drop(self) {
         let Round {
@@ -377,7 +390,7 @@ impl Round {
     ghost use Rattle.broker.specs.Rounds.{NoneInRound, GoesLast, AddsOne, LeaveLine, HasRoom, ListsMore, Wakens};
     ghost use Rattle.broker.specs.Moving.{AllRoused};
 
-    /// No waiter. It takes no memory.
+    /// Makes an empty round. Never allocates.
     pub fn new(alloc: Global) -> Round
         ensures { result.waiters ≡ [] }
     {
@@ -388,7 +401,7 @@ impl Round {
         }
     }
 
-    /// There is room for one waiter more from now on. No waiter has changed.
+    /// Reserves capacity for one more waiter. The waiters are unchanged.
     pub fn reserve(&mut self) -> Result<(), AllocError>
         ensures room { OnOk result (HasRoom self.new) }
         ensures wakens { Wakens self.old self.new }
@@ -397,8 +410,8 @@ impl Round {
         grow(&mut self.waiters, &mut self.awake)
     }
 
-    /// Adds a waiter for `consumer`, awake, behind all others of the line; if it has one, that is awake from now on, where it is. There is room
-    /// for it. Never allocates.
+    /// Adds a waiter for `consumer`, awake, at the end of the order. If it has one already, wakes that where it is. There is capacity for it.
+    /// Never allocates.
     pub fn join(&mut self, consumer: Pick)
         requires { HasRoom self.old }
         ensures joined { IsAwake self.new consumer }
@@ -411,8 +424,8 @@ impl Round {
         add_waiter(&mut self.waiters, &mut self.awake, &mut self.next, consumer);
     }
 
-    /// The waiters of this connection's consumers that are gone, or take from another queue than that at this place, are gone too. The others
-    /// are gone round as before. It takes no memory.
+    /// Removes the waiters of those consumers of `connection` that are gone or take from another queue than that at index `queue`. The order of the
+    /// others is unchanged. Never allocates.
     pub fn leave(&mut self, core: &Core, queue: usize, connection: u64)
         ensures kept { KeepsRound core.now queue self.old self.new }
         ensures line { LeaveLine core.now queue connection self.old self.new }
@@ -427,7 +440,7 @@ impl Round {
         );
     }
 
-    /// This consumer's waiter is awake from now on, if it is there; it is looked for at this place first.
+    /// Wakes the waiter of `consumer`, if it is there. Looks at index `guess` first.
     pub fn wake(&mut self, consumer: Pick, guess: usize)
         ensures woken { IsAsleep self.old consumer → IsAwake self.new consumer }
         ensures wakens { Wakens self.old self.new }
@@ -435,7 +448,7 @@ impl Round {
         wake_waiter(&mut self.waiters, &mut self.awake, consumer, guess);
     }
 
-    /// Each waiter is awake from now on. It takes no memory.
+    /// Wakes each waiter. Never allocates.
     pub fn wake_all(&mut self)
         ensures roused { AllRoused self.old self.new }
         ensures same { order self.new ≡ order self.old }
@@ -444,7 +457,7 @@ impl Round {
         mark_between(&mut self.awake, 0, self.waiters.len());
     }
 
-    /// Whether picks look at some waiter. If not, none is awake.
+    /// Returns whether picks look at some waiter. If not, none is awake.
     pub fn has_awake(&self) -> bool
         ensures yes { result ≡ true → (i : ℕ) × (i < length self.now.waiters) × (bit_of self.now.marks i ≡ 1) }
         ensures no { result ≡ false → (p : Consumer) → IsAwake self.now p → ⊥ }
@@ -452,20 +465,22 @@ impl Round {
         any_marked(&self.awake, self.waiters.len())
     }
 
-    /// The first consumer to which a delivery can be made from the queue at this place, which has something ready, from the waiter
-    /// behind that which was picked last, and then from the front. Those that are looked at and may take nothing fall asleep, and no memory is
-    /// taken.
+    /// Picks the first consumer to which a delivery can be made from the queue at index `queue`, which has a ready message, starting behind the
+    /// waiter picked last. Waiters that it looks at before, and whose consumer can't take a message, fall asleep. Never
+    /// allocates.
     pub fn pick(&mut self, core: &Core, sleepers: &mut Sleepers, queue: usize) -> Option<Pick>
         requires placed { queue < length (topology_kept core.now).queues }
         requires ready { HasReady core.now.store queue }
         requires noted { AllAreNoted (topology_kept core.now) (broker_of core.now) sleepers.old.entries }
+        // The frame: waiters and listings stay.
         ensures kept { KeepsIn core.now queue sleepers.old.entries sleepers.new.entries self.old self.new }
         ensures more { ListsMore sleepers.old.entries sleepers.new.entries }
+        // Who is picked; if none is, no delivery can be made to a consumer of this round.
         ensures some { IfSome result (λ p. IsPickFrom core.now queue p) }
         ensures none { result ≡ None → NoneInRound core.now sleepers.old.entries queue self.old }
         ensures told { IfSome result (λ p. GoesLast core.now sleepers.old.entries queue self.old self.new p) }
         ensures same { result ≡ None → order self.new ≡ order self.old }
-        // Where nobody is told, nobody is awake any more: who may take nothing sleeps.
+        // If none is picked no waiter is awake: those whose consumer can't take a message sleep.
         ensures rested { result ≡ None → (p : Consumer) → IsAwake self.new p → ⊥ }
     {
         match first_from(

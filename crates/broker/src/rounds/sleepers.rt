@@ -1,4 +1,4 @@
-//! The waiters of consumers, by connection and channel, and which of them sleep, so that an event finds those that it is to wake.
+//! The waiters of consumers, by connection and channel, and which of them sleep, so that an event finds those that it wakes.
 
 mod moving;
 mod waking;
@@ -23,15 +23,15 @@ use std::collections::HashMap;
 use std::marker::Model;
 pub(crate) use waking::wake_connection;
 
-/// Who waits of each connection, under its number, and which of them sleep.
+/// For each connection number, the waiters of its consumers, and which of them sleep.
 pub(crate) type Sleepers = HashMap<u64, ConnectionSleepers>;
 
-/// A waiter, and the queue in whose round it is.
+/// A waiter, with the index of the queue in whose round it is.
 #[derive(Drop)]
 pub(crate) struct Listed {
     queue: usize,
     consumer: Pick,
-    /// Where it stood in the round when it fell asleep.
+    /// The index in the round that it had when it fell asleep.
     place: usize,
 }
 
@@ -47,7 +47,7 @@ impl Listed {
     ghost use Rattle.std.specs.Prelude.{◌≡◌};
     ghost use Rattle.broker.specs.Rounds.{is_listing, is_listed_there, listing};
 
-    /// The waiter of this consumer in the queue's round.
+    /// Lists the waiter of `consumer` in the round of the queue at index `queue`.
     fn new(queue: usize, consumer: Pick) -> Listed
         ensures { result ≡ listing queue consumer }
     {
@@ -58,21 +58,21 @@ impl Listed {
         }
     }
 
-    /// Whether it is this consumer's in this queue's round.
+    /// Returns whether it is the listing of `consumer` in the round of `queue`.
     fn is(&self, queue: usize, consumer: Pick) -> bool
         ensures { result ≡ is_listing (listing queue consumer) self.now }
     {
         queue == self.queue && is_same(consumer, self.consumer)
     }
 
-    /// Whether its consumer is there, and takes from the queue.
+    /// Returns whether its consumer exists and takes from the queue.
     fn is_there(&self, core: &Core) -> bool
         ensures { result ≡ is_listed_there core.now self.now }
     {
         is_of(core, self.queue, self.consumer)
     }
 
-    /// It stands at this place of its round.
+    /// Remembers that the waiter is at index `place` of its round.
     fn stand(&mut self, place: usize)
         ensures { self.new ≡ self.old }
     {
@@ -80,7 +80,7 @@ impl Listed {
     }
 }
 
-/// The place of the first listing of this number or a greater one. It is found by halving, since numbers rise.
+/// Returns the index of the first listing with `number` or a greater one, by binary search.
 fn place_near(listed: &[Listed], number: u64) -> usize
     requires { NumbersRise listed.now }
     ensures within { result ≤ length listed.now }
@@ -90,7 +90,7 @@ fn place_near(listed: &[Listed], number: u64) -> usize
     listed.partition_point(|one| one.consumer.number < number)
 }
 
-/// Whether this consumer's waiter in this queue's round is listed at this place.
+/// Returns whether the listing at index `place` is that of `consumer` in the round of `queue`.
 fn is_at(listed: &[Listed], place: usize, queue: usize, consumer: Pick) -> bool
     ensures yes { result ≡ true → IsListedAt listed.now place (listing queue consumer) }
     ensures no { result ≡ false → IsListedAt listed.now place (listing queue consumer) → ⊥ }
@@ -101,7 +101,7 @@ fn is_at(listed: &[Listed], place: usize, queue: usize, consumer: Pick) -> bool
     listed[place].is(queue, consumer)
 }
 
-/// The place at which this consumer's waiter in this queue's round is listed.
+/// Returns the index of the listing of `consumer` in the round of `queue`.
 fn search(listed: &[Listed], queue: usize, consumer: Pick) -> Option<usize>
     requires { NumbersRise listed.now }
     ensures some { IfSome result (λ i. IsListedAt listed.now i (listing queue consumer)) }
@@ -115,7 +115,7 @@ fn search(listed: &[Listed], queue: usize, consumer: Pick) -> Option<usize>
     }
 }
 
-/// This consumer's waiter in this queue's round, which is listed, sleeps from now on; it stands at this place of the round.
+/// Marks the listing of `consumer` in the round of `queue` as sleeping; its waiter is at index `place` of the round.
 fn mark_in(
     listed: &mut [Listed],
     asleep: &mut PlaceMarks,
@@ -126,6 +126,7 @@ fn mark_in(
     requires room { length listed.old ≤ length asleep.old * 64 }
     requires rising { NumbersRise listed.old }
     requires noted { IsIn (listing queue consumer) listed.old }
+    // The listing is marked; others stay.
     ensures len { length asleep.new ≡ length asleep.old }
     ensures same { listed.new ≡ listed.old }
     ensures marked { IsAsleepIn (listings_of listed.new asleep.new) (listing queue consumer) }
@@ -141,7 +142,7 @@ fn mark_in(
     }
 }
 
-/// Takes out the waiters whose consumer is gone, or takes from another queue.
+/// Removes the listings whose consumer is gone or takes from another queue.
 fn sweep(listed: &mut Vec<Listed>, core: &Core)
     ensures listed { listed.new.items ≡ filter (is_listed_there core.now) listed.old.items }
     ensures capacity { vec_capacity listed.new ≡ vec_capacity listed.old }
@@ -149,7 +150,8 @@ fn sweep(listed: &mut Vec<Listed>, core: &Core)
     listed.retain(|one| one.is_there(core));
 }
 
-/// The waiters whose consumer is gone are taken out. If some were, those that are left are woken with those that sleep. It takes no memory.
+/// Removes the listings whose consumer is gone. If there are any, all that are left are marked as sleeping, so that they are woken. Never
+/// allocates.
 fn let_go(listed: &mut Vec<Listed>, asleep: &mut PlaceMarks, core: &Core)
     requires { length listed.old.items ≤ length asleep.old * 64 }
     ensures marks { length listed.new.items ≤ length asleep.new * 64 }
@@ -163,9 +165,10 @@ fn let_go(listed: &mut Vec<Listed>, asleep: &mut PlaceMarks, core: &Core)
     }
 }
 
-/// Room for one waiter more, and for its bit.
+/// Reserves capacity for one more listing and its bit. Fails only if an allocation fails.
 fn make_room(listed: &mut Vec<Listed>, asleep: &mut PlaceMarks) -> Result<(), AllocError>
     requires { length listed.old.items ≤ length asleep.old * 64 }
+    // The capacity after it; listings and bits are unchanged.
     ensures room { OnOk result (length listed.new.items < vec_capacity listed.new) }
     ensures mark { OnOk result (length listed.new.items + 1 ≤ length asleep.new * 64) }
     ensures marks { length listed.new.items ≤ length asleep.new * 64 }
@@ -176,14 +179,14 @@ fn make_room(listed: &mut Vec<Listed>, asleep: &mut PlaceMarks) -> Result<(), Al
     listed.reserve(1)
 }
 
-/// The waiters of one channel's consumers.
+/// The listings of one channel's consumers.
 pub(crate) struct ChannelSleepers {
     listed: Vec<Listed>,
-    /// A bit for each, 1 where it sleeps.
+    /// A bit for each, 1 if it sleeps.
     asleep: PlaceMarks,
 }
 
-/// Written out, so that a drop is one call.
+/// Written out so that a drop is one call.
 impl Drop for ChannelSleepers {
     fn drop(self) {
         let ChannelSleepers {
@@ -209,7 +212,7 @@ impl ChannelSleepers {
     ghost use Rattle.model.specs.Topology.{IsIn};
     ghost use Rattle.broker.specs.Rounds.{listing, is_listed_there, Listing, HasListRoom, AreBelow, IsAsleepIn, KeepsListings, SleepMore};
 
-    /// None. It takes no memory.
+    /// Makes an empty list. Never allocates.
     fn new(alloc: Global) -> ChannelSleepers
         ensures { result.all ≡ [] }
     {
@@ -219,7 +222,7 @@ impl ChannelSleepers {
         }
     }
 
-    /// There is room for one waiter more from now on. All are listed as before.
+    /// Reserves capacity for one more listing. The listings are unchanged.
     fn reserve(&mut self) -> Result<(), AllocError>
         ensures room { OnOk result (HasListRoom self.new) }
         ensures same { SleepMore self.old self.new }
@@ -227,7 +230,7 @@ impl ChannelSleepers {
         make_room(&mut self.listed, &mut self.asleep)
     }
 
-    /// This consumer's waiter in this queue's round is listed behind all others from now on. It takes no memory.
+    /// Appends the listing of `consumer` in the round of `queue`. There is capacity for it. Never allocates.
     fn join(&mut self, queue: usize, consumer: Pick)
         requires room { HasListRoom self.old }
         requires last { AreBelow self.old.all consumer.number }
@@ -237,7 +240,7 @@ impl ChannelSleepers {
         self.listed.push_reserved(Listed::new(queue, consumer));
     }
 
-    /// The waiters whose consumer is gone are gone too. It takes no memory.
+    /// Removes the listings whose consumer is gone. Never allocates.
     fn leave(&mut self, core: &Core)
         ensures all { self.new.all ≡ filter (is_listed_there core.now) self.old.all }
         ensures kept { KeepsListings core.now self.old self.new }
@@ -245,7 +248,7 @@ impl ChannelSleepers {
         let_go(&mut self.listed, &mut self.asleep, core);
     }
 
-    /// This consumer's waiter in this queue's round, which is listed, sleeps from now on; it stands at this place of the round.
+    /// Marks the listing of `consumer` in the round of `queue` as sleeping; its waiter is at index `place` of the round.
     fn mark(&mut self, queue: usize, consumer: Pick, place: usize)
         requires { IsIn (listing queue consumer) self.old.all }
         ensures marked { IsAsleepIn self.new (listing queue consumer) }
@@ -255,7 +258,7 @@ impl ChannelSleepers {
     }
 }
 
-/// Makes a list, in which none stands, for each channel below this number that has none.
+/// Makes an empty list for each channel below `count` that has none. Fails only if an allocation fails.
 fn grow(channels: &mut Vec<ChannelSleepers>, alloc: Global, count: usize) -> Result<(), AllocError>
     ensures room { OnOk result (count ≤ length channels.new.items) }
     ensures same { (h : ℕ) → SleepMore (listings_on channels.old.items h) (listings_on channels.new.items h) }
@@ -266,7 +269,7 @@ fn grow(channels: &mut Vec<ChannelSleepers>, alloc: Global, count: usize) -> Res
     Ok(())
 }
 
-/// There is room for one waiter more on this channel, for which there is a list.
+/// Reserves capacity for one more listing on `channel`, which has a list.
 fn reserve_on(channels: &mut [ChannelSleepers], channel: u16) -> Result<(), AllocError>
     requires { channel < length channels.old }
     ensures room { OnOk result (HasListRoom (listings_on channels.new channel)) }
@@ -275,7 +278,7 @@ fn reserve_on(channels: &mut [ChannelSleepers], channel: u16) -> Result<(), Allo
     channels[channel as usize].reserve()
 }
 
-/// This consumer's waiter in this queue's round is listed on its channel from now on, behind all others.
+/// Appends the listing of `consumer` in the round of `queue` to the list of its channel.
 fn join_on(channels: &mut [ChannelSleepers], queue: usize, consumer: Pick)
     requires within { consumer.channel < length channels.old }
     requires can { CanListOn channels.old consumer }
@@ -285,7 +288,7 @@ fn join_on(channels: &mut [ChannelSleepers], queue: usize, consumer: Pick)
     channels[consumer.channel as usize].join(queue, consumer);
 }
 
-/// The waiters whose consumer is gone leave the list of each channel.
+/// Removes the listings whose consumer is gone from each channel's list.
 fn leave_each(channels: &mut [ChannelSleepers], core: &Core)
     ensures all { (h : ℕ) → (listings_on channels.new h).all ≡ filter (is_listed_there core.now) (listings_on channels.old h).all }
     ensures kept { KeepListingsOn core.now channels.old channels.new }
@@ -295,7 +298,7 @@ fn leave_each(channels: &mut [ChannelSleepers], core: &Core)
     }
 }
 
-/// This consumer's waiter in this queue's round, which is listed, sleeps from now on; it stands at this place of the round.
+/// Marks the listing of `consumer` in the round of `queue` as sleeping; its waiter is at index `place` of the round.
 fn mark_on(channels: &mut [ChannelSleepers], queue: usize, consumer: Pick, place: usize)
     requires { IsNotedOn channels.old (listing queue consumer) }
     ensures marked { IsListedOn channels.new (listing queue consumer) }
@@ -307,7 +310,7 @@ fn mark_on(channels: &mut [ChannelSleepers], queue: usize, consumer: Pick, place
     }
 }
 
-/// The waiters of one connection's consumers: a list for each channel, at its number.
+/// The listings of one connection's consumers: a list for each channel, by channel number.
 #[derive(Drop)]
 pub(crate) struct ConnectionSleepers {
     channels: Vec<ChannelSleepers>,
@@ -327,7 +330,7 @@ impl ConnectionSleepers {
     ghost use Rattle.broker.specs.Rounds.{listing, listings_on, is_listed_there, Listing, HasListRoom, CanListOn, AreBelow};
     ghost use Rattle.broker.specs.Rounds.{AddsListing, IsNotedOn, IsListedOn, KeepListingsOn, SleepMore};
 
-    /// No list. It takes no memory.
+    /// Makes no list. Never allocates.
     fn new(alloc: Global) -> ConnectionSleepers
         ensures { result ≡ [] }
     {
@@ -336,7 +339,7 @@ impl ConnectionSleepers {
         }
     }
 
-    /// There is room for one waiter more on this channel from now on. All are listed as before.
+    /// Reserves capacity for one more listing on `channel`. The listings are unchanged.
     fn reserve(&mut self, alloc: Global, channel: u16) -> Result<(), AllocError>
         ensures room { OnOk result (HasListRoom (listings_on self.new channel)) }
         ensures same { (h : ℕ) → SleepMore (listings_on self.old h) (listings_on self.new h) }
@@ -345,7 +348,7 @@ impl ConnectionSleepers {
         reserve_on(&mut self.channels, channel)
     }
 
-    /// This consumer's waiter in this queue's round is listed on its channel from now on. It takes no memory.
+    /// Appends the listing of `consumer` in the round of `queue` to the list of its channel. Never allocates.
     fn join(&mut self, queue: usize, consumer: Pick)
         requires { CanListOn self.old consumer }
         ensures noted { IsNotedOn self.new (listing queue consumer) }
@@ -354,7 +357,7 @@ impl ConnectionSleepers {
         join_on(&mut self.channels, queue, consumer);
     }
 
-    /// The waiters whose consumer is gone are gone too. It takes no memory.
+    /// Removes the listings whose consumer is gone. Never allocates.
     fn leave(&mut self, core: &Core)
         ensures all { (h : ℕ) → (listings_on self.new h).all ≡ filter (is_listed_there core.now) (listings_on self.old h).all }
         ensures kept { KeepListingsOn core.now self.old self.new }
@@ -362,7 +365,7 @@ impl ConnectionSleepers {
         leave_each(&mut self.channels, core);
     }
 
-    /// This consumer's waiter in this queue's round, which is listed, sleeps from now on; it stands at this place of the round.
+    /// Marks the listing of `consumer` in the round of `queue` as sleeping; its waiter is at index `place` of the round.
     fn mark(&mut self, queue: usize, consumer: Pick, place: usize)
         requires { IsNotedOn self.old (listing queue consumer) }
         ensures marked { IsListedOn self.new (listing queue consumer) }
@@ -372,13 +375,14 @@ impl ConnectionSleepers {
     }
 }
 
-/// There is room for this consumer's waiter on its channel, where none of as great a number is listed. All are listed as before.
+/// Reserves capacity for the listing of `consumer`, whose number is greater than all listed on its channel. The listings are unchanged.
 pub(crate) fn reserve_listing(
     sleepers: &mut Sleepers,
     alloc: Global,
     consumer: Pick,
 ) -> Result<(), AllocError>
     requires { AreBelow (listed_on sleepers.old.entries consumer.connection consumer.channel) consumer.number }
+    // The capacity after it; the frame.
     ensures room { OnOk result (CanList sleepers.new.entries consumer) }
     ensures noted { NotesStay sleepers.old.entries sleepers.new.entries }
     ensures asleep { ListsStay sleepers.old.entries sleepers.new.entries }
@@ -398,9 +402,10 @@ pub(crate) fn reserve_listing(
     }
 }
 
-/// This consumer's waiter in this queue's round is listed from now on. It takes no memory.
+/// Lists the waiter of `consumer` in the round of `queue`. There is capacity for it. Never allocates.
 pub(crate) fn join_listing(sleepers: &mut Sleepers, queue: usize, consumer: Pick)
     requires { CanList sleepers.old.entries consumer }
+    // The waiter is listed; nothing else changes.
     ensures noted { IsNoted sleepers.new.entries (listing queue consumer) }
     ensures stay { NotesStay sleepers.old.entries sleepers.new.entries }
     ensures asleep { ListsStay sleepers.old.entries sleepers.new.entries }
@@ -412,7 +417,7 @@ pub(crate) fn join_listing(sleepers: &mut Sleepers, queue: usize, consumer: Pick
     }
 }
 
-/// The waiters of this connection's consumers that are gone are listed no longer. It takes no memory.
+/// Removes the listings of those consumers of `connection` that are gone. Never allocates.
 pub(crate) fn leave_lists(sleepers: &mut Sleepers, core: &Core, connection: u64)
     ensures kept { KeepLists core.now sleepers.old.entries sleepers.new.entries }
     ensures left { ListingsLeave core.now connection sleepers.old.entries sleepers.new.entries }
@@ -423,8 +428,8 @@ pub(crate) fn leave_lists(sleepers: &mut Sleepers, core: &Core, connection: u64)
     }
 }
 
-/// This consumer's waiter in this queue's round, which is listed, sleeps from now on; it stands at this place of the round. It takes
-/// no memory.
+/// Marks the listing of `consumer` in the round of `queue` as sleeping; its waiter is at index `place` of the round. Never
+/// allocates.
 pub(crate) fn mark_waiter(sleepers: &mut Sleepers, queue: usize, consumer: Pick, place: usize)
     requires { IsNoted sleepers.old.entries (listing queue consumer) }
     ensures listed { IsListed sleepers.new.entries (listing queue consumer) }
@@ -435,7 +440,7 @@ pub(crate) fn mark_waiter(sleepers: &mut Sleepers, queue: usize, consumer: Pick,
     }
 }
 
-/// Nothing is listed any more of this connection, which runs no more.
+/// Removes all lists of `connection`, which is no longer running.
 pub(crate) fn forget_connection(sleepers: &mut Sleepers, connection: u64)
     ensures kept { (k : Kept) → (broker_of k).connection connection ≡ None → KeepLists k sleepers.old.entries sleepers.new.entries }
     ensures left { (k : Kept) → ListingsLeave k connection sleepers.old.entries sleepers.new.entries }

@@ -1,4 +1,4 @@
-//! Waiters of consumers.
+//! The waiters of consumers.
 
 ghost use Rattle.std.specs.Prelude.{◌≡◌, ◌<◌, ◌≤◌, ◌*◌, ℕ, length};
 ghost use Rattle.marks.specs.Places.{bit_of};
@@ -7,33 +7,33 @@ ghost use Rattle.broker.specs.Rounds.{is_consumer};
 use commands::Pick;
 use marks::{Flat, Over, Places};
 
-/// A set of places, by a bit for each.
+/// A set of indices, with a bit for each.
 pub(crate) type PlaceMarks = Over<Flat>;
 
-/// What stands for a consumer in the round of its queue.
+/// An entry for a consumer in the round of its queue.
 #[derive(Clone, Copy, PartialEq, Eq, Debug, Drop)]
 pub(crate) struct Waiter {
-    /// Whose it is.
+    /// Its consumer.
     pub pick: Pick,
-    /// Picks pass over it.
+    /// Whether picks pass over it.
     pub asleep: bool,
 }
 
-/// A consumer that is to be made, and the place of the queue in whose round it is to wait.
+/// A consumer that is about to be made, and the index of the queue in whose round its waiter belongs.
 #[derive(Clone, Copy, PartialEq, Eq, Debug, Drop)]
 pub(crate) struct Newcomer {
     pub queue: usize,
     pub consumer: Pick,
 }
 
-/// Two consumers are one.
+/// Returns whether the two are the same consumer.
 pub(crate) fn is_same(one: Pick, other: Pick) -> bool
     ensures { result ≡ is_consumer one other }
 {
     one.connection == other.connection && one.channel == other.channel && one.number == other.number
 }
 
-/// Puts all places from `from` up to `to` into the set.
+/// Adds the indices `from..to` to the set.
 pub(crate) fn mark_between(marks: &mut PlaceMarks, from: usize, to: usize)
     requires order { from ≤ to }
     requires room { to ≤ length marks.old * 64 }

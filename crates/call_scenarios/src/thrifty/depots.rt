@@ -6,7 +6,8 @@ use crate::parts::{Stated, publish};
 use crate::room::Room;
 use crate::thrifty::HOLDER;
 use depot::{Depot, Giving};
-use model::{ChannelId, Delivery, Note, Text};
+use model::{ChannelId, Delivery, Text};
+use notes::Notes;
 use scenario_parts::{Unmet, expect, expect_number, value_of};
 use std::alloc::Global;
 
@@ -21,7 +22,7 @@ fn filled_depot(alloc: Global) -> Result<Depot, Unmet> {
     let stated = Stated::with(alloc, b"{\"guarantees\":[]}")?;
     let mut depot = value_of("Depot::new", Depot::new(alloc, stated.topology))?;
     let (publish, content) = publish();
-    let mut notes = Vec::new(alloc);
+    let mut notes = Notes::new(alloc);
     if depot.published() > 0 {
         return Err(Unmet::Claim("a new depot has no publish"));
     }
@@ -55,7 +56,7 @@ fn requeue(depot: &mut Depot, place: usize, arrival: u64)
 }
 
 /// Checks that the one message is held and requeued, and then leaves the queue, which `notes` have spare capacity to record.
-fn expect_taken(depot: &mut Depot, notes: &mut Vec<Note>) -> Result<(), Unmet>
+fn expect_taken(depot: &mut Depot, notes: &mut Notes) -> Result<(), Unmet>
     requires { vec_len notes.old < vec_capacity notes.old }
 {
     let Some(place) = depot.topology().queue_at(b"audit") else {
@@ -71,9 +72,7 @@ fn expect_taken(depot: &mut Depot, notes: &mut Vec<Note>) -> Result<(), Unmet>
     let arrival = value_of("Depot::take_at", taken.ok_or(()))?;
     requeue(depot, place, arrival);
     expect_number("it is made ready again", depot.ready_at(place) as u64, 1)?;
-    if notes.len() >= notes.capacity() {
-        return Err(Unmet::Claim("the notes have room still"));
-    }
+    value_of("Notes::reserve_exact", notes.reserve_exact(1))?;
     depot.take(b"audit", Giving::Out(Text::short(b"audit")), notes);
     let ready = value_of("Depot::ready", depot.ready(b"audit").ok_or(()))?;
     expect_number("the queue has none any more", ready as u64, 0)?;
@@ -82,40 +81,39 @@ fn expect_taken(depot: &mut Depot, notes: &mut Vec<Note>) -> Result<(), Unmet>
 
 /// Purges `queue`, and checks the number of removed messages.
 fn expect_purged(
-    alloc: Global,
     depot: &mut Depot,
     queue: &[u8],
-    notes: &mut Vec<Note>,
+    notes: &mut Notes,
     expected: u64,
 ) -> Result<(), Unmet> {
-    let purged = value_of("Depot::purge", depot.purge(alloc, queue, notes))?;
+    let purged = value_of("Depot::purge", depot.purge(queue, notes))?;
     expect_number("the number of purged messages", purged as u64, expected)
 }
 
 /// Checks everything. A purge of a queue without ready messages doesn't allocate either.
-fn expect_depot(alloc: Global, depot: &mut Depot, notes: &mut Vec<Note>) -> Result<(), Unmet>
+fn expect_depot(depot: &mut Depot, notes: &mut Notes) -> Result<(), Unmet>
     requires { vec_len notes.old < vec_capacity notes.old }
 {
     expect_told(&*depot)?;
     expect_taken(depot, notes)?;
-    expect_purged(alloc, depot, b"audit", notes, 0)?;
-    expect_purged(alloc, depot, b"absent", notes, 0)
+    expect_purged(depot, b"audit", notes, 0)?;
+    expect_purged(depot, b"absent", notes, 0)
 }
 
 /// Checks that a purge removes the one message.
 fn expect_emptied(alloc: Global) -> Result<(), Unmet> {
     let mut depot = filled_depot(alloc)?;
-    let mut notes = Vec::new(alloc);
-    expect_purged(alloc, &mut depot, b"audit", &mut notes, 1)?;
+    let mut notes = Notes::new(alloc);
+    expect_purged(&mut depot, b"audit", &mut notes, 1)?;
     expect_number("that is noted", notes.len() as u64, 1)
 }
 
 /// Returns notes with spare capacity for one.
-fn roomy_notes(alloc: Global) -> Result<Vec<Note>, Unmet>
+fn roomy_notes(alloc: Global) -> Result<Notes, Unmet>
     ensures { IfOk result (λ notes. vec_len notes < vec_capacity notes) }
 {
-    let mut notes = Vec::new(alloc);
-    value_of("Vec::reserve_exact", notes.reserve_exact(1))?;
+    let mut notes = Notes::new(alloc);
+    value_of("Notes::reserve_exact", notes.reserve_exact(1))?;
     Ok(notes)
 }
 
@@ -126,9 +124,9 @@ pub(crate) fn a_depot_takes_no_memory(rt: &HostRuntime, alloc: Global) -> Result
     let mut second = filled_depot(alloc)?;
     let mut first_notes = roomy_notes(alloc)?;
     let mut second_notes = roomy_notes(alloc)?;
-    expect_depot(alloc, &mut first, &mut first_notes)?;
+    expect_depot(&mut first, &mut first_notes)?;
     let room = Room::of_all(rt, alloc)?;
-    let outcome = expect_depot(alloc, &mut second, &mut second_notes);
+    let outcome = expect_depot(&mut second, &mut second_notes);
     drop(room);
     outcome
 }

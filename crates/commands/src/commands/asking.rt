@@ -1,4 +1,4 @@
-//! What a command asks for that is not done on its channel alone. Source: AMQP 0-9-1, channel.open, channel.close,
+//! Commands that need more than their channel. Source: AMQP 0-9-1, channel.open, channel.close,
 //! connection.close, and queue.declare, "passive".
 
 ghost use Rattle.std.specs.Prelude.{◌≡◌, Option, None, Some, true};
@@ -13,24 +13,24 @@ use crate::refusals::{Refusal, check_queue_declare};
 use exchange_graph::Topology;
 use model::{Method, QueueDeclare};
 
-/// What a command that is not refused asks for, if it is not performed on its channel alone.
+/// What a command asks for that is not done on its channel alone. The command is not refused.
 #[derive(Clone, Copy, Drop)]
 pub(crate) enum Left<'a> {
-    /// The channel is opened.
+    /// The client opens the channel.
     OpenChannel,
     /// The client closes the channel.
     AnswerClose,
-    /// The client closes the channel, which the server has closed too and which goes on awaiting close-ok.
+    /// The client closes the channel, which the server has closed, too; it goes on awaiting close-ok.
     AnswerClosing,
     /// The client agrees to the server's close of the channel.
     EndChannel,
     /// The client closes the connection.
     CloseConnection,
-    /// The queue at this place is there, which is answered where an answer is wanted.
+    /// The client asks about the queue at this index, which exists. That is answered unless `no_wait` is set.
     FindQueue(usize, &'a QueueDeclare),
 }
 
-/// A method on a channel that awaits close-ok: all is ignored but a close and close-ok.
+/// Decides on a method on a channel that awaits close-ok: it ignores all but a close and close-ok.
 pub(crate) fn while_closing(method: &Method) -> Result<Left<'_>, Refusal>
     ensures { (t : Handed) (ch : Seen) → ch.is_closing ≡ true → Asks t (Some ch) method.now (said.refusal_while_closing method.now) result }
 {
@@ -41,7 +41,7 @@ pub(crate) fn while_closing(method: &Method) -> Result<Left<'_>, Refusal>
     }
 }
 
-/// A method on channel 0: only a close of the connection is known.
+/// Decides on a method on channel 0: only a close of the connection is known.
 pub(crate) fn on_zero(method: &Method) -> Result<Left<'_>, Refusal>
     ensures { (t : Handed) (ch : Option Seen) → Asks t ch method.now (said.refusal_on_zero method.now) result }
 {
@@ -51,7 +51,7 @@ pub(crate) fn on_zero(method: &Method) -> Result<Left<'_>, Refusal>
     }
 }
 
-/// A method on a channel that is not open: it can only be opened.
+/// Decides on a method on a channel that is not open: it can only be opened.
 pub(crate) fn on_closed(method: &Method) -> Result<Left<'_>, Refusal>
     ensures { (t : Handed) (b : Broker) → Asks t None method.now (said.refusal_on t b None method.now) result }
 {
@@ -61,7 +61,7 @@ pub(crate) fn on_closed(method: &Method) -> Result<Left<'_>, Refusal>
     }
 }
 
-/// A declare of a queue on an open channel: it may only ask whether the queue is there.
+/// Decides on a queue.declare on an open channel: it may only ask whether the queue exists.
 pub(crate) fn asked_queue<'a>(
     topology: &Topology,
     declare: &'a QueueDeclare,

@@ -1,4 +1,4 @@
-//! Consumers that are made and cancelled. Source: AMQP 0-9-1, basic.consume and basic.cancel.
+//! Makes and cancels consumers. Source: AMQP 0-9-1, basic.consume and basic.cancel.
 
 ghost use Rattle.std.specs.Prelude.{◌≡◌, IfOk, OnErr, Option};
 ghost use Rattle.model.specs.Grammar.{IsMethod};
@@ -17,8 +17,8 @@ use model::{Cancel, ChannelId, Consume};
 use replies::{Step, answer_cancel, answer_consume};
 use std::alloc::Global;
 
-/// A consumer of the queue is made, which is answered by its tag where an answer is wanted. All that takes memory is made before
-/// the first change, and behind the last test.
+/// Makes a consumer of the queue, and replies with `basic.consume-ok` and its tag unless `no_wait` is set. Fails only if it is refused or an
+/// allocation fails; nothing has changed then.
 pub(crate) fn consume(
     alloc: Global,
     id: ChannelId,
@@ -41,8 +41,8 @@ pub(crate) fn consume(
     Ok(step)
 }
 
-/// The consumer of this tag, if there is one, is the channel's no more; what it was given stays outstanding. That is answered where
-/// an answer is wanted. No queue is looked at.
+/// Cancels the consumer with this tag, if any, and replies with `basic.cancel-ok` unless `no_wait` is set. Its unacknowledged messages stay
+/// unacknowledged. Fails only if an allocation fails; nothing has changed then.
 pub(crate) fn cancel(
     alloc: Global,
     id: ChannelId,

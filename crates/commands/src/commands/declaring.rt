@@ -1,4 +1,4 @@
-//! What a client may ask of what is declared. Source: AMQP 0-9-1, exchange.declare, "passive".
+//! Answers passive declares of exchanges. Source: AMQP 0-9-1, exchange.declare, "passive".
 
 ghost use Rattle.std.specs.Prelude.{IfOk, Option};
 ghost use Rattle.model.specs.declared.contents.Content.{Content};
@@ -13,7 +13,7 @@ use model::{ChannelId, ExchangeDeclare};
 use replies::{Step, exchange_ok};
 use std::alloc::Global;
 
-/// The exchange is there, and that is answered where an answer is wanted. Nothing else changes.
+/// Replies with `exchange.declare-ok` unless `no_wait` is set, if the exchange exists. Changes nothing.
 pub(crate) fn find_exchange(
     alloc: Global,
     id: ChannelId,

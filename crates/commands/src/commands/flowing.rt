@@ -1,4 +1,4 @@
-//! The flow of what is given out on a channel. Source: AMQP 0-9-1, channel.flow.
+//! Answers channel.flow. Source: AMQP 0-9-1, channel.flow.
 
 ghost use Rattle.std.specs.Prelude.{IfOk, Option};
 ghost use Rattle.model.specs.declared.contents.Content.{Content};
@@ -13,7 +13,7 @@ use model::ChannelId;
 use replies::{Step, flow_ok};
 use std::alloc::Global;
 
-/// The flow goes on as before, and that is answered. One that stops is not implemented.
+/// Replies with `channel.flow-ok` if `is_active`: the flow goes on as before. Stopping the flow is not implemented and refused.
 pub(crate) fn flow(alloc: Global, id: ChannelId, is_active: bool) -> Result<Step, Stop>
     ensures commands { (s : Store) (ch : Open) (content : Option Content) → Commands id.connection id.number s ch (ChannelFlow is_active) content result s ch }
     ensures addressed { IfOk result (λ s. AreAddressed id.connection s.sends.items) }

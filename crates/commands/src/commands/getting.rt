@@ -1,4 +1,4 @@
-//! Messages that are taken one by one. Source: AMQP 0-9-1, basic.get.
+//! Answers basic.get. Source: AMQP 0-9-1, basic.get.
 
 ghost use Rattle.std.specs.Prelude.{◌≡◌, IfOk, OnErr, Option};
 ghost use Rattle.model.specs.declared.contents.Content.{Content};
@@ -15,8 +15,8 @@ use model::{ChannelId, Get, Taker};
 use replies::{Step, get_empty, get_ok};
 use std::alloc::Global;
 
-/// The first ready message of the queue is given out, and leaves the queue where it needs no acknowledgement; or it is answered
-/// that there is none. All that takes memory is made before the first change.
+/// Gives the first ready message of the queue out with `basic.get-ok`, or replies with `basic.get-empty`. The message leaves the queue if it needs
+/// no acknowledgement. Fails only if it is refused or an allocation fails; nothing has changed then.
 pub(crate) fn get(
     alloc: Global,
     id: ChannelId,
@@ -25,9 +25,11 @@ pub(crate) fn get(
     get: &Get,
 ) -> Result<Step, Stop>
     requires { CanCommand id.connection id.number depot.old channel.old }
+    // What the result means, and that all that is sent is for this connection.
     ensures commands { (content : Option Content)
         → Commands id.connection id.number depot.old channel.old (BasicGet get.now) content result depot.new channel.new }
     ensures addressed { IfOk result (λ s. HasSpelling depot.old (BasicGet get.now) → AreAddressed id.connection s.sends.items) }
+    // The frame; a failure changes nothing.
     ensures topology { depot.new.topology ≡ depot.old.topology }
     ensures placed { IsPlaced depot.old.topology channel.new }
     ensures err { OnErr result ((depot.new ≡ depot.old) × (channel.new ≡ channel.old)) }
@@ -42,6 +44,7 @@ pub(crate) fn get(
     let tag = channel.next_tag();
     let send = get_ok(id.connection, id.number, tag, entry, remaining)?;
     let mut step = Step::sending(alloc, send)?;
+    step.notes = depot.notes(alloc);
     give_out(
         id,
         channel,

@@ -1,4 +1,4 @@
-//! The limits of a channel. Source: AMQP 0-9-1, basic.qos; RabbitMQ, "Consumer Prefetch".
+//! Sets the limits of a channel. Source: AMQP 0-9-1, basic.qos; RabbitMQ, "Consumer Prefetch".
 
 ghost use Rattle.std.specs.Prelude.{◌≡◌, IfOk, OnErr, Option};
 ghost use Rattle.model.specs.Topology.{Topology};
@@ -15,7 +15,8 @@ use model::{ChannelId, Qos};
 use replies::{Step, qos_ok};
 use std::alloc::Global;
 
-/// The channel is limited as this qos says, and that is answered.
+/// Sets the channel's prefetch as `qos` says, and replies with `basic.qos-ok`. Fails only if it is refused or an allocation fails; nothing has
+/// changed then.
 pub(crate) fn limit(
     alloc: Global,
     id: ChannelId,

@@ -20,7 +20,7 @@ use replies::{Step, answer_select, return_if};
 use std::alloc::{AllocError, Global};
 use std::sync::Arc;
 
-/// Publishes on the channel are confirmed from now on. That is answered where an answer is wanted.
+/// Puts the channel into confirm mode, and replies with `confirm.select-ok` unless `no_wait` is set.
 pub(crate) fn select(
     alloc: Global,
     id: ChannelId,
@@ -38,14 +38,14 @@ pub(crate) fn select(
     Ok(step)
 }
 
-/// How many sends a publish makes at most, where this goes back if it is routed nowhere: that, and a confirm.
+/// Returns the most sends that a publish makes: a confirm, and a return if there is one.
 fn most_sends(returned: &Option<Send>) -> usize
     ensures { result ≡ 1 + cond (is_some returned.now) 1 0 }
 {
     if returned.is_some() { 2 } else { 1 }
 }
 
-/// A route that is known, once more, if there is one. Its queues are shared.
+/// Returns a shared reference to a known route, if any.
 fn shared(route: Option<&Arc<Route>>) -> Result<Option<Arc<Route>>, AllocError>
     ensures { IfOk result (λ r. option_map arc_value r ≡ option_map arc_value (option_copied route.entry)) }
 {
@@ -55,8 +55,8 @@ fn shared(route: Option<&Arc<Route>>) -> Result<Option<Arc<Route>>, AllocError>
     }
 }
 
-/// The message goes to each routed queue, with no content where none came with the publish. Where there is no such queue it is sent
-/// back if it is mandatory. Then it is confirmed where the channel confirms. All that takes memory is made before the first change.
+/// Publishes a message to each routed queue; without `content` it is empty. A mandatory message that is routed nowhere is returned. Then it is
+/// confirmed if the channel is in confirm mode. Fails only if it is refused or an allocation fails; nothing has changed then.
 pub(crate) fn publish(
     alloc: Global,
     id: ChannelId,
@@ -66,8 +66,10 @@ pub(crate) fn publish(
     content: &Option<Content>,
 ) -> Result<Step, Stop>
     requires { CanCommand id.connection id.number depot.old channel.old }
+    // What the result means, and that all that is sent is for this connection.
     ensures commands { Commands id.connection id.number depot.old channel.old (BasicPublish publish.now) content.now result depot.new channel.new }
     ensures addressed { IfOk result (λ s. IsMethod (BasicPublish publish.now) → AreAddressed id.connection s.sends.items) }
+    // The frame; a failure changes nothing.
     ensures topology { depot.new.topology ≡ depot.old.topology }
     ensures placed { IsPlaced depot.old.topology channel.new }
     ensures err { OnErr result ((depot.new ≡ depot.old) × (channel.new ≡ channel.old)) }
@@ -82,7 +84,7 @@ pub(crate) fn publish(
     let number = depot.published() + 1;
     let confirm = channel.next_confirm();
     let returned = return_if(id.connection, id.number, publish, content)?;
-    let mut step = Step::nothing(alloc);
+    let mut step = Step::noting(alloc, depot.notes(alloc));
     step.sends.reserve_exact(most_sends(&returned))?;
     let routed = depot.publish(alloc, id, publish, content, confirm, route, &mut step.notes)?;
     channel.count_publish();

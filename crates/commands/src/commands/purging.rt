@@ -1,4 +1,4 @@
-//! The ready messages of a queue are taken out. Source: AMQP 0-9-1, queue.purge.
+//! Purges queues. Source: AMQP 0-9-1, queue.purge.
 
 ghost use Rattle.std.specs.Prelude.{◌≡◌, IfOk, OnErr, Option};
 ghost use Rattle.model.specs.declared.contents.Content.{Content};
@@ -13,8 +13,8 @@ use model::{ChannelId, Purge};
 use replies::{Step, answer_purge};
 use std::alloc::Global;
 
-/// The ready messages of a queue leave it, in the order in which they arrived. That is noted of each of them, and their count is
-/// answered where an answer is wanted. All that takes memory is made before the first change, and the channel stays as it is.
+/// Removes the ready messages of a queue, in the order in which they arrived, with a note for each, and replies with `queue.purge-ok` and their
+/// number unless `no_wait` is set. Fails only if it is refused or an allocation fails; nothing has changed then.
 pub(crate) fn purge(
     alloc: Global,
     id: ChannelId,
@@ -30,7 +30,8 @@ pub(crate) fn purge(
     let place = check_queue(depot.topology(), &purge.queue)?;
     let count = depot.ready_at(place);
     let mut step = answer_purge(alloc, id.connection, id.number, purge.no_wait, count)?;
+    step.notes = depot.notes(alloc);
     depot.is_named(place);
-    depot.purge_at(alloc, place, &mut step.notes)?;
+    depot.purge_at(place, &mut step.notes)?;
     Ok(step)
 }

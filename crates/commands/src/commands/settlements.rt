@@ -1,4 +1,4 @@
-//! What was given out on a channel is acknowledged, rejected or recovered. Source: AMQP 0-9-1, basic.ack, basic.reject and
+//! Acknowledges, rejects and recovers deliveries. Source: AMQP 0-9-1, basic.ack, basic.reject and
 //! basic.recover; RabbitMQ, basic.nack and "Dead Letter Exchanges".
 
 ghost use Rattle.std.specs.Prelude.{◌≡◌, [], true, false, IfOk, OnOk, OnErr, List, Option};
@@ -19,8 +19,8 @@ use model::{Ack, ChannelId, Nack, Reject};
 use replies::{Step, recover_ok};
 use std::alloc::Global;
 
-/// What this tag settles was taken: it leaves its queues, and is no longer outstanding. All that takes memory is made before the
-/// first change.
+/// Acknowledges the deliveries that the tag settles: they leave their queues. Fails only if it is refused or an allocation fails; nothing has
+/// changed then.
 pub(crate) fn ack(
     alloc: Global,
     id: ChannelId,
@@ -29,21 +29,23 @@ pub(crate) fn ack(
     ack: &Ack,
 ) -> Result<Step, Stop>
     requires { CanCommand id.connection id.number depot.old channel.old }
+    // What the result means, and that all that is sent is for this connection.
     ensures commands { (content : Option Content)
         → Commands id.connection id.number depot.old channel.old (BasicAck ack.now) content result depot.new channel.new }
     ensures addressed { IfOk result (λ s. AreAddressed id.connection s.sends.items) }
+    // The frame; a failure changes nothing.
     ensures topology { depot.new.topology ≡ depot.old.topology }
     ensures placed { IsPlaced depot.old.topology channel.new }
     ensures err { OnErr result ((depot.new ≡ depot.old) × (channel.new ≡ channel.old)) }
 {
     let span = check_settling(channel, ack.delivery_tag, ack.multiple)?;
-    let mut step = Step::nothing(alloc);
+    let mut step = Step::noting(alloc, depot.notes(alloc));
     depot.ack(alloc, id, channel.at(span), &mut step.notes)?;
     channel.forget_span(span);
     Ok(step)
 }
 
-/// What this tag settles is ready again, each message in its place, and is no longer outstanding. It takes no memory.
+/// Requeues the deliveries that the tag settles: each message is ready again in its place. Never allocates.
 fn requeue(
     id: ChannelId,
     channel: &mut Channel,
@@ -52,9 +54,11 @@ fn requeue(
     multiple: bool,
 ) -> Result<(), Refusal>
     requires { CanCommand id.connection id.number depot.old channel.old }
+    // What the result means.
     ensures refusal { refused_by result ≡ said.refusal_of_settling (seen depot.old channel.old) tag multiple }
     ensures settles { OnOk result ((sends : List Sent)
         → SettlesHere Returns id.connection id.number depot.old channel.old tag multiple sends sends [] depot.new channel.new) }
+    // The frame; a refusal changes nothing.
     ensures topology { depot.new.topology ≡ depot.old.topology }
     ensures placed { IsPlaced depot.old.topology channel.new }
     ensures err { OnErr result ((depot.new ≡ depot.old) × (channel.new ≡ channel.old)) }
@@ -65,9 +69,9 @@ fn requeue(
     Ok(())
 }
 
-/// What this tag settles was not taken: it is ready again if it is to be requeued, which takes no memory. Else it leaves its queues,
-/// in the order of tags, and dies there if the queue has a dead-letter exchange; all that takes memory is made before the first
-/// change. It is no longer outstanding.
+/// Rejects the deliveries that the tag settles. If `requeue` is set they are requeued, which never allocates. Otherwise they leave their queues in
+/// the order of tags, and are dead-lettered if the queue has a dead-letter exchange. Fails only if it is refused or an allocation fails;
+/// nothing has changed then.
 pub(crate) fn nack(
     alloc: Global,
     id: ChannelId,
@@ -76,9 +80,11 @@ pub(crate) fn nack(
     nack: &Nack,
 ) -> Result<Step, Stop>
     requires { CanCommand id.connection id.number depot.old channel.old }
+    // What the result means, and that all that is sent is for this connection.
     ensures commands { (content : Option Content)
         → Commands id.connection id.number depot.old channel.old (BasicNack nack.now) content result depot.new channel.new }
     ensures addressed { IfOk result (λ s. AreAddressed id.connection s.sends.items) }
+    // The frame; a failure changes nothing, and a requeueing nack never fails to allocate.
     ensures topology { depot.new.topology ≡ depot.old.topology }
     ensures placed { IsPlaced depot.old.topology channel.new }
     ensures err { OnErr result ((depot.new ≡ depot.old) × (channel.new ≡ channel.old)) }
@@ -89,13 +95,13 @@ pub(crate) fn nack(
         return Ok(Step::nothing(alloc));
     }
     let span = check_settling(channel, nack.delivery_tag, nack.multiple)?;
-    let mut step = Step::nothing(alloc);
+    let mut step = Step::noting(alloc, depot.notes(alloc));
     depot.reject(alloc, id, channel.at(span), &mut step.notes)?;
     channel.forget_span(span);
     Ok(step)
 }
 
-/// A rejection of one message, as a nack.
+/// Converts a rejection of one message into a nack.
 pub(crate) fn nack_of(reject: &Reject) -> Nack
     ensures { result ≡ record { delivery_tag = reject.now.delivery_tag; multiple = false; requeue = reject.now.requeue } }
 {
@@ -106,7 +112,7 @@ pub(crate) fn nack_of(reject: &Reject) -> Nack
     }
 }
 
-/// All that is outstanding on the channel is ready again, and that is answered. Without requeue it is not implemented.
+/// Requeues all deliveries of the channel, and replies with `basic.recover-ok`. Without requeue it is not implemented and refused.
 pub(crate) fn recover(
     alloc: Global,
     id: ChannelId,
@@ -115,9 +121,11 @@ pub(crate) fn recover(
     is_requeue: bool,
 ) -> Result<Step, Stop>
     requires { CanCommand id.connection id.number depot.old channel.old }
+    // What the result means, and that all that is sent is for this connection.
     ensures commands { (content : Option Content)
         → Commands id.connection id.number depot.old channel.old (BasicRecover is_requeue) content result depot.new channel.new }
     ensures addressed { IfOk result (λ s. AreAddressed id.connection s.sends.items) }
+    // The frame; a failure changes nothing.
     ensures topology { depot.new.topology ≡ depot.old.topology }
     ensures placed { IsPlaced depot.old.topology channel.new }
     ensures err { OnErr result ((depot.new ≡ depot.old) × (channel.new ≡ channel.old)) }

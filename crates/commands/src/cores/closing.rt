@@ -1,4 +1,4 @@
-//! Closes of channels and connections, from both sides.
+//! Closes channels and connections, from both sides.
 
 use crate::acted::{Acted, Ends};
 use crate::cores::Core;
@@ -25,7 +25,7 @@ impl Core {
     ghost use Rattle.commands.specs.Judged.{refusal_seen, HasChannel};
     ghost use Rattle.replies.specs.Sent.{AreAddressed};
 
-    /// This close, or answer to a close, is sent, and the connection runs no more, which is told. Consumers of others stay.
+    /// Sends `send`, a close or close-ok, and removes the connection. Consumers of other connections stay.
     pub(crate) fn close_connection(
         &mut self,
         alloc: Global,
@@ -34,12 +34,15 @@ impl Core {
     ) -> Result<Acted, AllocError>
         requires agreed { IsAgreed (broker_of self.old) }
         requires addressed { IsAddressed connection send }
+        // The promise: `send` is all that is sent, and the connection is gone.
         ensures ok { IfOk result (λ a. Does a.step.sends.items a.step.notes.items (broker_of self.new) (send ∷ [])
             (with_gone (broker_of self.old) connection)) }
         ensures addressed { IfOk result (λ a. AreAddressed connection a.step.sends.items) }
+        // What ends.
         ensures ended { IfOk result (λ a. TellsEnd connection a.ends (broker_of self.old) (broker_of self.new)) }
         ensures told { IfOk result (λ a. a.ends ≡ ended.Connection) }
         ensures stay { OnOk result (OtherConsumersStay connection (broker_of self.old) (broker_of self.new)) }
+        // The frame; a failure changes nothing.
         ensures topology { topology_kept self.new ≡ topology_kept self.old }
         ensures err { OnErr result (self.new ≡ self.old) }
     {
@@ -51,12 +54,14 @@ impl Core {
         })
     }
 
-    /// What the channel held is ready again, and this stands in its place.
+    /// Requeues what the channel held, and puts `channel` in its place.
     fn clear(&mut self, connection: u64, number: u16, channel: Option<Channel>)
+        // What the caller knows: the channel is open, and the new one holds nothing and has no consumer.
         requires agreed { IsAgreed (broker_of self.old) }
         requires there { IsSome ((broker_of self.old).channel connection number) }
         requires nothing { (k : Open) → channel ≡ Some k → k.given.outstanding ≡ [] }
         requires free { (k : Open) → channel ≡ Some k → k.given.consumers ≡ [] }
+        // The channel is replaced, and what it held is ready again.
         ensures cleared { Is (said.with_freed
             (with_channel (broker_of self.old) connection number (option_map (open_in (names_of self.old)) channel))
             (by_channel connection number)) (broker_of self.new) }
@@ -67,7 +72,7 @@ impl Core {
         self.connections.put(connection, number, channel);
     }
 
-    /// This close is sent on the channel, which awaits close-ok from now on.
+    /// Sends `send`, a close, on the channel, which awaits close-ok then.
     fn close_channel(
         &mut self,
         alloc: Global,
@@ -78,9 +83,11 @@ impl Core {
         requires agreed { IsAgreed (broker_of self.old) }
         requires there { IsSome ((broker_of self.old).channel connection channel) }
         requires addressed { IsAddressed connection send }
+        // The promise: `send` is all that is sent, and the channel awaits close-ok.
         ensures ok { IfOk result (λ s. Does s.sends.items s.notes.items (broker_of self.new) (send ∷ [])
             (with_closing (broker_of self.old) connection channel)) }
         ensures addressed { IfOk result (λ s. AreAddressed connection s.sends.items) }
+        // The frame; a failure changes nothing.
         ensures topology { topology_kept self.new ≡ topology_kept self.old }
         ensures err { OnErr result (self.new ≡ self.old) }
     {
@@ -89,7 +96,7 @@ impl Core {
         Ok(step)
     }
 
-    /// The client's close of a channel is answered, and the channel is gone.
+    /// Handles the client's `channel.close`: replies with close-ok, and removes the channel.
     pub(crate) fn answer_close(
         &mut self,
         alloc: Global,
@@ -99,9 +106,11 @@ impl Core {
         requires agreed { IsAgreed (broker_of self.old) }
         requires there { IsSome ((broker_of self.old).channel connection channel) }
         requires closing { (channel_on self.old connection channel).is_closing ≡ false }
+        // The promise: close-ok is all that is sent, and the channel is gone.
         ensures ok { IfOk result (λ s. Does s.sends.items s.notes.items (broker_of self.new) (reply connection channel ChannelCloseOk ∷ [])
             (after_close (broker_of self.old) connection channel (channel_on self.old connection channel))) }
         ensures addressed { IfOk result (λ s. AreAddressed connection s.sends.items) }
+        // The frame; a failure changes nothing.
         ensures topology { topology_kept self.new ≡ topology_kept self.old }
         ensures err { OnErr result (self.new ≡ self.old) }
     {
@@ -110,7 +119,7 @@ impl Core {
         Ok(step)
     }
 
-    /// The client's close of a channel that awaits close-ok is answered. The channel goes on waiting for it.
+    /// Handles the client's `channel.close` on a channel that awaits close-ok: replies with close-ok. It goes on awaiting it.
     pub(crate) fn answer_closing(
         &self,
         alloc: Global,
@@ -125,7 +134,7 @@ impl Core {
         Step::sending(alloc, channel_close_ok(connection, channel))
     }
 
-    /// The client agrees to the close of the channel, which is gone.
+    /// Handles `channel.close-ok`: removes the channel.
     pub(crate) fn end_channel(&mut self, alloc: Global, connection: u64, channel: u16) -> Step
         requires { IsSome ((broker_of self.old).channel connection channel) }
         ensures does { PerformsOn self.old connection channel ChannelCloseOk None result.sends.items result.notes.items self.new }
@@ -135,8 +144,8 @@ impl Core {
         Step::nothing(alloc)
     }
 
-    /// What is refused does nothing, or closes its channel or its connection with the code of the refusal; the close names
-    /// the method that caused it.
+    /// Answers a refused method: ignores it, or closes its channel or its connection with the refusal's reply code and the ids of the method
+    /// that caused it.
     pub(crate) fn refuse(
         &mut self,
         alloc: Global,
@@ -147,12 +156,15 @@ impl Core {
     ) -> Result<Acted, AllocError>
         requires agreed { IsAgreed (broker_of self.old) }
         requires there { HasChannel refusal ((broker_of self.old).channel connection channel) }
+        // The promise: the model's refusal; an ignored method never fails.
         ensures ok { IfOk result (λ a. Refuses (broker_of self.old) connection channel
             (ids cause.class cause.method) (refusal_seen refusal) a.step.sends.items a.step.notes.items (broker_of self.new)) }
         ensures ignored { refusal_seen refusal ≡ said.Ignored → IsOk result }
         ensures addressed { IfOk result (λ a. AreAddressed connection a.step.sends.items) }
+        // What ends.
         ensures ended { IfOk result (λ a. TellsEnd connection a.ends (broker_of self.old) (broker_of self.new)) }
         ensures stay { IfOk result (λ a. TellsStayOn connection channel a.ends (broker_of self.old) (broker_of self.new)) }
+        // The frame; a failure changes nothing.
         ensures topology { topology_kept self.new ≡ topology_kept self.old }
         ensures err { OnErr result (self.new ≡ self.old) }
     {

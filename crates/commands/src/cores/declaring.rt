@@ -1,4 +1,4 @@
-//! What a client may ask of a queue that is declared. Source: AMQP 0-9-1, queue.declare, "passive".
+//! Answers passive declares of queues. Source: AMQP 0-9-1, queue.declare, "passive".
 
 use crate::cores::Core;
 use model::QueueDeclare;
@@ -14,8 +14,8 @@ impl Core {
     ghost use Rattle.commands.specs.Judged.{IsQueuePlace};
     ghost use Rattle.replies.specs.Sent.{AreAddressed};
 
-    /// The queue at this place is there, and that is answered where an answer is wanted: by the numbers of its ready messages
-    /// and of its consumers, on all channels together.
+    /// Replies with `queue.declare-ok` for the queue at index `place` unless `no_wait` is set: with the number of its ready messages and of its
+    /// consumers, on all channels together.
     pub(crate) fn find_queue(
         &self,
         alloc: Global,

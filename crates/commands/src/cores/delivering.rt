@@ -1,4 +1,4 @@
-//! Messages that are delivered to consumers. Source: AMQP 0-9-1, basic.deliver.
+//! Delivers messages to consumers. Source: AMQP 0-9-1, basic.deliver.
 
 use crate::cores::Core;
 use crate::delivering::deliver_on;
@@ -13,17 +13,16 @@ impl Core {
     ghost use Rattle.model.specs.Agreement.{IsAgreed};
     ghost use Rattle.model.specs.Naming.{AreNamed};
     ghost use Rattle.model.specs.Sending.{AreCarried};
-    ghost use Rattle.model.specs.Step.{IsDelivery};
     ghost use Rattle.commands.specs.State.{broker_of, topology_kept};
-    ghost use Rattle.commands.specs.Picked.{IsPick, IsNextPicked, TellsTaking};
+    ghost use Rattle.commands.specs.Picked.{IsPick, DeliversTo, IsNextPicked, TellsTaking};
     ghost use Rattle.replies.specs.Sent.{AreAddressed};
 
-    /// How many messages came to queues that lag behind those who take from them.
+    /// Returns how many messages have entered queues whose consumers lag behind.
     pub fn lagged(&self) -> u64 {
         self.depot.lagged()
     }
 
-    /// The first place at or behind this one whose queue has a message that can be given out.
+    /// Returns the index of the first queue at or after `from` with a ready message.
     pub fn next_ready(&self, from: usize) -> Option<usize>
         ensures { IsNextPicked self.now from result }
     {
@@ -32,8 +31,8 @@ impl Core {
         self.depot.next_ready(from)
     }
 
-    /// Whether the consumer of these numbers is there and may take a message now, and of the queue at which place it is one. Its
-    /// connection is found once.
+    /// Returns whether the consumer `pick` exists and can take a message now, and the index of its queue. Its connection is looked up
+    /// once.
     pub fn taking(&self, pick: Pick) -> Taking
         ensures { TellsTaking self.now pick result }
     {
@@ -49,14 +48,16 @@ impl Core {
         }
     }
 
-    /// The delivery to the consumer of these numbers that can be made: the first ready message of its queue goes to it, and
-    /// leaves the queue where it needs no acknowledgement. All that takes memory is made before the first change.
+    /// Delivers the first ready message of the consumer's queue to `pick`; such a delivery can be made. The message leaves the queue if it needs no
+    /// acknowledgement. Fails only if an allocation fails; nothing has changed then.
     pub fn deliver(&mut self, alloc: Global, pick: Pick) -> Result<Step, AllocError>
         requires agreed { IsAgreed (broker_of self.old) }
         requires picked { IsPick (broker_of self.old) pick }
-        ensures ok { IfOk result (λ s. IsDelivery (broker_of self.old) pick.connection s.sends.items s.notes.items (broker_of self.new)) }
+        // The promise: this delivery, whose send goes to the consumer's connection.
+        ensures ok { IfOk result (λ s. DeliversTo (broker_of self.old) pick s.sends.items s.notes.items (broker_of self.new)) }
         ensures addressed { IfOk result (λ s. AreCarried (broker_of self.old) → AreNamed (topology_kept self.old) (broker_of self.old)
             → AreAddressed pick.connection s.sends.items) }
+        // The frame; a failure changes nothing.
         ensures topology { topology_kept self.new ≡ topology_kept self.old }
         ensures err { OnErr result (self.new ≡ self.old) }
     {

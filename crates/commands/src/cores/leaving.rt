@@ -1,4 +1,4 @@
-//! Whether consumers leave with what is about to be done.
+//! Finds out whether what is about to be done ends consumers.
 
 use crate::cores::Core;
 use model::{ChannelId, Method};
@@ -8,14 +8,14 @@ impl Core {
     ghost use Rattle.commands.specs.State.{broker_of, channel_on};
     ghost use Rattle.commands.specs.Ended.{has_consumers, cancels_one};
 
-    /// Whether the connection runs.
+    /// Returns whether the connection is running.
     pub(crate) fn runs(&self, connection: u64) -> bool
         ensures { result ≡ is_some ((broker_of self.now).connection connection) }
     {
         self.connections.get(connection).is_some()
     }
 
-    /// Whether the channel has a consumer.
+    /// Returns whether the channel has a consumer.
     pub(crate) fn has_consumers(&self, id: ChannelId) -> bool
         ensures { result ≡ has_consumers (channel_on self.now id.connection id.number) }
     {
@@ -25,7 +25,7 @@ impl Core {
         }
     }
 
-    /// Whether the command cancels a consumer that the channel has, where nothing stands against it.
+    /// Returns whether the command cancels a consumer that the channel has, if it is not refused.
     pub(crate) fn cancels(&self, id: ChannelId, method: &Method) -> bool
         ensures { result ≡ cancels_one (channel_on self.now id.connection id.number) method.now }
     {

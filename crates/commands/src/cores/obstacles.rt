@@ -1,4 +1,4 @@
-//! What stands against a reload.
+//! The obstacle to a reload.
 
 use crate::cores::Core;
 use depot::places_are_named;
@@ -32,9 +32,9 @@ impl Core {
     ghost use Rattle.commands.specs.Obstacles.{TellsObstacle};
     ghost use Rattle.reloading.specs.Wanting.{MayWant};
 
-    /// The first thing that stands against a reload to this topology and these guarantees, or nothing where nothing does,
-    /// whoever may log in from then on. Where memory is wanting nothing is told; it may be only where no queue in use is gone, or
-    /// where the first that is has a name of more than 22 bytes.
+    /// Returns the first obstacle to a reload to `topology` and `guarantees`, or `None` if there is none; users don't matter.
+    /// Fails only if an allocation fails. It may allocate only if each queue in use is declared in `topology`, or if the first that is not has a
+    /// name of more than 22 bytes.
     pub fn obstacle(
         &self,
         alloc: Global,

@@ -1,4 +1,4 @@
-//! Channels that a client opens. Source: AMQP 0-9-1, channel.open.
+//! Opens channels. Source: AMQP 0-9-1, channel.open.
 
 use crate::cores::Core;
 use channels::Channel;
@@ -13,7 +13,7 @@ impl Core {
     ghost use Rattle.commands.specs.State.{broker_of, topology_kept};
     ghost use Rattle.replies.specs.Sent.{AreAddressed};
 
-    /// The channel is open and new from now on, and that is answered. Where memory is wanting, nothing has changed.
+    /// Makes the channel a new, open one, and replies with `channel.open-ok`. Fails only if an allocation fails; nothing has changed then.
     pub(crate) fn open_channel(
         &mut self,
         alloc: Global,

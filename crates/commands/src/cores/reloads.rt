@@ -1,4 +1,4 @@
-//! Another topology is put in force.
+//! Puts another topology in force.
 
 use crate::cores::Core;
 use channels::moves_are_unseen;
@@ -17,7 +17,7 @@ impl Core {
     ghost use Rattle.depot.specs.Moving.{AreMoved};
     ghost use Rattle.commands.specs.State.{broker_of, topology_kept, names_of, ArePlaced};
 
-    /// What every core keeps.
+    /// Shows the invariant of a core. Does nothing at run time.
     pub fn is_kept(&self)
         ensures whole { IsStoreWhole self.now.store }
         ensures placed { ArePlaced self.now }
@@ -25,15 +25,17 @@ impl Core {
         self.depot.is_whole();
     }
 
-    /// This topology is in force from now on, where no queue in use is gone: each message stands in the queue of its name, is
-    /// marked, and is else as it was, and so are connections and channels. Tells of each queue at which place it stands now.
-    /// Where memory is wanting, nothing has changed.
+    /// Puts `topology` in force, and returns the new index of each queue; each queue in use is declared in it. Each message stays in the queue of its
+    /// name and is marked as one that the reload found there; connections and channels are unchanged. Fails only if an allocation fails; nothing has
+    /// changed then.
     pub fn reload(&mut self, alloc: Global, topology: Topology) -> Result<Vec<usize>, AllocError>
         requires agreed { IsAgreed (broker_of self.old) }
         requires kept { NoneIsStranded (topology_kept self.old) topology (broker_of self.old) }
+        // The new topology is in force, messages are marked, and queues have their new indices.
         ensures topology { OnOk result (topology_kept self.new ≡ topology) }
         ensures stood { OnOk result (Is (with_all_stood (broker_of self.old)) (broker_of self.new)) }
         ensures moved { IfOk result (λ places. AreMoved (names_of self.old) (queue_names topology.queues) places.items) }
+        // A failure changes nothing.
         ensures err { OnErr result (self.new ≡ self.old) }
     {
         let places = self.depot.places_in(alloc, &topology)?;

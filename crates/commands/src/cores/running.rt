@@ -1,4 +1,4 @@
-//! Connections that run, and their pauses.
+//! Running connections, and their pauses.
 
 use crate::cores::Core;
 use crate::freeing::requeue_all;
@@ -11,8 +11,8 @@ impl Core {
     ghost use Rattle.model.specs.declared.events.Event.TheVariants as event_is;
     ghost use Rattle.commands.specs.State.{broker_of, topology_kept};
 
-    /// The connection runs from now on, with channels 1 to `channels` open and new. What one of its number held is ready
-    /// again. Where memory is wanting, nothing has changed.
+    /// Makes `connection` a running one, with channels 1 to `channels` open and new. What an earlier connection of this number held is ready
+    /// again. Fails only if an allocation fails; nothing has changed then.
     pub fn open(
         &mut self,
         alloc: Global,
@@ -33,7 +33,7 @@ impl Core {
         Ok(())
     }
 
-    /// The connection runs no more: what it held is ready again.
+    /// Removes the connection: what it held is ready again.
     pub(crate) fn go(&mut self, connection: u64)
         requires { IsAgreed (broker_of self.old) }
         ensures gone { Is (with_gone (broker_of self.old) connection) (broker_of self.new) }
@@ -47,7 +47,7 @@ impl Core {
         self.connections.remove(connection);
     }
 
-    /// The connection is paused from now on, or is not.
+    /// Sets whether the connection is paused.
     pub(crate) fn set_paused(&mut self, connection: u64, is_paused: bool)
         ensures paused { Is (with_paused (broker_of self.old) connection is_paused) (broker_of self.new) }
         ensures topology { topology_kept self.new ≡ topology_kept self.old }
@@ -55,7 +55,7 @@ impl Core {
         self.connections.set_paused(connection, is_paused);
     }
 
-    /// The connection is lost: what it held is ready again, and it is gone with its channels. It takes no memory.
+    /// Removes a connection that is lost, with its channels: its unacknowledged messages are ready again. Never allocates.
     pub fn lose(&mut self, connection: u64)
         requires { IsAgreed (broker_of self.old) }
         ensures acts { Acts (topology_kept self.old) (broker_of self.old) (event_is.Lose connection) [] [] (broker_of self.new) }
@@ -64,7 +64,7 @@ impl Core {
         self.go(connection);
     }
 
-    /// The output of the connection holds 1,048,576 bytes or more from now on. It takes no memory.
+    /// Records that the output of `connection` holds 1,048,576 bytes or more. Never allocates.
     pub fn pause(&mut self, connection: u64)
         ensures acts { Acts (topology_kept self.old) (broker_of self.old) (event_is.Pause connection) [] [] (broker_of self.new) }
         ensures topology { topology_kept self.new ≡ topology_kept self.old }
@@ -72,7 +72,7 @@ impl Core {
         self.set_paused(connection, true);
     }
 
-    /// It holds fewer again. It takes no memory.
+    /// Records that the output of `connection` holds fewer than 1,048,576 bytes again. Never allocates.
     pub fn resume(&mut self, connection: u64)
         ensures acts { Acts (topology_kept self.old) (broker_of self.old) (event_is.Resume connection) [] [] (broker_of self.new) }
         ensures topology { topology_kept self.new ≡ topology_kept self.old }

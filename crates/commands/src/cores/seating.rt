@@ -1,4 +1,4 @@
-//! Seats of consumers: of those that are there, and of one that is to be made.
+//! Numbers consumers: existing ones, and one that is about to be made.
 
 ghost use Rattle.std.specs.Prelude.{◌≡◌, option_map};
 ghost use Rattle.commands.specs.Seats.{is_consume, consumed_by, consumed};
@@ -7,14 +7,14 @@ use crate::cores::Core;
 use crate::picks::Pick;
 use model::{Event, Method, Text};
 
-/// Whether the method is a consume.
+/// Returns whether the method is a consume.
 fn is_consume(method: &Method) -> bool
     ensures { result ≡ is_consume method.now }
 {
     matches!(method, Method::BasicConsume(_))
 }
 
-/// The queue from which a consume asks to consume.
+/// Returns the queue from which a method consumes.
 fn consumed_by(method: &Method) -> Option<&Text>
     ensures { option_map (λ q. q.now) result ≡ consumed_by method.now }
 {
@@ -24,7 +24,7 @@ fn consumed_by(method: &Method) -> Option<&Text>
     }
 }
 
-/// The queue from which an event asks to consume.
+/// Returns the queue from which an event consumes.
 fn consumed(event: &Event) -> Option<&Text>
     ensures { option_map (λ q. q.now) result ≡ consumed event.now }
 {
@@ -40,7 +40,7 @@ impl Core {
     ghost use Rattle.commands.specs.State.{topology_kept};
     ghost use Rattle.commands.specs.Seats.{next_seat, seat_of, IsConsumed, IsNewest};
 
-    /// The seat of the next consumer of this channel: it is newer than all that are there. None where a consume does nothing there.
+    /// Returns the numbers of this channel's next consumer, which are newer than all there. `None` if a consume does nothing there.
     fn next_seat(&self, connection: u64, channel: u16) -> Option<Pick>
         ensures seat { result ≡ next_seat connection channel (running_in self.now.connections connection) }
         ensures newest { IfSome result (IsNewest self.now) }
@@ -54,7 +54,7 @@ impl Core {
         })
     }
 
-    /// The seat of the consumer that this event is to make: it is newer than all that are on its channel.
+    /// Returns the numbers of the consumer that `event` is going to make, which are newer than all on its channel.
     pub fn seat_of(&self, event: &Event) -> Option<Pick>
         ensures seat { result ≡ seat_of self.now event.now }
         ensures newest { IfSome result (IsNewest self.now) }
@@ -75,7 +75,7 @@ impl Core {
         }
     }
 
-    /// The place of the queue from which an event asks to consume, where it is there.
+    /// Returns the index of the queue from which `event` consumes, if the queue exists.
     pub fn queue_consumed(&self, event: &Event) -> Option<usize>
         ensures within { IfSome result (λ i. i < length (topology_kept self.now).queues) }
         ensures told { (place : ℕ) → IsConsumed (topology_kept self.now) event.now place → result ≡ Some place }

@@ -1,4 +1,4 @@
-//! What is decided of a consume. Source: AMQP 0-9-1, basic.consume.
+//! Decides on basic.consume. Source: AMQP 0-9-1, basic.consume.
 
 ghost use Rattle.std.specs.Prelude.{◌≡◌, ◌||◌, [], List, not, IfOk};
 ghost use Rattle.std.specs.Str.{bytes_eq};
@@ -12,7 +12,7 @@ use channels::Channel;
 use exchange_graph::Topology;
 use model::Consume;
 
-/// Whether it asks to be the only consumer, not to get messages of its own connection, or by any argument for what is not
+/// Returns whether a consume asks to be the only consumer, not to get messages of its own connection, or has arguments: none of that is
 /// implemented.
 fn asks_more(consume: &Consume) -> bool
     ensures { result ≡ (consume.now.exclusive || consume.now.no_local || not (bytes_eq consume.now.arguments [])) }
@@ -20,7 +20,7 @@ fn asks_more(consume: &Consume) -> bool
     consume.exclusive || consume.no_local || consume.arguments.len() > 0
 }
 
-/// What a consume may ask for.
+/// Refuses a consume that asks for what is not implemented.
 fn check_asking(consume: &Consume) -> Result<(), Refusal>
     ensures { refused_by result ≡ said.refusal_of_asking consume.now }
 {
@@ -31,7 +31,7 @@ fn check_asking(consume: &Consume) -> Result<(), Refusal>
     }
 }
 
-/// Whether the channel can have one consumer more.
+/// Refuses a consume if the channel can't have this consumer.
 fn check_seat(channel: &Channel, consume: &Consume) -> Result<(), Refusal>
     ensures { (names : List Name) → refused_by result ≡ said.refusal_of_seat (open_in names channel.now) consume.now }
 {
@@ -41,8 +41,8 @@ fn check_seat(channel: &Channel, consume: &Consume) -> Result<(), Refusal>
     }
 }
 
-/// A consume: the queue must be there, nothing may be asked for that is not implemented, and the channel must be able to have one
-/// consumer more. Tells the place of the queue.
+/// Refuses a consume if the queue doesn't exist, if it asks for what is not implemented, or if the channel can't have this consumer, in this
+/// order. Returns the index of the queue.
 pub fn check_consume(
     topology: &Topology,
     channel: &Channel,

@@ -1,4 +1,4 @@
-//! What is decided of a flow, and of what would declare or bind for a client.
+//! Decides on channel.flow, and on declares.
 
 ghost use Rattle.std.specs.Prelude.{◌≡◌, Some, None, IfOk, if◌then◌else◌};
 ghost use Rattle.model.specs.Step as said;
@@ -9,7 +9,7 @@ use crate::refusals::{Refusal, check_queue};
 use exchange_graph::Topology;
 use model::{ExchangeDeclare, QueueDeclare};
 
-/// A flow that stops is not implemented.
+/// Refuses to stop the flow, which is not implemented.
 pub fn check_flow(active: bool) -> Result<(), Refusal>
     ensures { refused_by result ≡ said.refusal_of_flow active }
 {
@@ -20,14 +20,14 @@ pub fn check_flow(active: bool) -> Result<(), Refusal>
     }
 }
 
-/// Whether an exchange of this name is there. The default exchange always is.
+/// Returns whether an exchange with this name exists. The default exchange always does.
 fn is_exchange(topology: &Topology, name: &[u8]) -> bool
     ensures { said.refusal_of_exchange topology.now name.now ≡ (if result then None else Some (Of_channel 404)) }
 {
     name.is_empty() || topology.exchange(name).is_some()
 }
 
-/// A declare of an exchange may only ask whether the exchange is there.
+/// Refuses an exchange.declare unless it is passive and the exchange exists.
 pub fn check_exchange(topology: &Topology, declare: &ExchangeDeclare) -> Result<(), Refusal>
     ensures { refused_by result ≡ said.refusal_of_exchange_declare topology.now declare.now }
 {
@@ -41,7 +41,7 @@ pub fn check_exchange(topology: &Topology, declare: &ExchangeDeclare) -> Result<
     }
 }
 
-/// A declare of a queue may only ask whether the queue is there. The place of that queue.
+/// Refuses a queue.declare unless it is passive and the queue exists. Returns the index of the queue.
 pub fn check_queue_declare(topology: &Topology, declare: &QueueDeclare) -> Result<usize, Refusal>
     ensures place { IfOk result (IsQueuePlace topology.now declare.now.queue) }
     ensures refusal { refused_by result ≡ said.refusal_of_queue_declare topology.now declare.now }

@@ -1,4 +1,4 @@
-//! What is decided of a publish. Source: AMQP 0-9-1, basic.publish.
+//! Decides on basic.publish. Source: AMQP 0-9-1, basic.publish.
 
 ghost use Rattle.std.specs.Prelude.{◌≡◌, ◌<◌, false, List, OnOk, IfOk, IfSome};
 ghost use Rattle.std.specs.Arc.{arc_value};
@@ -18,7 +18,7 @@ use exchange_graph::{Access, Route};
 use model::Publish;
 use std::sync::Arc;
 
-/// Clients may publish to no internal exchange, and to none that is not there.
+/// Refuses a publish to an internal exchange, or to one that doesn't exist.
 fn check_access(access: Access) -> Result<(), Refusal>
     ensures { (t : Handed) (exchange : Name) → access ≡ access_to t exchange → refused_by result ≡ said.refusal_to t exchange }
 {
@@ -29,7 +29,7 @@ fn check_access(access: Access) -> Result<(), Refusal>
     }
 }
 
-/// A number must be left for the publish, and one for its confirm where the channel confirms.
+/// Refuses a publish if no number is left for it, or, if the channel confirms, for its confirm.
 fn check_counters(published: u64, channel: &Channel) -> Result<(), Refusal>
     ensures refusal { (b : Broker) (names : List Name) → b.published ≡ published → refused_by result ≡ said.refusal_of_count b (open_in names channel.now) }
     ensures published { OnOk result (published < greatest) }
@@ -42,8 +42,8 @@ fn check_counters(published: u64, channel: &Channel) -> Result<(), Refusal>
     }
 }
 
-/// A publish is refused where it asks for `immediate`, which is not implemented, then for its exchange, then for its counters.
-/// Tells its route, where that is known. It takes no memory.
+/// Refuses a publish if it asks for `immediate`, which is not implemented, then for its exchange, then for its counters.
+/// Returns its route if that is known. Never allocates.
 pub fn check_publish<'a>(
     depot: &'a Depot,
     channel: &Channel,

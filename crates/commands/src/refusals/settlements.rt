@@ -1,4 +1,4 @@
-//! What is decided of acknowledgements, rejections and recoveries.
+//! Decides on acknowledgements, rejections and recoveries.
 
 ghost use Rattle.std.specs.Prelude.{◌≡◌, List, IfOk};
 ghost use Rattle.model.specs.Words.{Text as Name};
@@ -10,7 +10,8 @@ ghost use Rattle.commands.specs.Judged.{refused_by};
 use crate::refusals::Refusal;
 use channels::{Channel, Span};
 
-/// Where on the channel that is what this tag settles. A tag that is not outstanding is refused. Source: AMQP 0-9-1, basic.ack, "delivery-tag".
+/// Returns the span of the channel's deliveries that `tag` settles. Refuses a tag that is not unacknowledged. Source: AMQP 0-9-1, basic.ack,
+/// "delivery-tag".
 pub fn check_settling(channel: &Channel, tag: u64, multiple: bool) -> Result<Span, Refusal>
     ensures span { IfOk result (λ span. IsSpan span tag multiple channel.now.given.outstanding) }
     ensures refusal { (names : List Name) → refused_by result ≡ said.refusal_of_settling (open_in names channel.now) tag multiple }
@@ -21,7 +22,7 @@ pub fn check_settling(channel: &Channel, tag: u64, multiple: bool) -> Result<Spa
     }
 }
 
-/// A recovery without requeue is not implemented.
+/// Refuses a recovery without requeue, which is not implemented.
 pub fn check_recover(requeue: bool) -> Result<(), Refusal>
     ensures { refused_by result ≡ said.refusal_of_recover requeue }
 {

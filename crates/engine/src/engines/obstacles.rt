@@ -1,4 +1,4 @@
-//! What stands against a reload, asked before it is done.
+//! The obstacle to a reload, asked before it is done.
 
 use crate::engines::Engine;
 use crate::setups::Setup;
@@ -12,11 +12,11 @@ impl Engine {
     ghost use Rattle.engine.specs.Wanting.{engine_lacks};
     ghost use Rattle.runs.specs.Wants.{To_reload};
 
-    /// Returns the first thing that stands against a reload to `setup`, with which [`Engine::reload`] would refuse it now, or `None` if
-    /// nothing does. Changes nothing, and copies nothing of `setup`.
+    /// Returns the first obstacle to a reload to `setup`, with which [`Engine::reload`] would refuse it now, or `None` if there is
+    /// none. Changes nothing, and copies nothing of `setup`.
     ///
-    /// Fails only if an allocation fails, which may be only if no queue in use is gone, or the first that is has a name of more than 22
-    /// bytes.
+    /// Fails only if an allocation fails. It may allocate only if each queue in use is declared in `setup`, or if the first that is not has a name of
+    /// more than 22 bytes.
     pub fn obstacle(&self, alloc: Global, setup: &Setup) -> Result<Option<Obstacle>, AllocError>
         ensures told { IfOk result (TellsWhatStands (world_of self.now) setup.now) }
         ensures wants { OnErr result (engine_lacks (world_of self.now) (To_reload setup.now)) }

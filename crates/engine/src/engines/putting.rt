@@ -1,4 +1,4 @@
-//! What is in force, changed between events.
+//! Puts another topology in force between events.
 
 ghost use Rattle.std.specs.Prelude.{List, OnOk};
 ghost use Rattle.model.specs.declared.messages.User.{User as MayLogIn};
@@ -17,7 +17,7 @@ use model::User;
 use runs::ReloadFault;
 use std::alloc::Global;
 
-/// The broker runs this topology from now on, if nothing stands against it with these guarantees, whoever may log in.
+/// Makes the broker run `topology`, unless there is an obstacle to it with `guarantees`.
 fn put(
     alloc: Global,
     broker: &mut Broker,
@@ -43,23 +43,26 @@ impl Engine {
     ghost use Rattle.runs.specs.Reloaded.{TellsReload, IsMemory};
     ghost use Rattle.reloading.specs.Wanting.{MayWant};
 
-    /// Puts another topology in force, with its guarantees and who may log in. What waits is marked as what stood then, and
-    /// connections stay, with their consumers, what they hold, and what they have still to say and to take. Each queue's consumers are
-    /// gone round as before, and the queues from the first.
+    /// Puts the topology, the guarantees and the users of a setup in force. Messages in queues are marked as ones that the reload found there.
+    /// Connections stay, with their consumers, their unacknowledged messages, their unread input and their output. The order of each queue's
+    /// consumers stays, and the round over the queues starts at the first.
     ///
-    /// The first thing that stands against it is told: a queue that is gone while messages wait in it or consumers take
-    /// from it, or else a message that by deaths could come where a guarantee forbids it. Then, and where memory is wanting,
-    /// nothing is different. Memory may be wanting only where no queue in use is gone, or where the first that is has a name of more
-    /// than 22 bytes.
+    /// Refused by the first obstacle: a queue that is no longer declared while messages are in it or consumers take from it, or else a message that
+    /// could reach a queue that a guarantee forbids it by dead-lettering. A refused reload changes nothing.
+    /// Also fails if an allocation fails; nothing has changed then. It may allocate only if each queue in use is declared, or if the first that is not
+    /// has a name of more than 22 bytes.
     pub fn reload(
         &mut self,
         alloc: Global,
         checked: Checked,
         users: Vec<User>,
     ) -> Result<(), ReloadFault>
+        // Either it is done, or the first obstacle is reported and nothing has changed.
         ensures told { TellsReload (world_of self.old) (in_force checked users.items) result (world_of self.new) }
         ensures kept { OnErr result (self.new ≡ self.old) }
+        // Each queue's order of consumers is kept.
         ensures lines { OnOk result (LinesMove self.old.broker self.new.broker) }
+        // When it may fail to allocate.
         ensures wants { IsMemory result → MayWant (world_of self.old).config.topology checked.topology (world_of self.old).state.broker }
     {
         let (topology, guarantees) = checked.into_parts();

@@ -1,4 +1,4 @@
-//! Waiters are listed in the rounds of their queues, where these stand at other places.
+//! Gives listings the new indices of their queues.
 
 ghost use Rattle.std.specs.Prelude.{◌≡◌, map};
 ghost use Rattle.broker.specs.Moving.{listing_moved, listings_moved, channels_moved, all_moved};
@@ -9,7 +9,7 @@ impl Listed {
     ghost use Rattle.std.specs.Prelude.{◌≡◌};
     ghost use Rattle.broker.specs.Moving.{listing_moved};
 
-    /// Its queue stands at the place that the table has for it.
+    /// Sets the queue's index to the one that `places` has for it.
     fn relocate(&mut self, places: &[usize])
         ensures { self.new ≡ listing_moved places.now self.old }
     {
@@ -19,7 +19,7 @@ impl Listed {
     }
 }
 
-/// The queues of these stand at the places that the table has for them.
+/// Does the same for each of `listed`.
 fn move_listed(listed: &mut [Listed], places: &[usize])
     ensures { listed.new ≡ map (listing_moved places.now) listed.old }
 {
@@ -32,7 +32,7 @@ impl ChannelSleepers {
     ghost use Rattle.std.specs.Prelude.{◌≡◌};
     ghost use Rattle.broker.specs.Moving.{listings_moved};
 
-    /// The queues of these stand at the places that the table has for them.
+    /// Does the same for each listing of the channel.
     fn relocate(&mut self, places: &[usize])
         ensures { self.new ≡ listings_moved places.now self.old }
     {
@@ -40,7 +40,7 @@ impl ChannelSleepers {
     }
 }
 
-/// The queues of all waiters on these channels stand at the places that the table has for them.
+/// Does the same for each listing of these channels.
 fn move_each(channels: &mut [ChannelSleepers], places: &[usize])
     ensures { channels.new ≡ map (listings_moved places.now) channels.old }
 {
@@ -53,7 +53,7 @@ impl ConnectionSleepers {
     ghost use Rattle.std.specs.Prelude.{◌≡◌};
     ghost use Rattle.broker.specs.Moving.{channels_moved};
 
-    /// The queues of all its waiters stand at the places that the table has for them.
+    /// Does the same for each listing of the connection.
     fn relocate(&mut self, places: &[usize])
         ensures { self.new ≡ channels_moved places.now self.old }
     {
@@ -61,7 +61,7 @@ impl ConnectionSleepers {
     }
 }
 
-/// The queues of all waiters stand at the places that the table has for them. It takes no memory.
+/// Sets each listing's queue to the index that `places` has for it. Never allocates.
 pub(crate) fn move_sleepers(sleepers: &mut Sleepers, places: &[usize])
     ensures { sleepers.new.entries ≡ all_moved places.now sleepers.old.entries }
 {

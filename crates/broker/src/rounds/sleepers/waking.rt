@@ -1,4 +1,4 @@
-//! Waiters that sleep are woken.
+//! Wakes waiters that sleep.
 
 ghost use Rattle.std.specs.Prelude.{◌≡◌, ◌≤◌, ◌*◌, ℕ, true, false, length};
 ghost use Rattle.broker.specs.Rounds.{is_on_channel, listings_of, listings_on, Listing, IsAt, IsAsleepIn, IsListedOn, IsNotedOn, IsListed, IsWoken};
@@ -13,7 +13,7 @@ impl Listed {
     ghost use Rattle.std.specs.Prelude.{◌≡◌, length};
     ghost use Rattle.broker.specs.Rounds.{IsWoken, AllWaken};
 
-    /// Its waiter is awake from now on.
+    /// Wakes its waiter.
     fn wake(&self, rounds: &mut QueueRounds)
         ensures woken { IsWoken rounds.old rounds.new self.now }
         ensures wakens { AllWaken rounds.old rounds.new }
@@ -23,7 +23,7 @@ impl Listed {
     }
 }
 
-/// The waiters of these that sleep are awake from now on.
+/// Wakes the waiters of those that are marked as sleeping, and clears their bits.
 fn wake_listed(listed: &[Listed], asleep: &mut PlaceMarks, rounds: &mut QueueRounds)
     requires { length listed.now ≤ length asleep.old * 64 }
     ensures size { length asleep.new ≡ length asleep.old }
@@ -46,7 +46,7 @@ impl ChannelSleepers {
     ghost use Rattle.std.specs.Prelude.{◌≡◌, length};
     ghost use Rattle.broker.specs.Rounds.{WakesListed, AllWaken};
 
-    /// None sleeps from now on.
+    /// Wakes all waiters of the channel.
     fn wake(&mut self, rounds: &mut QueueRounds)
         ensures same { self.new.all ≡ self.old.all }
         ensures woken { WakesListed self.old rounds.old rounds.new }
@@ -57,7 +57,7 @@ impl ChannelSleepers {
     }
 }
 
-/// The waiters that sleep on the channel of this number are awake from now on.
+/// Wakes the waiters that sleep on `channel`.
 fn wake_one(channels: &mut [ChannelSleepers], rounds: &mut QueueRounds, channel: u16)
     ensures others { (h : ℕ) → (h ≡ channel → ⊥) → listings_on channels.new h ≡ listings_on channels.old h }
     ensures same { (h : ℕ) → (listings_on channels.new h).all ≡ (listings_on channels.old h).all }
@@ -71,7 +71,7 @@ fn wake_one(channels: &mut [ChannelSleepers], rounds: &mut QueueRounds, channel:
     }
 }
 
-/// The waiters that sleep on any channel are awake from now on.
+/// Wakes the waiters that sleep on any channel.
 fn wake_each(channels: &mut [ChannelSleepers], rounds: &mut QueueRounds)
     ensures same { (h : ℕ) → (listings_on channels.new h).all ≡ (listings_on channels.old h).all }
     ensures woken { (h : ℕ) → WakesListed (listings_on channels.old h) rounds.old rounds.new }
@@ -83,11 +83,13 @@ fn wake_each(channels: &mut [ChannelSleepers], rounds: &mut QueueRounds)
     }
 }
 
-/// The same of this channel, or of all where none is named.
+/// Wakes the waiters that sleep on `channel`, or on any if it is `None`.
 fn wake_on(channels: &mut [ChannelSleepers], rounds: &mut QueueRounds, channel: Option<u16>)
+    // The frame: listings stay, and so do sleepers of other channels.
     ensures others { (l : Listing) → is_on_channel channel l.consumer ≡ false → IsListedOn channels.old l → IsListedOn channels.new l }
     ensures noted { (l : Listing) → IsNotedOn channels.old l → IsNotedOn channels.new l }
     ensures same { (h : ℕ) → (listings_on channels.new h).all ≡ (listings_on channels.old h).all }
+    // The waiters are woken.
     ensures woken { (l : Listing) → is_on_channel channel l.consumer ≡ true → IsListedOn channels.old l → IsWoken rounds.old rounds.new l }
     ensures wakens { AllWaken rounds.old rounds.new }
     ensures len { length rounds.new ≡ length rounds.old }
@@ -102,11 +104,13 @@ impl ConnectionSleepers {
     ghost use Rattle.std.specs.Prelude.{◌≡◌, ℕ, true, false, length};
     ghost use Rattle.broker.specs.Rounds.{is_on_channel, listings_on, Listing, IsListedOn, IsNotedOn, IsWoken, AllWaken};
 
-    /// Its waiters that sleep on this channel, or on any where none is named, are awake from now on.
+    /// Wakes its waiters that sleep on `channel`, or on any if it is `None`.
     fn wake(&mut self, rounds: &mut QueueRounds, channel: Option<u16>)
+        // The frame: listings stay, and so do sleepers of other channels.
         ensures others { (l : Listing) → is_on_channel channel l.consumer ≡ false → IsListedOn self.old l → IsListedOn self.new l }
         ensures noted { (l : Listing) → IsNotedOn self.old l → IsNotedOn self.new l }
         ensures same { (h : ℕ) → (listings_on self.new h).all ≡ (listings_on self.old h).all }
+        // The waiters are woken.
         ensures woken { (l : Listing) → is_on_channel channel l.consumer ≡ true → IsListedOn self.old l → IsWoken rounds.old rounds.new l }
         ensures wakens { AllWaken rounds.old rounds.new }
         ensures len { length rounds.new ≡ length rounds.old }
@@ -115,17 +119,19 @@ impl ConnectionSleepers {
     }
 }
 
-/// The waiters of this connection that sleep on this channel, or on any where none is named, are awake from now on. All others are
-/// listed as before. It takes no memory.
+/// Wakes the waiters of `connection` that sleep on `channel`, or on any if it is `None`. All others are
+/// listed as before. Never allocates.
 pub(crate) fn wake_connection(
     sleepers: &mut Sleepers,
     rounds: &mut QueueRounds,
     connection: u64,
     channel: Option<u16>,
 )
+    // The frame: listings stay, and so do other sleepers.
     ensures others { (l : Listing) → (IsAt connection channel l.consumer → ⊥) → IsListed sleepers.old.entries l → IsListed sleepers.new.entries l }
     ensures noted { NotesStay sleepers.old.entries sleepers.new.entries }
     ensures same { SameListed sleepers.old.entries sleepers.new.entries }
+    // The waiters are woken.
     ensures woken { (l : Listing) → IsAt connection channel l.consumer → IsListed sleepers.old.entries l → IsWoken rounds.old rounds.new l }
     ensures none { MakesNoList sleepers.old.entries sleepers.new.entries }
     ensures wakens { AllWaken rounds.old rounds.new }

@@ -1,4 +1,4 @@
-use Rattle.commands.proofs.Names.{◌≡◌, ◌∙◌, refl, sym, subst, true, false, Option, Err, IsMethod, Topology, refusal_while_closing, refusal_on_zero, refusal_of_queue_declare, Method, ChannelFlow, ExchangeDeclare, QueuePurge, BasicAck, BasicReject, BasicNack, BasicRecover, BasicGet, BasicConsume, BasicCancel, BasicQos, BasicPublish, ConfirmSelect, Answers, Asks, HasSpelling, seen, state_of}
+use Rattle.commands.proofs.Names.{◌≡◌, ◌∙◌, refl, sym, subst, true, false, Option, Err, IsMethod, Topology, refusal_while_closing, refusal_on_zero, refusal_of_queue_declare, Method, Answers, Asks, HasSpelling, seen, state_of}
 use Rattle.std.proofs.Common.{Some}
 use Rattle.model.specs.Step.{Refusal}
 use Rattle.model.specs.declared.methods.Method.TheVariants.{QueueDeclare}

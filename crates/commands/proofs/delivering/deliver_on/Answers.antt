@@ -33,7 +33,7 @@ returns-clause-ok c =
     let first : first_ready (queue_at s c.in-Some.consumer.now.queue) ≡ Some e = sym c.first_ready_at.ensures ∙ ap (option_map (λ e. e.now)) c.in-Some-first_ready_at.is in
     delivered s c.give_out.new.depot c.args.channel.now c.give_out.new.channel c.args.pick c.in-Some.consumer.now e c.next_tag-tag.result (queue_name s.topology c.in-Some.consumer.now.queue) c.in_ok-step.step.sends.items c.give_out.new.notes.items
     c.in-Some.ensures (ap first_ready c.is_named.ensures.entries_are ∙ first) c.next_tag-tag.ensures refl (c.in_ok-step.ensures.sends ∙ ap (λ (x : Send). x ∷ []) c.in_ok-send.ensures.send)
-    (c.in_ok-give_out.ensures.notes e first ∙ ap (λ (ns : List Note). ns ++ delivery_notes c.in-Some.consumer.now.no_ack e.message.number (queue_name s.topology c.in-Some.consumer.now.queue)) c.in_ok-step.ensures.notes)
+    (c.in_ok-give_out.ensures.notes e first ∙ ap (λ (ns : List Note). ns ++ delivery_notes c.in-Some.consumer.now.no_ack e.message.number (queue_name s.topology c.in-Some.consumer.now.queue)) c.notes.ensures)
     c.in_ok-give_out.ensures.gives
 
 pub returns-clause-addressed : goal.returns-clause-addressed

@@ -1,4 +1,4 @@
-use Rattle.engine.proofs.Names.{◌≡◌, ◌∙◌, sym, ap, is_running, AreCarried, DecidesByPhase, rules_of}
+use Rattle.engine.proofs.Names.{◌≡◌, ◌∙◌, sym, ap, is_running, DecidesByPhase, rules_of}
 use Rattle.model.specs.declared.events.Phase.TheVariants as phase
 use Rattle.broker.specs.Turns.{topology_kept, broker_of}
 use Rattle.engine.proofs.Asked.{decides_running, decides_elsewhere, ok_map}

@@ -6,7 +6,7 @@ use Rattle.engine.proofs.pumping.pump_connection.Goals as goal
 pub put_out-requires-clause-own : goal.put_out-requires-clause-own
 put_out-requires-clause-own c =
     rw c.deref.ensures.value (delivery_sends (topology_kept c.args.broker.now) (broker_of c.args.broker.now) (broker_of c.pump.new.broker) c.args.pick.connection c.in-Ok.step.sends.items c.in-Ok.step.notes.items
-    c.requires.carried c.in-Ok.ensures.ok (c.in-Ok.ensures.addressed c.requires.carried c.requires.named))
+    c.requires.carried c.in-Ok.ensures.ok.delivery (c.in-Ok.ensures.addressed c.requires.carried c.requires.named))
 
 pub returns-in-Ok-clause-ok : goal.returns-in-Ok-clause-ok
 returns-in-Ok-clause-ok c =
@@ -15,7 +15,7 @@ returns-in-Ok-clause-ok c =
     record {
       sends = c.in-Ok.step.sends.items;
       mid = broker_of c.pump.new.broker;
-      acts = c.in-Ok.ensures.ok;
+      delivers = c.in-Ok.ensures.ok;
       own = rw (← sends) c.put_out.ensures.own;
       bounded = rw (← max.value) max.most;
       spelled = rw (← max.value, ← sends) c.put_out.ensures.spelled;

@@ -1,4 +1,4 @@
-use Rattle.engine.proofs.Names.{◌≡◌, ◌∙◌, None, Some, Option, ℕ, inl, inr, refl, sym, ap, subst, GoesOn, Event, stream_of, HasFront, GivesCommand, Stops, ComesNext}
+use Rattle.engine.proofs.Names.{None, Some, Option, inl, inr, refl, sym, subst, GoesOn, Event, stream_of, HasFront, GivesCommand, Stops, ComesNext}
 use Rattle.engine.proofs.Turned.{kept_next, read_has, not_some, coming_on, front_more}
 use Rattle.engine.proofs.reading.read_next.Goals as goal
 

@@ -1,7 +1,7 @@
-use Rattle.engine.proofs.Names.{◌≡◌, ◌≤◌, ◌∙◌, ◌++◌, true, ℕ, List, Option, Some, None, refl, sym, ap, subst, IfSome, IsSaid, spelling, Event, IsAskedBy, rules_of, Performed, DidNext, brings_message, Connection}
+use Rattle.engine.proofs.Names.{◌≡◌, ◌≤◌, ◌∙◌, ◌++◌, true, ℕ, List, Option, refl, sym, ap, subst, IfSome, IsSaid, spelling, Event, IsAskedBy, rules_of, Performed, DidNext, brings_message, Connection}
 use Rattle.broker.specs.Turns.{topology_kept, broker_of}
 use Rattle.engine.specs.declared.turning.Turn.TheVariants as turn
-use Rattle.engine.proofs.Turned.{performed_put, stays_refused}
+use Rattle.engine.proofs.Turned.{performed_put}
 use Rattle.engine.proofs.Waiting.{back_then}
 use Rattle.engine.proofs.turning.do_next.Goals as goal
 

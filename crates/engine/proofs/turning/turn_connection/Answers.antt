@@ -1,4 +1,4 @@
-use Rattle.engine.proofs.Names.{◌≡◌, ◌∙◌, false, refl, sym, ap, rules, IfOk, OnErr, is_ended, is_past_bound, rules_of, wire_in, Connection, stream_of}
+use Rattle.engine.proofs.Names.{◌≡◌, false, refl, sym, ap, rules, is_ended, is_past_bound, rules_of, wire_in, Connection, stream_of}
 use Rattle.broker.specs.Turns.{topology_kept, broker_of}
 use Rattle.engine.proofs.Asked.{ok_map, on_err, err_map, both_err}
 use Rattle.engine.proofs.Turned.{IsRead, next_known, took_next, idle_next, keeps_after, waits_next, reads_next}

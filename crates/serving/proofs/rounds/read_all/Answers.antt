@@ -1,42 +1,83 @@
-use Rattle.serving.proofs.Names.{◌≡◌, ◌∙◌, ◌++◌, List, [], None, refl, sym, ap, subst, append-nil, count_by, drop, flat_map, slice_index_or, is_some, Ask, Serves, served, read_of, reads_due}
+use Rattle.serving.proofs.Names.{◌≡◌, ◌<◌, ◌-◌, ◌∙◌, ◌++◌, List, [], None, length, refl, sym, ap, subst, append-nil, count_by, drop, flat_map, slice_index_or, is_some, arith, Ask, Serves, served, read_of, reads_due}
 use Rattle.serving.proofs.Onward.{serves_then}
 use Rattle.serving.proofs.Apart.{later_on, due_on}
 use Rattle.serving.proofs.Fits.{seated_on}
-use Rattle.serving.proofs.Seating.{left_behind, none_due}
+use Rattle.serving.proofs.Seating.{left_behind, none_due, taken_from, taken_within}
+use Rattle.serving.proofs.Waiting.{passes_none, passes_on, waits_left}
 use Rattle.serving.proofs.rounds.read_all.Goals as goal
 
--- no slot is left that is taken, so that nothing is due of those behind
-pub returns-then-left-eq0-clause-serves : goal.returns-then-left-eq0-clause-serves
-returns-then-left-eq0-clause-serves g c =
-    let world = g.M.Machine.world in
-    let told = g.W.Wire.told in
-    let inv = c.loop-slot.invariant in
-    let i = c.loop-slot.slot in
-    let start = served (world c.args.machine.now) c.args.peers.now.slots (told c.args.wire.now) in
-    let here = served (world c.loop-slot.machine) c.loop-slot.peers.slots (told c.loop-slot.wire) in
-    let none : count_by is_some (drop i start.peers) ≡ 0 = ap (count_by is_some) (sym inv.later) ∙ inv.left ∙ c.if-left-eq0.true in
-    let rest : flat_map (read_of here.world) (drop i start.peers) ≡ [] = none_due (read_of here.world) refl (drop i start.peers) none in
-    let asked : inv.so_far.0 ≡ reads_due start = sym (append-nil inv.so_far.0) ∙ ap (λ (z : List Ask). inv.so_far.0 ++ z) (sym rest) ∙ inv.so_far.2 in
-    subst (λ (z : List Ask). Serves g.M.Machine.lacks start z c.loop-slot.done here) asked inv.so_far.1
+pub loop-left-init : goal.loop-left-init
+loop-left-init g c = record {
+  seated = c.requires.seated;
+  capacity = refl;
+  passes = passes_none (g.M.Machine.world c.args.machine.now) c.args.peers.now.slots (g.W.Wire.told c.args.wire.now) c.len-left.result (sym c.len-left.ensures);
+}
 
-pub loop-slot-preserved : goal.loop-slot-preserved
-loop-slot-preserved g c =
+-- slots are left that are taken, so that there is one from here on
+pub pass_quiet-next-requires : goal.pass_quiet-next-requires
+pass_quiet-next-requires g c =
+    let p = c.loop-left.invariant.passes in
+    let some : c.loop-left.slot < length c.args.peers.now.slots = taken_within c.args.peers.now.slots c.loop-left.slot c.loop-left.left
+    (ap (count_by is_some) (sym p.later) ∙ p.left) (omega (arith, c.loop-left-test.true)) in
+    omega (arith, some, c.capacity-end.ensures.slots)
+
+-- no more were passed by than were left
+pub overflow_sub-left-in-loop-left : goal.overflow_sub-left-in-loop-left
+overflow_sub-left-in-loop-left g c =
+    let told = g.W.Wire.told in
+    let run = c.pass_quiet-next.ensures in
+    waits_left (c.pass_quiet-next.result - c.loop-left.slot) (drop c.loop-left.slot c.loop-left.peers.slots) (told c.loop-left.wire) (told c.pass_quiet-next.new.wire) c.loop-left.left run.told c.loop-left.invariant.passes.left
+
+-- the slot behind them is counted only if it is taken
+pub overflow_sub-left-in-loop-left-2 : goal.overflow_sub-left-in-loop-left-2
+overflow_sub-left-in-loop-left-2 g c =
+    let told = g.W.Wire.told in
+    let inv = c.loop-left.invariant in
+    let j = c.pass_quiet-next.result in
+    let ps = c.loop-left.peers.slots in
+    let run = c.pass_quiet-next.ensures in
+    let start = served (g.M.Machine.world c.args.machine.now) c.args.peers.now.slots (told c.args.wire.now) in
+    let here = passes_on start (g.M.Machine.world c.loop-left.machine) ps c.loop-left.quiet c.loop-left.slot j c.loop-left.left (told c.loop-left.wire) (told c.pass_quiet-next.new.wire) c.loop-left.done run.least inv.seated.quiet run.marked run.told inv.passes in
+    let left = here.left in
+    let taken = taken_from ps j in
+    omega (arith, left, taken, c.count_at-left.ensures.count)
+
+pub loop-left-preserved : goal.loop-left-preserved
+loop-left-preserved g c =
     let world = g.M.Machine.world in
     let told = g.W.Wire.told in
-    let inv = c.loop-slot.invariant in
-    let i = c.loop-slot.slot in
+    let inv = c.loop-left.invariant in
+    let j = c.pass_quiet-next.result in
     let start = served (world c.args.machine.now) c.args.peers.now.slots (told c.args.wire.now) in
-    let here = served (world c.loop-slot.machine) c.loop-slot.peers.slots (told c.loop-slot.wire) in
+    let mid = served (world c.loop-left.machine) c.loop-left.peers.slots (told c.pass_quiet-next.new.wire) in
     let next = served (world c.read_slot-done.new.machine) c.read_slot-done.new.peers.slots (told c.read_slot-done.new.wire) in
+    let run = c.pass_quiet-next.ensures in
     let one = c.read_slot-done.ensures in
+    let here = passes_on start mid.world mid.peers c.loop-left.quiet c.loop-left.slot j c.loop-left.left (told c.loop-left.wire) mid.told c.loop-left.done run.least inv.seated.quiet run.marked run.told inv.passes in
     record {
-      seated = seated_on here next _ _ _ _ one.serves inv.seated one.quiet;
+      seated = seated_on mid next _ _ _ _ one.serves inv.seated one.quiet;
       capacity = one.capacity ∙ inv.capacity;
-      left = left_behind here.peers next.peers i c.loop-slot.left c.count_at-left.result c.count_at-left.ensures.count one.later inv.left;
-      later = one.later ∙ later_on start.peers here.peers i inv.later;
-      so_far = (
-        inv.so_far.0 ++ read_of here.world (slice_index_or here.peers i None),
-        serves_then start here next _ _ _ _ inv.so_far.1 one.serves,
-        due_on (read_of here.world) (read_of next.world) refl start.peers here.peers i inv.so_far.0 (reads_due start) inv.later one.due inv.so_far.2,
-      );
+      passes = record {
+        later = one.later ∙ later_on start.peers mid.peers j here.later;
+        asked = here.asked ++ read_of mid.world (slice_index_or mid.peers j None);
+        serves = serves_then start mid next _ _ _ _ here.serves one.serves;
+        so_far = due_on (read_of mid.world) (read_of next.world) refl start.peers mid.peers j here.asked (reads_due start) here.later one.due here.so_far;
+        left = left_behind mid.peers next.peers j _ c.count_at-left.result c.count_at-left.ensures.count one.later here.left;
+      };
     }
+
+-- no slot is left that is taken, so that nothing is due of those behind
+pub returns-clause-serves : goal.returns-clause-serves
+returns-clause-serves g c =
+    let world = g.M.Machine.world in
+    let told = g.W.Wire.told in
+    let p = c.loop-left.invariant.passes in
+    let i = c.loop-left.slot in
+    let start = served (world c.args.machine.now) c.args.peers.now.slots (told c.args.wire.now) in
+    let here = served (world c.loop-left.machine) c.loop-left.peers.slots (told c.loop-left.wire) in
+    let test = c.loop-left-test.false in
+    let last = p.left in
+    let none : count_by is_some (drop i start.peers) ≡ 0 = ap (count_by is_some) (sym p.later) ∙ omega (arith, last, test) in
+    let rest : flat_map (read_of here.world) (drop i start.peers) ≡ [] = none_due (read_of here.world) refl (drop i start.peers) none in
+    let asked : p.asked ≡ reads_due start = sym (append-nil p.asked) ∙ ap (λ (z : List Ask). p.asked ++ z) (sym rest) ∙ p.so_far in
+    subst (λ (z : List Ask). Serves g.M.Machine.lacks start z c.loop-left.done here) asked p.serves

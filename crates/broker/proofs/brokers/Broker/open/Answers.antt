@@ -6,7 +6,7 @@ use Rattle.broker.proofs.Staying.{others_stay, own_left, listed_left, none_liste
 use Rattle.broker.proofs.Turning.{none_later, round_same, round_left}
 use Rattle.broker.proofs.brokers.Broker.open.Goals as goal
 
--- where memory is wanting
+-- after an allocation failure
 pub invariant_of-self : goal.invariant_of-self
 invariant_of-self c = subst (λ (k : Kept). IsServing k c.self.inside.rounds) (sym c.in_err-open.ensures.err) c.self.invariant
 

@@ -17,11 +17,11 @@ returns-in_default-clause-addressed c = rw (← c.self.view_is) c.in_ok-acted.en
 pub expect_next-requires-clause-listed : goal.expect_next-requires-clause-listed
 expect_next-requires-clause-listed c = listed_same c.self.inside.core c.self.inside.rounds.lists c.wake_for.new.self.lists c.wake_for.ensures.same c.self.invariant.listed
 
--- where memory is wanting for the newcomer
+-- if an allocation fails for the newcomer
 pub invariant_of-self : goal.invariant_of-self
 invariant_of-self c = serving_on c.self.inside.core c.self.inside.rounds c.wake_for.new.self c.expect_next.new.self c.args.event.now c.self.invariant c.wake_for.ensures.kept c.wake_for.ensures.noted c.wake_for.ensures.none c.wake_for.ensures.on c.expect_next.ensures.kept c.expect_next.ensures.noted c.expect_next.ensures.running c.expect_next.ensures.on c.wake_for.ensures.same c.expect_next.ensures.same
 
--- where it is wanting for the step
+-- if one fails for the step
 pub invariant_of-self-in_err-acted : goal.invariant_of-self-in_err-acted
 invariant_of-self-in_err-acted c =
     subst (λ (k : Kept). IsServing k c.expect_next.new.self) (sym c.in_err-acted.ensures.err)

@@ -11,7 +11,7 @@ reserve_listing-requires c =
     newest_last c.args.core.now c.self.inside.sleepers.entries c.in-Some.consumer c.in-Some.ensures.newest
     (subst (λ (r : Rounds). AllListedAreThere c.args.core.now r.lists) (sym c.self.view_is) c.requires.listed)
 
--- where memory is wanting for the list
+-- if an allocation fails for the list
 pub returns-in_err-reserve_listing-clause-kept : goal.returns-in_err-reserve_listing-clause-kept
 returns-in_err-reserve_listing-clause-kept c = λ place p i has.
     joined_more (broker_of c.args.core.now) c.self.inside.sleepers.entries c.reserve_listing.new.sleepers.entries place (round_at c.self.inside.rounds place) p c.reserve_listing.ensures.asleep

@@ -3,7 +3,7 @@ use Rattle.commands.specs.State.{broker_of}
 use Rattle.broker.proofs.Stepped.{lists_kept}
 use Rattle.broker.proofs.rounds.ConsumerRounds.leave.Goals as goal
 
--- where the connection runs no more
+-- if the connection is no longer running
 pub returns-in-Connection-clause-kept : goal.returns-in-Connection-clause-kept
 returns-in-Connection-clause-kept c = λ place p i has.
     lists_kept c.args.core.now c.self.inside.sleepers.entries c.forget_connection.new.sleepers.entries c.leave.new.self (c.forget_connection.ensures.kept c.args.core.now (c.requires c.in-Connection.is)) place p

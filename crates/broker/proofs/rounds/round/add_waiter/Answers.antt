@@ -4,7 +4,7 @@ use Rattle.broker.proofs.Inserting.{comes_last, did_insert, picks_inserted, keep
 use Rattle.broker.proofs.Picks.{picks_length}
 use Rattle.broker.proofs.rounds.round.add_waiter.Goals as goal
 
--- whoever comes in stands where the line ends
+-- a new waiter is at the end of the order
 pub returns-clause-last : goal.returns-clause-last
 returns-clause-last c =
     let old = c.args.waiters.now.items in

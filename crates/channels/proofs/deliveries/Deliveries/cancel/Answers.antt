@@ -7,4 +7,5 @@ invariant_of-self c = (
   c.self.invariant.0,
   c.take_out.ensures.counted _ c.self.invariant.1,
   subst (AreNumbered c.self.inside.next_number) (sym c.take_out.ensures.consumers) (numbered_filter c.self.inside.next_number (λ (x : Consumer). not (is_named c.args.tag.now x)) c.self.inside.seats.consumers c.self.invariant.2),
+  c.self.invariant.3,
 )

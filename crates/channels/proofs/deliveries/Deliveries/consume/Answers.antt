@@ -1,5 +1,4 @@
-use Rattle.channels.proofs.Imports.{◌≡◌, ◌+◌, ◌++◌, ◌∷◌, [], refl, sym, ap, subst, ◌∙◌, is_to, count_to, taker_of, Seated, SeatsAreCounted, AreNumbered, Consumer}
-use Rattle.channels.proofs.Marking.{counted_waiting}
+use Rattle.channels.proofs.Imports.{◌≡◌, ◌+◌, ◌++◌, ◌∷◌, [], refl, sym, ap, subst, ◌∙◌, count_to, taker_of, Seated, SeatsAreCounted, AreNumbered, NoneAbove, Consumer}
 use Rattle.channels.proofs.Numbering.{numbered_push}
 use Rattle.channels.proofs.deliveries.Deliveries.consume.Goals as goal
 
@@ -12,6 +11,10 @@ invariant_of-self-2 c =
     let was : SeatsAreCounted (record old { room = c.reserve.new.self.room }) os = record { each = c.self.invariant.1.each; all = c.self.invariant.1.all } in
     let pushed : c.push.new.self.consumers ≡ old.consumers ++ one ∷ [] = c.push.ensures.consumers ∙ ap (λ (s : Seated). s.consumers ++ one ∷ []) c.reserve.ensures.same in (
       c.self.invariant.0,
-      c.push.ensures.counted os (subst (λ (s : Seated). SeatsAreCounted s os) (sym c.reserve.ensures.same) was) (c.given_to-held.ensures ∙ counted_waiting (λ o. is_to next o.by) c.all.result.now ∙ ap (count_to taker_of next) c.all.ensures.all),
+      c.push.ensures.counted os (subst (λ (s : Seated). SeatsAreCounted s os) (sym c.reserve.ensures.same) was) (c.held_by-held.ensures ∙ ap (count_to taker_of next) c.all.ensures.all),
       subst (AreNumbered (next + 1)) (sym pushed) (numbered_push next old.consumers one refl c.self.invariant.2),
+      c.self.invariant.3,
     )
+
+pub held_by-held-requires : goal.held_by-held-requires
+held_by-held-requires c = subst (NoneAbove c.self.inside.most_given) (sym c.all.ensures.all) c.self.invariant.3

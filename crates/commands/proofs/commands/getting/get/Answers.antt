@@ -27,7 +27,7 @@ returns-clause-commands c = λ content old new turns.
     let found : first_ready (entries_named s asked.queue) ≡ Some e = first_named s c.in_ok-place.place asked.queue (Some e) at c.is_named.ensures (first ∙ c.first_ready_at.ensures) in
     let here : first_ready (entries_named s q) ≡ Some e = ap first_ready c.is_named.ensures.entries_are ∙ sym (first ∙ c.first_ready_at.ensures) in
     let noted : c.give_out.new.notes.items ≡ delivery_notes asked.no_ack e.message.number asked.queue =
-    c.in_ok-give_out.ensures.notes e (sym (first ∙ c.first_ready_at.ensures)) ∙ ap (λ (ns : List Note). ns ++ delivery_notes asked.no_ack e.message.number q) c.in_ok-step.ensures.notes ∙ ap (delivery_notes asked.no_ack e.message.number) at.named in
+    c.in_ok-give_out.ensures.notes e (sym (first ∙ c.first_ready_at.ensures)) ∙ ap (λ (ns : List Note). ns ++ delivery_notes asked.no_ack e.message.number q) c.notes.ensures ∙ ap (delivery_notes asked.no_ack e.message.number) at.named in
     let count : c.saturating_sub-remaining.result ≡ ready_in (entries_named s q) - 1 = c.saturating_sub-remaining.ensures ∙ ap (λ (n : ℕ). n - 1) (c.ready_at.ensures ∙ sym (ap ready_in c.is_named.ensures.entries_are)) in (
       there s.topology (state_of s old) ch asked (Some e) is found ∙ sym (c.in_ok-check_tag.ensures.refusal (queue_names s.topology.queues) e),
       gotten (state_of s old) (state_of c.give_out.new.depot new) c.args.id.connection c.args.id.number ch asked q e c.next_tag-tag.result c.saturating_sub-remaining.result c.in_ok-step.step.sends.items c.give_out.new.notes.items

@@ -1,4 +1,4 @@
-use Rattle.commands.proofs.Names.{◌≡◌, ◌+◌, ◌++◌, ◌∙◌, ap, refl, sym, subst, ℕ, List, Option, is_some, err_from_is_err_and, IsPublish, content_or_none, next_of, answer_of, confirm_sends, confirm_notes, returned_notes, Content, Send, Note, Publishes, IsPlaced, AreAddressed, return_if, sent_back, seen, state_of}
+use Rattle.commands.proofs.Names.{◌≡◌, ◌+◌, ◌++◌, ◌∙◌, ap, refl, sym, subst, ℕ, List, [], Option, is_some, err_from_is_err_and, IsPublish, content_or_none, next_of, answer_of, confirm_sends, confirm_notes, returned_notes, Content, Send, Note, Publishes, IsPlaced, AreAddressed, return_if, sent_back, seen, state_of}
 use Rattle.std.specs.Prelude.{◌&&◌}
 use Rattle.commands.proofs.Publishing.{publish_here, back_own, content_used}
 use Rattle.commands.proofs.commands.publishing.publish.Goals as goal
@@ -47,11 +47,12 @@ returns-clause-commands c = λ old new turns.
     let sends : c.confirm.new.self.sends.items ≡ sent_back none back ++ confirm_sends connection number (next_of ch.confirm) (answer_of full) =
     c.confirm.ensures.sends
     ∙ ap (λ (z : List Send). z ++ confirm_sends connection number c.next_confirm-confirm.result (answer_of full))
-    (c.send_back.ensures.sends ∙ ap (λ (z : List Send). z ++ sent_back none c.in_ok-returned.returned) (c.in_ok-reserve_exact.ensures.items ∙ c.nothing-step.ensures.sends) ∙ ap (sent_back none) c.in_ok-returned.ensures.send)
+    (c.send_back.ensures.sends ∙ ap (λ (z : List Send). z ++ sent_back none c.in_ok-returned.returned) (c.in_ok-reserve_exact.ensures.items ∙ c.noting-step.ensures.sends) ∙ ap (sent_back none) c.in_ok-returned.ensures.send)
     ∙ ap (λ (o : Option ℕ). sent_back none back ++ confirm_sends connection number o (answer_of full)) confirm in
+    let empty : c.noting-step.result.notes.items ≡ [] = cc (c.noting-step.ensures.notes, c.notes.ensures) in
     let noted : c.send_back.new.self.notes.items ≡ done.noted ++ returned_notes (s.published + 1) (none && is_some back) =
     c.send_back.ensures.notes
-    ∙ ap (λ (z : List Note). z ++ returned_notes (c.published-number.result + 1) (none && is_some c.in_ok-returned.returned)) (done.appended ∙ ap (λ (z : List Note). z ++ done.noted) c.nothing-step.ensures.notes)
+    ∙ ap (λ (z : List Note). z ++ returned_notes (c.published-number.result + 1) (none && is_some c.in_ok-returned.returned)) (done.appended ∙ ap (λ (z : List Note). z ++ done.noted) empty)
     ∙ ap (λ (n : ℕ). done.noted ++ returned_notes (n + 1) (none && is_some c.in_ok-returned.returned)) c.published-number.ensures
     ∙ ap (λ (o : Option Send). done.noted ++ returned_notes (s.published + 1) (none && is_some o)) c.in_ok-returned.ensures.send in
     let notes : c.confirm.new.self.notes.items ≡ (done.noted ++ returned_notes (s.published + 1) (none && is_some back)) ++ confirm_notes (s.published + 1) (next_of ch.confirm) (answer_of full) =
@@ -69,7 +70,7 @@ returns-clause-addressed c = λ said.
     let none = c.in_ok-routed.routed.is_none in
     let confirmed : List Send = confirm_sends c.args.id.connection c.args.id.number c.next_confirm-confirm.result (answer_of c.in_ok-routed.routed.is_some_full) in
     let sends : c.send_back.new.self.sends.items ≡ sent_back none c.in_ok-returned.returned =
-    c.send_back.ensures.sends ∙ ap (λ (z : List Send). z ++ sent_back none c.in_ok-returned.returned) (c.in_ok-reserve_exact.ensures.items ∙ c.nothing-step.ensures.sends) in
+    c.send_back.ensures.sends ∙ ap (λ (z : List Send). z ++ sent_back none c.in_ok-returned.returned) (c.in_ok-reserve_exact.ensures.items ∙ c.noting-step.ensures.sends) in
     subst (AreAddressed c.args.id.connection) (sym (c.confirm.ensures.sends ∙ ap (λ (z : List Send). z ++ confirmed) sends))
     (back_own c.args.id.connection none c.in_ok-returned.returned confirmed (c.in_ok-returned.ensures.addressed said) c.confirm.ensures.addressed)
 

@@ -12,12 +12,12 @@ returns-clause-commands c =
     let here : queue_at s place ≡ entries_named s asked.queue = sym c.is_named.ensures.entries_are ∙ ap (entries_named s) at.named in
     let count : c.ready_at-count.result ≡ ready_in (entries_named s asked.queue) = c.ready_at-count.ensures ∙ ap (λ (es : List Entry). ready_in es) here in
     let sent = c.in_ok-step.ensures.sends ∙ ap (λ (n : ℕ). purge_sends c.args.id.connection c.args.id.number asked.no_wait n) count in
-    let by : IsPurgedBy s asked.queue c.in_ok-step.step.notes.items c.purge_at.new.notes.items c.in_ok-purge_at.field-0 c.purge_at.new.self =
-    subst (λ (q : Text). IsPurgedBy s q c.in_ok-step.step.notes.items c.purge_at.new.notes.items c.in_ok-purge_at.field-0 c.purge_at.new.self) at.named c.in_ok-purge_at.ensures.ok in
+    let by : IsPurgedBy s asked.queue c.notes.result.items c.purge_at.new.notes.items c.in_ok-purge_at.field-0 c.purge_at.new.self =
+    subst (λ (q : Text). IsPurgedBy s q c.notes.result.items c.purge_at.new.notes.items c.in_ok-purge_at.field-0 c.purge_at.new.self) at.named c.in_ok-purge_at.ensures.ok in
     λ ch content old new turns. (
       none,
-      purged_is s c.purge_at.new.self ch c.args.id.connection c.args.id.number c.in_ok-purge_at.field-0 old new asked c.in_ok-step.step.sends.items c.in_ok-step.step.notes.items c.purge_at.new.notes.items
-          turns sent c.in_ok-step.ensures.notes by,
+      purged_is s c.purge_at.new.self ch c.args.id.connection c.args.id.number c.in_ok-purge_at.field-0 old new asked c.in_ok-step.step.sends.items c.notes.result.items c.purge_at.new.notes.items
+          turns sent c.notes.ensures by,
     )
 
 pub returns-clause-topology : goal.returns-clause-topology

@@ -17,8 +17,8 @@ pub returns-clause-commands : goal.returns-clause-commands
 returns-clause-commands c = λ content old new turns. (
   sym (c.in_ok-span.ensures.refusal (queue_names c.args.depot.now.topology.queues)),
   rw c.if-nack.false (settles Rejects c.args.id.connection c.args.id.number c.args.nack.now.delivery_tag c.forget_span.new.self.given.room c.args.nack.now.multiple c.in_ok-span.span c.args.depot.now c.reject.new.self c.args.channel.now c.forget_span.new.self
-      (waiting c.at.result.now) [] c.nothing-step.result.sends.items c.nothing-step.result.notes.items c.reject.new.notes.items
-      c.in_ok-span.ensures.span c.at.ensures c.nothing-step.ensures.sends c.nothing-step.ensures.notes c.in_ok-reject.ensures.ok c.forget_span.ensures.settled old new turns),
+      (waiting c.at.result.now) [] c.noting-step.result.sends.items c.noting-step.result.notes.items c.reject.new.notes.items
+      c.in_ok-span.ensures.span c.at.ensures c.noting-step.ensures.sends (cc (c.noting-step.ensures.notes, c.notes.ensures)) c.in_ok-reject.ensures.ok c.forget_span.ensures.settled old new turns),
 )
 
 pub returns-clause-topology : goal.returns-clause-topology

@@ -1,0 +1,8 @@
+//! The notes of a step, kept for a reader or only told to the contracts. Start with [`Notes`].
+#![tactic(auto)]
+
+mod notes;
+mod tokens;
+mod untold;
+
+pub use notes::Notes;

@@ -1,0 +1,141 @@
+//! The notes of a step.
+
+ghost use Rattle.std.specs.Prelude.{◌≡◌, ◌+◌, ◌<◌, ◌≤◌, ◌++◌, ◌∷◌, [], set, take, eqb, slice_get, Some, OnOk, OnErr, IfSome, vec_len, vec_capacity};
+ghost use Rattle.notes.specs.Numbered.{numbered};
+
+use crate::untold::Untold;
+use model::Note;
+use std::alloc::{AllocError, Global};
+use std::marker::Model;
+
+/// The notes in their order, kept for a reader or only told to the contracts.
+#[derive(Drop)]
+pub enum Held {
+    Kept(Vec<Note>),
+    Told(Vec<Untold>),
+}
+
+/// The notes of a step, in their order. Contracts see the vector of the notes, even if nobody keeps them.
+#[derive(Drop)]
+pub struct Notes {
+    held: Held,
+}
+
+impl Model for Notes {
+    ghost use Rattle.std.specs.Prelude.{Vec};
+    ghost use Rattle.std.specs.declared.alloc.Global.{Global};
+    ghost use Rattle.model.specs.declared.notes.Note.{Note};
+    ghost use Rattle.notes.specs.declared.notes.Held.TheVariants.{Kept, Told};
+
+    ghost Value = { Vec Note Global };
+
+    ghost view = { λ n. elim n.held [ Kept v ↦ v | Told v ↦ v ] };
+}
+
+/// Sets the number of a note that a message left its queue. Any other note stays as it is.
+fn set_number(note: &mut Note, number: u64)
+    ensures { note.new ≡ numbered number note.old }
+{
+    if let Note::Left { number: kept, .. } = note {
+        *kept = number;
+    }
+}
+
+impl Notes {
+    /// Returns an empty list that keeps what is appended. Never allocates.
+    pub fn new(alloc: Global) -> Notes
+        ensures { result.items ≡ [] }
+    {
+        Notes {
+            held: Held::Kept(Vec::new(alloc)),
+        }
+    }
+
+    /// Returns an empty list that keeps no note. Never allocates.
+    pub fn untold(alloc: Global) -> Notes
+        ensures { result.items ≡ [] }
+    {
+        Notes {
+            held: Held::Told(Vec::new(alloc)),
+        }
+    }
+
+    /// Reserves capacity for `additional` more notes. Fails only if the allocation fails. If nobody keeps the notes, it allocates one
+    /// block of no bytes.
+    pub fn reserve_exact(&mut self, additional: usize) -> Result<(), AllocError>
+        ensures items { self.new.items ≡ self.old.items }
+        ensures len { vec_len self.new ≡ vec_len self.old }
+        ensures ok { OnOk result (vec_len self.new + additional ≤ vec_capacity self.new) }
+        ensures capacity { vec_capacity self.old ≤ vec_capacity self.new }
+        ensures full { OnErr result (vec_capacity self.old < vec_len self.old + additional) }
+    {
+        match &mut self.held {
+            Held::Kept(notes) => notes.reserve_exact(additional),
+            Held::Told(notes) => notes.reserve_exact(additional),
+        }
+    }
+
+    /// Appends `note`. There is capacity for it.
+    pub fn push_reserved(&mut self, note: Note)
+        requires { vec_len self.old < vec_capacity self.old }
+        ensures items { self.new.items ≡ self.old.items ++ note ∷ [] }
+        ensures len { vec_len self.new ≡ vec_len self.old + 1 }
+        ensures capacity { vec_capacity self.new ≡ vec_capacity self.old }
+    {
+        match &mut self.held {
+            Held::Kept(notes) => notes.push_reserved(note),
+            Held::Told(notes) => notes.push_reserved(Untold::of(&note)),
+        }
+    }
+
+    /// Returns the number of notes.
+    pub fn len(&self) -> usize
+        ensures { result ≡ vec_len self.now }
+    {
+        match &self.held {
+            Held::Kept(notes) => notes.len(),
+            Held::Told(notes) => notes.len(),
+        }
+    }
+
+    /// Returns whether there is no note.
+    pub fn is_empty(&self) -> bool
+        ensures { result ≡ eqb (vec_len self.now) 0 }
+    {
+        self.len() == 0
+    }
+
+    /// Removes all notes behind the first `len`.
+    pub fn truncate(&mut self, len: usize)
+        ensures items { self.new.items ≡ take len self.old.items }
+    {
+        match &mut self.held {
+            Held::Kept(notes) => notes.truncate(len),
+            Held::Told(notes) => notes.truncate(len),
+        }
+    }
+
+    /// Sets the number of the note at index `place`, and that of `note`. The note there equals `note` with number 0.
+    pub fn set_number(&mut self, place: usize, note: &mut Note, number: u64)
+        requires { slice_get self.old.items place ≡ Some (numbered 0 note.old) }
+        ensures items { self.new.items ≡ set self.old.items place (numbered number note.old) }
+        ensures note { note.new ≡ numbered number note.old }
+    {
+        set_number(note, number);
+        match &mut self.held {
+            Held::Kept(notes) => set_number(&mut notes[place], number),
+            Held::Told(notes) => notes[place] = Untold::of(note),
+        }
+    }
+
+    /// Returns the notes, or `None` if nobody keeps them.
+    pub fn into_vec(self) -> Option<Vec<Note>>
+        ensures { IfSome result (λ notes. notes.items ≡ self.items) }
+    {
+        let Notes { held } = self;
+        match held {
+            Held::Kept(notes) => Some(notes),
+            Held::Told(_) => None,
+        }
+    }
+}

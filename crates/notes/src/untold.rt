@@ -1,0 +1,32 @@
+//! A note that is not kept.
+
+ghost use Rattle.std.specs.Prelude.{◌≡◌};
+
+use crate::tokens::Token;
+use model::Note;
+use std::marker::Model;
+
+/// A note that nobody keeps: contracts see it, and it has no bytes.
+#[derive(Drop)]
+pub struct Untold {
+    token: Token,
+}
+
+impl Model for Untold {
+    ghost use Rattle.model.specs.declared.notes.Note.{Note};
+
+    ghost Value = { Note };
+
+    ghost view = { λ u. u.token.note };
+}
+
+impl Untold {
+    /// Returns `note` as one that nobody keeps.
+    pub(crate) fn of(note: &Note) -> Untold
+        ensures { result ≡ note.now }
+    {
+        Untold {
+            token: Token::of(note),
+        }
+    }
+}
