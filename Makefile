@@ -39,8 +39,8 @@ help:
 	@echo "  make manual    makes the manual page and the completions anew, of the program's help"
 	@echo "  make test      proves every crate, tries the must-fail edits, runs the tests and the program    one to two hours"
 	@echo "without rt, with Python 3 alone:"
-	@echo "  make prose     looks in the pages for dead links, a long README, and words that readers stumble over"
-	@echo "  make tools     runs the tests of tools/ and checks the names in docs/PROMISE.md               a minute"
+	@echo "  make prose     looks in pages and doc comments for dead links, a long README, and words that readers stumble over"
+	@echo "  make tools     runs the tests of tools/ and checks the names in docs/PROMISE.md               two minutes"
 
 # one's own files: make try DEFS=definitions.json GUARANTEES=guarantees.json, and another address: LISTEN=127.0.0.1:5673. Names may have blanks.
 export DEFS GUARANTEES LISTEN
@@ -153,7 +153,7 @@ same:
 promise:
 	@python3 tools/promise
 
-# the pages: links, the README's length, words that readers stumble over
+# the pages: links, the README's length, words that readers stumble over; the same words in doc comments of what is public
 prose:
 	@python3 tools/prose
 	@python3 tools/prose/tests/test.py

@@ -1,8 +1,10 @@
 #!/usr/bin/env python3
 """Checks the pages: that no link leads nowhere, how long the README is, that no sentence has a word of the dialect below, and that a crate's CALLING.md
-quotes a proved caller.
+quotes a proved caller. Checks the doc comments of what is public in each crate for the same words.
 
 The words are short and true, and a reader stops at them. Beside each is what to write instead. Quoted code may have them.
+
+Public is what begins with `pub`, each variant of a public enum, each item of a public trait, and each module's head.
 
 A CALLING.md has at most 80 lines. Each of its blocks of code and of definitions is found word for word, in whole lines, in a source or a definition of
 crates/callers, and one of them at least has a public function.
@@ -14,9 +16,10 @@ import re
 import sys
 
 CALLING = "crates/*/CALLING.md"
-PAGES = ("README.md", "CHANGELOG.md", "CONTRIBUTING.md", "tools/README.md", "docs/*.md", "docs/inside/*.md", "examples/*/README.md", CALLING)
+PAGES = ("README.md", "CHANGELOG.md", "CONTRIBUTING.md", "tools/README.md", "docs/*.md", "docs/inside/*.md", "examples/*/README.md", "crates/*/README.md", CALLING)
+SOURCES = ("crates/*/src/*.rt", "crates/*/src/*/*.rt", "crates/*/src/*/*/*.rt")
 # these name pages, too
-BESIDE = ("crates/*/README.md", "crates/cases/data/*/*.script")
+BESIDE = ("crates/cases/data/*/*.script",)
 MOST_LINES = 120
 MOST_CALLING_LINES = 80
 CALLERS = ("crates/callers/src/*.rt", "crates/callers/specs/*.antt")
@@ -32,12 +35,19 @@ DIALECT = (
     (r"once more", "again, one more time"),
     (r"from (?:then|now|there) on", "since, after that, later"),
 )
+ANY = re.compile(rf"\b(?:{'|'.join(words for words, _ in DIALECT)})\b", re.IGNORECASE)
 LINK = re.compile(r"\]\(([^)]+)\)")
 # a link by a name, [`name`], leads where a line of the page says
 NAMED_LINK = re.compile(r"\[(`[^`]+`)\](?![(:])")
 LEADS = re.compile(r"^\[(`[^`]+`)\]: (\S+)$", re.MULTILINE)
 PLACE = re.compile(r'<a id="([a-z-]+)"></a>')
 NAMED = re.compile(r"\bdocs/[A-Za-z/]+\.md\b")
+DOC = re.compile(r"\s*(///(?!/)|//!) ?")
+# what may be between a doc comment and its item
+BETWEEN = re.compile(r"\s*(?:#!?\[.*|//(?![/!]).*)?$")
+PUBLIC = re.compile(r"\s*pub\b")
+# their variants and items are as public as they are
+OPENS = re.compile(r"(\s*)pub(?:\([a-z]+\))? (?:enum|trait)\b.*\{$")
 
 
 def text_of(root, page):
@@ -84,9 +94,40 @@ def dead_names(root, page, text):
 
 def dialect(page, text):
     for number, line in enumerate(sentences(text), 1):
-        for words, instead in DIALECT:
-            for it in re.finditer(rf"\b(?:{words})\b", line, re.IGNORECASE):
-                yield f"{page}:{number}: \"{it.group(0)}\"; instead: {instead}"
+        for it in ANY.finditer(line):
+            instead = next(instead for words, instead in DIALECT if re.fullmatch(words, it.group(0), re.IGNORECASE))
+            yield f"{page}:{number}: \"{it.group(0)}\"; instead: {instead}"
+
+
+def inside_public(lines):
+    """For each line whether it is inside a public enum or trait."""
+    closing = None
+    for line in lines:
+        yield closing is not None
+        opened = OPENS.match(line)
+        if opened and closing is None:
+            closing = opened.group(1) + "}"
+        elif line == closing:
+            closing = None
+
+
+def public_docs(text):
+    """The text of a source with all lines empty but the doc comments of what is public, at the lines where they are."""
+    lines = text.split("\n")
+    kept = [""] * len(lines)
+    pending = []
+    for number, (line, is_inside) in enumerate(zip(lines, inside_public(lines))):
+        doc = DOC.match(line)
+        if doc and (doc.group(1) == "//!" or is_inside):
+            kept[number] = line[doc.end():]
+        elif doc:
+            pending.append(number)
+        elif not BETWEEN.match(line):
+            if PUBLIC.match(line):
+                for it in pending:
+                    kept[it] = DOC.sub("", lines[it], count=1)
+            pending = []
+    return "\n".join(kept)
 
 
 def wrong_quotes(root, page, text):
@@ -120,10 +161,12 @@ def wrong_in(root, page):
 def main(root):
     pages = found(root, PAGES)
     wrong = [it for page in pages for it in wrong_in(root, page)]
+    sources = found(root, SOURCES)
+    wrong += [it for source in sources for it in dialect(source, public_docs(text_of(root, source)))]
     wrong += [it for page in found(root, BESIDE) for it in dead_names(root, page, text_of(root, page))]
     for it in wrong:
         print(it)
-    print(f"{len(pages)} pages, {len(wrong)} faults")
+    print(f"{len(pages)} pages, {len(sources)} sources, {len(wrong)} faults")
     return 1 if wrong else 0
 
 

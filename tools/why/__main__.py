@@ -124,7 +124,7 @@ class Answers:
         if verdict.key is not None:
             return self.of_key(guarantee, verdict.key, verdict.path)
         if said == "undecided key":
-            return UNDECIDED, "UNDECIDED: only keys of more than 255 bytes, which no client can send, were found to break it; take a shorter pattern"
+            return UNDECIDED, "UNDECIDED: a key of more than 255 bytes, which no client can send, breaks it, and no key of fewer words does; take a shorter pattern"
         if said.startswith("fault "):
             return BROKEN, f"its certificate does not show it: {fault(said)}"
         if said != "ok" and not said.startswith("yes states "):

@@ -1,17 +1,17 @@
--- The body of a content that comes in.
+-- The storage of a body that is coming.
 use Rattle.std.specs.Prelude.{◌≤◌, ◌*◌, [], ℕ, List, length}
 
--- what has come of a body, and the storage that it has
+-- the bytes of a body that have come, and the size of their storage
 pub record Coming : Type 0 where
-  -- what has come
+  -- the bytes that have come
   pub bytes : List ℕ
-  -- how many bytes its storage had when it was last made or made larger
+  -- how many bytes the storage had when it was last created or grown
   pub kept : ℕ
 
 -- a body of which nothing has come has no storage
 abbrev pub nothing_came : Coming
 nothing_came = record { bytes = []; kept = 0 }
 
--- storage is made as bytes come: for at most twice of them, whatever size is declared
+-- the storage is at most twice what has come, whatever size is declared
 abbrev pub GrowsAsItComes : Coming → Type 0
 GrowsAsItComes body = body.kept ≤ 2 * length body.bytes

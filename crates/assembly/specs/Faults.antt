@@ -1,4 +1,4 @@
--- Why a stream gives no command.
+-- Which faults are correct.
 use Rattle.std.specs.Prelude.{ℕ, List, Err, ⊤}
 use Rattle.model.specs.Grammar.{SaysMethod}
 use Rattle.model.specs.Headers.{SaysSize, SaysHeader}
@@ -9,19 +9,19 @@ use Rattle.headers.specs.Reading as headers
 use Rattle.assembly.specs.declared.faults.Fault.{Fault}
 use Rattle.assembly.specs.declared.faults.Fault.TheVariants.{Broken, Memory}
 
--- a fault of a code of which this holds; of a want of memory nothing is said
+-- the fault's reply code has the property `Why`; an allocation failure needs no reason
 abbrev pub IsFault : (ℕ → Type 0) → Fault → Type 0
 IsFault Why (Broken code) = Why code
 IsFault Why Memory = ⊤
 
--- where the reader of methods refuses a payload so, it is this fault
+-- if the reader of methods refuses the payload by `refusal`, the fault's reply code, if it has one, is one by which the payload is refused
 abbrev pub RefusesMethod : List ℕ → methods_refusal.BadMethod → Fault → Type 0
 RefusesMethod payload refusal fault = methods.MethodIsRefused payload refusal → IsFault (λ code. SaysMethod payload (Err code)) fault
 
--- where the reader of a header's size refuses a payload so, it is this fault
+-- if the reader of a header's size refuses the payload by `refusal`, the fault's reply code, if it has one, is one by which the payload is refused
 abbrev pub RefusesSize : List ℕ → headers_refusal.BadHeader → Fault → Type 0
 RefusesSize payload refusal fault = headers.TellsSize payload (Err refusal) → IsFault (λ code. SaysSize payload (Err code)) fault
 
--- where the reader of headers refuses a payload so, it is this fault
+-- if the reader of headers refuses the payload by `refusal`, the fault's reply code, if it has one, is one by which the payload is refused
 abbrev pub RefusesHeader : List ℕ → headers_refusal.BadHeader → Fault → Type 0
 RefusesHeader payload refusal fault = headers.HeaderIsRefused payload refusal → IsFault (λ code. SaysHeader payload (Err code)) fault

@@ -1,4 +1,4 @@
--- What a stream's calls tell.
+-- What `Stream::next` must return.
 use Rattle.std.specs.Prelude.{◌+◌, ◌≤◌, ℕ, length, Bool, true, false, Option, Some, None, Result, Ok, Err, ⊤}
 use Rattle.model.specs.Commands.{Stream, Yields, Ends, GoesOn, IsCommand}
 use Rattle.model.specs.declared.events.Command.{Command}
@@ -6,25 +6,25 @@ use Rattle.assembly.specs.Front.{HasFront}
 use Rattle.assembly.specs.declared.faults.Fault.{Fault}
 use Rattle.assembly.specs.declared.faults.Fault.TheVariants.{Broken, Memory}
 
--- a frame that was taken ends a command
+-- whether the frame just taken completed a command
 abbrev pub has_command : Result (Option Command) Fault → Bool
 has_command (Ok None) = false
 has_command (Ok (Some c)) = true
 has_command (Err e) = false
 
--- no command comes: the stream ends so, then and now, and the same is still to come
+-- no command is complete: the stream ends as `end` says, before and after, and what is still to come has not changed
 pub record Stops (old : Stream) (end : Option ℕ) (new : Stream) : Type 0 where
   pub same : GoesOn old new
   pub ends : Ends old end
   pub still : Ends new end
 
--- this command was the next, and at least a frame was read
+-- `c` was the next command, its method can be encoded and its content isn't too large, and at least eight bytes were read
 pub record GivesCommand (old : Stream) (c : Command) (new : Stream) : Type 0 where
   pub next : Yields old c new
   pub command : IsCommand c
   pub shorter : length new.unread + 8 ≤ length old.unread
 
--- the answer is right for this stream, and so is what is left; memory is wanting only where there is something to read
+-- the result and the new stream are correct; an allocation can only fail if there was something to read, and the same is still to come
 abbrev pub YieldsNext : Stream → Result (Option Command) Fault → Stream → Type 0
 YieldsNext old (Ok (Some c)) new = GivesCommand old c new
 YieldsNext old (Ok None) new = Stops old None new
@@ -33,12 +33,12 @@ YieldsNext old (Err Memory) new = GoesOn old new × HasFront old
 
 -- ---- faults
 
--- the fault by which this answer says that the stream broke, if it says so
+-- the reply code of the fault that the result reports, if any
 abbrev pub broken_by : Result (Option Command) Fault → Option ℕ
 broken_by (Err (Broken code)) = Some code
 broken_by answer = None
 
--- where a fault is kept, the stream ends by it
+-- if a fault is recorded, the stream ends by it
 abbrev pub IsBrokenBy : Option ℕ → Stream → Type 0
 IsBrokenBy None s = ⊤
 IsBrokenBy (Some code) s = Ends s (Some code)

@@ -1,4 +1,4 @@
--- What a channel has begun and not completed, as the stream's definitions see it.
+-- What a channel has begun and not completed, in the terms of the stream's definitions.
 use Rattle.std.specs.Prelude.{◌≤◌, ℕ, List, length, slice_index_or, ⊤}
 use Rattle.model.specs.Grammar.{IsMethod}
 use Rattle.model.specs.Headers.{AreProperties, header_bytes}
@@ -11,21 +11,21 @@ use Rattle.assembly.specs.Coming.{GrowsAsItComes}
 use Rattle.assembly.specs.declared.contents.Awaited.{Awaited}
 use Rattle.assembly.specs.declared.contents.Awaited.TheVariants.{Nothing, WantsHeader, WantsBody, Drops}
 
--- what the definitions call it
+-- the state of a channel as the definitions name it
 abbrev pub pending_of : Awaited → Commands.Pending
 pending_of Nothing = Commands.Nothing
 pending_of (WantsHeader publish) = Wants_header publish
 pending_of (WantsBody g) = Wants_body g.publish g.properties g.size g.body.bytes
 pending_of (Drops d) = Commands.Drops d.size d.count
 
--- A publish whose body comes in, of so many bytes: it and its properties have a spelling, and its content is not too large.
+-- a publish whose body of `size` bytes is coming: method and properties can be encoded, and the content is not too large
 pub record IsPublishBegun (publish : Publish) (properties : Properties) (size : ℕ) : Type 0 where
   pub method : IsMethod (BasicPublish publish)
   pub spelled : AreProperties properties
   pub body : size ≤ most_body
   pub header : length (header_bytes size properties) ≤ most_header
 
--- its publish and its content, if there are any, can be sent again, storage is made as its body comes, and no more is dropped than was declared
+-- what a channel has begun can be encoded again, the storage of its body is at most twice what has come, and at most as much is dropped as was declared
 abbrev pub IsSpelledSoFar : Awaited → Type 0
 IsSpelledSoFar Nothing = ⊤
 IsSpelledSoFar (WantsHeader publish) = IsMethod (BasicPublish publish)
@@ -39,39 +39,39 @@ HasPublish (WantsHeader publish) = ⊤
 HasPublish (WantsBody g) = ⊥
 HasPublish (Drops d) = ⊥
 
--- a body is gathered
+-- a body is being gathered
 abbrev pub IsGathered : Awaited → Type 0
 IsGathered Nothing = ⊥
 IsGathered (WantsHeader publish) = ⊥
 IsGathered (WantsBody g) = ⊤
 IsGathered (Drops d) = ⊥
 
--- a body is dropped
+-- a body is being dropped
 abbrev pub IsDropped : Awaited → Type 0
 IsDropped Nothing = ⊥
 IsDropped (WantsHeader publish) = ⊥
 IsDropped (WantsBody g) = ⊥
 IsDropped (Drops d) = ⊤
 
--- the element of a channel, in a list by channel number
+-- what `channel` awaits, in a list by channel number; a method if the list is shorter
 abbrev pub content_at : List Awaited → ℕ → Awaited
 content_at contents channel = slice_index_or contents channel Nothing
 
--- what each channel has begun: those past the end of the list have begun nothing
+-- what each channel has begun; those past the end of the list have begun nothing
 abbrev pub pending_at : List Awaited → ℕ → Commands.Pending
 pending_at contents channel = pending_of (content_at contents channel)
 
--- the same of each channel
+-- `IsSpelledSoFar` of each channel
 abbrev pub AreSpelledSoFar : List Awaited → Type 0
 AreSpelledSoFar contents = (channel : ℕ) → IsSpelledSoFar (content_at contents channel)
 
--- where a body comes in, storage is made as it comes
+-- the storage of the body that is coming, if any, is at most twice what has come
 abbrev pub GrowsSoFar : Awaited → Type 0
 GrowsSoFar Nothing = ⊤
 GrowsSoFar (WantsHeader publish) = ⊤
 GrowsSoFar (WantsBody g) = GrowsAsItComes g.body
 GrowsSoFar (Drops d) = ⊤
 
--- the same of each channel
+-- `GrowsSoFar` of each channel
 abbrev pub GrowAsTheyCome : List Awaited → Type 0
 GrowAsTheyCome contents = (channel : ℕ) → GrowsSoFar (content_at contents channel)

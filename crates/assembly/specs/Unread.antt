@@ -1,9 +1,9 @@
--- Bytes that were not read yet.
+-- The value of the buffer of unread bytes.
 use Rattle.std.specs.Prelude.{ℕ, List}
 
--- bytes put in at the end and taken from the front, and the room behind them
+-- a byte queue and its spare room
 pub record Waiting : Type 0 where
-  -- put in and not yet taken
+  -- the bytes that were fed and are not taken yet
   pub bytes : List ℕ
-  -- how many more go in with no growth
+  -- how many more bytes can be put without an allocation
   pub room : ℕ

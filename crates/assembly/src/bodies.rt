@@ -1,4 +1,4 @@
-//! The body of a content, while it comes in.
+//! Gathers the body of a content piece by piece. Start at [`Pieces`].
 
 ghost use Rattle.std.specs.Prelude.{◌≡◌, ◌≤◌, ◌<◌, ◌^◌, ◌*◌, [], true, false, ◌++◌, length, max, take, vec_len, vec_capacity, OnOk, OnErr, IfOk};
 ghost use Rattle.assembly.specs.Coming.{nothing_came};
@@ -9,20 +9,20 @@ use std::alloc::{AllocError, Global};
 use std::marker::Model;
 use std::mem;
 
-/// Where the bytes of a body stand.
+/// The storage of a body's bytes.
 #[derive(Drop)]
 enum Block {
-    /// In one that grows.
+    /// A vector that still grows.
     Growing(Vec<u8>),
-    /// In one that had all of them but was not shared, since memory was wanting.
+    /// A block that was complete once, but an allocation failed when it was to become a shared [`Body`].
     Closed(BytesMut),
 }
 
-/// Bytes that were gathered of a body.
+/// The bytes of a body that have come, in one block.
 #[derive(Drop)]
 struct Gathered {
     block: Block,
-    /// How many bytes its block had when it was last made or made larger.
+    /// The capacity in bytes that the block had when it was last created or grown.
     kept: usize,
 }
 
@@ -35,7 +35,7 @@ impl Model for Gathered {
     ghost view = { λ g. record { bytes = elim g.block [ Growing bytes ↦ bytes.items | Closed bytes ↦ bytes.items ]; kept = g.kept } };
 }
 
-/// The room of a block that is made for so many bytes: twice that, but no more than is declared.
+/// Returns the capacity of a block for `len` bytes: twice `len`, but no more than `declared` bytes unless `len` is more.
 fn room_for(len: usize, declared: usize) -> usize
     ensures enough { len ≤ result }
     ensures most { result ≤ 2 * len }
@@ -43,8 +43,9 @@ fn room_for(len: usize, declared: usize) -> usize
     len.saturating_mul(2).min(declared).max(len)
 }
 
-/// Makes room for so many bytes in all, of a body of which so many are declared. Tells how many bytes the block had when it was last
-/// made larger: what it has now, or `kept` if there was room.
+/// Reserves capacity for `len` bytes in all, of a body of `declared` bytes.
+///
+/// Returns the block's capacity if it grew, or `kept` if there was room. Fails only if the allocation fails.
 fn make_room(
     bytes: &mut Vec<u8>,
     len: usize,
@@ -55,7 +56,7 @@ fn make_room(
     ensures items { bytes.new.items ≡ bytes.old.items }
     ensures enough { OnOk result (len ≤ vec_capacity bytes.new) }
     ensures most { IfOk result (λ now. now ≤ max kept (2 * len)) }
-    // What is made is told.
+    // A new capacity is reported.
     ensures told { IfOk result (λ now. vec_capacity bytes.new ≤ max (vec_capacity bytes.old) now) }
 {
     if len <= bytes.capacity() {
@@ -65,7 +66,8 @@ fn make_room(
     Ok(bytes.capacity())
 }
 
-/// Puts a piece behind these bytes of a body, of which so many are declared. A block that grows is not cleared.
+/// Appends `piece` to the bytes of a body of `declared` bytes. Returns the capacity as [`make_room`] does. Fails only if the
+/// block has to grow and the allocation fails; its bytes have not changed then.
 fn put_behind(
     bytes: &mut Vec<u8>,
     piece: &[u8],
@@ -81,7 +83,7 @@ fn put_behind(
     Ok(now)
 }
 
-/// Puts a piece behind these bytes if there is room for it, and tells whether there was.
+/// Appends `piece` if there is room for it, and returns whether there was. Never allocates.
 fn put_in(bytes: &mut BytesMut, piece: &[u8]) -> bool
     ensures put { result ≡ true → bytes.new.items ≡ bytes.old.items ++ piece.now }
     ensures full { result ≡ false → bytes.new ≡ bytes.old }
@@ -93,7 +95,7 @@ fn put_in(bytes: &mut BytesMut, piece: &[u8]) -> bool
     true
 }
 
-/// A block with these bytes and a piece behind them, of a body of which so many are declared.
+/// Returns a new block with `first` and `piece`, for a body of `declared` bytes. Fails only if an allocation fails.
 fn begun(alloc: Global, first: &[u8], piece: &[u8], declared: usize) -> Result<Gathered, AllocError>
     ensures bytes { IfOk result (λ made. made.bytes ≡ first.now ++ piece.now) }
     ensures kept { IfOk result (λ made. made.kept ≤ 2 * length made.bytes) }
@@ -130,7 +132,7 @@ impl Gathered {
         }
     }
 
-    /// Puts a piece behind them, of a body of which so many bytes are declared.
+    /// Appends `piece` of a body of `declared` bytes. Fails only if an allocation fails; nothing has changed then.
     fn append(&mut self, piece: &[u8], declared: usize) -> Result<(), AllocError>
         ensures ok { OnOk result (self.new.bytes ≡ self.old.bytes ++ piece.now) }
         ensures kept { OnOk result (self.new.kept ≤ max self.old.kept (2 * length self.new.bytes)) }
@@ -149,7 +151,7 @@ impl Gathered {
         Ok(())
     }
 
-    /// Puts a piece behind them if there is room for it, and tells whether there was.
+    /// Appends `piece` if there is room for it, and returns whether there was. Never allocates.
     fn put(&mut self, piece: &[u8]) -> bool
         ensures put { result ≡ true → self.new ≡ record self.old { bytes = self.old.bytes ++ piece.now } }
         ensures full { result ≡ false → self.new ≡ self.old }
@@ -165,7 +167,7 @@ impl Gathered {
         }
     }
 
-    /// The bytes, to be shared.
+    /// Returns the bytes as a block that can be shared.
     fn into_bytes(self) -> BytesMut
         ensures { result.items ≡ self.bytes }
     {
@@ -175,7 +177,7 @@ impl Gathered {
         }
     }
 
-    /// These bytes as a body, which takes them. Where memory is refused the first `len` of them stay.
+    /// Turns the bytes into a shared body, and leaves none here. If an allocation fails the first `len` of them stay.
     fn share(&mut self, alloc: Global, len: usize) -> Result<Body, AllocError>
         requires { len ≤ length self.old.bytes }
         ensures ok { IfOk result (λ body. body ≡ self.old.bytes) }
@@ -200,8 +202,10 @@ impl Gathered {
         }
     }
 
-    /// These bytes and the last piece as a body. It takes them, if there is room for the piece behind them, or has a block of its
-    /// own. Where memory is refused they stay without the piece.
+    /// Appends `piece`, the last one, and turns the bytes into a shared body.
+    ///
+    /// If there is room for the piece the body takes over the block, or else it has a new block. Fails only if an allocation
+    /// fails; nothing has changed then.
     fn finish(&mut self, alloc: Global, piece: &[u8]) -> Result<Body, AllocError>
         ensures ok { IfOk result (λ body. body ≡ self.old.bytes ++ piece.now) }
         ensures err { OnErr result (self.new ≡ self.old) }
@@ -214,7 +218,7 @@ impl Gathered {
     }
 }
 
-/// A body of these bytes and the last piece behind them, in a block of its own.
+/// Returns a body of `first` and `piece` in a new block. Fails only if an allocation fails.
 fn whole(alloc: Global, first: &[u8], piece: &[u8]) -> Result<Body, AllocError>
     ensures { IfOk result (λ body. body ≡ first.now ++ piece.now) }
 {
@@ -227,12 +231,12 @@ fn whole(alloc: Global, first: &[u8], piece: &[u8]) -> Result<Body, AllocError>
 
 /// The bytes of a body that have come so far.
 ///
-/// Room is made as bytes come, for at most twice of them, never for what is only declared, and none for a body that comes in one
-/// piece. What is gathered has a block of its own, so that what a channel awaits is small.
+/// Storage is allocated as bytes come, for at most twice as many as have come, never for bytes that are only declared. A
+/// body that comes in one piece is not gathered here. The block is boxed, so that a channel without a body is small.
 #[derive(Drop)]
 pub(crate) struct Pieces {
     alloc: Global,
-    /// None before the first piece.
+    /// `None` before the first piece.
     gathered: Option<Box<Gathered>>,
 }
 
@@ -265,7 +269,7 @@ impl Pieces {
         }
     }
 
-    /// Puts a piece behind what has come, of a body of which so many bytes are declared.
+    /// Appends `piece` of a body of `declared` bytes. Fails only if an allocation fails; nothing has changed then.
     pub(crate) fn append(&mut self, piece: &[u8], declared: usize) -> Result<(), AllocError>
         ensures ok { OnOk result (self.new.bytes ≡ self.old.bytes ++ piece.now) }
         ensures kept { OnOk result (self.new.kept ≤ max self.old.kept (2 * length self.new.bytes)) }
@@ -280,8 +284,9 @@ impl Pieces {
         }
     }
 
-    /// The whole body, of which this is the last piece, and which is taken from here. A body of one piece is copied once. Where
-    /// memory is refused it is as it was.
+    /// Returns the whole body, of which `piece` is the last piece. A body of one piece is copied once.
+    ///
+    /// Fails only if an allocation fails; nothing has changed then. What is left here afterwards is not specified.
     pub(crate) fn finish(&mut self, piece: &[u8]) -> Result<Body, AllocError>
         ensures ok { IfOk result (λ t. t ≡ self.old.bytes ++ piece.now) }
         ensures err { OnErr result (self.new ≡ self.old) }
@@ -293,7 +298,7 @@ impl Pieces {
     }
 }
 
-/// A block that begins with this piece of a body, of which so many bytes are declared.
+/// Returns a boxed block that begins with `piece`, for a body of `declared` bytes. Fails only if an allocation fails.
 fn boxed(alloc: Global, piece: &[u8], declared: usize) -> Result<Box<Gathered>, AllocError>
     ensures bytes { IfOk result (λ made. made.value.bytes ≡ piece.now) }
     ensures kept { IfOk result (λ made. made.value.kept ≤ 2 * length made.value.bytes) }

@@ -1,9 +1,9 @@
-//! What a channel has begun and not completed.
+//! The state of one channel between frames: what it has begun and not completed.
 
 use crate::bodies::Pieces;
 use model::{Properties, Publish};
 
-/// A publish whose body comes in: `size` bytes are declared, and `body` has those that came.
+/// A publish whose body is coming: `size` bytes are declared, `body` has those that came.
 #[derive(Drop)]
 pub(crate) struct Gathering {
     pub(crate) publish: Publish,
@@ -12,22 +12,22 @@ pub(crate) struct Gathering {
     pub(crate) body: Pieces,
 }
 
-/// A body that is dropped: `size` bytes are declared, and `count` of them came.
+/// A body that is counted and dropped: `size` bytes are declared, `count` of them came.
 #[derive(Clone, Copy, Drop)]
 pub(crate) struct Dropping {
     pub(crate) size: u64,
     pub(crate) count: u64,
 }
 
-/// What a channel awaits.
+/// What a channel's next frame has to be.
 #[derive(Drop)]
 pub(crate) enum Awaited {
     /// A method.
     Nothing,
     /// The header of this publish.
     WantsHeader(Publish),
-    /// A piece of this body.
+    /// The next piece of this body.
     WantsBody(Gathering),
-    /// A piece of this body, of a content that is too large.
+    /// The next piece of this body, which is dropped: the content is too large, or contents are only counted.
     Drops(Dropping),
 }

@@ -1,4 +1,4 @@
-//! Contents that are too large: their bodies are counted and dropped.
+//! Counts and drops the bodies of contents that are too large or not kept.
 
 ghost use Rattle.std.specs.Prelude.{◌≡◌, Bool};
 ghost use Rattle.model.specs.Commands as said;
@@ -12,18 +12,19 @@ use crate::faults::Fault;
 use frame::Frame;
 use model::{Command, limits};
 
-/// The largest payload of a header that is taken, in bytes.
+/// The largest payload of a header that is accepted, in bytes.
 const MOST_HEADER: usize = 3_400;
 
-/// Whether a content is too large, by the payload of its header and the size that this declares.
+/// Returns whether a content is too large: `payload` is its header's, which declares a body of `size` bytes.
 pub(crate) fn is_too_large(payload: &[u8], size: u64) -> bool
     ensures { result ≡ said.is_too_large payload.now size }
 {
     size > limits::BODY_BYTES || payload.len() > MOST_HEADER
 }
 
-/// A body of so many bytes is dropped, of which so many have come. Past the declared size it is a fault, and at it the publish
-/// has come.
+/// Handles a dropped body of `size` bytes of which `count` have come.
+///
+/// More than `size` is a fault (501). At `size` the command is `TooLarge`. Below it the channel awaits more.
 pub(crate) fn drop_begun(
     pending: &mut Awaited,
     channel: u16,
@@ -45,7 +46,7 @@ pub(crate) fn drop_begun(
     Ok(None)
 }
 
-/// A piece is dropped. Past the declared size it is a fault, and at it the publish has come.
+/// Drops one piece of a body, as [`drop_begun`] does for the bytes that have come with it.
 pub(crate) fn drop_piece(pending: &mut Awaited, frame: &Frame<'_>) -> Result<Option<Command>, Fault>
     requires dropped { IsDropped pending.old }
     requires spelled { IsSpelledSoFar pending.old }

@@ -1,4 +1,4 @@
-//! Why a stream gives no command.
+//! Why a stream has no next command.
 
 ghost use Rattle.std.specs.Prelude.{◌≡◌, ℕ, List};
 ghost use Rattle.assembly.specs.Faults.{IsFault, RefusesMethod, RefusesSize, RefusesHeader};
@@ -6,13 +6,13 @@ ghost use Rattle.assembly.specs.Faults.{IsFault, RefusesMethod, RefusesSize, Ref
 use std::alloc::AllocError;
 use thiserror::Error;
 
-/// Why a stream gives no command.
+/// Why [`crate::Stream::next`] returned no command though bytes are there.
 #[derive(Clone, Copy, PartialEq, Eq, Debug, Drop, Error)]
 pub enum Fault {
-    /// The bytes break the wire's rules, by this reply code.
+    /// The bytes break the rules of the wire. The number is the reply code.
     #[error("the bytes break the wire's rules: reply code {0}")]
     Broken(u16),
-    /// Memory was refused. Nothing is lost: the call may be made again.
+    /// An allocation failed. Nothing is lost: the call can be repeated.
     #[error("out of memory")]
     Memory,
 }
@@ -28,7 +28,7 @@ impl From<AllocError> for Fault {
     }
 }
 
-/// A method's refusal, by its reply code.
+/// Converts a method's decoding error into the stream's fault, by reply code.
 pub(crate) fn of_method(refusal: methods::BadMethod) -> Fault
     ensures { (payload : List ℕ) → RefusesMethod payload refusal result }
 {
@@ -41,14 +41,14 @@ pub(crate) fn of_method(refusal: methods::BadMethod) -> Fault
     }
 }
 
-/// A refusal of a header's size: nothing but 501 is a reason.
+/// Converts an error of a header's declared size into the stream's fault: always 501.
 pub(crate) fn of_size(_refusal: headers::BadHeader) -> Fault
     ensures { (payload : List ℕ) → RefusesSize payload _refusal result }
 {
     Fault::Broken(501)
 }
 
-/// A header's refusal, by its reply code.
+/// Converts a header's decoding error into the stream's fault, by reply code.
 pub(crate) fn of_header(refusal: headers::BadHeader) -> Fault
     ensures { (payload : List ℕ) → RefusesHeader payload refusal result }
 {

@@ -1,4 +1,4 @@
-//! What a whole frame does.
+//! Handles a whole frame: heartbeat, wrong channel, or the frame of a channel.
 
 ghost use Rattle.std.specs.Prelude.{◌≡◌, ◌<◌, ◌≤◌, ℕ, ◌==◌, IsTrue, MatchBool, vec_len, OnOk};
 ghost use Rattle.model.specs.Commands;
@@ -16,7 +16,7 @@ use frame::Frame;
 use model::Command;
 use std::alloc::{AllocError, Global};
 
-/// Takes a whole frame: the command that it ends, or none where its channel goes on.
+/// Handles a whole frame. Returns the command that it completes, or `None` if its channel awaits more.
 #[inline(always)]
 pub(crate) fn take_frame(
     alloc: Global,
@@ -41,7 +41,7 @@ pub(crate) fn take_frame(
     take_on_channel(alloc, keeps, names, contents, channel, frame)
 }
 
-/// A heartbeat is empty and on channel 0, and does nothing.
+/// Handles a heartbeat, which has to be empty and on channel 0. It has no effect.
 fn take_heartbeat(frame: &Frame<'_>) -> Result<Option<Command>, Fault>
     ensures { (old : ℕ → Commands.Pending) → DoesAt (λ t. t ≡ taken_heartbeat (old frame.now.channel) (seen frame.now)) frame.now.channel old result old }
 {
@@ -52,14 +52,15 @@ fn take_heartbeat(frame: &Frame<'_>) -> Result<Option<Command>, Fault>
     }
 }
 
-/// A channel above 255, or a header or body on channel 0.
+/// Returns whether the channel number is above 255, or a header or body is on channel 0.
 fn is_on_wrong_channel(frame: &Frame<'_>) -> bool
     ensures { result ≡ is_wrong (seen frame.now) }
 {
     frame.channel > 255 || (frame.channel == 0 && frame.kind != 1)
 }
 
-/// Makes room for what this channel begins. Each channel awaits what it did.
+/// Makes `contents` long enough for `channel`; the new channels await a method. Fails only if an allocation fails; each
+/// channel awaits what it did before.
 fn reach(contents: &mut Vec<Awaited>, channel: usize) -> Result<(), AllocError>
     ensures reached { OnOk result (channel < vec_len contents.new) }
     ensures same { content_at contents.new.items ≡ content_at contents.old.items }
@@ -70,7 +71,7 @@ fn reach(contents: &mut Vec<Awaited>, channel: usize) -> Result<(), AllocError>
     Ok(())
 }
 
-/// Takes a frame that is no heartbeat, on a channel that may have it.
+/// Handles a frame other than a heartbeat, on a channel that may have it.
 #[inline(always)]
 fn take_on_channel(
     alloc: Global,

@@ -1,6 +1,6 @@
-//! What came before on a stream: a name that comes again shares its bytes, and a publish that comes again is not read again.
+//! Caches of one stream: a name that repeats shares its bytes, and a publish that repeats isn't decoded again.
 //!
-//! Nothing rests on what is kept here: what is given back is what the bytes say.
+//! Correctness doesn't depend on them: what a cache returns is exactly what the bytes encode.
 
 ghost use Rattle.std.specs.Prelude.{◌≡◌, ◌≤◌, [], IfSome, length};
 ghost use Rattle.assembly.specs.Names.{SpellsPublish, IsKnownRight, AreRight};
@@ -9,21 +9,20 @@ use model::{Publish, Text};
 use std::alloc::Global;
 use std::marker::Model;
 
-/// How many names are kept at most.
+/// The number of slots for names.
 const MOST_NAMES: usize = 64;
 
-/// How many publishes are kept at most.
+/// The number of slots for publishes.
 const MOST_PUBLISHES: usize = 32;
 
-/// A publish, and the payload that spells it.
+/// A publish with the payload that encodes it.
 #[derive(Drop)]
 pub(crate) struct Known {
     pub(crate) payload: Vec<u8>,
     pub(crate) publish: Publish,
 }
 
-/// The names and the publishes that came last, each in the place that its bytes choose. There are none before the first
-/// publish.
+/// The last names and publishes, each in the slot that its bytes hash to. Empty until the first publish.
 #[derive(Drop)]
 pub(crate) struct LastNames {
     names: Vec<Text>,
@@ -44,7 +43,7 @@ impl LastNames {
     ghost use Rattle.std.specs.Prelude.{◌≡◌, IfSome};
     ghost use Rattle.assembly.specs.Names.{SpellsPublish, AreFew};
 
-    /// Nothing came before. It takes no memory.
+    /// Returns empty caches. Never allocates.
     pub(crate) fn new(alloc: Global) -> LastNames {
         LastNames {
             names: Vec::new(alloc),
@@ -52,21 +51,21 @@ impl LastNames {
         }
     }
 
-    /// At most 64 names are kept, and 32 publishes.
-    pub(crate) fn are_few(&self)
+    /// Proves that there are at most 64 names and 32 publishes. Does nothing when called.
+    pub(crate) fn ghost_are_few(&self)
         ensures { AreFew self.now }
     {
         let _ = &self.names;
     }
 
-    /// The publish that this payload spells, if it came before and is kept.
+    /// Returns the publish that `payload` encodes if it is cached, or else `None`. Sharing its names may fail: that is `None`, too.
     pub(crate) fn publish_of(&self, payload: &[u8]) -> Option<Publish>
         ensures { IfSome result (λ p. SpellsPublish payload.now p) }
     {
         publish_in(&self.publishes, payload)
     }
 
-    /// The same publish, which this payload spells. It is kept, and shares the names that came before.
+    /// Caches `publish`, which `payload` encodes, and returns it sharing the names that are cached. If an allocation fails it is returned as it is.
     pub(crate) fn learn(&mut self, alloc: Global, payload: &[u8], publish: Publish) -> Publish
         requires { SpellsPublish payload.now publish }
         ensures { result ≡ publish }
@@ -77,7 +76,7 @@ impl LastNames {
     }
 }
 
-/// The publish that this payload spells, if it is kept.
+/// Returns the publish that `payload` encodes if it is in its slot, or else `None`.
 fn publish_in(slots: &[Option<Known>], payload: &[u8]) -> Option<Publish>
     requires { AreRight slots.now }
     ensures { IfSome result (λ p. SpellsPublish payload.now p) }
@@ -90,7 +89,7 @@ fn publish_in(slots: &[Option<Known>], payload: &[u8]) -> Option<Publish>
     }
 }
 
-/// The publish that this payload spells, if it is the one that stands here.
+/// Returns the publish in `slot` if `payload` encodes it, or else `None`.
 fn known_at(slot: &Option<Known>, payload: &[u8]) -> Option<Publish>
     requires { IsKnownRight slot.now }
     ensures { IfSome result (λ p. SpellsPublish payload.now p) }
@@ -107,7 +106,7 @@ fn known_at(slot: &Option<Known>, payload: &[u8]) -> Option<Publish>
     }
 }
 
-/// The same publish, sharing its names. None where memory is refused.
+/// Returns a copy of `publish` that shares its names, or `None` if an allocation fails.
 fn copy_of(publish: &Publish) -> Option<Publish>
     ensures { IfSome result (λ p. p ≡ publish.now) }
 {
@@ -123,7 +122,7 @@ fn copy_of(publish: &Publish) -> Option<Publish>
     }
 }
 
-/// Keeps this publish, which the payload spells, unless memory is refused.
+/// Stores `publish`, which `payload` encodes, in its slot. If an allocation fails the slot is empty afterwards.
 fn keep_in(alloc: Global, slots: &mut Vec<Option<Known>>, payload: &[u8], publish: &Publish)
     requires kept { AreRight slots.old.items }
     requires few { length slots.old.items ≤ 32 }
@@ -140,7 +139,7 @@ fn keep_in(alloc: Global, slots: &mut Vec<Option<Known>>, payload: &[u8], publis
     }
 }
 
-/// This publish and the payload that spells it. None where memory is refused.
+/// Returns copies of `publish` and of the payload that encodes it, or `None` if an allocation fails.
 fn known_of(alloc: Global, payload: &[u8], publish: &Publish) -> Option<Known>
     requires { SpellsPublish payload.now publish.now }
     ensures { IsKnownRight result }
@@ -151,7 +150,7 @@ fn known_of(alloc: Global, payload: &[u8], publish: &Publish) -> Option<Known>
     }
 }
 
-/// Makes places of publishes, or some of them where memory is refused.
+/// Creates the slots for publishes, or fewer if an allocation fails.
 fn make_slots(slots: &mut Vec<Option<Known>>)
     requires { slots.old.items ≡ [] }
     ensures kept { AreRight slots.new.items }
@@ -165,7 +164,7 @@ fn make_slots(slots: &mut Vec<Option<Known>>)
     }
 }
 
-/// The same publish, sharing the bytes of names that came before.
+/// Returns `publish` with names that share the bytes of cached ones.
 fn sharing(names: &mut Vec<Text>, publish: Publish) -> Publish
     requires { length names.old.items ≤ 64 }
     ensures same { result ≡ publish }
@@ -187,8 +186,7 @@ fn sharing(names: &mut Vec<Text>, publish: Publish) -> Publish
     }
 }
 
-/// The same name, sharing the bytes of one that came before where one is kept. Where memory is refused it is the name
-/// that was handed in.
+/// Returns `name`, sharing the bytes of the cached name if it is the same, or else caches it. If an allocation fails `name` itself is returned.
 fn shared(names: &mut Vec<Text>, name: Text) -> Text
     requires { length names.old.items ≤ 64 }
     ensures same { result ≡ name }
@@ -203,7 +201,7 @@ fn shared(names: &mut Vec<Text>, name: Text) -> Text
     }
 }
 
-/// Makes the places of names, or some of them where memory is refused.
+/// Creates the slots for names, or fewer if an allocation fails.
 fn make_places(names: &mut Vec<Text>)
     requires { names.old.items ≡ [] }
     ensures { length names.new.items ≤ 64 }
@@ -215,7 +213,7 @@ fn make_places(names: &mut Vec<Text>)
     }
 }
 
-/// A number that these bytes choose.
+/// Returns a hash of `bytes`.
 fn place_of(bytes: &[u8]) -> usize {
     let mut mixed = 0u32;
     for byte in bytes {
@@ -224,7 +222,7 @@ fn place_of(bytes: &[u8]) -> usize {
     mixed as usize
 }
 
-/// The name that stands here where it is the same, or else this name, which stands here from now on.
+/// Returns the name in the slot if it is the same as `name`, or else `name`, which the slot then shares unless an allocation fails.
 fn share(place: &mut Text, name: Text) -> Text
     ensures { result ≡ name }
 {

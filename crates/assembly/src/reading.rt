@@ -1,4 +1,4 @@
-//! Commands are read.
+//! Reads frames until a command is complete.
 
 ghost use Rattle.std.specs.Prelude.{◌≡◌, ◌<◌, ◌≤◌, ◌++◌, false, length, MatchOption};
 ghost use Rattle.assembly.specs.Pending.{AreSpelledSoFar};
@@ -14,10 +14,10 @@ use frame::{Read, read_frame};
 use model::Command;
 use std::alloc::Global;
 
-/// Takes frames up to the end of a command. A frame that is a fault, or for which memory is refused, stays.
+/// Takes frames up to the end of a command. A frame that is a fault, or for which an allocation fails, is not taken.
 ///
-/// Here and on the way to a channel's content calls are put in line: what a function moves is cleared when it is entered, once
-/// a command this way and not once a frame.
+/// The functions from here to a channel's content are inlined: a function clears the values that it moves when it is
+/// entered, and this way that happens once a command, not once a frame.
 #[inline(always)]
 pub(crate) fn next_command(
     alloc: Global,
@@ -51,14 +51,14 @@ pub(crate) fn next_command(
     }
 }
 
-/// Whether a frame that was taken ends a command.
+/// Returns whether the frame just taken completes a command.
 fn is_whole(taken: &Result<Option<Command>, Fault>) -> bool
     ensures { result ≡ has_command taken.now }
 {
     matches!(taken, Ok(Some(_)))
 }
 
-/// Takes eight bytes, where so many are there.
+/// Takes eight bytes, or returns `None` if there are fewer.
 pub(crate) fn take_eight(unread: &mut Unread) -> Option<[u8; 8]>
     ensures { MatchOption result ((length unread.old.bytes < 8) × (unread.new ≡ unread.old))
         (λ bytes. (unread.old.bytes ≡ bytes ++ unread.new.bytes) × (length bytes ≡ 8)) }

@@ -1,8 +1,8 @@
-//! What holds of all streams.
+//! A law of streams: the contract of a function without a body.
 
 ghost use Rattle.assembly.specs.Laws.{OneNext};
 
-/// A stream has one next command or one end.
+/// Proves that a stream has one next command or one end. Does nothing when called.
 pub fn one_next()
     ensures { OneNext }
 {}

@@ -1,4 +1,4 @@
-//! One connection's bytes, and the commands that they spell.
+//! The stream of one connection. Start with [`Stream`].
 
 ghost use Rattle.std.specs.Prelude.{◌≡◌, ◌≤◌, ◌<◌, ℕ, [], true, Some, None, Ok, Err, OnOk, OnErr, length};
 ghost use Rattle.model.specs.Commands.{new_stream, running_stream, heard, with_max, keeping};
@@ -17,22 +17,22 @@ use model::Command;
 use std::alloc::{AllocError, Global};
 use std::marker::Model;
 
-/// What one connection's bytes have still to say.
+/// The bytes of one connection that have not been returned as commands yet.
 pub struct Stream {
     alloc: Global,
     /// The first eight bytes are awaited.
     is_new: bool,
     max: u32,
-    /// Contents are kept.
+    /// Contents are kept, not only counted.
     keeps: bool,
     contents: Vec<Awaited>,
     unread: Unread,
     names: LastNames,
-    /// The fault by which it broke, once that was answered.
+    /// The reply code of the fault, once a call has returned it.
     fault: Option<u16>,
 }
 
-/// Written out, so that a drop is one call.
+/// Written out, so that dropping is one call.
 impl Drop for Stream {
     fn drop(self) {
         let Stream {
@@ -72,8 +72,8 @@ impl Model for Stream {
 }
 
 impl Stream {
-    /// A stream of which no byte has come: its first eight bytes are awaited, a frame has at most 4,096 bytes, and contents are
-    /// kept. That of a connection that does not run is told so (`set_running`).
+    /// Returns a stream that has been fed nothing. It awaits the first eight bytes, a frame has at most 4,096 bytes, and
+    /// contents are kept; [`Stream::set_running`] makes them only counted.
     pub fn new(alloc: Global) -> Stream
         ensures stream { stream_of result ≡ new_stream }
         ensures fault { result.fault ≡ None }
@@ -81,8 +81,7 @@ impl Stream {
         Stream::empty(alloc, true, 4096)
     }
 
-    /// The stream of a connection that runs from the start: no content is begun, a frame has at most 131,072 bytes, and
-    /// contents are kept.
+    /// Returns the stream of a connection that runs from the start: nothing is begun, a frame has at most 131,072 bytes, and contents are kept.
     pub fn running(alloc: Global) -> Stream
         ensures stream { stream_of result ≡ running_stream }
         ensures fault { result.fault ≡ None }
@@ -90,7 +89,7 @@ impl Stream {
         Stream::empty(alloc, false, 131_072)
     }
 
-    /// A stream of which no byte has come, whose frames have at most `max` bytes. Contents are kept.
+    /// Returns a stream that has been fed nothing, with frames of at most `max` bytes, whose contents are kept.
     fn empty(alloc: Global, is_new: bool, max: u32) -> Stream
         requires { 4096 ≤ max }
         ensures stream { stream_of result ≡ record new_stream { is_new = is_new; max = max } }
@@ -108,7 +107,7 @@ impl Stream {
         }
     }
 
-    /// Puts bytes behind those that are still to be read. Where memory is refused, which was wanted then, nothing changes.
+    /// Appends `bytes` to the unread bytes. Fails only if the buffer has to grow and the allocation fails; nothing has changed then.
     pub fn feed(&mut self, bytes: &[u8]) -> Result<(), AllocError>
         ensures ok { OnOk result (stream_of self.new ≡ heard (stream_of self.old) bytes.now) }
         ensures err { OnErr result (self.new ≡ self.old) }
@@ -118,7 +117,7 @@ impl Stream {
         self.unread.put(bytes)
     }
 
-    /// From now on a frame has at most `max` bytes. A stream that broke stays as it is.
+    /// Sets the longest frame to `max` bytes, 4,096 or more. Does nothing after a fault.
     pub fn set_max(&mut self, max: u32)
         requires { 4096 ≤ max }
         ensures sets { self.old.fault ≡ None → stream_of self.new ≡ with_max max (stream_of self.old) }
@@ -130,8 +129,8 @@ impl Stream {
         }
     }
 
-    /// From now on contents are kept, for the connection runs, or they are only counted: a publish of them is told as one
-    /// that is too large. A stream that broke stays as it is.
+    /// Sets whether contents are kept, as for a connection that runs, or only counted. A publish whose content is only
+    /// counted is returned as [`Command::TooLarge`]. Does nothing after a fault.
     pub fn set_running(&mut self, is_running: bool)
         ensures sets { self.old.fault ≡ None → stream_of self.new ≡ keeping is_running (stream_of self.old) }
         ensures broken { (code : ℕ) → self.old.fault ≡ Some code → self.new ≡ self.old }
@@ -143,33 +142,36 @@ impl Stream {
         self.keeps = is_running;
     }
 
-    /// Reads the next command. The first is the first eight bytes, where they are awaited.
+    /// Reads the next command. If the first eight bytes are awaited, they are the next command.
     ///
-    /// `None` where the bytes end before one does. A fault is [`Fault::Broken`], with its reply code, and stands there for
-    /// good: each later call answers it, whatever was fed or set since. Where memory is refused, the same is still to come;
-    /// it is wanted only where there is something to read. Where all was read, the storage of a large content goes back.
+    /// Returns `None` if the unread bytes don't complete a command. A fault is [`Fault::Broken`] with its reply code, and is
+    /// final: each later call returns it, whatever has been fed or set since. If an allocation fails nothing is lost and the
+    /// call can be repeated; that happens only if there is something to read. If all bytes have been read, a buffer of more
+    /// than 4,096 bytes is freed.
     pub fn next(&mut self) -> Result<Option<Command>, Fault>
+        // Promise: what the bytes encode next. After a fault each call returns it again and changes nothing.
         ensures yields { YieldsNext (stream_of self.old) result (stream_of self.new) }
         ensures again { (code : ℕ) → self.old.fault ≡ Some code → (result ≡ Err (Broken code)) × (self.new ≡ self.old) }
         ensures keeps { self.new.fault ≡ broken_by result }
+        // Storage: an empty buffer has room for at most 4,096 bytes.
         ensures room { self.old.fault ≡ None → (stream_of self.new).unread ≡ [] → self.new.room ≤ 4096 }
-        // Storage of a body is made as it comes, for at most twice of what has come, whatever size is declared.
+        // The storage of a body is at most twice what has come of it, whatever size is declared.
         ensures gathered { GrowAsTheyCome self.new.contents }
-        // At most 64 names are kept of what came, and 32 publishes.
+        // At most 64 names and 32 publishes are cached.
         ensures few { AreFew self.new.learned }
     {
-        self.names.are_few();
+        self.names.ghost_are_few();
         if let Some(code) = self.fault {
             return Err(Fault::Broken(code));
         }
         let next = self.read();
         self.fault = fault_in(&next);
         self.unread.give_back();
-        self.names.are_few();
+        self.names.ghost_are_few();
         next
     }
 
-    /// Reads the next command of a stream that has not broken.
+    /// Reads the next command of a stream without a fault.
     fn read(&mut self) -> Result<Option<Command>, Fault>
         requires { self.old.fault ≡ None }
         ensures yields { YieldsNext (stream_of self.old) result (stream_of self.new) }
@@ -188,7 +190,7 @@ impl Stream {
         )
     }
 
-    /// The first eight bytes, once they are there.
+    /// Takes the first eight bytes, or returns `None` if there are fewer.
     fn first(&mut self) -> Option<Command>
         requires is_new { self.old.is_new ≡ true }
         requires fault { self.old.fault ≡ None }
@@ -204,7 +206,7 @@ impl Stream {
         }
     }
 
-    /// How many bytes were fed and are not yet read.
+    /// Returns the number of bytes that were fed and are not read yet.
     pub fn unread(&self) -> usize
         ensures { result ≡ length (stream_of self.now).unread }
     {
@@ -212,7 +214,7 @@ impl Stream {
     }
 }
 
-/// The fault by which an answer says that the stream broke.
+/// Returns the reply code of the fault that `answer` reports, if any.
 fn fault_in(answer: &Result<Option<Command>, Fault>) -> Option<u16>
     ensures { result ≡ broken_by answer.now }
 {

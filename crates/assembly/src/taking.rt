@@ -1,4 +1,4 @@
-//! What one frame does to the channel that awaits it.
+//! Handles the frame that a channel awaits: method, header or piece of a body.
 
 ghost use Rattle.std.specs.Prelude.{◌≡◌, ◌==◌, true, false, MatchBool, MatchResult, Ok, Err};
 ghost use Rattle.assembly.specs.Faults.{IsFault};
@@ -26,7 +26,7 @@ use model::{Body, Command, Content, Method, Properties, Publish, Text};
 use std::alloc::Global;
 use std::mem;
 
-/// Takes a frame that is no heartbeat, on a channel that may have it: one of a type that is not awaited is out of place.
+/// Handles a frame other than a heartbeat, on a channel that may have it. A type that is not awaited is a fault (505).
 #[inline(always)]
 pub(crate) fn take_awaited(
     alloc: Global,
@@ -52,7 +52,7 @@ pub(crate) fn take_awaited(
     }
 }
 
-/// The type of frame that a channel awaits.
+/// Returns the frame type that the channel awaits.
 fn awaited_kind(pending: &Awaited) -> u8
     ensures { result ≡ awaited (pending_of pending.now) }
 {
@@ -64,7 +64,7 @@ fn awaited_kind(pending: &Awaited) -> u8
     }
 }
 
-/// A method is a command, but a publish waits for its content.
+/// Handles a method: it is a command, unless it is a publish, which waits for its content.
 fn take_method(
     alloc: Global,
     keeps: bool,
@@ -86,7 +86,7 @@ fn take_method(
     }
 }
 
-/// A method that was read is a command, but a publish waits for its content.
+/// Handles a method that was decoded: it is a command, unless it is a publish, which waits for its content.
 fn begin(
     alloc: Global,
     keeps: bool,
@@ -112,7 +112,7 @@ fn begin(
     }
 }
 
-/// What is kept of a publish that was read. It is learned where it is kept.
+/// Returns what is kept of a publish that was decoded, and caches it if contents are kept.
 fn begun(
     alloc: Global,
     keeps: bool,
@@ -129,7 +129,7 @@ fn begun(
     kept_publish(keeps, publish)
 }
 
-/// What is kept of a publish until its content is whole: nothing, where contents are only counted.
+/// Returns what is kept of `publish` until its content is whole: an empty publish if contents are only counted.
 fn kept_publish(keeps: bool, publish: Publish) -> Publish
     ensures { result ≡ kept keeps publish }
 {
@@ -145,7 +145,7 @@ fn kept_publish(keeps: bool, publish: Publish) -> Publish
     }
 }
 
-/// A header declares the body of the publish before it. Of a content that is too large nothing else is read.
+/// Handles a header, which declares the body of the publish before it. If the content is too large nothing else of the header is read.
 fn take_header(
     alloc: Global,
     keeps: bool,
@@ -168,7 +168,7 @@ fn take_header(
     }
 }
 
-/// A header that is not too large: its body is awaited, to be kept or only counted.
+/// Handles the header of a content that isn't too large: its body is awaited, to be kept or only counted.
 fn begin_content(
     alloc: Global,
     keeps: bool,
@@ -188,7 +188,7 @@ fn begin_content(
     }
 }
 
-/// A header whose body is kept. A body of no bytes is whole.
+/// Handles a header whose body is kept. An empty body is complete at once.
 fn gather_content(
     alloc: Global,
     pending: &mut Awaited,
@@ -219,7 +219,7 @@ fn gather_content(
     }
 }
 
-/// A header whose body is only counted. A body of no bytes has come with it.
+/// Handles a header whose body is only counted. An empty body is complete at once.
 fn count_content(
     alloc: Global,
     pending: &mut Awaited,
@@ -235,7 +235,7 @@ fn count_content(
     }
 }
 
-/// The size of the body that a header declares, all of which is read.
+/// Decodes a header, and returns the body size that it declares.
 fn size_of_header(alloc: Global, payload: &[u8]) -> Result<u64, Fault>
     ensures { MatchResult result (λ size. (h : Header) × SaysHeader payload.now (Ok h) × (size ≡ h.size))
         (λ fault. IsFault (λ code. SaysHeader payload.now (Err code)) fault) }
@@ -246,7 +246,7 @@ fn size_of_header(alloc: Global, payload: &[u8]) -> Result<u64, Fault>
     }
 }
 
-/// Takes out the publish whose header came.
+/// Takes the publish out of `pending`, which awaits a method then.
 fn begun_publish(pending: &mut Awaited) -> Publish
     requires { HasPublish pending.old }
     ensures publish { pending.old ≡ WantsHeader result }
@@ -258,7 +258,7 @@ fn begun_publish(pending: &mut Awaited) -> Publish
     }
 }
 
-/// A publish with its whole content.
+/// Returns the command of a publish with its whole content.
 fn full(channel: u16, publish: Publish, properties: Properties, body: Body) -> Command
     ensures { result ≡ command.Full channel publish (record { properties = properties; body = body }) }
 {
@@ -269,7 +269,7 @@ fn full(channel: u16, publish: Publish, properties: Properties, body: Body) -> C
     }
 }
 
-/// A piece of a body. Where contents are not kept any more, what came of it is dropped.
+/// Handles a piece of a body. If contents are no longer kept, the pieces before it are dropped, too.
 fn take_piece(
     keeps: bool,
     pending: &mut Awaited,
@@ -293,7 +293,7 @@ fn take_piece(
     }
 }
 
-/// A piece of a body that is kept. Past the declared size it is a fault, and at it the publish is a command.
+/// Handles a piece of a body that is kept. More than the declared size is a fault (501). At that size the publish is a command.
 fn take_body(pending: &mut Awaited, frame: &Frame<'_>) -> Result<Option<Command>, Fault>
     requires gathered { IsGathered pending.old }
     requires spelled { IsSpelledSoFar pending.old }
@@ -324,7 +324,7 @@ fn take_body(pending: &mut Awaited, frame: &Frame<'_>) -> Result<Option<Command>
     }
 }
 
-/// The publish whose whole body this is. Its channel awaits a method from then on.
+/// Returns the publish in `pending` with its whole `body`. The channel awaits a method then.
 fn complete(pending: &mut Awaited, channel: u16, body: Body) -> Command
     requires { IsGathered pending.old }
     ensures full { (g : Begun) → pending.old ≡ WantsBody g → result ≡ command.Full channel g.publish (record { properties = g.properties; body = body }) }

@@ -1,4 +1,4 @@
-//! Bytes of a connection that were not read yet.
+//! The unread bytes of a connection.
 
 ghost use Rattle.std.specs.Prelude.{◌≡◌, ◌≤◌, ◌<◌, [], ◌++◌, length, drop, IfOk, OnOk, OnErr};
 
@@ -6,10 +6,10 @@ use bytes::BytesMut;
 use std::alloc::{AllocError, Global};
 use std::marker::Model;
 
-/// A storage of so many bytes is kept also where nothing waits, so that small pieces want no memory each time.
+/// An empty buffer of at most this capacity is kept, so that small pieces need no allocation each time.
 const KEPT: usize = 4096;
 
-/// Bytes that are put in at the back and taken from the front.
+/// A byte queue: bytes are appended at the back and taken from the front.
 #[derive(Drop)]
 pub(crate) struct Unread {
     bytes: BytesMut,
@@ -23,8 +23,8 @@ impl Model for Unread {
     ghost view = { λ u. record { bytes = u.bytes.items; room = u.bytes.spare } };
 }
 
-/// These bytes and more behind them, in a storage of their own. Where some stand before the others it has room for as many
-/// again, so that bytes which come one by one are not copied each time.
+/// Returns a new buffer with `first` and `more`. If there are bytes in `first` it has room for as many again, or for `more`
+/// if that is longer, so that bytes fed one by one are not copied each time.
 fn gathered(alloc: Global, first: &[u8], more: &[u8]) -> Result<BytesMut, AllocError>
     ensures { IfOk result (λ b. b.items ≡ first.now ++ more.now) }
 {
@@ -38,7 +38,7 @@ fn gathered(alloc: Global, first: &[u8], more: &[u8]) -> Result<BytesMut, AllocE
 }
 
 impl Unread {
-    /// Nothing waits. It takes no memory.
+    /// Returns an empty buffer. Never allocates.
     pub(crate) fn new(alloc: Global) -> Unread
         ensures { result.bytes ≡ [] }
     {
@@ -47,15 +47,14 @@ impl Unread {
         }
     }
 
-    /// All that waits.
+    /// Returns the bytes that are not taken yet.
     pub(crate) fn bytes(&self) -> &[u8]
         ensures { result.now ≡ self.now.bytes }
     {
         self.bytes.as_slice()
     }
 
-    /// Puts bytes in behind what waits, in a new storage if there is no room. Where memory is refused, which was wanted then,
-    /// all stays as it was.
+    /// Appends `more`, in a new buffer if there is no room. Fails only if that allocation fails; nothing has changed then.
     pub(crate) fn put(&mut self, more: &[u8]) -> Result<(), AllocError>
         ensures ok { OnOk result (self.new.bytes ≡ self.old.bytes ++ more.now) }
         ensures err { OnErr result (self.new ≡ self.old) }
@@ -70,7 +69,7 @@ impl Unread {
         Ok(())
     }
 
-    /// Takes `n` bytes. Where none is left all of the storage is free at once.
+    /// Removes the first `n` bytes. If none is left, all of the buffer is free again.
     pub(crate) fn take(&mut self, n: usize)
         requires { n ≤ length self.old.bytes }
         ensures bytes { self.new.bytes ≡ drop n self.old.bytes }
@@ -82,7 +81,7 @@ impl Unread {
         }
     }
 
-    /// Gives a storage of more than 4,096 bytes back, where nothing waits in it.
+    /// Frees a buffer of more than 4,096 bytes if nothing is unread.
     pub(crate) fn give_back(&mut self)
         ensures bytes { self.new.bytes ≡ self.old.bytes }
         ensures freed { self.old.bytes ≡ [] → self.new.room ≤ 4096 }

@@ -149,8 +149,8 @@ pub fn filled(alloc: Global, shape: Shape, messages: u64, keys: Keys) -> Option<
     }
 }
 
-/// Makes deliveries to `connection` until none can be made, at most `most`. Returns their number. Takes the output in between: a
-/// client that leaves a MiB of it gets no more.
+/// Makes deliveries to `connection` until none can be made, at most `most`, and returns their number. Takes the output in
+/// between, since a client that leaves 1 MiB of it is paused.
 pub fn deliver_to(engine: &mut Measured, connection: u64, most: u64) -> u64 {
     let mut made: u64 = 0;
     for _ in 0..most / WINDOW {

@@ -32,7 +32,7 @@ const LONG: u128 = 5_000;
 
 /// The number of events, and how long they took.
 #[derive(Clone, Copy, Drop)]
-struct Events {
+pub struct Events {
     count: u64,
     /// The number of events that took longer than [`LONG`].
     long: u64,
@@ -41,7 +41,7 @@ struct Events {
 }
 
 impl Events {
-    fn new() -> Events {
+    pub fn new() -> Events {
         Events {
             count: 0,
             long: 0,
@@ -50,7 +50,7 @@ impl Events {
     }
 
     /// Counts an event that began at `start` and is over.
-    fn end(&mut self, rt: &HostRuntime, start: &Instant) -> io::Result<()> {
+    pub fn end(&mut self, rt: &HostRuntime, start: &Instant) -> io::Result<()> {
         let took = start.elapsed(rt)?.as_micros();
         self.count = self.count.saturating_add(1);
         if took > LONG {
@@ -61,7 +61,7 @@ impl Events {
     }
 
     /// Prints `what` the events were, the longest of them, and how many took too long.
-    fn print(&self, rt: &HostRuntime, what: &str) -> io::Result<()> {
+    pub fn print(&self, rt: &HostRuntime, what: &str) -> io::Result<()> {
         println!(rt;
             "events, {what}: {} microseconds the longest; {} of {} over {LONG}",
             self.longest, self.long, self.count

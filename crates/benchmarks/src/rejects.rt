@@ -1,40 +1,72 @@
-//! Measures rejecting many messages at once, whose dead letters go to another queue.
+//! Measures rejecting many messages at once, whose dead letters go to other queues.
 
 use crate::deliveries::deliver_to;
-use benchmark_parts::loads::consumers::{put_consume, put_nack_all};
+use crate::events::Events;
+use benchmark_parts::loads::consumers::{Acks, put_consume, put_nack_all};
 use benchmark_parts::loads::properties;
 use benchmark_parts::measuring::{
     Client, Keys, Measured, Shape, Written, built, processor_time, resident_bytes,
 };
 use std::alloc::Global;
 use std::io;
+use std::time::Instant;
 
-/// The number of messages that are rejected at once.
-const REJECTED: u64 = 500_000;
+/// The number of messages that are rejected a window at a time, behind those of the last load.
+const BEHIND: u64 = 500_000;
 
-/// The number of messages that are published at a time.
+/// The number of messages that are published, or rejected behind others, at a time.
 const WINDOW: u64 = 1_000;
+
+/// The number of dead letters that are delivered and acknowledged at a time.
+const DRAINED: u64 = 100;
 
 /// The number of bytes of a body.
 const BODY: usize = 12;
 
-/// A load: messages with these properties, encoded as in a content header.
+/// A load: messages with these properties, encoded as in a content header, that are rejected at once.
 #[derive(Clone, Copy, Drop)]
 struct RejectLoad {
     name: &'static str,
     properties: &'static [u8],
+    rejected: u64,
+    /// The number of queues to which each dead letter goes.
+    targets: u32,
+    /// How many messages each of them may have.
+    limit: Option<u32>,
 }
 
-const LOADS: [RejectLoad; 2] = [
+const LOADS: [RejectLoad; 3] = [
     RejectLoad {
         name: "no properties",
         properties: properties::NONE,
+        rejected: 500_000,
+        targets: 1,
+        limit: None,
     },
     RejectLoad {
         name: "a mode and a type",
         properties: properties::MODE_TYPE,
+        rejected: 500_000,
+        targets: 1,
+        limit: None,
+    },
+    RejectLoad {
+        name: "into 20 queues of at most 10 messages",
+        properties: properties::NONE,
+        rejected: 300_000,
+        targets: 20,
+        limit: Some(10),
     },
 ];
+
+/// The load behind which more messages are rejected.
+const LARGE: RejectLoad = RejectLoad {
+    name: "behind",
+    properties: properties::NONE,
+    rejected: 1_000_000,
+    targets: 1,
+    limit: None,
+};
 
 /// A connection to which messages were delivered, and the number of these.
 #[derive(Clone, Copy, Drop)]
@@ -43,18 +75,19 @@ struct Holder {
     held: u64,
 }
 
-/// Starts an engine with a queue `q0` that has the messages of a load, and whose dead letters go to the queue `f0`. Returns
-/// `None` if an allocation fails.
-fn filled(alloc: Global, load: RejectLoad) -> Option<Measured> {
+/// Starts an engine with a queue `q0` that has `messages` messages, and whose dead letters go to the queues `f0`, `f1` .. of a
+/// load. Returns `None` if an allocation fails.
+fn filled(alloc: Global, load: RejectLoad, messages: u64) -> Option<Measured> {
     let shape = Shape::Lettered {
         queues: 1,
-        forbidden: 1,
+        forbidden: load.targets,
         key: Some("d"),
+        limit: load.limit,
     };
     let mut engine = Measured::over(alloc, built(alloc, shape)?, Vec::new(alloc))?;
     let publisher = engine.open_ready();
     let mut client = Client::with_properties(alloc, BODY, Keys::One, load.properties);
-    for _ in 0..REJECTED / WINDOW {
+    for _ in 0..messages / WINDOW {
         let bytes = client.window(alloc, WINDOW);
         engine.perform(publisher, bytes);
     }
@@ -65,19 +98,19 @@ fn filled(alloc: Global, load: RejectLoad) -> Option<Measured> {
     }
 }
 
-/// Delivers the messages of `queue` to a connection of their own.
-fn hold(engine: &mut Measured, alloc: Global, queue: &[u8]) -> Holder {
+/// Delivers messages of `queue`, at most `most`, to a connection of their own.
+fn hold(engine: &mut Measured, alloc: Global, queue: &[u8], most: u64) -> Holder {
     let connection = engine.open_ready();
     let mut consume = Written::new(alloc);
     put_consume(&mut consume, queue);
     engine.perform(connection, consume.as_slice());
-    let held = deliver_to(engine, connection, REJECTED);
+    let held = deliver_to(engine, connection, most);
     Holder { connection, held }
 }
 
 /// Prints the time of a message that is rejected with all others, and by how many bytes the process has grown for each.
 fn measure_over(rt: &HostRuntime, mut engine: Measured, load: RejectLoad) -> io::Result<()> {
-    let holder = hold(&mut engine, rt.alloc(), b"q0");
+    let holder = hold(&mut engine, rt.alloc(), b"q0", load.rejected);
     let mut reject = Written::new(rt.alloc());
     put_nack_all(&mut reject, holder.held);
     let before = resident_bytes(rt)?;
@@ -85,23 +118,74 @@ fn measure_over(rt: &HostRuntime, mut engine: Measured, load: RejectLoad) -> io:
     engine.perform(holder.connection, reject.as_slice());
     let took = processor_time(rt)?.saturating_sub(start);
     let grown = resident_bytes(rt)?.saturating_sub(before);
-    let letters = hold(&mut engine, rt.alloc(), b"f0").held;
+    let letters = hold(&mut engine, rt.alloc(), b"f0", load.rejected).held;
     println!(rt;
         "reject of {}, {}: {} ns and {} bytes a message; {letters} dead letters",
         holder.held,
         load.name,
-        took / REJECTED,
-        grown / REJECTED
+        took.checked_div(load.rejected).unwrap_or(0),
+        grown.checked_div(load.rejected).unwrap_or(0)
     )
+}
+
+/// Rejects the next messages that are delivered to a holder which has rejected all of before, a window at a time.
+fn reject_behind(engine: &mut Measured, alloc: Global, holder: Holder) {
+    let mut tag = holder.held;
+    let mut reject = Written::new(alloc);
+    for _ in 0..BEHIND / WINDOW {
+        tag = tag.saturating_add(deliver_to(engine, holder.connection, WINDOW));
+        reject.clear();
+        put_nack_all(&mut reject, tag);
+        engine.perform(holder.connection, reject.as_slice());
+    }
+}
+
+/// Delivers and acknowledges `messages` messages of the queue `f0`.
+fn drain(rt: &HostRuntime, engine: &mut Measured, messages: u64) -> io::Result<Events> {
+    let connection = engine.open_ready();
+    let mut consume = Written::new(rt.alloc());
+    put_consume(&mut consume, b"f0");
+    engine.perform(connection, consume.as_slice());
+    let mut acks = Acks::new(rt.alloc());
+    let mut events = Events::new();
+    for _ in 0..messages / DRAINED {
+        let start = Instant::now(rt)?;
+        let made = engine.deliver(DRAINED);
+        engine.take_output(connection);
+        engine.perform(connection, acks.of_next(made));
+        events.end(rt, &start)?;
+    }
+    Ok(events)
+}
+
+/// Prints the time of a dead letter that is drained, and the longest events of that, where many came at once and others behind them.
+fn measure_behind(rt: &HostRuntime, mut engine: Measured) -> io::Result<()> {
+    let holder = hold(&mut engine, rt.alloc(), b"q0", LARGE.rejected);
+    let mut reject = Written::new(rt.alloc());
+    put_nack_all(&mut reject, holder.held);
+    engine.perform(holder.connection, reject.as_slice());
+    reject_behind(&mut engine, rt.alloc(), holder);
+    let start = processor_time(rt)?;
+    let letters = LARGE.rejected.saturating_add(BEHIND);
+    let events = drain(rt, &mut engine, letters)?;
+    let took = processor_time(rt)?.saturating_sub(start);
+    println!(rt;
+        "drain of {letters} dead letters: {} ns a message",
+        took / letters
+    )?;
+    events.print(rt, "the drain of dead letters")
 }
 
 /// Measures all loads.
 pub fn measure_all(rt: &HostRuntime) -> io::Result<()> {
     for load in LOADS {
-        match filled(rt.alloc(), load) {
+        match filled(rt.alloc(), load, load.rejected) {
             Some(engine) => measure_over(rt, engine, load)?,
             None => println!(rt; "{}: there is no engine", load.name)?,
         }
     }
-    Ok(())
+    match filled(rt.alloc(), LARGE, LARGE.rejected.saturating_add(BEHIND)) {
+        Some(engine) => measure_behind(rt, engine),
+        None => println!(rt; "{}: there is no engine", LARGE.name),
+    }
 }

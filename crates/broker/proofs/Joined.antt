@@ -1,5 +1,5 @@
 -- Waiters of consumers: among others, after a sweep, and at each event.
-use Rattle.broker.proofs.Names.{◌∙◌, ℕ, List, [], ◌∷◌, ◌++◌, Bool, true, false, Option, Some, None, length, inl, inr, refl, sym, ap, subst, if◌then◌else◌, option_map, is_some, ◌==◌, ◌&&◌, eqb-true, eq-eqb, false≢true, same_Some, Text, Topology, IsIn, IsAgreed, Broker, Channel, Connection, with_pair, with_row, Is, Acts, Refuses, Decides, OnConnection, Refusal, Ignored, Of_channel, Of_connection, refusal, channel_or_new, consumer_of, ids_of, Content, Method, BasicConsume, Send, Event, Command, Note, WasConsumer, IsMadeBy, ConsumersAreMade, open_in, running_in, channel_in, channel_at, connection_at, limits_of, Kept, names_of, Rounds, Lists, Listing, round_at, listing, is_of, wakes, HasConsumer, AllAreInRounds, AllAreNoted, AllAreConsumers, AllListedAreThere, HasJoined, IsServing, AllRun, HasNoList, MakesNoList, NotesStay, IsNoted, IsInItsRound, IsAwake, KeepsWaiters, KeepsAll, next_number, next_seat, seat_of, consumed, IsConsumed, Pick}
+use Rattle.broker.proofs.Names.{◌∙◌, ℕ, List, [], ◌∷◌, ◌++◌, Bool, true, false, Option, Some, None, length, inl, inr, refl, sym, ap, subst, if◌then◌else◌, option_map, is_some, ◌==◌, ◌&&◌, eqb-true, eq-eqb, false≢true, same_Some, Text, Topology, IsIn, IsAgreed, Broker, Channel, Connection, with_pair, with_row, Is, Acts, Refuses, Decides, OnConnection, Refusal, Ignored, Of_channel, Of_connection, refusal, channel_or_new, consumer_of, ids_of, Content, Method, BasicConsume, Send, Event, Command, Note, WasConsumer, IsMadeBy, ConsumersAreMade, open_in, running_in, channel_in, channel_at, connection_at, limits_of, Kept, names_of, Rounds, Lists, Listing, round_at, listing, is_of, wakes, HasConsumer, AllAreInRounds, AllAreNoted, AllAreConsumers, AllListedAreThere, HasJoined, IsServing, AllRun, HasNoList, MakesNoList, NotesStay, IsNoted, IsInItsRound, IsAwake, KeepsWaiters, KeepsAll, next_number, next_consumer, consumer_to_make, consumed, IsConsumed, Pick}
 use Rattle.std.proofs.Common.{◌≡◌, ◌⊎◌}
 use Rattle.model.specs.Broker as seen
 use Rattle.model.specs.declared.methods.Consume.{Consume}
@@ -64,7 +64,7 @@ ignored_stays t b c h m content sends notes new None is does = does.left
 ignored_stays t b c h m content sends notes new (Some conn) is does = (subst (λ (r : Option Refusal). Decides t b c h m content r sends notes new) is does).left
 
 -- a consume is ignored where there is no next waiter for it
-no_next : (t : Topology) (kept : Kept) (c h : ℕ) (m : Consume) → next_seat c h (running_in kept.connections c) ≡ None → IsIgnored t (broker_of kept) c h (BasicConsume m) ((broker_of kept).connection c)
+no_next : (t : Topology) (kept : Kept) (c h : ℕ) (m : Consume) → next_consumer c h (running_in kept.connections c) ≡ None → IsIgnored t (broker_of kept) c h (BasicConsume m) ((broker_of kept).connection c)
 no_next t kept c h m none = go (running_in kept.connections c) refl none
   where
     b : Broker
@@ -82,7 +82,7 @@ no_next t kept c h m none = go (running_in kept.connections c) refl none
     unmapped f None e = refl
     unmapped f (Some x) e = absurd (false≢true (sym (ap is_some e)))
 
-    go : (o : Option Running) → running_in kept.connections c ≡ o → next_seat c h o ≡ None → IsIgnored t b c h (BasicConsume m) (b.connection c)
+    go : (o : Option Running) → running_in kept.connections c ≡ o → next_consumer c h o ≡ None → IsIgnored t b c h (BasicConsume m) (b.connection c)
     go None e f = subst (λ (x : Option Running). IsIgnored t b c h (BasicConsume m) (connection_at x)) (sym e) tt
     go (Some l) e f =
         subst (λ (x : Option Running). IsIgnored t b c h (BasicConsume m) (connection_at x)) (sym e)
@@ -90,7 +90,7 @@ no_next t kept c h m none = go (running_in kept.connections c) refl none
         ∙ closing (limits_of l) (channel_in l h) (unmapped _ (next_number (channel_in l h)) f))
 
 -- and where there is one it has the number of the next consumer
-next_number_is : (names : List Text) (c h : ℕ) (o : Option Running) (p : Pick) → next_seat c h o ≡ Some p → p ≡ record { connection = c; channel = h; number = (channel_or_new (option_map (open_in names) (channel_at o h))).next_number }
+next_number_is : (names : List Text) (c h : ℕ) (o : Option Running) (p : Pick) → next_consumer c h o ≡ Some p → p ≡ record { connection = c; channel = h; number = (channel_or_new (option_map (open_in names) (channel_at o h))).next_number }
 next_number_is names c h None p e = absurd (false≢true (ap is_some e))
 next_number_is names c h (Some l) p e = go (channel_in l h) e
   where
@@ -154,7 +154,7 @@ module _ (t : Topology) (old new : Broker) (c h : ℕ) (m : Consume) (content : 
 
 -- a consumer that is there after an event was there, or the event is the consume from its queue, whose waiter it has
 pub came_there : ConsumersAreMade → (t : Topology) (kept : Kept) (new : Broker) (e : Event) (sends : List Send) (notes : List Note) → Acts t (broker_of kept) e sends notes new
-    → (place : ℕ) (p : Pick) → HasConsumer t new place p → HasConsumer t (broker_of kept) place p ⊎ (IsConsumed t e place × (seat_of kept e ≡ Some p))
+    → (place : ℕ) (p : Pick) → HasConsumer t new place p → HasConsumer t (broker_of kept) place p ⊎ (IsConsumed t e place × (consumer_to_make kept e ≡ Some p))
 came_there law t kept new e sends notes acts place p has = go (law t b new e sends notes acts c h k has.was)
   where
     b : Broker
@@ -170,7 +170,7 @@ came_there law t kept new e sends notes acts place p has = go (law t b new e sen
     k = has.consumer
 
     Came_here : Type 0
-    Came_here = HasConsumer t b place p ⊎ (IsConsumed t e place × (seat_of kept e ≡ Some p))
+    Came_here = HasConsumer t b place p ⊎ (IsConsumed t e place × (consumer_to_make kept e ≡ Some p))
 
     before : WasConsumer b c h k → Came_here
     before was = inl (record { consumer = k; was = was; numbered = has.numbered; within = has.within; named = has.named })
@@ -187,17 +187,17 @@ came_there law t kept new e sends notes acts place p has = go (law t b new e sen
         here : k.queue ≡ m.queue → IsConsumed t e place
         here queue = record { within = has.within; named = ap consumed is ∙ ap (λ (q : Text). Some q) (sym queue ∙ sym has.named) }
 
-        next : k.queue ≡ m.queue → (o : Option Pick) → next_seat c h (running_in kept.connections c) ≡ o → Came_here
+        next : k.queue ≡ m.queue → (o : Option Pick) → next_consumer c h (running_in kept.connections c) ≡ o → Came_here
         next queue None f =
             let stays = ignored_stays t b c h (BasicConsume m) content sends notes new (b.connection c) (no_next t kept c h m f) same in
             before (has.was.0, sym (stays.channels c h) ∙ has.was.1, has.was.2)
         next queue (Some q) f =
             let one = next_number_is (names_of kept) c h (running_in kept.connections c) q f ∙ ap (λ (n : ℕ). record { connection = c; channel = h; number = n }) (sym numbered) ∙ its in
-            inr (here queue, ap (seat_of kept) is ∙ f ∙ ap Some one)
+            inr (here queue, ap (consumer_to_make kept) is ∙ f ∙ ap Some one)
 
         on : WasConsumer b c h k ⊎ (k.queue ≡ m.queue) → Came_here
         on (inl there) = before there
-        on (inr queue) = next queue (next_seat c h (running_in kept.connections c)) refl
+        on (inr queue) = next queue (next_consumer c h (running_in kept.connections c)) refl
 
     go : WasConsumer b c h k ⊎ IsMadeBy b e c h k → Came_here
     go (inl was) = before was
@@ -261,10 +261,10 @@ serves_asleep agrees law t old new e sends notes rounds acts asleep none was is 
 -- so does one behind which the consumer that it makes comes in
 module _ (agrees : StayAgreed) (law : ConsumersAreMade) (old new : Kept) (e : Event) (sends : List Send) (notes : List Note) (rounds after : Rounds)
     (acts : Acts (topology_kept old) (broker_of old) e sends notes (broker_of new)) (woken : AreWoken (topology_kept old) (broker_of old) e rounds) (is : topology_kept new ≡ topology_kept old)
-    (next : (place : ℕ) (p : Pick) → IsConsumed (topology_kept old) e place → seat_of old e ≡ Some p → is_of new place p ≡ true → HasJoined after place p)
+    (next : (place : ℕ) (p : Pick) → IsConsumed (topology_kept old) e place → consumer_to_make old e ≡ Some p → is_of new place p ≡ true → HasJoined after place p)
     (keeps : KeepsWaiters new rounds after) (stay : NotesStay rounds.lists after.lists) (len : length after.rounds ≡ length rounds.rounds) (serving : Holds old rounds) where
   there : (place : ℕ) (p : Pick) → HasConsumer (topology_kept new) (broker_of new) place p
-      → HasConsumer (topology_kept old) (broker_of old) place p ⊎ (IsConsumed (topology_kept old) e place × (seat_of old e ≡ Some p))
+      → HasConsumer (topology_kept old) (broker_of old) place p ⊎ (IsConsumed (topology_kept old) e place × (consumer_to_make old e ≡ Some p))
   there place p has = came_there law (topology_kept old) old (broker_of new) e sends notes acts place p (subst (λ (x : Topology). HasConsumer x (broker_of new) place p) is has)
 
   joined : AllAreInRounds (topology_kept new) (broker_of new) after

@@ -18,7 +18,7 @@ pub use Rattle.commands.proofs.Remaining.{one_stays, same_stay}
 pub use Rattle.commands.proofs.Stepping.{seen_there}
 pub use Rattle.commands.specs.Ended.{AllConsumersStay, AllRunStill, TellsEnd, TellsStay}
 pub use Rattle.commands.specs.Picked.{CannotTake, IsKeptAs, IsPick, IsPickFrom, TakesAs}
-pub use Rattle.commands.specs.Seats.{IsConsumed, IsNewest, consumed, has_consumer, next_seat, seat_of}
+pub use Rattle.commands.specs.NewConsumers.{IsConsumed, IsNewest, consumed, has_consumer, next_consumer, consumer_to_make}
 pub use Rattle.commands.specs.State.{ArePlaced, Kept, names_of}
 pub use Rattle.commands.specs.declared.acted.Ends.{Ends}
 pub use Rattle.commands.specs.declared.picks.Pick.{Pick}
@@ -35,7 +35,7 @@ pub use Rattle.model.specs.Consuming.{CanDeliver, MayTake, consumer_of, may_take
 pub use Rattle.model.specs.Deliveries.{channel_after, first_ready, outstanding_after}
 pub use Rattle.model.specs.Entries.{by_channel, is_held_as}
 pub use Rattle.model.specs.Grammar.{Ids, ids_of}
-pub use Rattle.model.specs.Reloading.{NoneIsStranded, by_consumer, stood_now, with_all_stood}
+pub use Rattle.model.specs.Reloading.{NoneIsOrphaned, by_consumer, stood_now, with_all_stood}
 pub use Rattle.model.specs.Step.{Acts, Decides, Does, Gets, Ignored, Is, IsDelivery, Of_channel, Of_connection, OnConnection, OnLarge, Performs, Refusal, Refuses, channel_or_new, channels_up_to, empty_publish, paused, refusal, refusal_of_large, with_channel, with_freed}
 pub use Rattle.model.specs.Topology.{AreApart, IsIn, Topology, queue_names}
 pub use Rattle.model.specs.Words.{Text}

@@ -1,5 +1,5 @@
 -- Another topology is in force: what every broker keeps.
-use Rattle.broker.proofs.Names.{◌∙◌, ◌<◌, ◌+◌, ℕ, zero, suc, List, [], true, Option, None, length, get_or, inl, inr, refl, sym, ap, subst, arith, leb_tells, get_or_past, Text, IsIn, AreApart, Broker, IsAgreed, is_held_as, by_consumer, NoneIsStranded, stood_now, with_all_stood, Is, Entry, count-map, place_now, consumer_in, goes, AreMoved, IsStoreWhole, names-length, is_in, channel_of, same_default, Kept, ArePlaced, names_of, Pick, seen_there, queue_name, Waiter, turned, AreDistinct, Rounds, Lists, Listing, Waiters, round_at, listed_on, is_listed_there, NumbersRise, picks, order, is_of, IsItsOwn, AllListedAreThere, IsAwake, IsInRound, listing, HasConsumer, AllAreInRounds, AllAreNoted, AreItsConsumers, AllAreConsumers, IsNoted, IsServing, AllAreEmpty, listing_moved, StandsIn, IsMoved, ArePlacesApart, RoundsAreMoved, LinesCome, ListsAreMoved, with_turn, LinesMove}
+use Rattle.broker.proofs.Names.{◌∙◌, ◌<◌, ◌+◌, ℕ, zero, suc, List, [], true, Option, None, length, get_or, inl, inr, refl, sym, ap, subst, arith, leb_tells, get_or_past, Text, IsIn, AreApart, Broker, IsAgreed, is_held_as, by_consumer, NoneIsOrphaned, stood_now, with_all_stood, Is, Entry, count-map, place_now, consumer_in, goes, AreMoved, IsStoreWhole, names-length, is_in, channel_of, same_default, Kept, ArePlaced, names_of, Pick, seen_there, queue_name, Waiter, turned, AreDistinct, Rounds, Lists, Listing, Waiters, round_at, listed_on, is_listed_there, NumbersRise, picks, order, is_of, IsItsOwn, AllListedAreThere, IsAwake, IsInRound, listing, HasConsumer, AllAreInRounds, AllAreNoted, AreItsConsumers, AllAreConsumers, IsNoted, IsServing, AllAreEmpty, listing_moved, StandsIn, IsMoved, ArePlacesApart, RoundsAreMoved, LinesCome, ListsAreMoved, with_turn, LinesMove}
 use Rattle.std.proofs.Common.{◌≡◌}
 use Rattle.std.specs.Prelude.{count_by}
 use Rattle.model.specs.Broker as seen
@@ -168,7 +168,7 @@ module _ (old new : Kept) (places : List ℕ) (after : IsStoreWhole new.store) (
       ]
 
   -- and each list
-  listed_moved : NoneIsStranded (topology_kept old) (topology_kept new) (broker_of old) → (before left : Lists) → AllListedAreThere old before → ListsAreMoved places before left → AllListedAreThere new left
+  listed_moved : NoneIsOrphaned (topology_kept old) (topology_kept new) (broker_of old) → (before left : Lists) → AllListedAreThere old before → ListsAreMoved places before left → AllListedAreThere new left
   listed_moved none before left own lists c h = record {
     there = λ l i.
         let was = seen_of (listing_moved places) l (listed_on before c h) (subst (IsIn l) (lists.listed c h) i) in
@@ -192,7 +192,7 @@ module _ (old new : Kept) (places : List ℕ) (after : IsStoreWhole new.store) (
                 (record { was = is_in (names_of old) m.queue (omega (arith, lt, long)); gone = gone; in_use = by_consumer m.consumer.connection m.consumer.channel has.was.0 has.consumer has.was.1 has.was.2 (sym has.named) }))
           ]
 
-  pub serves_moved : NoneIsStranded (topology_kept old) (topology_kept new) (broker_of old) → (before empty left : Rounds) → IsServing old before → RoundsAreMoved places before.rounds left.rounds → LinesCome places before.rounds empty.rounds left.rounds → AllAreEmpty empty.rounds → ListsAreMoved places before.lists left.lists
+  pub serves_moved : NoneIsOrphaned (topology_kept old) (topology_kept new) (broker_of old) → (before empty left : Rounds) → IsServing old before → RoundsAreMoved places before.rounds left.rounds → LinesCome places before.rounds empty.rounds left.rounds → AllAreEmpty empty.rounds → ListsAreMoved places before.lists left.lists
       → length left.rounds ≡ length (topology_kept new).queues → IsServing new left
   serves_moved none_stranded before empty left serving rounds came none lists len =
       serves new left

@@ -1,5 +1,5 @@
 -- What a step leaves.
-use Rattle.broker.proofs.Names.{◌∙◌, ◌++◌, ℕ, List, [], ◌∷◌, true, false, Option, Some, None, length, inl, inr, refl, sym, ap, subst, ◌==◌, IfSome, Broker, Acts, IsIn, Event, Send, Note, WasConsumer, ConsumersAreMade, connection_of_event, AllRunStill, AllConsumersStay, TellsEnd, Kept, seat_of, IsConsumed, Ends, Pick, Rounds, Waiters, Lists, KeepsIn, KeepLists, round_at, listing, is_of, wakes, IsServing, AllRun, AllAreConsumers, AllListedAreThere, SameListed, ListsItsOwn, ListingsLeave, HasJoined, AllAddTheirOwn, AllWaken, KeepsWaiters, KeepsAll, LeaveLines, ListsRunning, HasNoList, MakesNoList, NotesStay, IsExpected, WakesWaiter, GoesOn}
+use Rattle.broker.proofs.Names.{◌∙◌, ◌++◌, ℕ, List, [], ◌∷◌, true, false, Option, Some, None, length, inl, inr, refl, sym, ap, subst, ◌==◌, IfSome, Broker, Acts, IsIn, Event, Send, Note, WasConsumer, ConsumersAreMade, connection_of_event, AllRunStill, AllConsumersStay, TellsEnd, Kept, consumer_to_make, IsConsumed, Ends, Pick, Rounds, Waiters, Lists, KeepsIn, KeepLists, round_at, listing, is_of, wakes, IsServing, AllRun, AllAreConsumers, AllListedAreThere, SameListed, ListsItsOwn, ListingsLeave, HasJoined, AllAddTheirOwn, AllWaken, KeepsWaiters, KeepsAll, LeaveLines, ListsRunning, HasNoList, MakesNoList, NotesStay, IsExpected, WakesWaiter, GoesOn}
 use Rattle.std.proofs.Common.{◌≡◌}
 use Rattle.model.specs.Broker.{Consumer}
 use Rattle.commands.specs.State.{broker_of, topology_kept}
@@ -73,7 +73,7 @@ module _ (old : Kept) (before woken ready : Rounds) (e : Event) (serving : IsSer
       (wake : (p : Pick) → wakes e p ≡ true → WakesWaiter before woken p) (wakens : AllWaken woken.rounds ready.rounds) (expected : IsExpected old e ready newcomer)
       (joined : IfSome newcomer (λ n. is_of new n.queue n.consumer ≡ true → HasJoined after n.queue n.consumer)) (stays : KeepsWaiters new ready after) (notes_stay : NotesStay ready.lists after.lists)
       (lists_own : ListsItsOwn new ready.lists after.lists) (makes_none : MakesNoList ready.lists after.lists) (len : length after.rounds ≡ length ready.rounds) where
-    has_joined : (place : ℕ) (p : Pick) → IsConsumed (topology_kept old) e place → seat_of old e ≡ Some p → is_of new place p ≡ true → HasJoined after place p
+    has_joined : (place : ℕ) (p : Pick) → IsConsumed (topology_kept old) e place → consumer_to_make old e ≡ Some p → is_of new place p ≡ true → HasJoined after place p
     has_joined place p here is its =
         told_some newcomer (record { queue = place; consumer = p }) (λ n. is_of new n.queue n.consumer ≡ true → HasJoined after n.queue n.consumer) (expected.told place p here is) joined its
 

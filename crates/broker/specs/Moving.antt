@@ -7,7 +7,7 @@ use Rattle.broker.specs.Rounds.{Waiters, Lists, Listing, Listings, round_at, ord
 
 -- ---- rounds
 
--- each of these waiters, awake
+-- the waiters, all awake
 abbrev pub all_awake : List Waiter → List Waiter
 all_awake waiters = map (λ (s : Waiter). awake_waiter s.pick) waiters
 
@@ -58,7 +58,7 @@ listing_moved places l = record l { queue = place_now places l.queue }
 abbrev pub listings_moved : List ℕ → Listings → Listings
 listings_moved places s = record s { all = map (listing_moved places) s.all }
 
--- for all channels of a connection
+-- the listings of all channels of a connection, with the new indices of their queues
 abbrev pub channels_moved : List ℕ → List Listings → List Listings
 channels_moved places channels = map (listings_moved places) channels
 

@@ -19,7 +19,7 @@ use Rattle.depot.specs.Store.{HasReady}
 use Rattle.exchange_graph.specs.Marks.{queue_name}
 use Rattle.commands.specs.State.{Kept, broker_of, topology_kept}
 use Rattle.commands.specs.Picked.{IsPickFrom, CannotTake}
-use Rattle.commands.specs.Seats.{seat_of, IsConsumed}
+use Rattle.commands.specs.NewConsumers.{consumer_to_make, IsConsumed}
 use Rattle.commands.specs.declared.picks.Pick.{Pick}
 use Rattle.broker.specs.declared.rounds.finding.Found.{Found}
 use Rattle.broker.specs.declared.rounds.finding.Found.TheVariants.{Able, Unable, Over}
@@ -192,7 +192,7 @@ IsAsleepIn s l = (i : ℕ) × IsAsleepAt s.all s.asleep i l
 abbrev pub IsNotedOn : List Listings → Listing → Type 0
 IsNotedOn channels l = IsIn l (listings_on channels l.consumer.channel).all
 
--- it is, and its bit says that it sleeps
+-- the same, and the waiter's bit says that it sleeps
 abbrev pub IsListedOn : List Listings → Listing → Type 0
 IsListedOn channels l = IsAsleepIn (listings_on channels l.consumer.channel) l
 
@@ -202,7 +202,7 @@ pub record IsNoted (lists : Lists) (l : Listing) : Type 0 where
   pub there : lookup (nat_eq l.consumer.connection) lists ≡ Some channels
   pub among : IsNotedOn channels l
 
--- It is, and its bit says that it sleeps.
+-- The same, and the waiter's bit says that it sleeps.
 pub record IsListed (lists : Lists) (l : Listing) : Type 0 where
   pub channels : List Listings
   pub there : lookup (nat_eq l.consumer.connection) lists ≡ Some channels
@@ -239,7 +239,7 @@ pub record CanListOn (channels : List Listings) (p : Pick) : Type 0 where
   pub room : HasListRoom (listings_on channels p.channel)
   pub last : AreBelow (listings_on channels p.channel).all p.number
 
--- It can be listed under its connection.
+-- The consumer's waiter can be listed under its connection, on its channel.
 pub record CanList (lists : Lists) (p : Pick) : Type 0 where
   pub channels : List Listings
   pub there : lookup (nat_eq p.connection) lists ≡ Some channels
@@ -254,7 +254,7 @@ pub record CanJoin (r : Rounds) (n : Newcomer) : Type 0 where
 -- There is capacity for the newcomer, if any; and the consumer that the event is going to make is this newcomer.
 pub record IsExpected (kept : Kept) (e : Event) (r : Rounds) (newcomer : Option Newcomer) : Type 0 where
   pub room : IfSome newcomer (CanJoin r)
-  pub told : (place : ℕ) (p : Pick) → IsConsumed (topology_kept kept) e place → seat_of kept e ≡ Some p
+  pub told : (place : ℕ) (p : Pick) → IsConsumed (topology_kept kept) e place → consumer_to_make kept e ≡ Some p
       → newcomer ≡ Some (record { queue = place; consumer = p })
 
 -- The consumer's waiter is in the round of the queue at this index, awake, and is listed, so that it can fall asleep without an allocation.
@@ -317,7 +317,7 @@ pub record IsServing (kept : Kept) (r : Rounds) : Type 0 where
   pub agreed : IsAgreed (broker_of kept)
   pub rounds_for : length r.rounds ≡ length (topology_kept kept).queues
   pub joined : AllAreInRounds (topology_kept kept) (broker_of kept) r
-  -- so that a waiter falls asleep without an allocation
+  -- each waiter has its listing, so that it can fall asleep without an allocation
   pub noted : AllAreNoted (topology_kept kept) (broker_of kept) r.lists
   -- a connection that is no longer running has no list
   pub running : AllRun (broker_of kept) r.lists
@@ -337,7 +337,7 @@ pub record QueuesAreMarked (rounds : List Waiters) (marks : List ℕ) : Type 0 w
 abbrev pub NoneMarked : Kept → List ℕ → ℕ → ℕ → Type 0
 NoneMarked kept marks from to = (place : ℕ) (p : Pick) → from ≤ place → place < to → bit_of marks place ≡ 1 → IsPickFrom kept place p → ⊥
 
--- `place` is the first index at or after `from` whose queue has a ready message and whose bit is 1.
+-- `place` is an index at or after `from` whose queue has a ready message and bit 1, and no delivery can be made from a queue between with bit 1.
 pub record IsFirstMarked (kept : Kept) (marks : List ℕ) (from place : ℕ) : Type 0 where
   pub least : from ≤ place
   pub within : place < length (topology_kept kept).queues
@@ -345,7 +345,7 @@ pub record IsFirstMarked (kept : Kept) (marks : List ℕ) (from place : ℕ) : T
   pub marked : bit_of marks place ≡ 1
   pub before : NoneMarked kept marks from place
 
--- this is what is returned; or none, and then no delivery can be made from a queue at or after `from` whose bit is 1
+-- an index as `IsFirstMarked` says, or `None` if no delivery can be made from a queue at or after `from` with bit 1
 abbrev pub IsNextMarked : Kept → List ℕ → ℕ → Option ℕ → Type 0
 IsNextMarked kept marks from (Some place) = IsFirstMarked kept marks from place
 IsNextMarked kept marks from None = (place : ℕ) (p : Pick) → from ≤ place → bit_of marks place ≡ 1 → IsPickFrom kept place p → ⊥
@@ -358,7 +358,7 @@ NoneBetween kept r from to = (place : ℕ) (p : Pick) → from ≤ place → pla
 abbrev pub NoneInRound : Kept → Lists → ℕ → Waiters → Type 0
 NoneInRound kept lists queue r = (p : Pick) → IsInRound (broker_of kept) lists queue r p → IsPickFrom kept queue p → ⊥
 
--- no delivery can be made from a queue that comes before `to` in the order from `next` on, to a consumer with a waiter in its round
+-- no delivery can be made to a consumer with a waiter in its round, from a queue that comes before `to` in the cyclic order from `next`
 abbrev pub NonePassed : Kept → Rounds → ℕ → ℕ → Type 0
 NonePassed kept r next to = (at : ℕ) (p : Pick) → IsPassed (length r.rounds) next to at → IsInItsRound (broker_of kept) r at p → IsPickFrom kept at p → ⊥
 
@@ -366,7 +366,7 @@ NonePassed kept r next to = (at : ℕ) (p : Pick) → IsPassed (length r.rounds)
 abbrev pub NoneAwake : Kept → ℕ → Waiters → ℕ → ℕ → Type 0
 NoneAwake kept queue r from to = (i : ℕ) (p : Pick) → from ≤ i → i < to → IsAwakeAt r i p → IsPickFrom kept queue p → ⊥
 
--- the same for the indices that come before `to` in the order from `next` on
+-- the same for the indices that come before `to` in the cyclic order from `next`
 abbrev pub NoneAwakePassed : Kept → ℕ → Waiters → ℕ → ℕ → Type 0
 NoneAwakePassed kept queue r next to = (i : ℕ) (p : Pick) → IsPassed (length r.waiters) next to i → IsAwakeAt r i p → IsPickFrom kept queue p → ⊥
 
@@ -547,7 +547,7 @@ pub record ListingsLeave (kept : Kept) (c : ℕ) (old new : Lists) : Type 0 wher
       → IsIn l (listed_on old d h) × ((d == c) ≡ true → is_listed_there kept l ≡ true)
   pub once : ListOnce old new
 
--- no connection gets a list that had none and isn't running
+-- a connection that isn't running and had no list still has none
 abbrev pub ListsRunning : Broker → Lists → Lists → Type 0
 ListsRunning b old new = (c : ℕ) → b.connection c ≡ None → HasNoList old c → HasNoList new c
 

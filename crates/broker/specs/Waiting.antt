@@ -133,12 +133,12 @@ pub data Waits (place : ℕ) (p : Pick) (start : WithTurn) : ℕ → ℕ → Wit
   begins : Waits place p start 0 (owed start.turn) start
   -- another consumer is picked
   passed : {served owes : ℕ} {old new : WithTurn} → Waits place p start served owes old → IsPassedOver old new place p → Waits place p start served 1 new
-  -- it is served
+  -- the delivery that was owed to the picked consumer, another one, is made
   other : {served owes : ℕ} {old new : WithTurn} → Waits place p start served owes old → IsServedAnother old new place p
       → Waits place p start (served + owes) 0 new
   -- a consumer of another queue is picked
   beside : {served owes : ℕ} {old new : WithTurn} → Waits place p start served owes old → IsBeside old new place p → Waits place p start served 0 new
-  -- none is picked, or the same again
+  -- no consumer is picked, or the one that was picked is picked again
   again : {served owes : ℕ} {old new : WithTurn} → Waits place p start served owes old → LinesStay old new → Waits place p start served owes new
   -- something else happens
   stays : {served owes : ℕ} {old new : WithTurn} → Waits place p start served owes old → IsLeft old new place p → Waits place p start served owes new
@@ -151,7 +151,7 @@ pub data QueueWaits (place : ℕ) (start : WithTurn) : ℕ → ℕ → WithTurn 
   -- a consumer of another queue is picked, though a delivery could be made from this one
   passed : {served owes : ℕ} {old new : WithTurn} (told : Pick) (queue : ℕ) → QueueWaits place start served owes old → CanGive old place
       → (place ≡ queue → ⊥) → IsFirst old told queue new → new.kept ≡ old.kept → QueueWaits place start served 1 new
-  -- it is served, or something else happens
+  -- the delivery that was owed is made, or something else happens
   other : {served owes : ℕ} {old new : WithTurn} → QueueWaits place start served owes old → new.next ≡ old.next
       → topology_kept new ≡ topology_kept old → QueueWaits place start (served + owes) 0 new
   -- nothing is delivered
@@ -174,10 +174,10 @@ pub record NobodyWaits : Type 0 where
   -- each delivery of its queue to another brings a waiting consumer one nearer to its turn, and nothing puts it back
   pub nearer : (place : ℕ) (p : Pick) (start now : WithTurn) (served owes : ℕ) → Waits place p start served owes now
       → served + owes + standing_at now place p ≤ standing_at start place p + owed start.turn
-  -- so its queue makes fewer deliveries to others than it has consumers, not counting one that was owed
+  -- a waiting consumer's queue makes fewer deliveries to others than it has consumers, not counting one that was owed
   pub fewer : (place : ℕ) (p : Pick) (start now : WithTurn) (served owes : ℕ) → Stands start place p → Waits place p start served owes now
       → IsServedSoon start place served owes
-  -- the same, as each delivery finds it
+  -- the same for each delivery: whoever waits then was passed over by fewer deliveries
   pub soon : (b : WithTurn) (told : Pick) → ServesSoon b told
   -- a queue from which a delivery can be made is passed over by fewer deliveries than there are queues, not counting one that was owed
   pub queue : (place : ℕ) (start now : WithTurn) (served owes : ℕ) → place < queues start → QueueWaits place start served owes now

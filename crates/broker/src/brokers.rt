@@ -68,7 +68,7 @@ impl Broker {
     ghost use Rattle.model.specs.Arrivals.{IsSaid};
     ghost use Rattle.model.specs.Consuming.{CanDeliver};
     ghost use Rattle.model.specs.Naming.{AreNamed};
-    ghost use Rattle.model.specs.Reloading.{NoneIsStranded, with_all_stood};
+    ghost use Rattle.model.specs.Reloading.{NoneIsOrphaned, with_all_stood};
     ghost use Rattle.model.specs.Sending.{AreCarried};
     ghost use Rattle.model.specs.Step.{Acts, Is};
     ghost use Rattle.model.specs.declared.events.Event.TheVariants as event_is;
@@ -106,10 +106,10 @@ impl Broker {
 
     /// Shows that each queue has exactly one waiter for each of its consumers, whatever consumers came and left. Does nothing at run
     /// time.
-    pub fn is_kept(&self)
+    pub fn ghost_is_kept(&self)
         ensures { WaitersAreConsumers self.now }
     {
-        self.core.is_kept();
+        self.core.ghost_is_kept();
     }
 
     /// Performs `event`, and returns what it sends and notes. If the event's method can be encoded, each send is for the event's own
@@ -295,7 +295,7 @@ impl Broker {
     /// channels are unchanged. No consumer is picked; each queue's consumers keep their order, and the round over the queues begins at the first.
     /// Fails only if an allocation fails; nothing has changed then.
     pub fn reload(&mut self, alloc: Global, topology: Topology) -> Result<(), AllocError>
-        requires { NoneIsStranded (topology_kept self.old) topology (broker_of self.old) }
+        requires { NoneIsOrphaned (topology_kept self.old) topology (broker_of self.old) }
         // The new topology is in force, and messages are marked.
         ensures topology { OnOk result (topology_kept self.new ≡ topology) }
         ensures stood { OnOk result (Is (with_all_stood (broker_of self.old)) (broker_of self.new)) }
@@ -305,9 +305,9 @@ impl Broker {
         ensures err { OnErr result (self.new ≡ self.old) }
     {
         let empty = ConsumerRounds::new(alloc, topology.queues().len())?;
-        self.core.is_kept();
+        self.core.ghost_is_kept();
         let places = self.core.reload(alloc, topology)?;
-        self.core.is_kept();
+        self.core.ghost_is_kept();
         let old = mem::replace(&mut self.rounds, empty);
         self.rounds.take_over(old, &places);
         self.turn = None;

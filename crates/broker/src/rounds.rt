@@ -71,7 +71,7 @@ impl ConsumerRounds {
     ghost use Rattle.commands.specs.declared.picks.Pick.{Pick as Consumer};
     ghost use Rattle.commands.specs.State.{Kept, broker_of, topology_kept};
     ghost use Rattle.commands.specs.Picked.{IsPickFrom};
-    ghost use Rattle.commands.specs.Seats.{seat_of};
+    ghost use Rattle.commands.specs.NewConsumers.{consumer_to_make};
     ghost use Rattle.broker.specs.Rounds.{is_of, wakes, AllAreNoted, AllListedAreThere, IsAt, IsInItsRound, IsExpected, CanJoin, HasJoined};
     ghost use Rattle.broker.specs.Rounds.{KeepLists, ListsRunning, KeepsWaiters, KeepsAll, AllAddTheirOwn, LeaveLines, AllWaken, WakesWaiter};
     ghost use Rattle.broker.specs.Rounds.{NotesStay, SameListed, ListsItsOwn, ListingsLeave, HasNoList, MakesNoList, PicksFirst, GoesOn, AllAreEmpty};
@@ -110,10 +110,10 @@ impl ConsumerRounds {
         ensures running { ListsRunning (broker_of core.now) self.old.lists self.new.lists }
         ensures wakens { AllWaken self.old.rounds self.new.rounds }
         // An event that makes no consumer never fails.
-        ensures quiet { seat_of core.now event.now ≡ None → IsOk result }
+        ensures quiet { consumer_to_make core.now event.now ≡ None → IsOk result }
         ensures on { GoesOn self.old self.new }
     {
-        let Some(consumer) = core.seat_of(event) else {
+        let Some(consumer) = core.consumer_to_make(event) else {
             return Ok(None);
         };
         let Some(queue) = core.queue_consumed(event) else {
@@ -218,15 +218,15 @@ impl ConsumerRounds {
         }
     }
 
-    /// Moves the waiters of `old` to the rounds at the indices that `places` has for their queues, all awake, and their listings too. Those
+    /// Moves the waiters of `old` to the rounds at the indices that `indices` has for their queues, all awake, and their listings too. Those
     /// of a queue whose new index is past the end are removed. Never allocates.
-    pub fn take_over(&mut self, old: ConsumerRounds, places: &[usize])
-        requires len { length places.now ≡ length old.rounds }
-        requires apart { ArePlacesApart places.now (length self.old.rounds) }
+    pub fn take_over(&mut self, old: ConsumerRounds, indices: &[usize])
+        requires len { length indices.now ≡ length old.rounds }
+        requires apart { ArePlacesApart indices.now (length self.old.rounds) }
         // The rounds are moved, nothing else is in them, and the listings follow.
-        ensures moved { RoundsAreMoved places.now old.rounds self.new.rounds }
-        ensures came { LinesCome places.now old.rounds self.old.rounds self.new.rounds }
-        ensures lists { ListsAreMoved places.now old.lists self.new.lists }
+        ensures moved { RoundsAreMoved indices.now old.rounds self.new.rounds }
+        ensures came { LinesCome indices.now old.rounds self.old.rounds self.new.rounds }
+        ensures lists { ListsAreMoved indices.now old.lists self.new.lists }
         // The frame.
         ensures next { self.new.next ≡ self.old.next }
         ensures len { length self.new.rounds ≡ length self.old.rounds }
@@ -236,8 +236,8 @@ impl ConsumerRounds {
             sleepers: mut left,
             next: _,
         } = old;
-        self.rounds.take_over(rounds, places);
-        move_sleepers(&mut left, places);
+        self.rounds.take_over(rounds, indices);
+        move_sleepers(&mut left, indices);
         self.sleepers = left;
     }
 

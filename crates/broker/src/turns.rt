@@ -24,7 +24,7 @@ fn can_deliver(core: &Core, pick: Pick) -> bool
     ensures yes { result ≡ true → IsPick (broker_of core.now) pick }
     ensures no { result ≡ false → IsPick (broker_of core.now) pick → ⊥ }
 {
-    core.is_kept();
+    core.ghost_is_kept();
     match core.taking(pick) {
         Taking::Gone => false,
         Taking::Nothing(_) => false,

@@ -1,4 +1,4 @@
-//! A broker that is filled until memory is refused, and emptied then. Start with [`Emptying`].
+//! A broker that is filled until an allocation fails, and then emptied. Start with [`Emptying`].
 
 mod written;
 
@@ -44,22 +44,22 @@ const LEAST: u64 = 50_000;
 /// The number of clients that log in once the broker is full.
 const LOGINS: u64 = 100;
 
-/// The capacity for what a client writes at once, and for what it gets at once, in bytes.
+/// The capacity, in bytes, for what a client writes at once, and for what it receives at once.
 const CAPACITY: usize = 4_096;
 
 /// The number of messages that are delivered to each of two consumers before the purge.
 const DELIVERIES: u64 = 10_000;
 
-/// A broker, and the client that fills it and then the one that empties it. The messages are numbered from 1 in the order of their publishes.
+/// A broker, the client that fills it, and then the one that empties it. Messages are numbered from 1 in the order of their publishes.
 #[derive(Drop)]
 struct Emptying {
     engine: Engine,
-    /// What the client writes, and what it has to get.
+    /// The bytes that the client writes, and those that it has to receive.
     input: Vec<u8>,
     expected: Vec<u8>,
     client: u64,
     published: u64,
-    /// The number of the message that the client got last, and its delivery tag.
+    /// The number of the message that the client received last, and its delivery tag.
     number: u64,
     tag: u64,
 }
@@ -81,7 +81,7 @@ impl Emptying {
         })
     }
 
-    /// Publishes the next message. Returns whether that was done, and not refused for memory.
+    /// Publishes the next message. Returns `false` if it is refused because an allocation fails.
     fn publish(&mut self, alloc: Global) -> Result<bool, Unmet> {
         let number = self.published.saturating_add(1);
         self.input.clear();
@@ -100,7 +100,7 @@ impl Emptying {
         }
     }
 
-    /// Publishes until memory is refused, which loses the client.
+    /// Publishes until an allocation fails, and loses the client then.
     fn fill(&mut self, alloc: Global) -> Result<(), Unmet> {
         for _ in 0..u64::MAX {
             if !self.publish(alloc)? {
@@ -112,7 +112,7 @@ impl Emptying {
         expect("many messages were published", self.published >= LEAST)
     }
 
-    /// Performs all commands that the client wrote, and takes what it gets, which is `expected`.
+    /// Performs all commands that the client wrote, and checks that it receives `expected`.
     fn exchange(&mut self, alloc: Global) -> Result<(), Unmet> {
         let fed = self.engine.feed(self.client, self.input.as_slice());
         value_of("Engine::feed", fed)?;
@@ -125,7 +125,7 @@ impl Emptying {
         self.take()
     }
 
-    /// Takes what the client gets, which is `expected`.
+    /// Takes the client's output, and checks that it is `expected`.
     fn take(&mut self) -> Result<(), Unmet> {
         let output = self.engine.output(self.client);
         expect_bytes("what the client gets", output, self.expected.as_slice())?;
@@ -136,14 +136,14 @@ impl Emptying {
         Ok(())
     }
 
-    /// Writes `input`, to which the reply is `expected`.
+    /// Writes `input`, and checks that the reply is `expected`.
     fn write(&mut self, alloc: Global, input: &[u8], expected: &[u8]) -> Result<(), Unmet> {
         value_of("input", self.input.extend_from_slice(input))?;
         value_of("expected", self.expected.extend_from_slice(expected))?;
         self.exchange(alloc)
     }
 
-    /// Clients log in and stay. The last one empties the broker.
+    /// Logs in clients, which stay connected. The last one is the client that empties the broker.
     fn log_in(&mut self, alloc: Global) -> Result<(), Unmet> {
         for _ in 0..LOGINS {
             self.client = value_of("Engine::open", self.engine.open(alloc))?;
@@ -152,7 +152,7 @@ impl Emptying {
         Ok(())
     }
 
-    /// Returns how many messages the client has not got.
+    /// Returns the number of messages that the client has not received.
     fn left(&self) -> u64 {
         self.published.saturating_sub(self.number)
     }
@@ -187,13 +187,13 @@ impl Emptying {
         self.exchange(alloc)
     }
 
-    /// Acknowledges the message that was got last.
+    /// Acknowledges the message that was received last.
     fn ack(&mut self, alloc: Global) -> Result<(), Unmet> {
         value_of("ack", ack(&mut self.input, self.tag))?;
         self.exchange(alloc)
     }
 
-    /// Rejects the message that was got last.
+    /// Rejects the message that was received last.
     fn reject(&mut self, alloc: Global, requeues: bool) -> Result<(), Unmet> {
         value_of("reject", reject(&mut self.input, self.tag, requeues))?;
         if requeues {
@@ -202,7 +202,7 @@ impl Emptying {
         self.exchange(alloc)
     }
 
-    /// Gets three messages: acknowledges the first, rejects the second, and gives the third back once.
+    /// Gets three messages: acknowledges the first, rejects the second, and requeues the third once.
     fn get_some(&mut self, alloc: Global) -> Result<(), Unmet> {
         self.get(alloc, false)?;
         self.ack(alloc)?;
@@ -252,7 +252,7 @@ impl Emptying {
         self.exchange(alloc)
     }
 
-    /// Closes the client, sees that the queue is empty, and publishes by another client.
+    /// Closes the client, checks that the queue is empty, and publishes by another client.
     fn begin_again(&mut self, alloc: Global) -> Result<(), Unmet> {
         self.write(alloc, CLOSE, CLOSED)?;
         expect("the client is gone", self.engine.is_over(self.client))?;
@@ -262,7 +262,7 @@ impl Emptying {
     }
 }
 
-/// Returns a broker that is full, and the memory that is taken from it. Clients have logged in since it was full.
+/// Returns a full broker, to which clients have logged in since, and the memory that is taken from the process.
 fn full_broker(rt: &HostRuntime, alloc: Global) -> Result<(Emptying, Room), Unmet> {
     let mut emptying = Emptying::new(alloc)?;
     let left: Vec<u8> = value_of("Vec::with_capacity", Vec::with_capacity(alloc, LEFT))?;
@@ -274,7 +274,7 @@ fn full_broker(rt: &HostRuntime, alloc: Global) -> Result<(Emptying, Room), Unme
     Ok((emptying, room))
 }
 
-/// A client takes some messages of a full broker in every way, each once and in order, and purges the rest.
+/// Checks that a client of a full broker gets and consumes messages in every way, each once and in order, and purges the rest.
 pub(crate) fn a_full_broker_is_emptied(rt: &HostRuntime, alloc: Global) -> Result<(), Unmet> {
     let (mut emptying, room) = full_broker(rt, alloc)?;
     emptying.get_some(alloc)?;
@@ -286,7 +286,7 @@ pub(crate) fn a_full_broker_is_emptied(rt: &HostRuntime, alloc: Global) -> Resul
     Ok(())
 }
 
-/// A client consumes all messages of a full broker, each once and in order.
+/// Checks that a client consumes all messages of a full broker, each once and in order.
 pub(crate) fn a_full_broker_is_drained(rt: &HostRuntime, alloc: Global) -> Result<(), Unmet> {
     let (mut emptying, room) = full_broker(rt, alloc)?;
     let left = emptying.left();
@@ -296,7 +296,7 @@ pub(crate) fn a_full_broker_is_drained(rt: &HostRuntime, alloc: Global) -> Resul
     Ok(())
 }
 
-/// A client purges the queue of a full broker at once.
+/// Checks that a client purges the queue of a full broker at once.
 pub(crate) fn a_full_queue_is_purged(rt: &HostRuntime, alloc: Global) -> Result<(), Unmet> {
     let (mut emptying, room) = full_broker(rt, alloc)?;
     emptying.purge(alloc)?;

@@ -129,7 +129,7 @@ fn expect_full(alloc: Global, engine: &mut Engine) -> Result<(), Unmet> {
     )
 }
 
-/// Checks that 1,024 connections can be opened, and no more until one of them is lost.
+/// Checks that 1,024 connections can be opened, and a further one only after one of them is lost.
 pub(crate) fn an_engine_opens_1024_connections_and_no_more(alloc: Global) -> Result<(), Unmet> {
     let mut engine = new_engine(alloc)?;
     for number in 1..=MOST_CONNECTIONS {

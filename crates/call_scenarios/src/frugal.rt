@@ -173,7 +173,7 @@ impl Judged {
 
     /// Checks that the topology in force can be borrowed, and that a key that is too long refutes nothing.
     fn expect_checked(&self, alloc: Global) -> Result<(), Unmet> {
-        self.checked.holds();
+        self.checked.ghost_holds();
         let topology = self.checked.topology();
         let Some(guarantee) = self.checked.guarantees().first() else {
             return Err(Unmet::Claim("there is a guarantee"));

@@ -1,4 +1,4 @@
-//! A broker that works for long, and keeps no more memory than it did.
+//! A broker that works for a long time without keeping more memory.
 
 use engine::{Engine, Turn};
 use scenario_parts::{MESSAGE, Unmet, expect, expect_number, new_broker, value_of};
@@ -26,10 +26,10 @@ const ACK_END: &[u8] = b"\x00\xce";
 /// The client that publishes.
 const PUBLISHER: u64 = 1;
 
-/// The client whose consumer acknowledges what it gets.
+/// The client whose consumer acknowledges each delivery.
 const WORKER: u64 = 2;
 
-/// The client that never acknowledges the one message that it gets, and starts and cancels consumers.
+/// The client that never acknowledges the one message that it receives, and starts and cancels consumers.
 const KEEPER: u64 = 3;
 
 /// The number of messages that are published, then delivered and acknowledged, at a time.

@@ -17,7 +17,7 @@ use std::alloc::Global;
 /// The outcome of a call.
 #[derive(Clone, Copy, PartialEq, Eq, Drop)]
 enum Outcome {
-    /// The call did what it is for.
+    /// The call succeeded.
     Done,
     /// An allocation failed.
     Wanting,
@@ -37,8 +37,8 @@ const OPENINGS: usize = 64;
 /// The number of heartbeats that are fed at once: more than fit without an allocation.
 const HEARTBEATS: usize = 65_536;
 
-/// The number of heartbeats that are fed first: more than fit without an allocation, and so few that the others don't fit behind them.
-const FIRST_HEARTBEATS: usize = 8_192;
+/// The number of heartbeats that are fed first, 4,096 bytes: more than fit without an allocation, and few enough for the reserve.
+const FIRST_HEARTBEATS: usize = 512;
 
 /// A heartbeat frame.
 const HEARTBEAT: &[u8] = b"\x08\x00\x00\x00\x00\x00\x00\xce";
@@ -127,9 +127,9 @@ impl Calls {
         }
     }
 
-    /// Feeds the first heartbeats to the first connection.
+    /// Feeds the first heartbeats to the second connection, which has not performed a publish.
     fn feed_first(&mut self) -> Outcome {
-        match self.engine.feed(1, self.first_heartbeats.as_slice()) {
+        match self.engine.feed(2, self.first_heartbeats.as_slice()) {
             Ok(()) => Outcome::Done,
             Err(_) => Outcome::Wanting,
         }
@@ -318,8 +318,8 @@ fn expect_wanting(alloc: Global, calls: &mut Calls, room: &mut Room) -> Result<(
     calls.expect_outputs(CONSUMED)
 }
 
-/// While no memory is left, calls that allocate fail and change nothing, and calls that never allocate do what they are for. After memory was
-/// given back, the first succeed, too.
+/// Checks that, while no memory is left, calls that allocate fail and change nothing, and calls that never allocate succeed.
+/// After memory was given back, the former succeed, too.
 pub(crate) fn no_memory_is_left(rt: &HostRuntime, alloc: Global) -> Result<(), Unmet> {
     expect(
         "all room can be taken from this allocator",

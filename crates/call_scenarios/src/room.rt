@@ -4,7 +4,7 @@ use scenario_parts::{Unmet, expect, value_of};
 use std::alloc::Global;
 use std::fs;
 
-/// The largest block that is asked for, in bytes.
+/// The size of the largest block that is requested, in bytes.
 const LARGEST: usize = 1 << 40;
 
 /// The size, in bytes, up to which an allocator keeps freed blocks of each size apart.
@@ -13,13 +13,13 @@ const SMALL: usize = 1_024;
 /// The distance between these sizes, in bytes.
 const STEP: usize = 16;
 
-/// The number of blocks that are taken at most.
+/// The largest number of blocks that are taken.
 const MOST_BLOCKS: usize = 100_000;
 
-/// The number of allocations that are tried at most: each size fails once.
+/// The largest number of allocations that are tried: each size fails once.
 const MOST_CALLS: usize = MOST_BLOCKS + 128;
 
-/// The pages of address space that a process has at most before its memory is taken: a tebibyte, in pages of 4,096 bytes.
+/// The largest number of pages of address space that a process has before its memory is taken: a tebibyte, in pages of 4,096 bytes.
 const MOST_PAGES: u64 = 1 << 28;
 
 /// Blocks that are taken and never written, so that the machine uses no page for them.

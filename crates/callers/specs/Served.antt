@@ -1,4 +1,4 @@
--- What one client of a server in memory takes.
+-- What one client of a server in memory receives (own).
 use Rattle.std.specs.Prelude.{◌≡◌, ℕ, List, Some, flat_map}
 use Rattle.model.specs.State.{Config}
 use Rattle.model.specs.Arrivals.{World}
@@ -7,8 +7,8 @@ use Rattle.serving.specs.Wire.{Call}
 use Rattle.serving.specs.Joined.{written_to}
 use Rattle.memory_wire.specs.Served.{TellsBytes}
 
--- The bytes are those that the client's socket took by some calls, of which all is known that is known of a server in memory: the promises are
--- kept, and what the socket took is a beginning of what was put out for its connection.
+-- `bytes` are those that calls of a server in memory wrote to the client's socket. As for each such server the promises are kept, and the bytes
+-- are the beginning of the output of the client's connection.
 pub record IsServed (L : Lacks) (f : Config) (bytes : List ℕ) : Type 0 where
   pub calls : List Call
   pub last : World

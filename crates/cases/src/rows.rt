@@ -47,14 +47,14 @@ pub fn rows_of(alloc: Global, text: &str) -> io::Result<Vec<CaseRow<'_>>> {
     }
 }
 
-/// Returns the text of the row at index `place`, which has to be called `name`; or the only text of a file without rows.
-pub fn text_at<'a>(rows: &[CaseRow<'a>], place: usize, name: &str) -> io::Result<&'a str> {
+/// Returns the text of the row at `index`, which has to be called `name`; or the only text of a file without rows.
+pub fn text_at<'a>(rows: &[CaseRow<'a>], index: usize, name: &str) -> io::Result<&'a str> {
     if let Some(only) = rows.first() {
         if rows.len() == 1 && only.name.is_empty() {
             return Ok(only.text);
         }
     }
-    match rows.get(place) {
+    match rows.get(index) {
         Some(row) if row.name == name => Ok(row.text),
         _ => Err(malformed()),
     }

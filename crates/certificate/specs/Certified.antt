@@ -1,4 +1,4 @@
--- What is admitted by certificates, one for each guarantee.
+-- Admission by certificates, one for each guarantee (own).
 use Rattle.std.specs.Prelude.{◌≡◌, ◌<◌, ◌⊎◌, ℕ, List, length, slice_get, Some, None, Result, Ok, Err}
 use Rattle.model.specs.Topology.{Topology}
 use Rattle.model.specs.Guarantee.{Guarantee, AllHold}
@@ -8,59 +8,59 @@ use Rattle.certificate.specs.declared.faults.CertFault.{CertFault}
 use Rattle.certificate.specs.declared.faults.CertFault.TheVariants.{Form}
 use Rattle.certificate.specs.Admitted.{Admitted}
 
--- the certificate at this place is accepted for the guarantee
+-- the certificate at index `place` is accepted for guarantee `g`
 pub record IsCertifiedAt (t : Topology) (g : Guarantee) (cs : List Certificate) (place : ℕ) : Type 0 where
   pub certificate : Certificate
   pub is : slice_get cs place ≡ Some certificate
   pub accepted : Accepts t g certificate
 
--- the certificate at this place has this fault
+-- the certificate at index `place` has this fault
 pub record HasFault (t : Topology) (g : Guarantee) (cs : List Certificate) (place : ℕ) (f : CertFault) : Type 0 where
   pub certificate : Certificate
   pub is : slice_get cs place ≡ Some certificate
   pub fault : Faults t g certificate f
 
--- Why the guarantee has no certificate at this place: there is none, or it has this fault.
+-- guarantee `g` has no accepted certificate at index `place`: there is none at all, or it has this fault
 abbrev pub IsUncertified : Topology → Guarantee → List Certificate → ℕ → CertFault → Type 0
 IsUncertified t g cs place f = ((slice_get cs place ≡ None) × (f ≡ Form)) ⊎ HasFault t g cs place f
 
--- what a check of the certificate at this place answers: it is accepted for the guarantee, or why it is not
+-- the result of checking the certificate at index `place`: it is accepted for the guarantee, or why it isn't
 abbrev pub ChecksAt : Topology → Guarantee → List Certificate → ℕ → Result Unit CertFault → Type 0
 ChecksAt t g cs place (Ok u) = IsCertifiedAt t g cs place
 ChecksAt t g cs place (Err f) = IsUncertified t g cs place f
 
--- each guarantee before this place has its certificate
+-- each guarantee before index `n` has an accepted certificate
 abbrev pub AreCertifiedBelow : Topology → List Guarantee → List Certificate → ℕ → Type 0
 AreCertifiedBelow t gs cs n = (i : ℕ) (g : Guarantee) → i < n → slice_get gs i ≡ Some g → IsCertifiedAt t g cs i
 
--- each guarantee has its certificate, and there are no more
+-- each guarantee has an accepted certificate, and no certificate is left over
 pub record AreCertified (t : Topology) (gs : List Guarantee) (cs : List Certificate) : Type 0 where
   pub count : length gs ≡ length cs
   pub all : (i : ℕ) (g : Guarantee) → slice_get gs i ≡ Some g → IsCertifiedAt t g cs i
 
--- the guarantee at this place has no certificate, for this fault
+-- the guarantee at index `place` has no accepted certificate, for this fault
 pub record FailsAt (t : Topology) (gs : List Guarantee) (cs : List Certificate) (place : ℕ) (f : CertFault) : Type 0 where
   pub guarantee : Guarantee
   pub is : slice_get gs place ≡ Some guarantee
   pub fault : IsUncertified t guarantee cs place f
 
--- a certificate stands behind the last guarantee's
+-- there is a certificate behind that of the last guarantee
 pub record IsOneTooMany (gs : List Guarantee) (cs : List Certificate) (place : ℕ) (f : CertFault) : Type 0 where
   pub place_is : place ≡ length gs
   pub more : length gs < length cs
   pub fault : f ≡ Form
 
--- The least place at fault. Memory is wanted only of a certificate that fits its guarantee.
+-- `place` is the least index at fault. `Memory` occurs only for a certificate that fits its guarantee.
 pub record FailsFirst (t : Topology) (gs : List Guarantee) (cs : List Certificate) (place : ℕ) (f : CertFault) : Type 0 where
   pub before : AreCertifiedBelow t gs cs place
   pub fails : FailsAt t gs cs place f ⊎ IsOneTooMany gs cs place f
 
--- each guarantee has its certificate and there are no more, or the least place at fault, and its fault
+-- each guarantee has an accepted certificate and none is left over; or this is the least index at fault, and its fault
 abbrev pub Certifies : Topology → List Guarantee → List Certificate → Result Unit (ℕ × CertFault) → Type 0
 Certifies t gs cs (Ok u) = AreCertified t gs cs
 Certifies t gs cs (Err e) = FailsFirst t gs cs e.0 e.1
 
--- what is handed in is admitted as it is, and holds, or is refused at the least place at fault
+-- topology and guarantees are admitted as they are, and the guarantees hold; or they are refused at the least index at fault
 abbrev pub Admits : Topology → List Guarantee → List Certificate → Result Admitted (ℕ × CertFault) → Type 0
 Admits t gs cs (Ok k) = (k ≡ record { topology = t; guarantees = gs }) × AllHold t gs × AreCertified t gs cs
 Admits t gs cs (Err e) = FailsFirst t gs cs e.0 e.1

@@ -1,4 +1,4 @@
--- What a refutation has to be before routes tell whether it refutes.
+-- What a refutation needs before routes decide whether it refutes (own).
 use Rattle.std.specs.Prelude.{◌≡◌, ◌<◌, ◌≤◌, List, [], length}
 use Rattle.std.specs.List.{AllByRecursion}
 use Rattle.model.specs.Words.{Text}
@@ -7,7 +7,7 @@ use Rattle.model.specs.Refutations.{Refutation}
 use Rattle.model.specs.declared.topologies.Mode.{Mode}
 use Rattle.model.specs.declared.topologies.Mode.TheVariants.{Reaches, Never}
 
--- offered against a `reaches` it has no path
+-- against a `reaches` the path is empty
 abbrev pub HasItsPath : Mode → List Text → Type 0
 HasItsPath Reaches path = path ≡ []
 HasItsPath Never path = Unit {0}
@@ -16,7 +16,7 @@ HasItsPath Never path = Unit {0}
 abbrev pub IsSendable : Text → Type 0
 IsSendable key = AllByRecursion (λ b. b < 256) key × (length key ≤ 255)
 
--- a key that can be sent, and no path where none is looked for
+-- the key can be sent, and against a `reaches` the path is empty
 pub record MayRefute (g : Guarantee) (r : Refutation) : Type 0 where
   pub key : IsSendable r.key
   pub path : HasItsPath g.mode r.path

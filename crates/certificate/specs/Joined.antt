@@ -1,4 +1,4 @@
--- Values whose texts are joined to that of an array.
+-- Values whose texts are joined to that of an array (own).
 use Rattle.std.specs.Prelude.{◌≡◌, ◌≤◌, Some}
 use Rattle.json.specs.Print.{print}
 use Rattle.json.specs.Json.{Json}

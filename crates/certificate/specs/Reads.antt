@@ -1,4 +1,4 @@
--- What reading a certificates file answers.
+-- What reading a certificates file returns (own).
 use Rattle.std.specs.Prelude.{◌≡◌, List, ℕ, Option, Some, None, Result, Ok, Err, Vec}
 use Rattle.std.specs.declared.alloc.Global.{Global}
 use Rattle.json_file.specs.Files.{IsFileOf, IsUnreadFile}
@@ -10,12 +10,12 @@ use Rattle.model.specs.Certificates.{Certificate, Form}
 use Rattle.json_file.specs.declared.causes.FileCause.{FileCause}
 use Rattle.certificate.specs.Stated.{certificates_stated}
 
--- the states that stand there are given, or they are refused where none do
+-- the states that the value states are returned, or it is refused because it states none
 abbrev pub GivesStates : Result (Vec (Vec ℕ Global) Global) FileCause → Option (List (List ℕ)) → Type 0
 GivesStates (Ok v) o = o ≡ Some (states_of v.items)
 GivesStates (Err e) o = FailsJson e (o ≡ None)
 
--- the form that stands there is given, or it is refused where none does
+-- the form that the value states is returned, or it is refused because it states none
 abbrev pub GivesForm : Result stated.Form FileCause → Option Form → Type 0
 GivesForm (Ok form) o = o ≡ Some (form_view form)
 GivesForm (Err e) o = FailsJson e (o ≡ None)
@@ -24,7 +24,8 @@ GivesForm (Err e) o = FailsJson e (o ≡ None)
 abbrev pub IsCertificatesFile : List ℕ → List Certificate → Type 0
 IsCertificatesFile bytes cs = IsFileOf certificates_stated bytes cs
 
--- A file is too long, or no JSON, or states no certificates, or is read; want of memory owes nothing.
+-- A file is read as the certificates that it states, or refused: it is too long, no JSON, or states none. An allocation failure says
+-- nothing about it.
 abbrev pub ReadsCertificateFile : Result (Vec Certificate Global) FileCause → List ℕ → Type 0
 ReadsCertificateFile (Ok cs) bytes = IsCertificatesFile bytes cs.items
 ReadsCertificateFile (Err bad) bytes = IsUnreadFile certificates_stated bad bytes

@@ -7,23 +7,23 @@ use Rattle.json_file.specs.Members.{array_member, each, has_only, text_member, w
 use Rattle.model.specs.Words.{Text}
 use Rattle.model.specs.Certificates.{Certificate, Form, Whole, Sliced, Excepting}
 
--- a state: an array of numbers
+-- a state: an array of whole numbers
 unfoldable pub state_in : Data → Option (List ℕ)
 state_in d = option_and_then (each whole_number) (as_array d)
 
--- the states at the member `states`
+-- the states of the member `states`
 unfoldable pub states_at : Data → Option (List (List ℕ))
 states_at d = option_and_then (each state_in) (option_and_then as_array (get (codes "states") d))
 
--- the places at the member `tracked`
+-- the indices of the member `tracked`
 unfoldable pub tracked_at : Data → Option (List ℕ)
 tracked_at d = option_and_then (each whole_number) (array_member (codes "tracked") d)
 
--- the texts at the member `except`
+-- the texts of the member `except`
 unfoldable pub excepts_at : Data → Option (List Text)
 excepts_at d = option_and_then (each as_str) (array_member (codes "except") d)
 
--- ---- forms, by their numbers: each has its own members
+-- ---- forms by number: each has its own members
 
 -- the members of form 1
 abbrev pub whole_names : List (List ℕ)
@@ -37,30 +37,30 @@ sliced_names = codes "exchange" ∷ codes "form" ∷ codes "mode" ∷ codes "pat
 abbrev pub excepting_names : List (List ℕ)
 excepting_names = codes "except" ∷ codes "exchange" ∷ codes "form" ∷ codes "mode" ∷ codes "pattern" ∷ codes "queue" ∷ codes "states" ∷ codes "tracked" ∷ []
 
--- form 1, of an object that has no other members
+-- form 1, if the object has no other members
 unfoldable pub whole_at : Data → Option Form
 whole_at d = if has_only whole_names d then Some Whole else None
 
--- form 2, of an object that has no other members
+-- form 2, if the object has no other members
 unfoldable pub sliced_at : Data → Option Form
 sliced_at d = if has_only sliced_names d then option_map Sliced (tracked_at d) else None
 
--- the texts and the places of form 3
+-- the texts and the indices of form 3
 unfoldable pub excepting_of : Data → Option Form
 excepting_of d = do
   excepts ← excepts_at d
   places ← tracked_at d
   Some (Excepting excepts places)
 
--- form 3, of an object that has no other members
+-- form 3, if the object has no other members
 unfoldable pub excepting_at : Data → Option Form
 excepting_at d = if has_only excepting_names d then excepting_of d else None
 
--- the form of this number
+-- the form of number `n`
 unfoldable pub form_of : ℕ → Data → Option Form
 form_of n d = if n == 1 then whole_at d else if n == 2 then sliced_at d else if n == 3 then excepting_at d else None
 
--- the form at the member `form`, with what belongs to it
+-- the form whose number is the member `form`, with its own members
 unfoldable pub form_at : Data → Option Form
 form_at d = option_and_then (λ n. form_of n d) (option_and_then whole_number (get (codes "form") d))
 
@@ -75,6 +75,6 @@ certificate_at d = do
   states ← states_at d
   Some (record { form = form; exchange = exchange; mode = mode; pattern = pattern; queue = queue; states = states })
 
--- the certificates of a file, in its order
+-- the certificates of a file, in order
 unfoldable pub certificates_stated : Data → Option (List Certificate)
 certificates_stated d = option_and_then (each certificate_at) (as_array d)

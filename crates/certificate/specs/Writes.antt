@@ -1,4 +1,4 @@
--- What writing certificates answers.
+-- What writing certificates returns (own).
 use Rattle.std.specs.Prelude.{◌≡◌, ◌≤◌, ℕ, List, Result, Ok, Err, length, map, Vec, IsUtf8}
 use Rattle.std.specs.List.{AllByRecursion}
 use Rattle.std.specs.declared.alloc.Global.{Global}
@@ -14,7 +14,7 @@ use Rattle.certificate.specs.declared.unwritten.Unwritten.TheVariants.{NotText, 
 use Rattle.certificate.specs.Spelled.{certificate_data, excepts_data, file_data, form_data, Texts}
 use Rattle.certificate.specs.Reads.{IsCertificatesFile}
 
--- the texts that the form names, if it names any, are UTF-8
+-- the texts of the form, if it has any, are UTF-8
 abbrev pub HasTexts : Form → Type 0
 HasTexts Whole = Unit {0}
 HasTexts (Sliced places) = Unit {0}
@@ -28,48 +28,48 @@ pub record AreTexts (c : Certificate) : Type 0 where
   pub queue : IsUtf8 c.queue
   pub excepts : HasTexts c.form
 
--- nothing is written for this reason alone, and no length is one; want of memory owes nothing
+-- nothing was written: a text is not UTF-8, or an allocation failed. Never because of a length.
 abbrev pub FailsToWrite : Unwritten → Type 0 → Type 0
 FailsToWrite NotText why = why → ⊥
 FailsToWrite TooLong why = ⊥
 FailsToWrite Memory why = Unit {0}
 
--- the text is lent, or is no UTF-8, or memory was refused
+-- the text is borrowed, or it is not UTF-8, or an allocation failed
 abbrev pub LendsText : Result (Bor (List ℕ)) Unwritten → Text → Type 0
 LendsText (Ok s) text = s.now ≡ text
 LendsText (Err e) text = FailsToWrite e (IsUtf8 text)
 
--- the text as JSON, or it is no UTF-8, or memory was refused
+-- the text as JSON, or it is not UTF-8, or an allocation failed
 abbrev pub GivesText : Result Value Unwritten → Text → Type 0
 GivesText (Ok v) text = view v ≡ string text
 GivesText (Err e) text = FailsToWrite e (IsUtf8 text)
 
--- the texts as JSON, or one of them is no UTF-8, or memory was refused
+-- the texts as JSON, or one of them is not UTF-8, or an allocation failed
 abbrev pub GivesTexts : Result Value Unwritten → List Text → Type 0
 GivesTexts (Ok v) texts = view v ≡ excepts_data texts
 GivesTexts (Err e) texts = FailsToWrite e (AllByRecursion IsUtf8 texts)
 
--- a certificate of this form with these texts as JSON, or a text of the form is no UTF-8, or memory was refused
+-- a certificate of this form with these texts and states as JSON, or a text of the form is not UTF-8, or an allocation failed
 abbrev pub GivesMembers : Result Value Unwritten → Form → Texts → Data → Type 0
 GivesMembers (Ok v) form texts states = view v ≡ form_data form texts states
 GivesMembers (Err e) form texts states = FailsToWrite e (HasTexts form)
 
--- the certificate as JSON, or one of its texts is no UTF-8, or memory was refused
+-- the certificate as JSON, or one of its texts is not UTF-8, or an allocation failed
 abbrev pub GivesData : Result Value Unwritten → Certificate → Type 0
 GivesData (Ok v) c = view v ≡ certificate_data c
 GivesData (Err e) c = FailsToWrite e (AreTexts c)
 
--- the certificates as JSON, in their order, or a text of one is no UTF-8, or memory was refused
+-- the certificates as JSON, in order, or a text of one is not UTF-8, or an allocation failed
 abbrev pub GivesCertificates : Result (Vec Value Global) Unwritten → List Certificate → Type 0
 GivesCertificates (Ok vs) cs = map view vs.items ≡ map certificate_data cs
 GivesCertificates (Err e) cs = FailsToWrite e (AllByRecursion AreTexts cs)
 
--- the file that is written is compact, and is read back as these certificates
+-- the file is compact, and is read back as these certificates if it isn't too long
 pub record IsWritten (bytes : List ℕ) (cs : List Certificate) : Type 0 where
   pub compact : bytes ≡ compact_text (file_data cs)
   pub reads_back : length bytes ≤ 16777216 → IsCertificatesFile bytes cs
 
--- the file of these certificates is given, or a text of one is no UTF-8, or memory was refused
+-- the file of these certificates was written, or a text of one is not UTF-8, or an allocation failed
 abbrev pub Writes : Result (Vec ℕ Global) Unwritten → List Certificate → Type 0
 Writes (Ok bytes) cs = IsWritten bytes.items cs
 Writes (Err e) cs = FailsToWrite e (AllByRecursion AreTexts cs)

@@ -1,4 +1,4 @@
-//! Topologies whose guarantees hold.
+//! Topologies with guarantees that hold of them. Start with [`admit`].
 
 ghost use Rattle.std.specs.Prelude.{◌≡◌, IfOk};
 ghost use Rattle.model.specs.Topology.{IsWellFormed};
@@ -14,7 +14,7 @@ use guarantees::Guarantee;
 use std::alloc::{AllocError, Global};
 use std::marker::Model;
 
-/// A topology and guarantees that hold of it. Only `admit` makes one, and `clone` another like it.
+/// A topology with guarantees that hold of it. Only [`admit`] makes one; [`Checked::clone`] copies one.
 pub struct Checked {
     topology: Topology,
     guarantees: Vec<Guarantee>,
@@ -41,8 +41,9 @@ impl Model for Checked {
     ghost invariant = { λ c. AllHold c.topology c.guarantees.items };
 }
 
-/// The topology and the guarantees as they are handed in, where each guarantee has its certificate at its place, and
-/// there are no more.
+/// Admits `topology` and `guarantees` if each guarantee has an accepted certificate at its index, and no certificate is left
+/// over. Fails with the least index at fault, and its fault. [`CertFault::Memory`] occurs only for a certificate that fits its
+/// guarantee.
 pub fn admit(
     alloc: Global,
     topology: Topology,
@@ -61,47 +62,46 @@ pub fn admit(
 }
 
 impl Checked {
-    /// What every `Checked` keeps.
-    pub fn holds(&self)
+    /// Shows what each `Checked` satisfies. Does nothing at run time.
+    pub fn ghost_holds(&self)
         ensures guarantees { AllHold self.now.topology self.now.guarantees }
         ensures topology { IsWellFormed self.now.topology }
     {
-        self.topology.is_well_formed();
+        self.topology.ghost_is_well_formed();
     }
 
-    /// The topology.
     pub fn topology(&self) -> &Topology
         ensures { result.now ≡ self.now.topology }
     {
         &self.topology
     }
 
-    /// The guarantees, all of them, in their order.
+    /// The guarantees, all of them, in order.
     pub fn guarantees(&self) -> &[Guarantee]
         ensures { result.now ≡ self.now.guarantees }
     {
         self.guarantees.as_slice()
     }
 
-    /// The same once more, for one that is put in force twice. Texts are shared.
+    /// Returns a copy, which shares the texts. Fails only if an allocation fails.
     pub fn clone(&self, alloc: Global) -> Result<Checked, AllocError>
         ensures { IfOk result (λ copy. copy ≡ self.now) }
     {
-        self.topology.is_well_formed();
+        self.topology.ghost_is_well_formed();
         Ok(Checked {
             topology: copies::topology(alloc, &self.topology)?,
             guarantees: copies::all(alloc, self.guarantees.as_slice())?,
         })
     }
 
-    /// Its parts, and what they keep.
+    /// Returns the topology and the guarantees.
     pub fn into_parts(self) -> (Topology, Vec<Guarantee>)
         ensures topology { result.0 ≡ self.topology }
         ensures guarantees { result.1.items ≡ self.guarantees }
         ensures hold { AllHold result.0 result.1.items }
         ensures well_formed { IsWellFormed result.0 }
     {
-        self.topology.is_well_formed();
+        self.topology.ghost_is_well_formed();
         let Checked {
             topology,
             guarantees: held,

@@ -1,4 +1,4 @@
-//! Certificates, as plain data.
+//! Certificates as plain data.
 
 ghost use Rattle.std.specs.Prelude.{◌≡◌};
 ghost use Rattle.state_walks.specs.Judged.{states_of};
@@ -8,8 +8,8 @@ use crate::forms::Form;
 use model::Text;
 use std::marker::Model;
 
-/// What shows that a guarantee holds: the guarantee's texts, and states that letters never lead out of, but for those
-/// that its form passes over.
+/// Evidence that a guarantee holds: the guarantee's texts, and states from which letters lead only to listed states, or to ones that the form
+/// drops.
 pub struct Certificate {
     form: Form,
     exchange: Text,
@@ -51,7 +51,7 @@ impl Model for Certificate {
 }
 
 impl Certificate {
-    /// The certificate of these parts.
+    /// Returns the certificate of these parts.
     pub fn new(
         form: Form,
         exchange: Text,
@@ -79,7 +79,7 @@ impl Certificate {
         }
     }
 
-    /// What its states have numbers for.
+    /// Which of the tracked patterns the states have numbers for.
     pub fn form(&self) -> &Form
         ensures { form_view result.now ≡ self.now.form }
     {
@@ -114,7 +114,6 @@ impl Certificate {
         &self.queue
     }
 
-    /// Its states.
     pub fn states(&self) -> &[Vec<u64>]
         ensures { states_of result.now ≡ self.now.states }
     {

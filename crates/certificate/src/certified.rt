@@ -1,4 +1,4 @@
-//! Guarantees with a certificate each.
+//! Checks that each guarantee has an accepted certificate. Start with `all_certified`.
 
 ghost use Rattle.std.specs.Prelude.{◌<◌, ◌≡◌, Err, length};
 ghost use Rattle.certificate.specs.declared.faults.CertFault.TheVariants.{Form};
@@ -11,7 +11,7 @@ use exchange_graph::Topology;
 use guarantees::Guarantee;
 use std::alloc::Global;
 
-/// Whether the certificate at this place is accepted for the guarantee.
+/// Checks the certificate at index `place` for `guarantee`. Fails with its fault, or with [`CertFault::Form`] if there is none.
 fn check_at(
     alloc: Global,
     topology: &Topology,
@@ -27,7 +27,7 @@ fn check_at(
     check(alloc, topology, guarantee, &certificates[place])
 }
 
-/// Whether each guarantee has its certificate, or the least place at fault.
+/// Checks that each guarantee has an accepted certificate, and that no certificate is left over. Fails with the least index at fault, and its fault.
 pub fn all_certified(
     alloc: Global,
     topology: &Topology,

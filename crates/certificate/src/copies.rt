@@ -1,4 +1,4 @@
-//! Topologies and guarantees once more. Their texts are shared.
+//! Copies topologies and guarantees. The copies share their texts.
 
 ghost use Rattle.std.specs.Prelude.{◌≡◌, IfOk};
 
@@ -7,9 +7,9 @@ use guarantees::Guarantee;
 use model::{Binding, DeclaredQueue, Exchange, Place, Text};
 use std::alloc::{AllocError, Global};
 
-/// What can be had once more.
+/// A type that can be copied.
 pub(crate) trait Copied: Drop {
-    /// The same, sharing its texts.
+    /// Returns a copy that shares the texts. Fails only if an allocation fails.
     fn copied(&self, alloc: Global) -> Result<Self, AllocError>
         ensures { IfOk result (λ copy. copy ≡ self.now) };
 }
@@ -64,7 +64,7 @@ impl Copied for Binding {
 
 impl Copied for Guarantee {
     fn copied(&self, alloc: Global) -> Result<Guarantee, AllocError> {
-        self.are_patterns();
+        self.ghost_are_patterns();
         let copy = Guarantee::new(
             self.mode(),
             self.exchange().clone()?,
@@ -76,7 +76,7 @@ impl Copied for Guarantee {
     }
 }
 
-/// A text once more, if there is one.
+/// Returns a copy of a text, if there is one. Fails only if an allocation fails.
 fn perhaps(alloc: Global, text: &Option<Text>) -> Result<Option<Text>, AllocError>
     ensures { IfOk result (λ copy. copy ≡ text.now) }
 {
@@ -86,7 +86,7 @@ fn perhaps(alloc: Global, text: &Option<Text>) -> Result<Option<Text>, AllocErro
     }
 }
 
-/// All of these once more, in their order.
+/// Returns copies of `those`, in order. Fails only if an allocation fails.
 pub(crate) fn all<T: Copied>(alloc: Global, those: &[T]) -> Result<Vec<T>, AllocError>
     ensures { IfOk result (λ copies. copies.items ≡ those.now) }
 {
@@ -97,11 +97,11 @@ pub(crate) fn all<T: Copied>(alloc: Global, those: &[T]) -> Result<Vec<T>, Alloc
     Ok(copies)
 }
 
-/// The same topology.
+/// Returns a copy of `topology`. Fails only if an allocation fails.
 pub(crate) fn topology(alloc: Global, topology: &Topology) -> Result<Topology, AllocError>
     ensures { IfOk result (λ copy. copy ≡ topology.now) }
 {
-    topology.is_buildable();
+    topology.ghost_is_buildable();
     Topology::sound(
         alloc,
         all(alloc, topology.exchanges())?,

@@ -1,4 +1,4 @@
-//! The file of certificates that are found one by one.
+//! A certificates file that is written while the certificates are found. Start with [`Draft`].
 
 ghost use Rattle.std.specs.Prelude.{◌≡◌, ◌++◌, ◌∷◌, [], length, nat_lt, IfOk, List, MatchResult, OnOk};
 ghost use Rattle.model.specs.Certificates.{Certificate as Shown};
@@ -11,16 +11,16 @@ use crate::writing::certificate_value;
 use model::limits;
 use std::alloc::{AllocError, Global};
 
-/// The file of certificates that are found one by one, as far as it is written.
+/// A certificates file so far.
 #[derive(Drop)]
 pub enum Draft {
-    /// The file, but for the bracket that closes it.
+    /// The file without the closing bracket.
     Text(Vec<u8>),
-    /// There is none, for this reason.
+    /// There will be no file, for this reason.
     Refused(Unwritten),
 }
 
-/// Appends a comma, if something stands behind the first bracket.
+/// Appends a comma if the text has more than the opening bracket. Fails only if an allocation fails.
 fn put_comma(text: &mut Vec<u8>) -> Result<(), AllocError>
     ensures { OnOk result (text.new.items ≡ text.old.items ++ comma_if (nat_lt 1 (length text.old.items))) }
 {
@@ -30,7 +30,7 @@ fn put_comma(text: &mut Vec<u8>) -> Result<(), AllocError>
     Ok(())
 }
 
-/// Appends a certificate, behind a comma if another stands before it.
+/// Appends `certificate`, behind a comma unless it is the first. Fails if one of its texts is not UTF-8, or if an allocation fails.
 fn put_certificate(
     alloc: Global,
     text: &mut Vec<u8>,
@@ -45,7 +45,7 @@ fn put_certificate(
     Ok(())
 }
 
-/// The file that begins so, with a certificate more.
+/// Returns the draft that begins with `begun` and has one certificate more.
 fn longer(alloc: Global, begun: Vec<u8>, certificate: &Certificate) -> Draft
     ensures { (cs : List Shown) → IsBegun begun.items cs → IsDraft result (cs ++ certificate.now ∷ []) }
 {
@@ -57,7 +57,7 @@ fn longer(alloc: Global, begun: Vec<u8>, certificate: &Certificate) -> Draft
     }
 }
 
-/// The file that begins so, with its last bracket.
+/// Appends the closing bracket. Fails only if an allocation fails.
 fn closed(begun: Vec<u8>) -> Result<Vec<u8>, AllocError>
     ensures { IfOk result (λ text. text.items ≡ begun.items ++ 93 ∷ []) }
 {
@@ -67,7 +67,7 @@ fn closed(begun: Vec<u8>) -> Result<Vec<u8>, AllocError>
 }
 
 impl Draft {
-    /// The file of no certificate.
+    /// Returns the draft of a file without certificates.
     pub fn new(alloc: Global) -> Draft
         ensures { IsDraft result [] }
     {
@@ -78,7 +78,8 @@ impl Draft {
         }
     }
 
-    /// The file with a certificate more. It is given up if it grows past the limit, a text is not UTF-8, or a growth is refused.
+    /// Appends `certificate`.
+    /// The draft becomes [`Draft::Refused`] if it grows past 16,777,216 bytes, if a text is not UTF-8, or if an allocation fails.
     pub fn with_certificate(self, alloc: Global, certificate: &Certificate) -> Draft
         ensures { (cs : List Shown) → IsDraft self cs → IsDraft result (cs ++ certificate.now ∷ []) }
     {
@@ -88,7 +89,7 @@ impl Draft {
         }
     }
 
-    /// The whole file, or why there is none.
+    /// Returns the whole file, or why there is none.
     pub fn finished(self) -> Result<Vec<u8>, Unwritten>
         ensures { (cs : List Shown) → IsDraft self cs → MatchResult result (λ text. IsFile text.items cs) (λ why. HasNoFile why cs) }
     {

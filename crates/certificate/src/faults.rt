@@ -3,23 +3,22 @@
 use model::Text;
 use std::alloc::AllocError;
 
-/// The first condition that a certificate breaks: the form, then the state of no words, then state by state its promise
-/// and its letters.
+/// The first condition that a certificate breaks.
+/// The order is: the form, the state before any word, then state by state its promise and its letters.
 #[derive(Drop)]
 pub enum CertFault {
-    /// 1: the state of no words is not listed.
+    /// 1: the state before any word is not listed.
     Start,
-    /// 2: from this state a letter leads to one that is not listed. None is the letter of all words that no pattern
-    /// names.
+    /// 2: from the state at index `state` a letter leads to one that is neither listed nor dropped.
+    /// `word` is `None` for the letter of all words that no pattern names.
     Open { state: usize, word: Option<Text> },
-    /// 3, of a `reaches`: the guarantee's pattern accepts at this state, and the queue is not sure to be reached.
+    /// 3, for a `reaches`: the guarantee covers the state at index `state`, and messages are not sure to reach the queue.
     Missed { state: usize },
-    /// 4, of a `never`: the guarantee's pattern accepts at this state, and it is not sure that no message comes to the
-    /// queue.
+    /// 4, for a `never`: the guarantee covers the state at index `state`, and it is not sure that no message comes to the queue.
     Forbidden { state: usize },
-    /// 5: it has not the form that the guarantee needs.
+    /// 5: it doesn't have the form that the guarantee needs.
     Form,
-    /// 6: a growth was refused.
+    /// 6: an allocation failed.
     Memory,
 }
 

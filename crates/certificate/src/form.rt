@@ -1,4 +1,4 @@
-//! The form of a certificate.
+//! Decides whether a certificate has the form that a guarantee needs.
 
 ghost use Rattle.std.specs.Prelude.{◌≡◌, ◌≤◌, ◌<◌, ◌+◌, ◌^◌, Decides, length};
 ghost use Rattle.std.specs.List.{AllByRecursion};
@@ -18,7 +18,7 @@ use guarantees::Guarantee;
 use model::{Mode, Text, limits};
 use word_automata::Tracked;
 
-/// Whether this is the mode's name.
+/// Returns whether `name` is the name of `mode`.
 fn is_mode(mode: Mode, name: &[u8]) -> bool
     ensures { Decides result (name.now ≡ mode_name mode) }
 {
@@ -28,7 +28,7 @@ fn is_mode(mode: Mode, name: &[u8]) -> bool
     }
 }
 
-/// Whether the certificate has the guarantee's texts.
+/// Returns whether the certificate has the guarantee's texts and mode.
 fn is_of(guarantee: &Guarantee, certificate: &Certificate) -> bool
     ensures { Decides result (IsOf guarantee.now certificate.now) }
 {
@@ -38,14 +38,14 @@ fn is_of(guarantee: &Guarantee, certificate: &Certificate) -> bool
         && certificate.queue().as_bytes() == guarantee.queue().as_bytes()
 }
 
-/// Whether the texts are the same.
+/// Returns whether the texts are the same.
 fn is_same(text: &Text, other: &Text) -> bool
     ensures { result ≡ bytes_eq text.now other.now }
 {
     text.as_bytes() == other.as_bytes()
 }
 
-/// Whether the texts are the same, one by one.
+/// Returns whether the texts are the same, one by one.
 fn are_equal(texts: &[Text], others: &[Text]) -> bool
     ensures { result ≡ same_texts texts.now others.now }
 {
@@ -60,14 +60,14 @@ fn are_equal(texts: &[Text], others: &[Text]) -> bool
     true
 }
 
-/// Whether the texts are the same, in the same order.
+/// Returns whether the texts are the same, in the same order.
 fn are_same(texts: &[Text], others: &[Text]) -> bool
     ensures { Decides result (texts.now ≡ others.now) }
 {
     are_equal(texts, others)
 }
 
-/// Whether the form is one that a guarantee takes which takes out the keys of these patterns.
+/// Returns whether `form` is one that a guarantee with these `excepts` takes.
 fn suits(form: &Form, excepts: &[Text]) -> bool
     ensures { Decides result (Suits (form_view form.now) excepts.now) }
 {
@@ -80,7 +80,7 @@ fn suits(form: &Form, excepts: &[Text]) -> bool
     }
 }
 
-/// Whether a number uses only the bits up to this place.
+/// Returns whether `number` has no bit above bit `count`.
 fn fits_tokens(count: usize, number: u64) -> bool
     requires { count ≤ 31 }
     ensures { Decides result (number < 2 ^ (count + 1)) }
@@ -88,7 +88,7 @@ fn fits_tokens(count: usize, number: u64) -> bool
     number < 1u64 << (count + 1)
 }
 
-/// Whether each number uses only the places of its pattern.
+/// Returns whether `state` has a number for each pattern, with no bit above that of the pattern's last token.
 pub fn fits(patterns: &[Tracked], state: &[u64]) -> bool
     requires { AllByRecursion IsShort patterns.now }
     ensures { Decides result (FitsEach patterns.now state.now) }
@@ -104,7 +104,7 @@ pub fn fits(patterns: &[Tracked], state: &[u64]) -> bool
     true
 }
 
-/// Whether each state has a number for each pattern.
+/// Returns whether each state fits the patterns in this way.
 fn all_fit(patterns: &[Tracked], states: &[Vec<u64>]) -> bool
     requires { AllByRecursion IsShort patterns.now }
     ensures { Decides result (AllByRecursion (FitsEach patterns.now) (states_of states.now)) }
@@ -117,7 +117,7 @@ fn all_fit(patterns: &[Tracked], states: &[Vec<u64>]) -> bool
     true
 }
 
-/// Whether no state is passed over, where states are.
+/// Returns whether no state is dropped, if `drops` says that states are.
 fn none_dropped(drops: bool, states: &[Vec<u64>]) -> bool
     ensures { Decides result (AllByRecursion (λ s. IsPassedOver drops s → ⊥) (states_of states.now)) }
 {
@@ -129,7 +129,7 @@ fn none_dropped(drops: bool, states: &[Vec<u64>]) -> bool
     true
 }
 
-/// Whether the certificate has the form as far as the tracked patterns have no say in it.
+/// Returns whether the certificate has the form, as far as it can be seen without the tracked patterns.
 pub fn fits_guarantee(guarantee: &Guarantee, certificate: &Certificate) -> bool
     ensures { Decides result (FitsGuarantee guarantee.now certificate.now) }
 {
@@ -141,7 +141,7 @@ pub fn fits_guarantee(guarantee: &Guarantee, certificate: &Certificate) -> bool
         && none_dropped(passes_over(certificate.form()), certificate.states())
 }
 
-/// Whether the patterns are not too many, and each state has a number for each.
+/// Returns whether there are at most 64 patterns, and each state fits them.
 pub fn is_formed(guarantee: &Guarantee, patterns: &[Tracked], certificate: &Certificate) -> bool
     requires fits { FitsGuarantee guarantee.now certificate.now }
     requires short { AllByRecursion IsShort patterns.now }

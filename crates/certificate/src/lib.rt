@@ -1,7 +1,7 @@
-//! Certificates: whether one is accepted for a guarantee, their files, and what is admitted by them.
+//! Checks certificates, reads and writes their files, and admits topologies by them. Start with [`check`] and [`admit`].
 //!
-//! `Walk` is what the letters of the tracked patterns lead to and which states are good; a list of states is judged
-//! over it, and so is a search.
+//! [`Walk`] is the automaton of the tracked patterns: where letters lead, and which states are good. A check judges a list of states over
+//! it; a search explores it.
 #![tactic(auto)]
 
 mod admitted;

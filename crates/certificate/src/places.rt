@@ -1,4 +1,4 @@
-//! The places that a certificate tracks, and the patterns at them.
+//! The indices of the patterns that a certificate tracks, and the patterns.
 
 ghost use Rattle.std.specs.Prelude.{◌≡◌, ◌<◌, ◌++◌, ◌∷◌, ℕ, List, [], AllPairs, Decides, IfOk, OnOk, length, nat_lt};
 ghost use Rattle.std.specs.List.{AllByRecursion, cons_option, list_all, slice_get};
@@ -10,10 +10,10 @@ use crate::forms::Form;
 use std::alloc::{AllocError, Global};
 use word_automata::Tracked;
 
-/// The most patterns that are tracked.
+/// The largest number of patterns that are tracked.
 pub const MOST_PATTERNS: usize = 64;
 
-/// Whether a number is less than the first of these, if there is one.
+/// Returns whether `number` is less than the first of `rest`, if there is one.
 fn is_less_first(number: u64, rest: &[u64]) -> bool
     ensures { result ≡ is_less_first number rest.now }
 {
@@ -23,7 +23,7 @@ fn is_less_first(number: u64, rest: &[u64]) -> bool
     }
 }
 
-/// Whether each number is less than the next.
+/// Returns whether each number is less than the next.
 fn rises(numbers: &[u64]) -> bool
     ensures { result ≡ rises numbers.now }
 {
@@ -35,14 +35,14 @@ fn rises(numbers: &[u64]) -> bool
     true
 }
 
-/// Whether the numbers rise strictly.
+/// Returns whether the numbers increase strictly.
 fn are_rising(numbers: &[u64]) -> bool
     ensures { Decides result (AllPairs (λ (i j : ℕ). i < j) numbers.now) }
 {
     rises(numbers)
 }
 
-/// Whether the first number is 0.
+/// Returns whether the first number is 0.
 fn is_zero_first(numbers: &[u64]) -> bool
     ensures { Decides result (IsZeroFirst numbers.now) }
 {
@@ -52,14 +52,14 @@ fn is_zero_first(numbers: &[u64]) -> bool
     }
 }
 
-/// Whether there are at most 64 places that rise from 0.
+/// Returns whether there are at most 64 indices, which begin with 0 and increase strictly.
 fn are_few(places: &[u64]) -> bool
     ensures { Decides result (AreFewPlaces places.now) }
 {
     places.len() <= MOST_PATTERNS && is_zero_first(places) && are_rising(places)
 }
 
-/// Whether the places of a form, if it names any, are at most 64 and rise from 0.
+/// Returns whether the indices of a form, if it has any, are at most 64, begin with 0 and increase strictly.
 pub fn has_few_places(form: &Form) -> bool
     ensures { Decides result (HasFewPlaces (form_view form.now)) }
 {
@@ -70,7 +70,7 @@ pub fn has_few_places(form: &Form) -> bool
     }
 }
 
-/// Whether states are passed over.
+/// Returns whether this form drops states whose first number is 0.
 pub fn passes_over(form: &Form) -> bool
     ensures { result ≡ passes_over (form_view form.now) }
 {
@@ -81,28 +81,28 @@ pub fn passes_over(form: &Form) -> bool
     }
 }
 
-/// Whether the state is passed over, where states are.
+/// Returns whether the state is dropped: `drops` is set, and its first number is 0.
 pub fn is_passed_over(drops: bool, state: &[u64]) -> bool
     ensures { Decides result (IsPassedOver drops state.now) }
 {
     drops && is_zero_first(state)
 }
 
-/// Whether each is less than the count.
+/// Returns whether each is less than `count`.
 fn are_below(places: &[u64], count: usize) -> bool
     ensures { result ≡ list_all (λ i. nat_lt i count) places.now }
 {
     places.iter().all(|place| *place < count as u64)
 }
 
-/// Whether each is a place of a list of this length.
+/// Returns whether each is an index of a list of length `count`.
 fn are_within(places: &[u64], count: usize) -> bool
     ensures { Decides result (AllByRecursion (λ i. i < count) places.now) }
 {
     are_below(places, count)
 }
 
-/// Adds a copy of the pattern at this place, if there is one.
+/// Appends a copy of the pattern at index `place`, if there is one. Fails only if an allocation fails.
 fn add_at(
     alloc: Global,
     found: &mut Vec<Tracked>,
@@ -121,7 +121,7 @@ fn add_at(
     }
 }
 
-/// Copies of the patterns at these places of the list.
+/// Returns copies of the patterns at the indices `places`; an index past the end is skipped. Fails only if an allocation fails.
 pub fn at_places(
     alloc: Global,
     list: &[Tracked],
@@ -136,7 +136,7 @@ pub fn at_places(
     Ok(found)
 }
 
-/// The patterns at these places, where each is one of the list's.
+/// Returns copies of the patterns at the indices `places`, or `None` if one is past the end. Fails only if an allocation fails.
 fn slice(
     alloc: Global,
     list: &[Tracked],
@@ -151,7 +151,8 @@ fn slice(
     Ok(Some(at_places(alloc, list, places)?))
 }
 
-/// The patterns of the list that states have numbers for, where each place is one of the list's.
+/// Returns the patterns of `list` that states of this form have numbers for, or `None` if an index is past the end.
+/// Fails only if an allocation fails.
 pub fn chosen(
     alloc: Global,
     form: &Form,

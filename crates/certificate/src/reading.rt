@@ -1,4 +1,4 @@
-//! What a certificates file states.
+//! Reads certificates files. Start with [`Certificate::read`].
 
 ghost use Rattle.std.specs.Prelude.{◌≡◌, option_and_then};
 ghost use Rattle.serde_json.specs.Find.{as_array};
@@ -14,7 +14,7 @@ use json_file::{FileCause, FromValue, elements, entries, has_only, parse, text};
 use serde_json::Value;
 use std::alloc::Global;
 
-/// The entries of a value, which is an array.
+/// Reads the elements of a value, which has to be an array.
 fn array<E: FromValue>(alloc: Global, value: &Value) -> Result<Vec<E>, FileCause>
     ensures { GivesItems result (option_and_then (each E.states) (as_array (view value.now))) }
 {
@@ -24,7 +24,7 @@ fn array<E: FromValue>(alloc: Global, value: &Value) -> Result<Vec<E>, FileCause
     }
 }
 
-/// The state that a value is.
+/// Reads a state.
 #[tactic(auto, unfolding(crate::specs::Stated::state_in))]
 fn state(alloc: Global, value: &Value) -> Result<Vec<u64>, FileCause>
     ensures { GivesItems result (state_in (view value.now)) }
@@ -32,7 +32,7 @@ fn state(alloc: Global, value: &Value) -> Result<Vec<u64>, FileCause>
     array(alloc, value)
 }
 
-/// The states that these values are.
+/// Reads states.
 fn states(alloc: Global, values: &[Value]) -> Result<Vec<Vec<u64>>, FileCause>
     ensures { GivesStates result (each state_in (items_view values.now)) }
 {
@@ -43,7 +43,7 @@ fn states(alloc: Global, values: &[Value]) -> Result<Vec<Vec<u64>>, FileCause>
     Ok(found)
 }
 
-/// The states of a certificate.
+/// Reads the member `states` of a certificate.
 #[tactic(auto, unfolding(crate::specs::Stated::states_at))]
 fn states_at(alloc: Global, value: &Value) -> Result<Vec<Vec<u64>>, FileCause>
     ensures { GivesStates result (states_at (view value.now)) }
@@ -54,7 +54,7 @@ fn states_at(alloc: Global, value: &Value) -> Result<Vec<Vec<u64>>, FileCause>
     }
 }
 
-/// Form 1, of an object that has no other members.
+/// Reads form 1, whose object has no other members.
 #[tactic(auto, unfolding(crate::specs::Stated::whole_at))]
 fn whole(value: &Value) -> Result<Form, FileCause>
     ensures { GivesForm result (whole_at (view value.now)) }
@@ -66,7 +66,7 @@ fn whole(value: &Value) -> Result<Form, FileCause>
     Ok(Form::Whole)
 }
 
-/// Form 2, of an object that has no other members.
+/// Reads form 2, whose object has no other members.
 #[tactic(auto, unfolding(crate::specs::Stated::sliced_at, crate::specs::Stated::tracked_at))]
 fn sliced(alloc: Global, value: &Value) -> Result<Form, FileCause>
     ensures { GivesForm result (sliced_at (view value.now)) }
@@ -81,7 +81,7 @@ fn sliced(alloc: Global, value: &Value) -> Result<Form, FileCause>
     Ok(Form::Sliced(places))
 }
 
-/// The texts and the places of form 3.
+/// Reads the texts and the indices of form 3.
 #[tactic(auto, unfolding(crate::specs::Stated::excepting_of, crate::specs::Stated::excepts_at, crate::specs::Stated::tracked_at))]
 fn excepting_of(alloc: Global, value: &Value) -> Result<Form, FileCause>
     ensures { GivesForm result (excepting_of (view value.now)) }
@@ -91,7 +91,7 @@ fn excepting_of(alloc: Global, value: &Value) -> Result<Form, FileCause>
     Ok(Form::Excepting { excepts, places })
 }
 
-/// Form 3, of an object that has no other members.
+/// Reads form 3, whose object has no other members.
 #[tactic(auto, unfolding(crate::specs::Stated::excepting_at))]
 fn excepting(alloc: Global, value: &Value) -> Result<Form, FileCause>
     ensures { GivesForm result (excepting_at (view value.now)) }
@@ -106,7 +106,7 @@ fn excepting(alloc: Global, value: &Value) -> Result<Form, FileCause>
     }
 }
 
-/// The form of a certificate, with what belongs to it.
+/// Reads the form of a certificate: the member `form`, and the members that belong to it.
 #[tactic(auto, unfolding(crate::specs::Stated::form_at, crate::specs::Stated::form_of))]
 fn form(alloc: Global, value: &Value) -> Result<Form, FileCause>
     ensures { GivesForm result (form_at (view value.now)) }
@@ -136,7 +136,7 @@ impl FromValue for Certificate {
     }
 }
 
-/// The certificates of a file's value.
+/// Reads the certificates of a file's value.
 #[tactic(auto, unfolding(crate::specs::Stated::certificates_stated))]
 fn stated(alloc: Global, value: &Value) -> Result<Vec<Certificate>, FileCause>
     ensures { GivesItems result (certificates_stated (view value.now)) }
@@ -145,10 +145,10 @@ fn stated(alloc: Global, value: &Value) -> Result<Vec<Certificate>, FileCause>
 }
 
 impl Certificate {
-    /// The certificates of a file, in its order.
+    /// Reads a certificates file, in its order. Fails with the reason why the file is refused.
     ///
-    /// A file has at most 16,777,216 bytes and is an array of objects, each with exactly the members of its form: of form 1
-    /// `exchange`, `form`, `mode`, `pattern`, `queue` and `states`; of form 2 these and `tracked`; of form 3 also `except`.
+    /// A file has at most 16,777,216 bytes and is an array of objects, each with exactly the members of its form: of form 1 `exchange`,
+    /// `form`, `mode`, `pattern`, `queue` and `states`; of form 2 these and `tracked`; of form 3 also `except`.
     pub fn read(alloc: Global, bytes: &[u8]) -> Result<Vec<Certificate>, FileCause>
         ensures { ReadsCertificateFile result bytes.now }
     {

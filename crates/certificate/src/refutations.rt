@@ -1,4 +1,4 @@
-//! Keys that break a guarantee.
+//! Keys that break a guarantee. Start with [`disprove`].
 
 ghost use Rattle.std.specs.Prelude.{◌≡◌, ◌<◌, Decides, IfOk, Ok, OnErr, false, length, true};
 ghost use Rattle.model.specs.Refutations.{Breaks, Refutes};
@@ -12,7 +12,7 @@ use paths::is_path;
 use std::alloc::{AllocError, Global};
 use std::marker::Model;
 
-/// What shows that a guarantee fails: a key, and of a `never` the names by which a message comes where it must not.
+/// Evidence that a guarantee fails: a routing key, and for a `never` the path by which a message with it comes to the queue.
 #[derive(Drop)]
 pub struct Refutation {
     key: Text,
@@ -28,21 +28,21 @@ impl Model for Refutation {
 }
 
 impl Refutation {
-    /// The refutation of these parts.
+    /// Returns the refutation of these parts.
     pub fn new(key: Text, path: Vec<Text>) -> Refutation
         ensures { result ≡ record { key = key; path = path.items } }
     {
         Refutation { key, path }
     }
 
-    /// The key that breaks the guarantee.
+    /// The routing key that breaks the guarantee.
     pub fn key(&self) -> &Text
         ensures { result.now ≡ self.now.key }
     {
         &self.key
     }
 
-    /// The names by which a message comes where it must not.
+    /// The path of names by which a message comes to the queue; empty for a `reaches`.
     pub fn path(&self) -> &[Text]
         ensures { result.now ≡ self.now.path }
     {
@@ -50,14 +50,14 @@ impl Refutation {
     }
 }
 
-/// Whether a key can be sent.
+/// Returns whether `key` can be sent: it has at most 255 bytes.
 fn is_sendable(key: &[u8]) -> bool
     ensures { Decides result (IsSendable key.now) }
 {
     key.len() <= limits::SHORT_BYTES
 }
 
-/// Whether a refutation against such a guarantee has the path that it may have: none against a `reaches`.
+/// Returns whether `path` may belong to a refutation of a guarantee of mode `mode`: for a `reaches` only an empty one.
 fn has_its_path(mode: Mode, path: &[Text]) -> bool
     ensures { Decides result (HasItsPath mode path.now) }
 {
@@ -67,14 +67,14 @@ fn has_its_path(mode: Mode, path: &[Text]) -> bool
     }
 }
 
-/// Whether routes have to tell: a key that can be sent, and no path where none is looked for.
+/// Returns whether the key can be sent, and the path may belong to a refutation of `guarantee`.
 fn may_refute(guarantee: &Guarantee, refutation: &Refutation) -> bool
     ensures { Decides result (MayRefute guarantee.now refutation.now) }
 {
     is_sendable(refutation.key().as_bytes()) && has_its_path(guarantee.mode(), refutation.path())
 }
 
-/// Whether the key, or the path of a message with that key, breaks the promise.
+/// Returns whether the key, or the path of a message with that key, breaks the promise. Fails only if an allocation fails.
 fn breaks(
     alloc: Global,
     topology: &Topology,
@@ -96,19 +96,21 @@ fn breaks(
     }
 }
 
-/// Whether the refutation shows that the guarantee fails: its key has at most 255 bytes and is covered, and of a `reaches` it
-/// doesn't lead to the queue, and the path is empty; of a `never` the path leads a message with this key from the exchange
-/// into the queue, by edges and dead-letter steps.
+/// Returns whether the refutation shows that the guarantee fails: its key has at most 255 bytes and is covered, and
+/// - for a `reaches`, the key doesn't lead to the queue, and the path is empty;
+/// - for a `never`, the path leads a message with this key from the exchange into the queue, by edges and dead-letter steps.
+///
+/// Fails only if an allocation fails, which occurs only if the key can be sent and the path is not ruled out by the mode.
 pub fn refutes(
     alloc: Global,
     topology: &Topology,
     guarantee: &Guarantee,
     refutation: &Refutation,
 ) -> Result<bool, AllocError>
-    // It is yes exactly where the refutation shows that the guarantee fails.
+    // `true` exactly if the refutation shows that the guarantee fails.
     ensures exact { IfOk result (λ yes. Decides yes (Refutes topology.now guarantee.now refutation.now)) }
     ensures too_long { 255 < length refutation.now.key → result ≡ Ok false }
-    // Memory is wanted only of what may refute.
+    // An allocation is needed only for a refutation that may refute.
     ensures memory { OnErr result (MayRefute guarantee.now refutation.now) }
 {
     if !may_refute(guarantee, refutation) {
@@ -121,8 +123,7 @@ pub fn refutes(
     breaks(alloc, topology, guarantee, refutation)
 }
 
-/// Whether it is seen that the refutation shows that the guarantee fails. It answers no where it doesn't, and for want of
-/// memory.
+/// Returns whether the refutation is seen to show that the guarantee fails. Returns `false` if it doesn't, or if an allocation fails.
 pub fn disprove(
     alloc: Global,
     topology: &Topology,

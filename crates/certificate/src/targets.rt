@@ -1,4 +1,4 @@
-//! Whether a key leads to a queue.
+//! Decides whether a key leads to a queue.
 
 ghost use Rattle.std.specs.Prelude.{Decides, IfOk, ◌≡◌, ◌==◌};
 ghost use Rattle.std.specs.List.{list_any};
@@ -8,21 +8,21 @@ ghost use Rattle.model.specs.Routing.{Routes};
 use exchange_graph::Topology;
 use std::alloc::{AllocError, Global};
 
-/// Whether some place is this one.
+/// Returns whether one of `places` is `place`.
 fn any_place(places: &[usize], place: usize) -> bool
     ensures { result ≡ list_any (λ p. p == place) places.now }
 {
     places.iter().any(|p| *p == place)
 }
 
-/// Whether a place is among these.
+/// Returns whether `place` is one of `places`.
 fn has_place(places: &[usize], place: usize) -> bool
     ensures { Decides result (IsIn place places.now) }
 {
     any_place(places, place)
 }
 
-/// Whether the key leads from the exchange to the queue.
+/// Returns whether `exchange` routes a message with `key` to `queue`. Fails only if an allocation fails.
 pub fn is_routed(
     alloc: Global,
     topology: &Topology,
@@ -32,7 +32,7 @@ pub fn is_routed(
 ) -> Result<bool, AllocError>
     ensures { IfOk result (λ yes. Decides yes (Routes topology.now exchange.now key.now queue.now)) }
 {
-    topology.is_well_formed();
+    topology.ghost_is_well_formed();
     let targets = topology.route(alloc, exchange, key)?;
     match topology.queue_at(queue) {
         Some(place) => Ok(has_place(targets.as_slice(), place)),

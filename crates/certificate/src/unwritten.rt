@@ -1,15 +1,15 @@
-//! Why certificates are not written.
+//! Why certificates can't be written.
 
 use std::alloc::{AllocError, AllocFailed};
 
 /// Why certificates have no file.
 #[derive(Clone, Copy, PartialEq, Eq, Debug, Drop)]
 pub enum Unwritten {
-    /// A text of some certificate is not UTF-8, as every text of a JSON file is.
+    /// A text of a certificate is not UTF-8, so a JSON file can't have it.
     NotText,
-    /// Their file would be too long to be read back.
+    /// The certificates file would be too long to be read back.
     TooLong,
-    /// A growth was refused.
+    /// An allocation failed.
     Memory,
 }
 

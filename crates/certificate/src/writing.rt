@@ -1,4 +1,4 @@
-//! The file of some certificates.
+//! Writes certificates files. Start with [`Certificate::write`].
 
 ghost use Rattle.std.specs.Prelude.{◌≡◌, IfOk, string_bytes, IsUtf8};
 ghost use Rattle.serde_json.specs.View.{view};
@@ -15,7 +15,7 @@ use serde_json::{Value, json};
 use std::alloc::{AllocError, Global};
 use std::marker::Model;
 
-/// The text, where it is UTF-8.
+/// Borrows the text. Fails if it is not UTF-8.
 fn text_of(text: &Text) -> Result<&str, Unwritten>
     ensures { LendsText result text.now }
 {
@@ -25,7 +25,7 @@ fn text_of(text: &Text) -> Result<&str, Unwritten>
     }
 }
 
-/// The value of a state.
+/// Returns a state as JSON. Fails only if an allocation fails.
 fn state_value(alloc: Global, state: &[u64]) -> Result<Value, AllocError>
     ensures { IfOk result (λ v. view v ≡ state_data state.now) }
 {
@@ -36,7 +36,7 @@ fn state_value(alloc: Global, state: &[u64]) -> Result<Value, AllocError>
     Ok(Value::Array(found))
 }
 
-/// The value of some states.
+/// Returns states as JSON. Fails only if an allocation fails.
 fn states_value(alloc: Global, states: &[Vec<u64>]) -> Result<Value, AllocError>
     ensures { IfOk result (λ v. view v ≡ states_data (states_of states.now)) }
 {
@@ -47,14 +47,14 @@ fn states_value(alloc: Global, states: &[Vec<u64>]) -> Result<Value, AllocError>
     Ok(Value::Array(found))
 }
 
-/// The value of the places that are tracked.
+/// Returns tracked indices as JSON. Fails only if an allocation fails.
 fn places_value(alloc: Global, places: &[u64]) -> Result<Value, AllocError>
     ensures { IfOk result (λ v. view v ≡ places_data places.now) }
 {
     state_value(alloc, places)
 }
 
-/// The value of a text.
+/// Returns a text as JSON. Fails if it is not UTF-8, or if an allocation fails.
 fn text_value(alloc: Global, text: &Text) -> Result<Value, Unwritten>
     ensures { GivesText result text.now }
 {
@@ -62,7 +62,7 @@ fn text_value(alloc: Global, text: &Text) -> Result<Value, Unwritten>
     Ok(Value::String(String::from_str(alloc, text)?))
 }
 
-/// The value of some texts.
+/// Returns texts as JSON. Fails if one is not UTF-8, or if an allocation fails.
 fn texts_value(alloc: Global, texts: &[Text]) -> Result<Value, Unwritten>
     ensures { GivesTexts result texts.now }
 {
@@ -116,14 +116,14 @@ impl<'a> Texts<'a> {
     }
 }
 
-/// The value of a certificate of form 1.
+/// Returns a certificate of form 1 as JSON. Fails only if an allocation fails.
 fn whole_value(alloc: Global, texts: &Texts<'_>, states: Value) -> Result<Value, AllocError>
     ensures { IfOk result (λ v. view v ≡ whole_data texts.now (view states)) }
 {
     json!(in alloc; {"exchange": texts.exchange(), "form": 1u64, "mode": texts.mode(), "pattern": texts.pattern(), "queue": texts.queue(), "states": states})
 }
 
-/// The value of a certificate of form 2.
+/// Returns a certificate of form 2 as JSON. Fails only if an allocation fails.
 fn sliced_value(
     alloc: Global,
     texts: &Texts<'_>,
@@ -138,7 +138,7 @@ fn sliced_value(
     })
 }
 
-/// The value of a certificate of form 3.
+/// Returns a certificate of form 3 as JSON. Fails only if an allocation fails.
 fn excepting_value(
     alloc: Global,
     texts: &Texts<'_>,
@@ -154,7 +154,8 @@ fn excepting_value(
     })
 }
 
-/// The value of a certificate of this form, with these texts and states.
+/// Returns a certificate of this form, with these texts and states, as JSON.
+/// Fails if a text of the form is not UTF-8, or if an allocation fails.
 fn value_of(
     alloc: Global,
     form: &Form,
@@ -177,7 +178,7 @@ fn value_of(
     }
 }
 
-/// The value of a certificate.
+/// Returns a certificate as JSON. Fails if one of its texts is not UTF-8, or if an allocation fails.
 pub fn certificate_value(alloc: Global, certificate: &Certificate) -> Result<Value, Unwritten>
     ensures { GivesData result certificate.now }
 {
@@ -191,7 +192,7 @@ pub fn certificate_value(alloc: Global, certificate: &Certificate) -> Result<Val
     value_of(alloc, certificate.form(), &texts, states)
 }
 
-/// The values of some certificates.
+/// Returns certificates as JSON, in order. Fails if a text of one is not UTF-8, or if an allocation fails.
 fn certificate_values(alloc: Global, certificates: &[Certificate]) -> Result<Vec<Value>, Unwritten>
     ensures { GivesCertificates result certificates.now }
 {
@@ -203,8 +204,9 @@ fn certificate_values(alloc: Global, certificates: &[Certificate]) -> Result<Vec
 }
 
 impl Certificate {
-    /// The file of these certificates, in their order: compact, each member in the order of its name. What is written is read
-    /// back as the same, where a file may be that long.
+    /// Returns the file of these certificates, in order: compact, the members in the order of their names.
+    /// It is read back as the same certificates if it has at most 16,777,216 bytes. Fails if a text of a certificate is not UTF-8, or if an
+    /// allocation fails.
     pub fn write(alloc: Global, certificates: &[Certificate]) -> Result<Vec<u8>, Unwritten>
         ensures { Writes result certificates.now }
     {

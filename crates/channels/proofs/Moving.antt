@@ -1,5 +1,5 @@
 -- Queues at other places: each element of a list is changed in turn; tags, numbers and counts stay, and so do names.
-use Rattle.channels.proofs.Imports.{◌≡◌, ℕ, zero, suc, ◌+◌, ◌<◌, List, [], ◌∷◌, ◌++◌, length, get_or, set, map, take, drop, refl, sym, ap, ◌∙◌, arith, Bool, true, false, cond, AllByRecursion, length-map, drop-map, Text, is_to, is_delivery, count_to, taker_of, given_tag, AreInOrder, is_waiting, waiting, outstanding_in, Seated, SeatsAreCounted, AreNumbered, NoneAbove, consumers_of, counts_of, Open, consumer_in, open_in, outstanding_moved, consumer_moved, seat_moved, open_moved, IsNamedAlike, AreNamedAlike, Delivery, Consumer, CountedConsumer}
+use Rattle.channels.proofs.Imports.{◌≡◌, ℕ, zero, suc, ◌+◌, ◌<◌, List, [], ◌∷◌, ◌++◌, length, get_or, set, map, take, drop, refl, sym, ap, ◌∙◌, arith, Bool, true, false, cond, AllByRecursion, length-map, drop-map, Text, is_to, is_delivery, count_to, taker_of, given_tag, AreInOrder, is_waiting, waiting, outstanding_in, ConsumerCounts, CountsAgree, AreNumbered, NoneAbove, consumers_of, counts_of, Open, consumer_in, open_in, outstanding_moved, consumer_moved, seat_moved, open_moved, IsNamedAlike, AreNamedAlike, Delivery, Consumer, CountedConsumer}
 use Rattle.model.specs.Broker as seen
 use Rattle.laws.proofs.Counts.{count-map}
 
@@ -74,7 +74,7 @@ counts_moved places os (c ∷ cs) =
     ap (λ (n : ℕ). n ∷ map (λ (d : Consumer). count_to taker_of d.number (map (outstanding_moved places) os)) (map (consumer_moved places) cs)) (count-map (λ (o : Delivery). is_to c.number o.by) (outstanding_moved places) (λ o. refl) os)
     ∙ ap (λ (ns : List ℕ). count_to taker_of c.number os ∷ ns) (counts_moved places os cs)
 
-pub moved_counted : (places : List ℕ) (s n : Seated) (os : List Delivery) → n.consumers ≡ map (consumer_moved places) s.consumers → n.held ≡ s.held → n.given ≡ s.given → SeatsAreCounted s os → SeatsAreCounted n (map (outstanding_moved places) os)
+pub moved_counted : (places : List ℕ) (s n : ConsumerCounts) (os : List Delivery) → n.consumers ≡ map (consumer_moved places) s.consumers → n.held ≡ s.held → n.given ≡ s.given → CountsAgree s os → CountsAgree n (map (outstanding_moved places) os)
 moved_counted places s n os consumers held given k = record {
   each = held ∙ k.each ∙ sym (counts_moved places os s.consumers) ∙ ap (map (λ (c : Consumer). count_to taker_of c.number (map (outstanding_moved places) os))) (sym consumers);
   all = given ∙ k.all ∙ sym (count-map (λ (o : Delivery). is_delivery o.by) (outstanding_moved places) (λ o. refl) os);

@@ -1,5 +1,5 @@
 -- Consumers as the channel keeps them, and as the model has them.
-use Rattle.channels.proofs.Imports.{◌≡◌, inl, inr, ℕ, ◌+◌, ◌<◌, ◌≤◌, List, [], ◌∷◌, ◌++◌, length, map, not, Bool, true, false, cond, Option, Some, None, refl, sym, ap, ◌∙◌, arith, ◌⊎◌, slice_index_or, ◌||◌, list_any, eqb-true, le-leb, lt-leb, map-append, length-map, Text, Of_connection, or_else, greatest, refusal_of_seat, is_named, server_name, IsNextName, AreNamesSpent, Given, with_consumer_added, MaySeat, JudgesSeat, JudgesUnnamed, AddsConsumer, RefusesUnnamed, ConsumesUnnamed, IsMadeUnder, Open, consumer_in, open_in, places_of, IsConsumerSeated, JudgesConsumer, SeatsConsumer, Consumer}
+use Rattle.channels.proofs.Imports.{◌≡◌, inl, inr, ℕ, ◌+◌, ◌<◌, ◌≤◌, List, [], ◌∷◌, ◌++◌, length, map, not, Bool, true, false, cond, Option, Some, None, refl, sym, ap, ◌∙◌, arith, ◌⊎◌, slice_index_or, ◌||◌, list_any, eqb-true, le-leb, lt-leb, map-append, length-map, Text, Of_connection, or_else, greatest, refusal_of_consumer, is_named, server_name, IsNextName, AreNamesSpent, Given, with_consumer_added, MaySeat, JudgesNamed, JudgesUnnamed, AddsConsumer, RefusesUnnamed, ConsumesUnnamed, IsMadeUnder, Open, consumer_in, open_in, places_of, IsConsumerSeated, JudgesConsumer, SeatsConsumer, Consumer}
 use Rattle.std.proofs.Common.{filter, Result, Ok, Err}
 use Rattle.std.specs.Prelude.{nat_le, ◌==◌, if◌then◌else◌}
 use Rattle.std.proofs.lemmas.Bool.{eq-eqb}
@@ -9,10 +9,10 @@ use Rattle.model.specs.Consuming as said
 use Rattle.model.specs.Step.{Refusal as Stands}
 use Rattle.model.specs.declared.methods.Consume.{Consume}
 use Rattle.laws.specs.Consumers.{NextTagsAreFound}
-use Rattle.channels.specs.declared.consumers.SeatRefusal.{SeatRefusal}
-use Rattle.channels.specs.declared.consumers.SeatRefusal.TheVariants.{InUse, TooMany, Spent}
-use Rattle.channels.specs.declared.consumers.Unseated.{Unseated}
-use Rattle.channels.specs.declared.consumers.Unseated.TheVariants.{Refused, Memory}
+use Rattle.channels.specs.declared.consumers.ConsumerRefusal.{ConsumerRefusal}
+use Rattle.channels.specs.declared.consumers.ConsumerRefusal.TheVariants.{InUse, TooMany, Spent}
+use Rattle.channels.specs.declared.consumers.ConsumeError.{ConsumeError}
+use Rattle.channels.specs.declared.consumers.ConsumeError.TheVariants.{Refused, Memory}
 
 -- ---- consumers, where queues have names
 
@@ -44,7 +44,7 @@ decided taken many wanting =
     or_else (if taken then Some (Of_connection 530) else None) (or_else (if many then Some (Of_connection 506) else None) (if wanting then Some (Of_connection 541) else None))
 
 decides : (ch : seen.Channel) (m : Consume) (taken many wanting : Bool) → is_tag_taken ch m.consumer_tag ≡ taken → nat_le 256 (length ch.consumers) ≡ many
-    → ((ch.next_number == greatest) || is_tag_wanting ch m.consumer_tag) ≡ wanting → refusal_of_seat ch m ≡ decided taken many wanting
+    → ((ch.next_number == greatest) || is_tag_wanting ch m.consumer_tag) ≡ wanting → refusal_of_consumer ch m ≡ decided taken many wanting
 decides ch m taken many wanting a b c =
     ap (λ (x : Bool). decided x (nat_le 256 (length ch.consumers)) ((ch.next_number == greatest) || is_tag_wanting ch m.consumer_tag)) a
     ∙ ap (λ (x : Bool). decided taken x ((ch.next_number == greatest) || is_tag_wanting ch m.consumer_tag)) b
@@ -113,7 +113,7 @@ given_wanting ch [] h = absurd (h refl)
 given_wanting ch (b ∷ bs) h = refl
 
 -- there is no reason against it
-pub named_free : (old : Open) (m : Consume) → (length m.consumer_tag ≡ 0 → ⊥) → MaySeat old.given m.consumer_tag → (names : List Text) → refusal_of_seat (open_in names old) m ≡ None
+pub named_free : (old : Open) (m : Consume) → (length m.consumer_tag ≡ 0 → ⊥) → MaySeat old.given m.consumer_tag → (names : List Text) → refusal_of_consumer (open_in names old) m ≡ None
 named_free old m h may names =
     decides (open_in names old) m false false false
     (given_taken (open_in names old) m.consumer_tag h ∙ any_tagged names m.consumer_tag old.given.consumers ∙ may.free)
@@ -130,7 +130,7 @@ named_seated old given queue m h may (made, seats) = record {
   places = ap (λ (g : Given). places_of g.consumers) made ∙ places_more old.given.consumers _;
 }
 
-pub named_refused : (old : Open) (m : Consume) (r : SeatRefusal) → (length m.consumer_tag ≡ 0 → ⊥) → JudgesSeat old.given m.consumer_tag (Some r) → JudgesConsumer old m (Some r)
+pub named_refused : (old : Open) (m : Consume) (r : ConsumerRefusal) → (length m.consumer_tag ≡ 0 → ⊥) → JudgesNamed old.given m.consumer_tag (Some r) → JudgesConsumer old m (Some r)
 named_refused old m InUse h used = λ names.
     decides (open_in names old) m true _ _ (given_taken (open_in names old) m.consumer_tag h ∙ any_tagged names m.consumer_tag old.given.consumers ∙ used) refl refl
 named_refused old m TooMany h (free, many) = λ names.
@@ -139,7 +139,7 @@ named_refused old m Spent h (free, (few, spent)) = λ names.
     decides (open_in names old) m false false true (given_taken (open_in names old) m.consumer_tag h ∙ any_tagged names m.consumer_tag old.given.consumers ∙ free) (few_in names old.given.consumers few)
     (or_spent old.given.next_number (is_tag_wanting (open_in names old) m.consumer_tag) spent)
 
-pub named_judged : (old : Open) (m : Consume) (o : Option SeatRefusal) → (length m.consumer_tag ≡ 0 → ⊥) → JudgesSeat old.given m.consumer_tag o → JudgesConsumer old m o
+pub named_judged : (old : Open) (m : Consume) (o : Option ConsumerRefusal) → (length m.consumer_tag ≡ 0 → ⊥) → JudgesNamed old.given m.consumer_tag o → JudgesConsumer old m o
 named_judged old m None h may = named_free old m h may
 named_judged old m (Some r) h why = named_refused old m r h why
 
@@ -170,7 +170,7 @@ none_is : NextTagsAreFound → (names : List Text) (old : Open) → AreNamesSpen
 none_is laws names old spent = laws.none_left (open_in names old) spent.within (λ k le lt. any_tagged names (server_name k) old.given.consumers ∙ spent.used k le lt)
 
 unnamed_free : NextTagsAreFound → (old : Open) (m : Consume) (n : ℕ) → m.consumer_tag ≡ [] → length old.given.consumers < 256 → old.given.next_number < greatest → IsNextName old.given.consumers old.given.next_name n
-    → (names : List Text) → refusal_of_seat (open_in names old) m ≡ None
+    → (names : List Text) → refusal_of_consumer (open_in names old) m ≡ None
 unnamed_free laws old m n none few left next names =
     decides (open_in names old) m false false false
     (no_tag_taken (open_in names old) m.consumer_tag none)
@@ -196,7 +196,7 @@ pub unnamed_seated : NextTagsAreFound → (old : Open) (given : Given) (queue : 
     → ConsumesUnnamed old.given queue m.no_ack (Ok tag) given → IsConsumerSeated old queue m tag (record old { given = given })
 unnamed_seated laws old given queue m tag h (few, (left, (seats, (n, is)))) = unnamed_made laws old given queue m tag n (no_tag m.consumer_tag h) few left is
 
-pub unnamed_refused : NextTagsAreFound → (old : Open) (m : Consume) (r : SeatRefusal) → length m.consumer_tag ≡ 0 → RefusesUnnamed old.given r → JudgesConsumer old m (Some r)
+pub unnamed_refused : NextTagsAreFound → (old : Open) (m : Consume) (r : ConsumerRefusal) → length m.consumer_tag ≡ 0 → RefusesUnnamed old.given r → JudgesConsumer old m (Some r)
 unnamed_refused laws old m InUse h why = absurd why
 unnamed_refused laws old m TooMany h many = λ names. let none = no_tag m.consumer_tag h in
     decides (open_in names old) m false true _ (no_tag_taken (open_in names old) m.consumer_tag none) (many_in names old.given.consumers many) refl
@@ -210,11 +210,11 @@ unnamed_refused laws old m Spent h (few, spent) = λ names. let none = no_tag m.
         ap (λ (b : Bool). (old.given.next_number == greatest) || b) (no_tag_wanting (open_in names old) m.consumer_tag none ∙ ap (nat_le greatest) (none_is laws names old s))
         ∙ or_true (old.given.next_number == greatest)
 
-pub unnamed_judged : NextTagsAreFound → (old : Open) (m : Consume) (o : Option SeatRefusal) → length m.consumer_tag ≡ 0 → JudgesUnnamed old.given o → JudgesConsumer old m o
+pub unnamed_judged : NextTagsAreFound → (old : Open) (m : Consume) (o : Option ConsumerRefusal) → length m.consumer_tag ≡ 0 → JudgesUnnamed old.given o → JudgesConsumer old m o
 unnamed_judged laws old m None h (few, (left, (n, next))) = unnamed_free laws old m n (no_tag m.consumer_tag h) few left next
 unnamed_judged laws old m (Some r) h why = unnamed_refused laws old m r h why
 
-pub unnamed_seats : NextTagsAreFound → (old : Open) (given : Given) (queue : ℕ) (m : Consume) (r : Result Text Unseated) → length m.consumer_tag ≡ 0
+pub unnamed_seats : NextTagsAreFound → (old : Open) (given : Given) (queue : ℕ) (m : Consume) (r : Result Text ConsumeError) → length m.consumer_tag ≡ 0
     → ConsumesUnnamed old.given queue m.no_ack r given → SeatsConsumer old queue m r (record old { given = given })
 unnamed_seats laws old given queue m (Ok tag) h is = unnamed_seated laws old given queue m tag h is
 unnamed_seats laws old given queue m (Err (Refused r)) h (why, same) = (unnamed_refused laws old m r h why, ap (λ (g : Given). record old { given = g }) same)

@@ -5,15 +5,15 @@ use Rattle.channels.specs.Open.{Open}
 use Rattle.channels.specs.Moving.{open_moved, AreNamedAlike}
 use Rattle.channels.specs.RunningConnections.{Running, channel_of, seen_in}
 
--- each open channel, by number
+-- each open channel, with the queues that it names at their new indices, `places`
 abbrev pub channels_moved : List ℕ → List (Option Open) → List (Option Open)
 channels_moved places channels = map (option_map (open_moved places)) channels
 
--- a connection with its channels
+-- a connection, with the queues that its channels name at their new indices
 abbrev pub running_moved : List ℕ → Running → Running
 running_moved places l = record l { channels = channels_moved places l.channels }
 
--- all connections, by number
+-- all connections, with the queues that their channels name at their new indices
 abbrev pub connections_moved : List ℕ → List (ℕ × Running) → List (ℕ × Running)
 connections_moved places connections = map (λ e. (e.0, running_moved places e.1)) connections
 

@@ -7,15 +7,15 @@ use Rattle.model.specs.Step.{greatest}
 use Rattle.model.specs.Prefetch.{may_hold, has_tag_left}
 use Rattle.model.specs.declared.messages.Taker.{Taker}
 use Rattle.channels.specs.Outstanding.{taker_of}
-use Rattle.channels.specs.Seats.{is_named}
+use Rattle.channels.specs.CountedConsumers.{is_named}
 use Rattle.channels.specs.Names.{server_name, IsNextName, AreNamesSpent}
 use Rattle.channels.specs.declared.names.Name.{Name}
 use Rattle.model.specs.declared.deliveries.Delivery.{Delivery}
 use Rattle.channels.specs.declared.consumers.Consumer.{Consumer}
-use Rattle.channels.specs.declared.consumers.SeatRefusal.{SeatRefusal}
-use Rattle.channels.specs.declared.consumers.SeatRefusal.TheVariants.{InUse, TooMany, Spent}
-use Rattle.channels.specs.declared.consumers.Unseated.{Unseated}
-use Rattle.channels.specs.declared.consumers.Unseated.TheVariants.{Refused, Memory}
+use Rattle.channels.specs.declared.consumers.ConsumerRefusal.{ConsumerRefusal}
+use Rattle.channels.specs.declared.consumers.ConsumerRefusal.TheVariants.{InUse, TooMany, Spent}
+use Rattle.channels.specs.declared.consumers.ConsumeError.{ConsumeError}
+use Rattle.channels.specs.declared.consumers.ConsumeError.TheVariants.{Refused, Memory}
 
 -- delivery tags, limits, consumers, unacknowledged deliveries, and the spare capacity for deliveries and for consumers
 pub record Given : Type 0 where
@@ -59,12 +59,12 @@ with_given g queue arrival by room = record g {
 abbrev pub with_limit : Given → ℕ → Bool → Given
 with_limit g count global = if global then record g { limit = count } else record g { each_limit = count }
 
--- this consumer exists, and may be given one more message under the channel's limit
+-- the consumer exists, and neither its own prefetch nor `limit`, the channel's, is used up
 abbrev pub may_of : ℕ → List Delivery → Option Consumer → Bool
 may_of limit outstanding None = false
 may_of limit outstanding (Some c) = may_hold taker_of limit c.no_ack c.limit c.number outstanding
 
--- this consumer, if it exists and may
+-- the consumer, if it exists and `may_of` says that it may be given one more message
 abbrev pub taker_among : ℕ → List Delivery → Option Consumer → Option Consumer
 taker_among limit outstanding c = if may_of limit outstanding c then c else None
 
@@ -95,30 +95,30 @@ pub record MaySeat (g : Given) (name : Text) : Type 0 where
   pub left : g.next_number < greatest
 
 -- the first reason against it, in this order, or `None` if there is none
-abbrev pub JudgesSeat : Given → Text → Option SeatRefusal → Type 0
-JudgesSeat g name None = MaySeat g name
-JudgesSeat g name (Some InUse) = list_any (is_named name) g.consumers ≡ true
-JudgesSeat g name (Some TooMany) = (list_any (is_named name) g.consumers ≡ false) × (256 ≤ length g.consumers)
-JudgesSeat g name (Some Spent) = (list_any (is_named name) g.consumers ≡ false) × ((length g.consumers < 256) × (g.next_number ≡ greatest))
+abbrev pub JudgesNamed : Given → Text → Option ConsumerRefusal → Type 0
+JudgesNamed g name None = MaySeat g name
+JudgesNamed g name (Some InUse) = list_any (is_named name) g.consumers ≡ true
+JudgesNamed g name (Some TooMany) = (list_any (is_named name) g.consumers ≡ false) × (256 ≤ length g.consumers)
+JudgesNamed g name (Some Spent) = (list_any (is_named name) g.consumers ≡ false) × ((length g.consumers < 256) × (g.next_number ≡ greatest))
 
 -- a consumer was made; there is spare capacity for at most one fewer now
 abbrev pub AddsConsumer : Given → Text → ℕ → Bool → Given → Type 0
 AddsConsumer old name queue no_ack new = (new ≡ with_consumer_added old name queue no_ack new.seats) × (old.seats ≤ new.seats + 1)
 
 -- why a consumer without a tag of its own is refused, in this order: there are 256; the numbers or the server's tags are used up
-abbrev pub RefusesUnnamed : Given → SeatRefusal → Type 0
+abbrev pub RefusesUnnamed : Given → ConsumerRefusal → Type 0
 RefusesUnnamed g InUse = ⊥
 RefusesUnnamed g TooMany = 256 ≤ length g.consumers
 RefusesUnnamed g Spent = (length g.consumers < 256) × ((g.next_number ≡ greatest) ⊎ AreNamesSpent g.consumers g.next_name)
 
 -- the next tag for a consumer without one of its own, which can be made; or why it can't be
-abbrev pub NamesUnnamed : Given → Result Name SeatRefusal → Type 0
+abbrev pub NamesUnnamed : Given → Result Name ConsumerRefusal → Type 0
 NamesUnnamed g (Ok name) =
     (length g.consumers < 256) × ((g.next_number < greatest) × (IsNextName g.consumers g.next_name name.number × (name.tag.bytes ≡ server_name name.number)))
 NamesUnnamed g (Err refusal) = RefusesUnnamed g refusal
 
 -- the first reason against a consumer without a tag of its own, or `None` if a tag is left and there is none
-abbrev pub JudgesUnnamed : Given → Option SeatRefusal → Type 0
+abbrev pub JudgesUnnamed : Given → Option ConsumerRefusal → Type 0
 JudgesUnnamed g None = (length g.consumers < 256) × ((g.next_number < greatest) × ((n : ℕ) × IsNextName g.consumers g.next_name n))
 JudgesUnnamed g (Some refusal) = RefusesUnnamed g refusal
 
@@ -130,7 +130,7 @@ pub record IsMadeUnder (old : Given) (queue : ℕ) (no_ack : Bool) (tag : Text) 
 
 -- what each result of making a consumer without a tag of its own means: it was made with the next free tag, which is returned; or it was
 -- refused; or an allocation failed, and there is no reason against it. If none was made nothing changed.
-abbrev pub ConsumesUnnamed : Given → ℕ → Bool → Result Text Unseated → Given → Type 0
+abbrev pub ConsumesUnnamed : Given → ℕ → Bool → Result Text ConsumeError → Given → Type 0
 ConsumesUnnamed old queue no_ack (Ok tag) new =
     (length old.consumers < 256) × ((old.next_number < greatest) × ((old.seats ≤ new.seats + 1) × ((n : ℕ) × IsMadeUnder old queue no_ack tag new n)))
 ConsumesUnnamed old queue no_ack (Err (Refused refusal)) new = JudgesUnnamed old (Some refusal) × (new ≡ old)

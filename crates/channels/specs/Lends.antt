@@ -19,7 +19,7 @@ LendsConnection ls c r = LendsSo connections_row connection_row ls r (λ n w. n 
 abbrev pub LendsChannel : MutBor (List (ℕ × Running)) → ℕ → ℕ → Option (MutBor Open) → Fml
 LendsChannel ls c h r = LendsSo connections_row channel_row ls r (λ n w. n ≡ with_channel ls.now c h w) (λ n. n ≡ ls.now)
 
--- an open channel that is borrowed and written is at its number then, and nothing else changed
+-- writing to an open channel that was borrowed by its number changes that channel and no other
 abbrev pub LentArePut : Type 0
 LentArePut = (connections : List (ℕ × Running)) (c h : ℕ) (was ch : Open)
     → channel_of connections c h ≡ Some was → PutsChannel connections c h (Some ch) (with_channel connections c h ch)

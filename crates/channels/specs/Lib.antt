@@ -9,5 +9,5 @@ pub mod Names
 pub mod Open
 pub mod Outstanding
 pub mod Placed
-pub mod Seats
+pub mod CountedConsumers
 pub mod Spans

@@ -1,4 +1,4 @@
--- Queues with new indices: unacknowledged deliveries and consumers get them.
+-- Unacknowledged deliveries and consumers after a reload has given their queues new indices (own).
 use Rattle.std.specs.Prelude.{◌≡◌, ℕ, List, [], map, slice_index_or}
 use Rattle.std.specs.List.{AllByRecursion}
 use Rattle.model.specs.Words.{Text}

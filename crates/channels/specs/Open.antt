@@ -6,19 +6,19 @@ use Rattle.model.specs.Topology.{IsIn}
 use Rattle.model.specs.Broker as seen
 use Rattle.model.specs.Settling.{kept}
 use Rattle.model.specs.Consuming.{tag_for, with_consumer, may_take}
-use Rattle.model.specs.Step.{Refusal, Of_connection, refusal_of_seat}
+use Rattle.model.specs.Step.{Refusal, Of_connection, refusal_of_consumer}
 use Rattle.model.specs.declared.methods.Consume.{Consume}
 use Rattle.model.specs.declared.methods.Qos.{Qos}
 use Rattle.model.specs.declared.messages.Taker.{Taker}
 use Rattle.channels.specs.Outstanding.{tag_of}
-use Rattle.channels.specs.Seats.{is_named, takes_from}
+use Rattle.channels.specs.CountedConsumers.{is_named, takes_from}
 use Rattle.channels.specs.Deliveries.{Given, with_limit, with_given}
 use Rattle.model.specs.Placed.{outstanding_in}
 use Rattle.channels.specs.declared.consumers.Consumer.{Consumer}
-use Rattle.channels.specs.declared.consumers.SeatRefusal.{SeatRefusal}
-use Rattle.channels.specs.declared.consumers.SeatRefusal.TheVariants.{InUse, TooMany, Spent}
-use Rattle.channels.specs.declared.consumers.Unseated.{Unseated}
-use Rattle.channels.specs.declared.consumers.Unseated.TheVariants.{Refused, Memory}
+use Rattle.channels.specs.declared.consumers.ConsumerRefusal.{ConsumerRefusal}
+use Rattle.channels.specs.declared.consumers.ConsumerRefusal.TheVariants.{InUse, TooMany, Spent}
+use Rattle.channels.specs.declared.consumers.ConsumeError.{ConsumeError}
+use Rattle.channels.specs.declared.consumers.ConsumeError.TheVariants.{Refused, Memory}
 
 -- an open channel
 pub record Open : Type 0 where
@@ -77,7 +77,7 @@ places_of consumers = map (λ (c : Consumer). c.queue) consumers
 -- A consumer of the queue at this index was made with this tag (AMQP 0-9-1, basic.consume).
 pub record IsConsumerSeated (old : Open) (queue : ℕ) (m : Consume) (tag : Text) (new : Open) : Type 0 where
   -- there was no reason against it
-  pub free : (names : List Text) → refusal_of_seat (open_in names old) m ≡ None
+  pub free : (names : List Text) → refusal_of_consumer (open_in names old) m ≡ None
   pub named : (names : List Text) → tag ≡ tag_for (open_in names old) m.consumer_tag
   -- the model's channel has it, if the queue at this index has the name that the consume gives
   pub made : (names : List Text) → slice_index_or names queue [] ≡ m.queue → open_in names new ≡ with_consumer (open_in names old) m
@@ -86,18 +86,18 @@ pub record IsConsumerSeated (old : Open) (queue : ℕ) (m : Consume) (tag : Text
   pub places : places_of new.given.consumers ≡ places_of old.given.consumers ++ queue ∷ []
 
 -- the refusal, as the model has it
-abbrev pub seat_refusal : SeatRefusal → Refusal
-seat_refusal InUse = Of_connection 530
-seat_refusal TooMany = Of_connection 506
-seat_refusal Spent = Of_connection 541
+abbrev pub consumer_refusal : ConsumerRefusal → Refusal
+consumer_refusal InUse = Of_connection 530
+consumer_refusal TooMany = Of_connection 506
+consumer_refusal Spent = Of_connection 541
 
 -- the reason against one more consumer, or `None` if there is none
-abbrev pub JudgesConsumer : Open → Consume → Option SeatRefusal → Type 0
-JudgesConsumer ch m against = (names : List Text) → refusal_of_seat (open_in names ch) m ≡ option_map seat_refusal against
+abbrev pub JudgesConsumer : Open → Consume → Option ConsumerRefusal → Type 0
+JudgesConsumer ch m against = (names : List Text) → refusal_of_consumer (open_in names ch) m ≡ option_map consumer_refusal against
 
 -- what each result of making a consumer means: it was made with this tag; or it was refused; or an allocation failed, and there is no reason
 -- against it. If none was made nothing changed.
-abbrev pub SeatsConsumer : Open → ℕ → Consume → Result Text Unseated → Open → Type 0
+abbrev pub SeatsConsumer : Open → ℕ → Consume → Result Text ConsumeError → Open → Type 0
 SeatsConsumer old queue m (Ok tag) new = IsConsumerSeated old queue m tag new
 SeatsConsumer old queue m (Err (Refused refusal)) new = JudgesConsumer old m (Some refusal) × (new ≡ old)
 SeatsConsumer old queue m (Err Memory) new = JudgesConsumer old m None × (new ≡ old)
@@ -123,7 +123,7 @@ pub record IsOne (ch : Open) (number : ℕ) (k : Consumer) : Type 0 where
 abbrev pub HasNoTaker : Open → ℕ → Type 0
 HasNoTaker ch number = (names : List Text) (k : seen.Consumer) → IsIn k (open_in names ch).consumers → k.number ≡ number → may_take (open_in names ch) k ≡ false
 
--- this is the consumer with this number if it may be given one more message; otherwise none may
+-- the result is the consumer with this number if it may be given one more message, and `None` if it may not
 abbrev pub TellsTaker : Open → ℕ → Option Consumer → Type 0
 TellsTaker ch number (Some k) = IsTaker ch number k
 TellsTaker ch number None = HasNoTaker ch number

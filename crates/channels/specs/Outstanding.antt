@@ -9,19 +9,19 @@ use Rattle.model.specs.declared.deliveries.Delivery.{Delivery}
 abbrev pub tag_of : Delivery → ℕ
 tag_of o = o.tag
 
--- to whom it was given
+-- to whom the message was delivered
 abbrev pub taker_of : Delivery → Taker
 taker_of o = o.by
 
--- the tag under which it was given out: an entry that was settled has it as its arrival (own)
+-- the tag under which the message was delivered; of a settled delivery `arrival` is that tag (own)
 abbrev pub given_tag : Delivery → ℕ
 given_tag o = if o.tag == 0 then o.arrival else o.tag
 
--- the entry once it is settled
+-- the settled delivery: its tag is 0, and `arrival` is the tag that it had (own)
 abbrev pub marked : Delivery → Delivery
 marked o = record o { tag = 0; arrival = o.tag }
 
--- The delivery with this tag waits at this index.
+-- The delivery at index `place` has the tag `tag`, and isn't settled.
 pub record IsTagAt (places : List Delivery) (place tag : ℕ) : Type 0 where
   pub within : place < length places
   pub there : (d : Delivery) → (get_or places place d).tag ≡ tag

@@ -9,7 +9,7 @@ use Rattle.channels.specs.declared.consumers.Consumer.{Consumer}
 abbrev pub TakeWithin : Topology → List Consumer → Type 0
 TakeWithin t consumers = All (λ (k : Consumer). k.queue < length t.queues) consumers
 
--- This holds of the channel's unacknowledged deliveries and of its consumers.
+-- The channel's unacknowledged deliveries are from queues that exist, and its consumers take from such.
 pub record IsPlaced (t : Topology) (ch : Open) : Type 0 where
   pub outstanding : AreWithin t ch.given.outstanding
   pub consumers : TakeWithin t ch.given.consumers

@@ -64,15 +64,15 @@ abbrev pub with_channel_at : List (ℕ × Running) → ℕ → ℕ → Option Ru
 with_channel_at connections c h None ch = connections
 with_channel_at connections c h (Some l) ch = with_running connections c (with_channel_in l h ch)
 
--- the connections with this channel at a number at which one was open
+-- the connections, with `ch` in place of the open channel `h` of connection `c`
 abbrev pub with_channel : List (ℕ × Running) → ℕ → ℕ → Open → List (ℕ × Running)
 with_channel connections c h ch = with_channel_at connections c h (running_in connections c) ch
 
--- this is channel h now, and the others are unchanged
+-- channel `h` is `ch` now, and the other channels are unchanged
 abbrev pub IsChannelSet : List (Option Open) → ℕ → Option Open → List (Option Open) → Type 0
 IsChannelSet old h ch new = (k : ℕ) → slice_index_or new k None ≡ with_one (λ (i : ℕ). slice_index_or old i None) h ch k
 
--- the same in a connection, of which nothing else changes
+-- the same for the channels of a connection, of which nothing else changes
 pub record PutsIn (old : Running) (h : ℕ) (ch : Option Open) (new : Running) : Type 0 where
   pub max : new.channel_max ≡ old.channel_max
   pub pause : new.is_paused ≡ old.is_paused
@@ -87,12 +87,12 @@ outstanding_on (Some ch) = ch.given.outstanding
 abbrev pub HasPlacesBelow : List (ℕ × Running) → ℕ → ℕ → Type 0
 HasPlacesBelow connections c n = (l : Running) → running_in connections c ≡ Some l → length l.channels ≤ n
 
--- This is channel h of connection c now, and nothing else changed.
+-- Channel `h` of connection `c` is `ch` now, and nothing else changed.
 pub record PutsChannel (old : List (ℕ × Running)) (c h : ℕ) (ch : Option Open) (new : List (ℕ × Running)) : Type 0 where
   pub connections : (d : ℕ) → connection_of new d ≡ connection_of old d
   pub channels : (d k : ℕ) → channel_of new d k ≡ with_pair (channel_of old) c h ch d k
 
--- These are the connections and channels now.
+-- `new` has exactly the connections `connections` and the channels `channels`.
 pub record HoldsConnections (new : List (ℕ × Running)) (connections : ℕ → Option Connection) (channels : ℕ → ℕ → Option Open) : Type 0 where
   pub connections_are : (d : ℕ) → connection_of new d ≡ connections d
   pub channels_are : (d k : ℕ) → channel_of new d k ≡ channels d k

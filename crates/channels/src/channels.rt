@@ -15,7 +15,7 @@ ghost use Rattle.channels.specs.Consumers.{AreBelow};
 ghost use Rattle.channels.specs.Moving.{open_moved};
 ghost use Rattle.channels.specs.Outstanding.{tag_of};
 
-use crate::consumers::{Consumer, SeatRefusal, Unseated};
+use crate::consumers::{ConsumeError, Consumer, ConsumerRefusal};
 use crate::deliveries::Deliveries;
 use crate::settled::Settled;
 use crate::spans::Span;
@@ -119,7 +119,7 @@ impl Channel {
     /// Returns the first reason against the consumer that `consume` asks for: its tag is in use on the channel (530), the channel has 256 consumers
     /// (506), or the numbers or the server's tags are used up (541). Never allocates.
     /// Source: AMQP 0-9-1, basic.consume.
-    pub fn refusal(&self, consume: &Consume) -> Option<SeatRefusal>
+    pub fn refusal(&self, consume: &Consume) -> Option<ConsumerRefusal>
         ensures { JudgesConsumer self.now consume.now result }
     {
         if consume.consumer_tag.len() == 0 {
@@ -131,14 +131,14 @@ impl Channel {
 
     /// Makes a consumer of the queue at index `queue`, and returns its tag: the one that `consume` gives, or else one of the server's. Refused as
     /// [`Channel::refusal`] says, in the same order: its tag is in use on the channel (530), the channel has 256 consumers (506), or the
-    /// numbers or the server's tags are used up (541). Fails with [`Unseated::Memory`] only if there is no such reason and an allocation fails. If it
+    /// numbers or the server's tags are used up (541). Fails with [`ConsumeError::Memory`] only if there is no such reason and an allocation fails. If it
     /// fails nothing has changed. Source: AMQP 0-9-1, basic.consume.
     pub fn consume(
         &mut self,
         alloc: Global,
         queue: usize,
         consume: &Consume,
-    ) -> Result<Text, Unseated>
+    ) -> Result<Text, ConsumeError>
         ensures { SeatsConsumer self.old queue consume.now result self.new }
     {
         if consume.consumer_tag.len() == 0 {
@@ -148,7 +148,7 @@ impl Channel {
                 .consume_unnamed(alloc, queue, consume.no_ack);
         }
         if let Some(refusal) = self.deliveries.refusal(consume.consumer_tag.as_bytes()) {
-            return Err(Unseated::Refused(refusal));
+            return Err(ConsumeError::Refused(refusal));
         }
         let tag = consume.consumer_tag.clone()?;
         self.deliveries
@@ -317,10 +317,10 @@ impl Channel {
         });
     }
 
-    /// Sets each queue's index to the one that `places` has for it. Never allocates.
-    pub fn renumber(&mut self, places: &[usize])
-        ensures { self.new ≡ open_moved places.now self.old }
+    /// Sets each queue's index to the one that `indices` has for it. Never allocates.
+    pub fn renumber(&mut self, indices: &[usize])
+        ensures { self.new ≡ open_moved indices.now self.old }
     {
-        self.deliveries.renumber(places);
+        self.deliveries.renumber(indices);
     }
 }

@@ -133,7 +133,7 @@ impl RunningConnections {
     }
 
     /// Shows that consumers take from a queue exactly if some channel has one that does. Does nothing at run time.
-    pub fn takers_are_found(&self)
+    pub fn ghost_takers_are_found(&self)
         ensures { (queue : ℕ) → Decides (is_consumed self.now queue) (HasTaker self.now queue) }
     {
         self.connections.values();
@@ -207,21 +207,22 @@ impl RunningConnections {
         }
     }
 
-    /// Sets each queue's index to the one that `places` has for it. Never allocates.
-    pub fn renumber(&mut self, places: &[usize])
-        ensures { self.new ≡ connections_moved places.now self.old }
+    /// Sets each queue's index to the one that `indices` has for it. Never allocates.
+    pub fn renumber(&mut self, indices: &[usize])
+        ensures { self.new ≡ connections_moved indices.now self.old }
     {
-        renumber_all(&mut self.connections, places);
+        renumber_all(&mut self.connections, indices);
     }
 }
 
-/// Shows that an open channel that is borrowed and written is at its number then, and nothing else changed. Does nothing at run time.
-pub fn lent_channels_are_put()
+/// Shows that writing to an open channel that was borrowed by its number changes that channel and no other. Does nothing at run
+/// time.
+pub fn ghost_lent_channels_are_put()
     ensures { LentArePut }
 {}
 
 /// Shows that the model sees no difference on the channels if each queue that they name has its name at its new index. Does nothing at run time.
-pub fn moves_are_unseen()
+pub fn ghost_moves_are_unseen()
     ensures { MovesAreUnseen }
 {}
 

@@ -6,8 +6,8 @@ ghost use Rattle.model.specs.declared.messages.Taker.TheVariants as taker;
 ghost use Rattle.std.specs.List.{list_any, position_from, All};
 ghost use Rattle.model.specs.Prefetch.{is_to, is_delivery, is_below, count_to};
 ghost use Rattle.model.specs.Placed.{is_waiting, waiting};
-ghost use Rattle.channels.specs.Seats.{consumers_of, is_numbered, has_name, takes_from, counted_in, counted_out, uncounted};
-ghost use Rattle.channels.specs.Seats.{may_held, taker_held, IsSeatAt, NumbersRise, number_given, NoneAbove};
+ghost use Rattle.channels.specs.CountedConsumers.{consumers_of, is_numbered, has_name, takes_from, counted_in, counted_out, uncounted};
+ghost use Rattle.channels.specs.CountedConsumers.{may_held, taker_held, IsConsumerAt, NumbersRise, number_given, NoneAbove};
 ghost use Rattle.channels.specs.Moving.{seat_moved};
 ghost use Rattle.channels.specs.Outstanding.{taker_of};
 
@@ -37,7 +37,7 @@ pub struct CountedConsumer {
 
 /// Why a consumer is refused, with the reply code.
 #[derive(Clone, Copy, PartialEq, Eq, Debug, Drop)]
-pub enum SeatRefusal {
+pub enum ConsumerRefusal {
     /// Its tag is in use on the channel: 530.
     InUse,
     /// The channel has 256 consumers: 506.
@@ -48,29 +48,29 @@ pub enum SeatRefusal {
 
 /// Why a consumer was not made.
 #[derive(Clone, Copy, PartialEq, Eq, Debug, Drop)]
-pub enum Unseated {
+pub enum ConsumeError {
     /// It is refused for this.
-    Refused(SeatRefusal),
+    Refused(ConsumerRefusal),
     Memory,
 }
 
-impl From<SeatRefusal> for Unseated {
-    ghost use Rattle.channels.specs.declared.consumers.Unseated.TheVariants.{Refused};
+impl From<ConsumerRefusal> for ConsumeError {
+    ghost use Rattle.channels.specs.declared.consumers.ConsumeError.TheVariants.{Refused};
 
     ghost from_gives = { λ refusal why. why ≡ Refused refusal };
 
-    fn from(refusal: SeatRefusal) -> Unseated {
-        Unseated::Refused(refusal)
+    fn from(refusal: ConsumerRefusal) -> ConsumeError {
+        ConsumeError::Refused(refusal)
     }
 }
 
-impl From<AllocError> for Unseated {
-    ghost use Rattle.channels.specs.declared.consumers.Unseated.TheVariants.{Memory};
+impl From<AllocError> for ConsumeError {
+    ghost use Rattle.channels.specs.declared.consumers.ConsumeError.TheVariants.{Memory};
 
     ghost from_gives = { λ _ why. why ≡ Memory };
 
-    fn from(_: AllocError) -> Unseated {
-        Unseated::Memory
+    fn from(_: AllocError) -> ConsumeError {
+        ConsumeError::Memory
     }
 }
 
@@ -83,7 +83,7 @@ pub(crate) fn is_in_use(seats: &[CountedConsumer], tag: &[u8]) -> bool
 
 /// Returns whether the consumer at index `place` has this number.
 fn is_at(seats: &[CountedConsumer], place: usize, number: u64) -> bool
-    ensures { result ≡ true → IsSeatAt seats.now number place }
+    ensures { result ≡ true → IsConsumerAt seats.now number place }
 {
     place < seats.len() && seats[place].consumer.number == number
 }
@@ -91,14 +91,14 @@ fn is_at(seats: &[CountedConsumer], place: usize, number: u64) -> bool
 /// Returns the index of the first consumer with this number, by linear search.
 fn search(seats: &[CountedConsumer], number: u64) -> Option<usize>
     ensures is { result ≡ position_from (is_numbered number) 0 seats.now }
-    ensures some { IfSome result (λ place. IsSeatAt seats.now number place) }
+    ensures some { IfSome result (λ place. IsConsumerAt seats.now number place) }
 {
     seats.iter().position(|s| s.consumer.number == number)
 }
 
 /// Returns the index of the consumer with this number: by binary search, since numbers ascend. Looks at each before it returns `None`.
 fn place_of_consumer(seats: &[CountedConsumer], number: u64) -> Option<usize>
-    ensures some { IfSome result (λ place. IsSeatAt seats.now number place) }
+    ensures some { IfSome result (λ place. IsConsumerAt seats.now number place) }
     ensures none { result ≡ None → find (is_numbered number) seats.now ≡ None }
 {
     let place = seats.partition_point(|s| s.consumer.number < number);
@@ -109,7 +109,7 @@ fn place_of_consumer(seats: &[CountedConsumer], number: u64) -> Option<usize>
 }
 
 /// Returns the counted consumer with this number.
-fn seat_of(seats: &[CountedConsumer], number: u64) -> Option<&CountedConsumer>
+fn counted_consumer(seats: &[CountedConsumer], number: u64) -> Option<&CountedConsumer>
     requires { NumbersRise (consumers_of seats.now) }
     ensures { option_map (λ s. s.now) result ≡ find (is_numbered number) seats.now }
 {
@@ -124,7 +124,7 @@ pub(crate) fn consumer_of(seats: &[CountedConsumer], number: u64) -> Option<&Con
     requires { NumbersRise (consumers_of seats.now) }
     ensures { option_map (λ k. k.now) result ≡ option_map (λ s. s.consumer) (find (is_numbered number) seats.now) }
 {
-    match seat_of(seats, number) {
+    match counted_consumer(seats, number) {
         Some(seat) => Some(&seat.consumer),
         None => None,
     }
@@ -314,7 +314,7 @@ pub(crate) fn may_one(seats: &[CountedConsumer], number: u64, limit: u16, given:
     requires { NumbersRise (consumers_of seats.now) }
     ensures { result ≡ may_held limit given (find (is_numbered number) seats.now) }
 {
-    match seat_of(seats, number) {
+    match counted_consumer(seats, number) {
         Some(seat) => may_hold(seat, limit, given),
         None => false,
     }
@@ -330,7 +330,7 @@ pub(crate) fn taker_of(
     requires { NumbersRise (consumers_of seats.now) }
     ensures { option_map (λ k. k.now) result ≡ taker_held limit given (find (is_numbered number) seats.now) }
 {
-    match seat_of(seats, number) {
+    match counted_consumer(seats, number) {
         Some(seat) => {
             if may_hold(seat, limit, given) {
                 Some(&seat.consumer)
@@ -342,13 +342,13 @@ pub(crate) fn taker_of(
     }
 }
 
-/// Sets each queue's index to the one that `places` has for it.
-pub(crate) fn renumber(seats: &mut Vec<CountedConsumer>, places: &[usize])
-    ensures seats { seats.new.items ≡ map (seat_moved places.now) seats.old.items }
+/// Sets each queue's index to the one that `indices` has for it.
+pub(crate) fn renumber(seats: &mut Vec<CountedConsumer>, indices: &[usize])
+    ensures seats { seats.new.items ≡ map (seat_moved indices.now) seats.old.items }
     ensures len { vec_len seats.new ≡ vec_len seats.old }
     ensures capacity { vec_capacity seats.new ≡ vec_capacity seats.old }
 {
-    renumber_slice(seats, places);
+    renumber_slice(seats, indices);
 }
 
 /// Does the same for each of these.

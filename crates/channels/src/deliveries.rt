@@ -1,9 +1,11 @@
 //! Delivery tags, unacknowledged deliveries, and the consumers with their limits.
 
-use crate::consumers::{Consumer, CountedConsumer, SeatRefusal, Unseated, held_by, number_of};
+use crate::consumers::{
+    ConsumeError, Consumer, ConsumerRefusal, CountedConsumer, held_by, number_of,
+};
+use crate::counted_consumers::CountedConsumers;
 use crate::names::{Name, next_name};
 use crate::pending::Unsettled;
-use crate::seats::Seats;
 use crate::spans::Span;
 use model::{Delivery, Taker, Text};
 use std::alloc::{AllocError, Global};
@@ -13,7 +15,7 @@ use std::marker::Model;
 #[derive(Drop)]
 pub struct Deliveries {
     pending: Unsettled,
-    seats: Seats,
+    seats: CountedConsumers,
     next_tag: u64,
     next_number: u64,
     /// The greatest number of a consumer to which something was given.
@@ -25,7 +27,7 @@ pub struct Deliveries {
 
 impl Model for Deliveries {
     ghost use Rattle.std.specs.Prelude.{◌<◌};
-    ghost use Rattle.channels.specs.Seats.{SeatsAreCounted, AreNumbered, NoneAbove};
+    ghost use Rattle.channels.specs.CountedConsumers.{CountsAgree, AreNumbered, NoneAbove};
     ghost use Rattle.channels.specs.Deliveries.{Given};
 
     ghost Value = { Given };
@@ -42,7 +44,7 @@ impl Model for Deliveries {
       seats = d.seats.room;
     } };
 
-    ghost invariant = { λ d. (d.pending.last < d.next_tag) × SeatsAreCounted d.seats d.pending.outstanding
+    ghost invariant = { λ d. (d.pending.last < d.next_tag) × CountsAgree d.seats d.pending.outstanding
         × AreNumbered d.next_number d.seats.consumers × NoneAbove d.most_given d.pending.outstanding };
 }
 
@@ -54,9 +56,9 @@ impl Deliveries {
     ghost use Rattle.channels.specs.Outstanding.{tag_of};
     ghost use Rattle.channels.specs.Spans.{settled_by, TellsSpan};
     ghost use Rattle.model.specs.Placed.{waiting};
-    ghost use Rattle.channels.specs.Seats.{AreNumbered, consumers_of, is_named, takes_from};
+    ghost use Rattle.channels.specs.CountedConsumers.{AreNumbered, consumers_of, is_named, takes_from};
     ghost use Rattle.channels.specs.Deliveries.{nothing_given, with_given, with_limit, may_be_given, consumer_at, taker_at, AddsConsumer};
-    ghost use Rattle.channels.specs.Deliveries.{ConsumesUnnamed, JudgesSeat, JudgesUnnamed, MaySeat, NamesUnnamed};
+    ghost use Rattle.channels.specs.Deliveries.{ConsumesUnnamed, JudgesNamed, JudgesUnnamed, MaySeat, NamesUnnamed};
     ghost use Rattle.channels.specs.Moving.{given_moved};
 
     /// Makes the deliveries of a new channel: nothing was given out, and there is no consumer and no limit. Never allocates.
@@ -65,7 +67,7 @@ impl Deliveries {
     {
         Deliveries {
             pending: Unsettled::new(alloc),
-            seats: Seats::new(alloc),
+            seats: CountedConsumers::new(alloc),
             next_tag: 1,
             next_number: 1,
             most_given: 0,
@@ -237,17 +239,17 @@ impl Deliveries {
 
     /// Returns the first reason against a consumer with this tag: one of the channel has the tag (530), there are 256 (506), or the numbers are used
     /// up (541). Never allocates.
-    pub fn refusal(&self, tag: &[u8]) -> Option<SeatRefusal>
-        ensures { JudgesSeat self.now tag.now result }
+    pub fn refusal(&self, tag: &[u8]) -> Option<ConsumerRefusal>
+        ensures { JudgesNamed self.now tag.now result }
     {
         if self.seats.has(tag) {
-            return Some(SeatRefusal::InUse);
+            return Some(ConsumerRefusal::InUse);
         }
         if self.seats.len() >= 256 {
-            return Some(SeatRefusal::TooMany);
+            return Some(ConsumerRefusal::TooMany);
         }
         if self.next_number == u64::MAX {
-            return Some(SeatRefusal::Spent);
+            return Some(ConsumerRefusal::Spent);
         }
         None
     }
@@ -280,23 +282,23 @@ impl Deliveries {
     /// Returns the next tag for a consumer without one of its own: `amq.ctag-N`, with N counted from 1 on the channel, past those in use. Refused
     /// if the channel has 256 consumers (506), or if the numbers or the tags are used up (541), in this order.
     /// Never allocates.
-    fn next_unnamed(&self) -> Result<Name, SeatRefusal>
+    fn next_unnamed(&self) -> Result<Name, ConsumerRefusal>
         ensures { NamesUnnamed self.now result }
     {
         if self.seats.len() >= 256 {
-            return Err(SeatRefusal::TooMany);
+            return Err(ConsumerRefusal::TooMany);
         }
         if self.next_number == u64::MAX {
-            return Err(SeatRefusal::Spent);
+            return Err(ConsumerRefusal::Spent);
         }
         match next_name(&self.seats, self.next_name) {
             Some(name) => Ok(name),
-            None => Err(SeatRefusal::Spent),
+            None => Err(ConsumerRefusal::Spent),
         }
     }
 
     /// Returns the first reason against a consumer without a tag of its own. Never allocates.
-    pub fn refusal_unnamed(&self) -> Option<SeatRefusal>
+    pub fn refusal_unnamed(&self) -> Option<ConsumerRefusal>
         ensures { JudgesUnnamed self.now result }
     {
         match self.next_unnamed() {
@@ -312,7 +314,7 @@ impl Deliveries {
         alloc: Global,
         queue: usize,
         no_ack: bool,
-    ) -> Result<Text, Unseated>
+    ) -> Result<Text, ConsumeError>
         ensures { ConsumesUnnamed self.old queue no_ack result self.new }
     {
         let name = self.next_unnamed()?;
@@ -327,15 +329,15 @@ impl Deliveries {
         ensures consumers { self.new ≡ record self.old { consumers = filter (λ c. not (is_named tag.now c)) self.old.consumers; seats = self.new.seats } }
         ensures seats { self.old.seats ≤ self.new.seats }
     {
-        self.seats.take_out(tag);
+        self.seats.remove_by_tag(tag);
     }
 
-    /// Sets each queue's index to the one that `places` has for it. Never allocates.
-    pub fn renumber(&mut self, places: &[usize])
-        ensures { self.new ≡ given_moved places.now self.old }
+    /// Sets each queue's index to the one that `indices` has for it. Never allocates.
+    pub fn renumber(&mut self, indices: &[usize])
+        ensures { self.new ≡ given_moved indices.now self.old }
     {
-        self.pending.renumber(places);
-        self.seats.renumber(places);
+        self.pending.renumber(indices);
+        self.seats.renumber(indices);
     }
 
     /// Returns the consumers, in the order in which they were made.

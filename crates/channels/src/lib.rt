@@ -9,19 +9,19 @@
 mod channels;
 mod connections;
 mod consumers;
+mod counted_consumers;
 mod deliveries;
 mod names;
 mod pending;
 mod running;
-mod seats;
 mod settled;
 mod slots;
 mod spans;
 mod tags;
 
 pub use channels::Channel;
-pub use connections::{RunningConnections, lent_channels_are_put, moves_are_unseen};
-pub use consumers::{Consumer, CountedConsumer, SeatRefusal, Unseated};
+pub use connections::{RunningConnections, ghost_lent_channels_are_put, ghost_moves_are_unseen};
+pub use consumers::{ConsumeError, Consumer, ConsumerRefusal, CountedConsumer};
 pub use deliveries::Deliveries;
 pub use model::Delivery as Outstanding;
 pub use running::RunningConnection;

@@ -3,7 +3,7 @@
 ghost use Rattle.std.specs.Prelude.{◌≡◌};
 ghost use Rattle.channels.specs.Names.{server_name, FindsName};
 
-use crate::seats::Seats;
+use crate::counted_consumers::CountedConsumers;
 use arrayvec::ArrayString;
 use itoa::Buffer;
 
@@ -29,7 +29,7 @@ fn name_of(number: u64) -> ArrayString<ROOM>
 }
 
 /// Returns the first tag with a number at or after `from` that no consumer has, or `None` if there is none. Never allocates.
-pub(crate) fn next_name(seats: &Seats, from: u64) -> Option<Name>
+pub(crate) fn next_name(seats: &CountedConsumers, from: u64) -> Option<Name>
     ensures { FindsName seats.now.consumers from result }
 {
     for number in from..u64::MAX {

@@ -110,13 +110,13 @@ impl Unsettled {
         Ok(())
     }
 
-    /// Sets each queue's index to the one that `places` has for it. Never allocates.
-    pub(crate) fn renumber(&mut self, places: &[usize])
-        ensures outstanding { self.new.outstanding ≡ map (outstanding_moved places.now) self.old.outstanding }
+    /// Sets each queue's index to the one that `indices` has for it. Never allocates.
+    pub(crate) fn renumber(&mut self, indices: &[usize])
+        ensures outstanding { self.new.outstanding ≡ map (outstanding_moved indices.now) self.old.outstanding }
         ensures last { self.new.last ≡ self.old.last }
         ensures room { self.new.room ≡ self.old.room }
     {
-        renumber_each(&mut self.items, places);
+        renumber_each(&mut self.items, indices);
     }
 
     /// Records `given` as unacknowledged. Its tag is greater than all recorded before.
@@ -185,13 +185,13 @@ fn grow(items: &mut Vec<Delivery>, more: usize) -> Result<(), AllocError>
     items.reserve_exact(growth(items.len(), more))
 }
 
-/// Returns the new index of the queue at index `place`; past the end of the table, the same one.
-pub(crate) fn place_now(places: &[usize], place: usize) -> usize
-    ensures { result ≡ place_now places.now place }
+/// Returns the new index of the queue at `index`; past the end of the table, the same one.
+pub(crate) fn place_now(indices: &[usize], index: usize) -> usize
+    ensures { result ≡ place_now indices.now index }
 {
-    match places.get(place) {
+    match indices.get(index) {
         Some(now) => *now,
-        None => place,
+        None => index,
     }
 }
 

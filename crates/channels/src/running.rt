@@ -180,10 +180,10 @@ impl RunningConnection {
         self.is_paused = is_paused;
     }
 
-    /// Sets each queue's index to the one that `places` has for it. Never allocates.
-    pub(crate) fn renumber(&mut self, places: &[usize])
-        ensures { self.new ≡ running_moved places.now self.old }
+    /// Sets each queue's index to the one that `indices` has for it. Never allocates.
+    pub(crate) fn renumber(&mut self, indices: &[usize])
+        ensures { self.new ≡ running_moved indices.now self.old }
     {
-        renumber_each(&mut self.channels, places);
+        renumber_each(&mut self.channels, indices);
     }
 }

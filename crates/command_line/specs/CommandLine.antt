@@ -78,7 +78,7 @@ with_subcommands name = record (new_app name) { top = record (new_app name).top 
 abbrev pub judging : App
 judging = with_subcommand (with_subcommand (with_subcommands (codes "warren")) check.top) verify.top
 
--- the same, with the subcommands that run a broker
+-- the program with the subcommands that judge guarantees and those that run a broker
 abbrev pub running : App
 running = with_subcommand (with_subcommand judging replay.top) serve.top
 

@@ -1,12 +1,12 @@
 -- Consumers that are made and cancelled, as the model has them.
-use Rattle.commands.proofs.Names.{◌≡◌, ◌∙◌, ◌<◌, ℕ, List, [], ◌∷◌, Bool, true, false, Option, None, Err, refl, sym, ap, is_some, ◌||◌, leb-false, false≢true, Text, Topology, queue_names, Channel, next_free, tag_for, is_tag_wanting, with_consumer, without_consumer, Of_connection, Consumes, Cancels, greatest, or_else, refusal_in, refusal_of_asking, refusal_of_consume, refusal_of_tag, refusal_of_many, refusal_of_numbers, refusal_of_seat, consume_sends, cancel_sends, Send, Consume, Note, open_in, IsConsumerSeated, SeatsConsumer, Store, IsQueuePlace, stop_of, Step, Side, Turns, ComesTo, seen, state_of}
+use Rattle.commands.proofs.Names.{◌≡◌, ◌∙◌, ◌<◌, ℕ, List, [], ◌∷◌, Bool, true, false, Option, None, Err, refl, sym, ap, is_some, ◌||◌, leb-false, false≢true, Text, Topology, queue_names, Channel, next_free, tag_for, is_tag_wanting, with_consumer, without_consumer, Of_connection, Consumes, Cancels, greatest, or_else, refusal_in, refusal_of_asking, refusal_of_consume, refusal_of_tag, refusal_of_many, refusal_of_numbers, refusal_of_consumer, consume_sends, cancel_sends, Send, Consume, Note, open_in, IsConsumerSeated, SeatsConsumer, Store, IsQueuePlace, stop_of, Step, Side, Turns, ComesTo, seen, state_of}
 use Rattle.std.proofs.Common.{Some, length, if◌then◌else◌}
 use Rattle.std.specs.Prelude.{◌==◌}
 use Rattle.model.specs.Step.{Refusal}
 use Rattle.model.specs.declared.methods.Cancel.{Cancel}
 use Rattle.channels.specs.Open.{Open}
-use Rattle.channels.specs.declared.consumers.Unseated.{Unseated}
-use Rattle.channels.specs.declared.consumers.Unseated.TheVariants.{Refused, Memory as WantsMemory}
+use Rattle.channels.specs.declared.consumers.ConsumeError.{ConsumeError}
+use Rattle.channels.specs.declared.consumers.ConsumeError.TheVariants.{Refused, Memory as WantsMemory}
 use Rattle.commands.proofs.Turning.{does_here}
 use Rattle.laws.proofs.Named.{server_short}
 
@@ -22,7 +22,7 @@ none_wanting false true e = absurd (false≢true (sym (ap is_some e)))
 none_wanting false false e = refl
 
 -- the tag under which a consumer is made is short where the one that is given is
-pub tag_short : (ch : Channel) (m : Consume) → refusal_of_seat ch m ≡ None → length m.consumer_tag < 256 → length (tag_for ch m.consumer_tag) < 256
+pub tag_short : (ch : Channel) (m : Consume) → refusal_of_consumer ch m ≡ None → length m.consumer_tag < 256 → length (tag_for ch m.consumer_tag) < 256
 tag_short ch m free short = go m.consumer_tag (none_wanting (ch.next_number == greatest) (is_tag_wanting ch m.consumer_tag) (second_none (refusal_of_many ch) (refusal_of_numbers ch m.consumer_tag) (second_none (refusal_of_tag ch m.consumer_tag) (or_else (refusal_of_many ch) (refusal_of_numbers ch m.consumer_tag)) free))) short
   where
     go : (given : Text) → is_tag_wanting ch given ≡ false → length given < 256 → length (tag_for ch given) < 256
@@ -32,11 +32,11 @@ tag_short ch m free short = go m.consumer_tag (none_wanting (ch.next_number == g
 -- ---- the refusal
 
 -- if a consume is not refused, its consumer is not
-pub seat_free : (t : Topology) (ch : Channel) (m : Consume) → refusal_of_consume t ch m ≡ None → refusal_of_seat ch m ≡ None
-seat_free t ch m free = second_none (refusal_of_asking m) (refusal_of_seat ch m) (second_none (refusal_in t m.queue) (or_else (refusal_of_asking m) (refusal_of_seat ch m)) free)
+pub seat_free : (t : Topology) (ch : Channel) (m : Consume) → refusal_of_consume t ch m ≡ None → refusal_of_consumer ch m ≡ None
+seat_free t ch m free = second_none (refusal_of_asking m) (refusal_of_consumer ch m) (second_none (refusal_in t m.queue) (or_else (refusal_of_asking m) (refusal_of_consumer ch m)) free)
 
 -- and a consumer that was not made, though it was not refused, failed to allocate
-pub unseated : (t : Topology) (names : List Text) (ch new : Open) (m : Consume) (place : ℕ) (why : Unseated) (Does : Step → Type 0) → refusal_of_consume t (open_in names ch) m ≡ None
+pub unseated : (t : Topology) (names : List Text) (ch new : Open) (m : Consume) (place : ℕ) (why : ConsumeError) (Does : Step → Type 0) → refusal_of_consume t (open_in names ch) m ≡ None
     → SeatsConsumer ch place m (Err why) new → ComesTo (refusal_of_consume t (open_in names ch) m) Does (Err (stop_of why))
 unseated t names ch new m place (Refused r) Does free (is, same) = absurd (false≢true (ap is_some (sym (seat_free t (open_in names ch) m free) ∙ is names)))
 unseated t names ch new m place WantsMemory Does free is = free

@@ -1,5 +1,5 @@
 -- Another topology is in force: what it leaves of queues and channels, by names.
-use Rattle.commands.proofs.Names.{◌≡◌, ◌∙◌, ◌<◌, ℕ, zero, suc, List, [], ◌∷◌, get_or, map, Option, None, inl, inr, refl, sym, ap, subst, arith, option_map, All, AllByRecursion, same_Some, Text, Topology, IsIn, AreApart, queue_names, IsAgreed, IsInUse, by_entry, by_consumer, NoneIsStranded, stood_now, with_all_stood, Is, Entry, open_in, consumer_in, outstanding_in, Delivery, entries_named, stays, goes, AreMoved, GoneAreEmpty, names-length, is_in, channel_of, connection_of, seen_in, connections_moved, MovesAreUnseen, IsPlaced, same_default, Kept, ArePlaced, broker_of, topology_kept, names_of}
+use Rattle.commands.proofs.Names.{◌≡◌, ◌∙◌, ◌<◌, ℕ, zero, suc, List, [], ◌∷◌, get_or, map, Option, None, inl, inr, refl, sym, ap, subst, arith, option_map, All, AllByRecursion, same_Some, Text, Topology, IsIn, AreApart, queue_names, IsAgreed, IsInUse, by_entry, by_consumer, NoneIsOrphaned, stood_now, with_all_stood, Is, Entry, open_in, consumer_in, outstanding_in, Delivery, entries_named, stays, goes, AreMoved, GoneAreEmpty, names-length, is_in, channel_of, connection_of, seen_in, connections_moved, MovesAreUnseen, IsPlaced, same_default, Kept, ArePlaced, broker_of, topology_kept, names_of}
 use Rattle.std.proofs.Common.{length, Some}
 use Rattle.channels.specs.Open.{Open}
 use Rattle.channels.specs.Moving.{place_now, outstanding_moved, consumer_moved, open_moved, IsNamedAlike, AreNamedAlike}
@@ -50,16 +50,16 @@ seen_of f y (x ∷ xs) (inr i) = let more = seen_of f y xs i in record { one = m
 -- ---- the new indices of queues in use
 
 -- what a reload requires of a broker holds of the same broker
-pub can_reload : (old now : Kept) (t : Topology) → old ≡ now → IsAgreed (broker_of now) → NoneIsStranded (topology_kept now) t (broker_of now) → IsAgreed (broker_of old) × NoneIsStranded (topology_kept old) t (broker_of old)
+pub can_reload : (old now : Kept) (t : Topology) → old ≡ now → IsAgreed (broker_of now) → NoneIsOrphaned (topology_kept now) t (broker_of now) → IsAgreed (broker_of old) × NoneIsOrphaned (topology_kept old) t (broker_of old)
 can_reload old now t same agreed none =
-    (subst (λ (k : Kept). IsAgreed (broker_of k)) (sym same) agreed, subst (λ (k : Kept). NoneIsStranded (topology_kept k) t (broker_of k)) (sym same) none)
+    (subst (λ (k : Kept). IsAgreed (broker_of k)) (sym same) agreed, subst (λ (k : Kept). NoneIsOrphaned (topology_kept k) t (broker_of k)) (sym same) none)
 
 -- The queue at this index is at its new index in the new topology, with its name.
 pub record Stands (old new : List Text) (places : List ℕ) (p : ℕ) : Type 0 where
   pub within : place_now places p < length new
   pub named : IsNamedAlike old new places p
 
-module _ (old : Kept) (t : Topology) (places : List ℕ) (placed : ArePlaced old) (agreed : IsAgreed (broker_of old)) (none : NoneIsStranded (topology_kept old) t (broker_of old))
+module _ (old : Kept) (t : Topology) (places : List ℕ) (placed : ArePlaced old) (agreed : IsAgreed (broker_of old)) (none : NoneIsOrphaned (topology_kept old) t (broker_of old))
     (moved : AreMoved (names_of old) (queue_names t.queues) places) where
   abbrev news : List Text
   news = queue_names t.queues

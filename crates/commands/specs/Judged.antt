@@ -9,10 +9,10 @@ use Rattle.model.specs.declared.methods.Method.{Method}
 use Rattle.model.specs.declared.methods.Method.TheVariants as method
 use Rattle.model.specs.declared.events.Event.{Event}
 use Rattle.model.specs.declared.events.Event.TheVariants as event
-use Rattle.channels.specs.declared.consumers.SeatRefusal.{SeatRefusal}
-use Rattle.channels.specs.declared.consumers.SeatRefusal.TheVariants as seat
-use Rattle.channels.specs.declared.consumers.Unseated.{Unseated}
-use Rattle.channels.specs.declared.consumers.Unseated.TheVariants as unseated
+use Rattle.channels.specs.declared.consumers.ConsumerRefusal.{ConsumerRefusal}
+use Rattle.channels.specs.declared.consumers.ConsumerRefusal.TheVariants as seat
+use Rattle.channels.specs.declared.consumers.ConsumeError.{ConsumeError}
+use Rattle.channels.specs.declared.consumers.ConsumeError.TheVariants as unseated
 use Rattle.exchange_graph.specs.Marks.{queue_name}
 use Rattle.commands.specs.declared.refusals.Refusal.{Refusal}
 use Rattle.commands.specs.declared.refusals.Refusal.TheVariants as refused
@@ -31,13 +31,13 @@ refused_by (Ok x) = None
 refused_by (Err r) = Some (refusal_seen r)
 
 -- the refusal of a consume whose channel can't have this consumer
-abbrev pub refusal_by : SeatRefusal → Refusal
+abbrev pub refusal_by : ConsumerRefusal → Refusal
 refusal_by seat.InUse = refused.Connection 530
 refusal_by seat.TooMany = refused.Connection 506
 refusal_by seat.Spent = refused.Connection 541
 
 -- why a consume is not performed, if its consumer was not made for this reason
-abbrev pub stop_of : Unseated → Stop
+abbrev pub stop_of : ConsumeError → Stop
 stop_of (unseated.Refused r) = Refused (refusal_by r)
 stop_of unseated.Memory = Memory
 
@@ -61,7 +61,7 @@ IsLargeIgnored b c h (Some conn) = refusal_of_large conn h (b.channel c h) ≡ s
 abbrev pub refusal_of_number : ℕ → ℕ → Method → Option step.Refusal
 refusal_of_number max h m = if is_of_connection m then Some (Of_connection 503) else if nat_lt max h then Some (Of_connection 504) else None
 
--- whether an open channel performs the method, so that it may be refused for what it asks
+-- whether an open channel performs methods of this kind; a method may still be refused for what it asks
 abbrev pub is_taken : Method → Bool
 is_taken (method.ChannelFlow active) = true
 is_taken (method.ChannelClose m) = true

@@ -4,6 +4,6 @@ pub mod Freed
 pub mod Judged
 pub mod Obstacles
 pub mod Picked
-pub mod Seats
+pub mod NewConsumers
 pub mod State
 pub mod Steps

@@ -12,7 +12,7 @@ use Rattle.depot.specs.Store.{HasReady}
 use Rattle.channels.specs.Open.{consumer_in}
 use Rattle.channels.specs.declared.consumers.Consumer.{Consumer}
 use Rattle.commands.specs.State.{Kept, broker_of, topology_kept, names_of}
-use Rattle.commands.specs.Seats.{consumer_kept, has_consumer}
+use Rattle.commands.specs.NewConsumers.{consumer_kept, has_consumer}
 use Rattle.commands.specs.declared.picks.Pick.{Pick}
 use Rattle.commands.specs.declared.picks.Taking.{Taking}
 use Rattle.commands.specs.declared.picks.Taking.TheVariants.{Gone, Nothing, From}
@@ -33,14 +33,14 @@ pub record IsPickFrom (kept : Kept) (place : ℕ) (p : Pick) : Type 0 where
   pub within : place < length (topology_kept kept).queues
   pub named : queue_name (topology_kept kept) place ≡ pick.0.consumer.queue
 
--- `place` is the first index at or after `from` whose queue has a ready message: no delivery can be made from a queue between.
+-- `place` is an index at or after `from` whose queue has a ready message, and no delivery can be made from a queue between.
 pub record IsFirstPicked (kept : Kept) (from place : ℕ) : Type 0 where
   pub least : from ≤ place
   pub within : place < length (topology_kept kept).queues
   pub ready : HasReady kept.store place
   pub before : (at : ℕ) (p : Pick) → from ≤ at → at < place → IsPickFrom kept at p → ⊥
 
--- this index, or none, and then no delivery can be made from a queue at or after `from`
+-- an index as `IsFirstPicked` says, or `None` if no delivery can be made from a queue at or after `from`
 abbrev pub IsNextPicked : Kept → ℕ → Option ℕ → Type 0
 IsNextPicked kept from (Some place) = IsFirstPicked kept from place
 IsNextPicked kept from None = (at : ℕ) (p : Pick) → from ≤ at → IsPickFrom kept at p → ⊥
@@ -57,7 +57,7 @@ pub record TakesAs (kept : Kept) (p : Pick) (k : Consumer) : Type 0 where
   pub only : (other : seen.Consumer) → IsIn other channel.consumers → other.number ≡ p.number → other ≡ consumer_in (names_of kept) k
   pub within : k.queue < length (topology_kept kept).queues
 
--- this is the consumer if it can take a message now; otherwise it can't
+-- the result is the consumer if it can take a message now, and `None` if it can't
 abbrev pub TellsConsumer : Kept → Pick → Option Consumer → Type 0
 TellsConsumer kept p (Some k) = TakesAs kept p k
 TellsConsumer kept p None = CannotTake (broker_of kept) p

@@ -4,16 +4,16 @@ mod closing;
 mod declaring;
 mod delivering;
 mod leaving;
+mod new_consumers;
 mod obstacles;
 mod opening;
 mod reloads;
 mod running;
-mod seating;
 
 use crate::acted::{Acted, Ends};
 use crate::commands::{Done, Left, on_channel, on_none};
 use crate::refusals::{Refusal, Stop, judge_large};
-use channels::{RunningConnections, lent_channels_are_put};
+use channels::{RunningConnections, ghost_lent_channels_are_put};
 use depot::Depot;
 use exchange_graph::Topology;
 use model::{ChannelId, Content, Event, Ids, Method};
@@ -110,7 +110,7 @@ impl Core {
         ensures quiet { is_requeueing method.now ≡ true → IfSome result WantsNone }
         ensures elsewhere { opens_or_closes method.now ≡ true → IfSome result IsNotPerformed }
     {
-        lent_channels_are_put();
+        ghost_lent_channels_are_put();
         let running = self.connections.running_mut(id.connection)?;
         let channel_max = running.channel_max();
         match running.channel_mut(id.number) {

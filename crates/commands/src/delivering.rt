@@ -40,7 +40,7 @@ pub(crate) fn deliver_on(
     };
     let place = consumer.queue;
     let no_ack = consumer.no_ack;
-    depot.is_named(place);
+    depot.ghost_is_named(place);
     let Some(entry) = depot.first_ready_at(place) else {
         return Ok(Step::nothing(alloc));
     };

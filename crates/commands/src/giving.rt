@@ -15,36 +15,36 @@ use model::{ChannelId, Holder, Taker};
 use notes::Notes;
 use std::alloc::AllocError;
 
-/// Gives the first ready message of the queue at index `place` out under the channel's next delivery tag. If `no_ack` is set it leaves the queue,
+/// Gives the first ready message of the queue at `index` out under the channel's next delivery tag. If `no_ack` is set it leaves the queue,
 /// and that is noted; otherwise it is held there. Fails only if an allocation fails; nothing has changed then.
 pub(crate) fn give_out(
     id: ChannelId,
     channel: &mut Channel,
     depot: &mut Depot,
-    place: usize,
+    index: usize,
     by: Taker,
     no_ack: bool,
     notes: &mut Notes,
 ) -> Result<(), AllocError>
     // What the caller knows: there is a ready message, and a delivery tag is left.
     requires can { CanCommand id.connection id.number depot.old channel.old }
-    requires within { place < length depot.old.topology.queues }
+    requires within { index < length depot.old.topology.queues }
     requires left { has_tag_left channel.old.given.next_tag ≡ true }
-    requires ready { IsSome (first_ready (queue_at depot.old place)) }
+    requires ready { IsSome (first_ready (queue_at depot.old index)) }
     // The promise, and what is noted.
-    ensures gives { OnOk result (GivesHere id.connection id.number depot.old channel.old no_ack place by depot.new channel.new) }
-    ensures notes { OnOk result ((e : Entry) → first_ready (queue_at depot.old place) ≡ Some e → notes.new.items
-        ≡ notes.old.items ++ delivery_notes no_ack e.message.number (queue_name depot.old.topology place)) }
+    ensures gives { OnOk result (GivesHere id.connection id.number depot.old channel.old no_ack index by depot.new channel.new) }
+    ensures notes { OnOk result ((e : Entry) → first_ready (queue_at depot.old index) ≡ Some e → notes.new.items
+        ≡ notes.old.items ++ delivery_notes no_ack e.message.number (queue_name depot.old.topology index)) }
     // The frame; a failure changes nothing but the capacity of `notes`.
     ensures topology { depot.new.topology ≡ depot.old.topology }
     ensures placed { IsPlaced depot.old.topology channel.new }
     ensures err { OnErr result ((depot.new ≡ depot.old) × (channel.new ≡ channel.old)) }
 {
-    depot.is_named(place);
+    depot.ghost_is_named(index);
     if no_ack {
-        let name = depot.topology().queue(place).name.clone()?;
+        let name = depot.topology().queue(index).name.clone()?;
         notes.reserve_exact(1)?;
-        depot.take_at(place, Giving::Out(name), notes);
+        depot.take_at(index, Giving::Out(name), notes);
         channel.give_settled();
         return Ok(());
     }
@@ -55,9 +55,9 @@ pub(crate) fn give_out(
         tag: channel.next_tag(),
         by,
     };
-    let Some(arrival) = depot.take_at(place, Giving::Held(holder), notes) else {
+    let Some(arrival) = depot.take_at(index, Giving::Held(holder), notes) else {
         return Ok(());
     };
-    channel.give(place, arrival, by);
+    channel.give(index, arrival, by);
     Ok(())
 }

@@ -24,7 +24,7 @@ pub use crate::refusals::consumers::check_consume;
 pub use crate::refusals::declares::{check_exchange, check_flow, check_queue_declare};
 pub use crate::refusals::publishes::check_publish;
 pub use crate::refusals::settlements::{check_recover, check_settling};
-use channels::{Channel, RunningConnection, SeatRefusal, Unseated};
+use channels::{Channel, ConsumeError, ConsumerRefusal, RunningConnection};
 use exchange_graph::Topology;
 use model::{Method, Qos, Text};
 use std::alloc::AllocError;
@@ -71,31 +71,31 @@ impl From<AllocError> for Stop {
     }
 }
 
-impl From<SeatRefusal> for Refusal {
+impl From<ConsumerRefusal> for Refusal {
     ghost use Rattle.std.specs.Prelude.{◌≡◌};
     ghost use Rattle.commands.specs.Judged.{refusal_by};
 
     ghost from_gives = { λ seat refusal. refusal ≡ refusal_by seat };
 
-    fn from(seat: SeatRefusal) -> Refusal {
+    fn from(seat: ConsumerRefusal) -> Refusal {
         match seat {
-            SeatRefusal::InUse => Refusal::Connection(530),
-            SeatRefusal::TooMany => Refusal::Connection(506),
-            SeatRefusal::Spent => Refusal::Connection(541),
+            ConsumerRefusal::InUse => Refusal::Connection(530),
+            ConsumerRefusal::TooMany => Refusal::Connection(506),
+            ConsumerRefusal::Spent => Refusal::Connection(541),
         }
     }
 }
 
-impl From<Unseated> for Stop {
+impl From<ConsumeError> for Stop {
     ghost use Rattle.std.specs.Prelude.{◌≡◌};
     ghost use Rattle.commands.specs.Judged.{stop_of};
 
     ghost from_gives = { λ why stop. stop ≡ stop_of why };
 
-    fn from(why: Unseated) -> Stop {
+    fn from(why: ConsumeError) -> Stop {
         match why {
-            Unseated::Refused(seat) => Stop::Refused(Refusal::from(seat)),
-            Unseated::Memory => Stop::Memory,
+            ConsumeError::Refused(seat) => Stop::Refused(Refusal::from(seat)),
+            ConsumeError::Memory => Stop::Memory,
         }
     }
 }

@@ -1,4 +1,5 @@
--- What a definitions file must keep, cause by cause. Source: RabbitMQ, "Definition Export and Import"; the limits, and what is not built, are own.
+-- The conditions on a definitions file, cause by cause. Source: RabbitMQ, "Definition Export and Import"; the limits, and
+-- what isn't supported, are own.
 use Rattle.std.specs.Prelude.{codes, ◌≡◌, ◌≤◌, ℕ, List, true, false, Some, None, IsSome, map, length, All, ◌⊎◌}
 use Rattle.model.specs.Words.{Text}
 use Rattle.model.specs.Topology.{AreApart, IsIn}
@@ -16,19 +17,19 @@ use Rattle.json_file.specs.Files.{AllClearBelow, IsCauseTold}
 use Rattle.definitions.specs.File.{File}
 use Rattle.definitions.specs.States.{hash_of, kind_named, topology_of}
 
--- ---- names of a file
+-- ---- the names in a file
 
--- the names of the users, in the order of the file
+-- the names of the users, in the file's order
 abbrev pub user_names : File → List Text
 user_names f = map (λ (u : UserEntry). u.name) f.users
 
--- the users of the permissions
+-- the users of the permissions, in the file's order
 abbrev pub permission_names : File → List Text
 permission_names f = map (λ (p : PermissionEntry). p.user) f.permissions
 
 -- ---- 3: one vhost
 
--- there is one vhost, `/`, and no entry names another
+-- the only vhost is `/`, and no entry names another
 pub record HasOneVhost (f : File) : Type 0 where
   pub one : length f.vhosts ≡ 1
   pub vhosts : All (λ (v : VhostEntry). v.name ≡ codes "/") f.vhosts
@@ -37,34 +38,35 @@ pub record HasOneVhost (f : File) : Type 0 where
   pub queues : All (λ (q : QueueEntry). q.vhost ≡ codes "/") f.queues
   pub bindings : All (λ (b : BindingEntry). b.vhost ≡ codes "/") f.bindings
 
--- ---- 4: names apart
+-- ---- 4: distinct names
 
--- no two users, no two queues and no two exchanges have one name
+-- the users have distinct names, the queues have, and the exchanges have
 pub record HasNamesApart (f : File) : Type 0 where
   pub users : AreApart (user_names f)
   pub topology : NamesApart (topology_of f)
 
--- ---- 5: what a binding names is there
+-- ---- 5: the ends of bindings
 
--- every binding's source and destination is, where its type is known
+-- the source and the destination of every binding exist; a destination of an unknown type counts as its source
 abbrev pub HasAllJoin : File → Type 0
 HasAllJoin f = AllJoin (topology_of f)
 
 -- ---- 6: exchange types
 
--- every exchange has one
+-- the type of every exchange is known
 abbrev pub HasTypes : File → Type 0
 HasTypes f = All (λ (x : ExchangeEntry). IsSome (kind_named x.kind)) f.exchanges
 
--- ---- 7: nothing that is not built
+-- ---- 7: nothing that isn't supported
 
--- an exchange has only listed members and arguments, and is not auto-delete
+-- the exchange has only known members and arguments, and is not auto-delete
 pub record IsPlainExchange (x : ExchangeEntry) : Type 0 where
   pub members : x.listed ≡ true
   pub arguments : x.arguments.listed ≡ true
   pub stays : x.auto_delete ≡ false
 
--- a queue has only listed members and arguments, is not auto-delete, refuses what is too much, and has no dead-letter key without a dead-letter exchange
+-- the queue has only known members and arguments, is not auto-delete, has no overflow but `reject-publish`, and no
+-- dead-letter key without a dead-letter exchange
 pub record IsPlainQueue (q : QueueEntry) : Type 0 where
   pub members : q.listed ≡ true
   pub arguments : q.arguments.listed ≡ true
@@ -72,26 +74,26 @@ pub record IsPlainQueue (q : QueueEntry) : Type 0 where
   pub overflow : (o : Text) → q.arguments.overflow ≡ Some o → o ≡ codes "reject-publish"
   pub key : (key : Text) → q.arguments.dead_letter_key ≡ Some key → q.arguments.dead_letter_exchange ≡ None → ⊥
 
--- a binding has only listed members and no argument, and leads to a queue or an exchange
+-- the binding has only known members and no argument, and its destination is a queue or an exchange
 pub record IsPlainBinding (b : BindingEntry) : Type 0 where
   pub members : b.listed ≡ true
   pub destination : (b.destination_type ≡ codes "queue") ⊎ (b.destination_type ≡ codes "exchange")
 
--- there is none of these, and no policy, parameter or topic permission
+-- the file asks only for what is supported, and has no policy, parameter or topic permission
 pub record IsSupported (f : File) : Type 0 where
   pub plain : f.plain ≡ true
   pub exchanges : All IsPlainExchange f.exchanges
   pub queues : All IsPlainQueue f.queues
   pub bindings : All IsPlainBinding f.bindings
 
--- ---- 8: limits refuse
+-- ---- 8: a length limit needs an overflow
 
--- a queue with a limit, of messages or of bytes, says what it does past it
+-- the queue has an overflow, if it has a limit of messages or of bytes
 pub record SaysOverflow (q : QueueEntry) : Type 0 where
   pub messages : (n : ℕ) → q.arguments.max_length ≡ Some n → q.arguments.overflow ≡ None → ⊥
   pub bytes : (n : ℕ) → q.arguments.max_bytes ≡ Some n → q.arguments.overflow ≡ None → ⊥
 
--- every queue does
+-- every queue with a limit has an overflow
 abbrev pub HasOverflows : File → Type 0
 HasOverflows f = All SaysOverflow f.queues
 
@@ -101,41 +103,41 @@ HasOverflows f = All SaysOverflow f.queues
 abbrev pub IsShortName : Text → Type 0
 IsShortName name = length name ≤ 255
 
--- every name and key has its form
+-- every name and key is well-formed
 pub record HasAllWorded (f : File) : Type 0 where
   pub users : All (λ (u : UserEntry). IsShortName u.name) f.users
   pub topology : AllWorded (topology_of f)
 
--- ---- 10: limits of a file
+-- ---- 10: the limits of a file
 
--- at most 256 exchanges, 256 queues, 4,096 bindings and 256 users
+-- there are at most 256 exchanges, 256 queues, 4,096 bindings and 256 users
 pub record HasFew (f : File) : Type 0 where
   pub topology : IsSmall (topology_of f)
   pub users : length f.users ≤ 256
 
--- ---- 11: where exchanges and queues pass on
+-- ---- 11: alternate and dead-letter exchanges
 
--- every alternate and dead-letter exchange is there
+-- every alternate and dead-letter exchange exists, or is the default one if it is for dead letters
 abbrev pub HasNamesLead : File → Type 0
 HasNamesLead f = NamesLead (topology_of f)
 
 -- ---- 12: permissions
 
--- to configure nothing, and to write and read all
+-- the permission allows configuring nothing, and writing and reading everything
 pub record PermitsAll (p : PermissionEntry) : Type 0 where
   pub configure : p.configure ≡ codes "^$"
   pub write : p.write ≡ codes ".*"
   pub read : p.read ≡ codes ".*"
 
--- a user is one of those who have a permission
+-- one of these permissions is of the user
 pub record IsPermitted (names : List Text) (u : UserEntry) : Type 0 where
   pub there : IsIn u.name names
 
--- a permission is of one of these users
+-- the permission is of one of these users
 pub record IsOfUser (names : List Text) (p : PermissionEntry) : Type 0 where
   pub there : IsIn p.user names
 
--- each user has exactly one permission, each is of a user, and each is whole
+-- each user has exactly one permission, each permission is of a user, and each allows configuring nothing, and writing and reading everything
 pub record HasPermissions (f : File) : Type 0 where
   pub whole : All PermitsAll f.permissions
   pub apart : AreApart (permission_names f)
@@ -144,13 +146,13 @@ pub record HasPermissions (f : File) : Type 0 where
 
 -- ---- 13: password hashes
 
--- every user has one
+-- the password of every user is hashed by SHA-256, and the hash is the Base64 of 36 bytes
 abbrev pub HasHashes : File → Type 0
 HasHashes f = All (λ (u : UserEntry). IsSome (hash_of u)) f.users
 
--- ---- all of them
+-- ---- all causes
 
--- the file is clear of this cause
+-- this cause does not apply to the file
 abbrev pub IsClear : FileCause → File → Type 0
 IsClear OtherVhost f = HasOneVhost f
 IsClear Repeated f = HasNamesApart f
@@ -165,10 +167,10 @@ IsClear OtherPermission f = HasPermissions f
 IsClear OtherHash f = HasHashes f
 IsClear _ f = Unit {0}
 
--- .. and of every cause below this number
+-- no cause below number `n` applies to the file
 abbrev pub IsClearBelow : ℕ → File → Type 0
 IsClearBelow n f = AllClearBelow (λ (bad : FileCause). IsClear bad f) n
 
--- the cause that is told is the least that stands in the file; want of memory owes nothing
+-- the reported cause is the lowest-numbered one that applies; a report of an allocation failure promises nothing
 abbrev pub IsTold : FileCause → File → Type 0
 IsTold bad f = IsCauseTold (λ (lower : FileCause). IsClear lower f) bad

@@ -1,4 +1,4 @@
--- What a definitions file states, entry by entry. Source: RabbitMQ, "Definition Export and Import".
+-- The entries that a definitions file states. Source: RabbitMQ, "Definition Export and Import".
 use Rattle.std.specs.Prelude.{codes, ◌≡◌, ℕ, List, Bool, Option, Some, None, Result, Ok, Err, option_and_then}
 use Rattle.model.specs.Options.{◌>>=◌}
 use Rattle.serde_json.specs.Data.{Data}
@@ -14,7 +14,7 @@ use Rattle.definitions.specs.declared.document.BindingEntry.{BindingEntry}
 use Rattle.definitions.specs.declared.document.Document.{Document}
 use Rattle.definitions.specs.Shape.{vhost_entry_at, user_entry_at, permission_entry_at, exchange_entry_at, queue_entry_at, binding_entry_at, plain_at}
 
--- the entries, each list in the order of the file, and whether there is no policy, parameter or topic permission
+-- a file's entries, each list in the file's order, and whether there is no policy, parameter or topic permission
 pub record File : Type 0 where
   pub vhosts : List VhostEntry
   pub users : List UserEntry
@@ -24,11 +24,11 @@ pub record File : Type 0 where
   pub bindings : List BindingEntry
   pub plain : Bool
 
--- the entries of the array at this member
+-- the entries of the array at member `name`
 abbrev pub entries_at : {A : Type 0} → (Data → Option A) → List ℕ → Data → Option (List A)
 entries_at reads name d = option_and_then (each reads) (array_member name d)
 
--- the entries that a JSON value states, if it is an object with all of these members, each of its kind; others are ignored
+-- the entries that a JSON value states, if it is an object with all of these members, each of the right form; other members are ignored
 unfoldable pub file_at : Data → Option File
 file_at d = do
   vhosts ← entries_at vhost_entry_at (codes "vhosts") d
@@ -40,7 +40,7 @@ file_at d = do
   plain ← plain_at d
   Some (record { vhosts = vhosts; users = users; permissions = permissions; exchanges = exchanges; queues = queues; bindings = bindings; plain = plain })
 
--- the entries that a document holds
+-- the entries that a `Document` has
 abbrev pub file_of : Document → File
 file_of d = record {
   vhosts = d.vhosts.items;
@@ -52,7 +52,7 @@ file_of d = record {
   plain = d.plain;
 }
 
--- what a value states is given, or it is refused where it states nothing
+-- the reader returns what the value states, and refuses it only if it states nothing
 abbrev pub GivesFile : Result Document FileCause → Option File → Type 0
 GivesFile (Ok d) o = o ≡ Some (file_of d)
 GivesFile (Err e) o = FailsJson e (o ≡ None)

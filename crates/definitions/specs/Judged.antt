@@ -1,4 +1,4 @@
--- What is known of a file whose entries were looked at.
+-- What checking the entries of a file returns.
 use Rattle.std.specs.Prelude.{◌≡◌, ℕ, List, Result, Ok, Err, ⊤}
 use Rattle.json_file.specs.declared.causes.FileCause.{FileCause}
 use Rattle.json_file.specs.Files.{IsUnreadFile}
@@ -8,23 +8,23 @@ use Rattle.definitions.specs.Causes.{IsClearBelow, IsTold}
 use Rattle.definitions.specs.States.{topology_of, users_of}
 use Rattle.definitions.specs.Reads.{IsDefinitionsFile, Stated}
 
--- what the bytes of a file give: its entries, or the cause for which it is refused before there are any
+-- parsing a file returns its entries, or the cause for which it is refused before any are known
 abbrev pub OpensDefinitions : Result Document FileCause → List ℕ → Type 0
 OpensDefinitions (Ok d) bytes = IsDefinitionsFile bytes (file_of d)
 OpensDefinitions (Err bad) bytes = IsUnreadFile file_at bad bytes
 
--- no cause below 13 stands in the entries, or the least is told
+-- no cause below 13 applies to the entries, or the reported one is the lowest-numbered one that does
 abbrev pub JudgesFile : Result ⊤ FileCause → File → Type 0
 JudgesFile (Ok done) f = IsClearBelow 13 f
 JudgesFile (Err bad) f = IsTold bad f
 
--- no cause stands in the entries, and they are given as what they set up
+-- no cause below 15 applies to the entries, and these are the topology and the users that they set up
 pub record IsSettled (s : Stated) (f : File) : Type 0 where
   pub clear : IsClearBelow 15 f
   pub topology : s.topology ≡ topology_of f
   pub users : s.users ≡ users_of f
 
--- .. or the least cause is told
+-- the entries are accepted and returned as what they set up, or the reported cause is the lowest-numbered one that applies
 abbrev pub StatesOrTells : Result Stated FileCause → File → Type 0
 StatesOrTells (Ok s) f = IsSettled s f
 StatesOrTells (Err bad) f = IsTold bad f

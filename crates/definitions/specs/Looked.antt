@@ -1,4 +1,4 @@
--- What is looked up in the entries of a file.
+-- The directories in which the names of a file are looked up.
 use Rattle.std.specs.Prelude.{◌≡◌, List}
 use Rattle.model.specs.Words.{Text}
 use Rattle.model.specs.Topology.{Topology}
@@ -6,7 +6,7 @@ use Rattle.definitions.specs.File.{File}
 use Rattle.definitions.specs.Causes.{user_names}
 use Rattle.definitions.specs.States.{topology_of}
 
--- the names of the users, and the topology, are those of these entries
+-- the names are those of the users, and the draft is the topology, of these entries
 pub record AreLookedUp (f : File) (users : List Text) (draft : Topology) : Type 0 where
   pub names : users ≡ user_names f
   pub lists : draft ≡ topology_of f

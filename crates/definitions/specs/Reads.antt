@@ -1,4 +1,4 @@
--- What reading a definitions file answers: each cause over the whole file, and of several the one of the least number.
+-- What reading a definitions file returns. Each cause is about the whole file; of several the lowest-numbered one is reported.
 use Rattle.std.specs.Prelude.{◌≡◌, ℕ, List, Result, Ok, Err}
 use Rattle.model.specs.Topology.{Topology}
 use Rattle.model.specs.declared.messages.User.{User}
@@ -12,24 +12,24 @@ use Rattle.definitions.specs.States.{topology_of, users_of}
 abbrev pub IsDefinitionsFile : List ℕ → File → Type 0
 IsDefinitionsFile bytes f = IsFileOf file_at bytes f
 
--- The file is free of this cause.
+-- This cause does not apply to the file.
 abbrev pub IsFree : FileCause → List ℕ → Type 0
 IsFree bad bytes = IsFreeOf file_at IsClear bytes bad
 
--- This cause stands in the file, and none of a smaller number does.
+-- This cause applies to the file, and none of a lower number does.
 abbrev pub IsFirst : FileCause → List ℕ → Type 0
 IsFirst bad bytes = IsLeastCause (IsFreeOf file_at IsClear bytes) bad
 
--- a file is refused by its first cause; want of memory owes nothing
+-- a file is refused by its lowest-numbered cause; a refusal for an allocation failure promises nothing
 abbrev pub IsRefused : FileCause → List ℕ → Type 0
 IsRefused bad bytes = IsCauseTold (IsFreeOf file_at IsClear bytes) bad
 
--- what a file sets up
+-- the topology and the users that a file sets up
 pub record Stated : Type 0 where
   pub topology : Topology
   pub users : List User
 
--- No cause stands in the file, and this is what it states.
+-- No cause applies to the file, and this is what it sets up.
 pub record IsAccepted (s : Stated) (bytes : List ℕ) : Type 0 where
   pub free : (bad : FileCause) → IsFree bad bytes
   pub file : File
@@ -37,7 +37,7 @@ pub record IsAccepted (s : Stated) (bytes : List ℕ) : Type 0 where
   pub topology : s.topology ≡ topology_of file
   pub users : s.users ≡ users_of file
 
--- A file is read exactly where no cause stands in it, and is given as what it states; else it is refused by its first cause.
+-- A file is read if and only if no cause applies to it, and what it sets up is returned; otherwise it is refused by its lowest-numbered cause.
 abbrev pub ReadsDefinitions : Result Stated FileCause → List ℕ → Type 0
 ReadsDefinitions (Ok s) bytes = IsAccepted s bytes
 ReadsDefinitions (Err bad) bytes = IsRefused bad bytes

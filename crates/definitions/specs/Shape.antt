@@ -12,13 +12,13 @@ use Rattle.definitions.specs.declared.document.ExchangeEntry.{ExchangeEntry}
 use Rattle.definitions.specs.declared.document.QueueEntry.{QueueEntry}
 use Rattle.definitions.specs.declared.document.BindingEntry.{BindingEntry}
 
--- a vhost; its other members are ignored
+-- an entry of `vhosts`; other members are ignored
 unfoldable pub vhost_entry_at : Data → Option VhostEntry
 vhost_entry_at d = do
   name ← text_member (codes "name") d
   Some (record { name = name })
 
--- a user; its other members are ignored
+-- an entry of `users`; other members are ignored
 unfoldable pub user_entry_at : Data → Option UserEntry
 user_entry_at d = do
   name ← text_member (codes "name") d
@@ -26,7 +26,7 @@ user_entry_at d = do
   hashing_algorithm ← text_member (codes "hashing_algorithm") d
   Some (record { name = name; password_hash = password_hash; hashing_algorithm = hashing_algorithm })
 
--- a permission; its other members are ignored
+-- an entry of `permissions`; other members are ignored
 unfoldable pub permission_entry_at : Data → Option PermissionEntry
 permission_entry_at d = do
   user ← text_member (codes "user") d
@@ -36,18 +36,18 @@ permission_entry_at d = do
   reads ← text_member (codes "read") d
   Some (record { user = user; vhost = vhost; configure = configure; write = write; read = reads })
 
--- the arguments of an exchange
+-- the arguments of an exchange, and whether no other is given
 unfoldable pub exchange_arguments_at : Data → Option ExchangeArguments
 exchange_arguments_at d = do
   stated ← arguments_member d
   alternate ← optional_text_member (codes "alternate-exchange") stated
   Some (record { alternate = alternate; listed = has_only (codes "alternate-exchange" ∷ []) stated })
 
--- the members of an exchange
+-- the known members of an exchange
 abbrev pub exchange_members : List (List ℕ)
 exchange_members = codes "name" ∷ codes "vhost" ∷ codes "type" ∷ codes "durable" ∷ codes "auto_delete" ∷ codes "internal" ∷ codes "arguments" ∷ []
 
--- an exchange
+-- an entry of `exchanges`, and whether it has only known members
 unfoldable pub exchange_entry_at : Data → Option ExchangeEntry
 exchange_entry_at d = do
   name ← text_member (codes "name") d
@@ -67,12 +67,12 @@ exchange_entry_at d = do
     listed = has_only exchange_members d;
   })
 
--- the arguments of a queue that are known
+-- the known arguments of a queue
 abbrev pub queue_argument_names : List (List ℕ)
 queue_argument_names = codes "x-max-length" ∷ codes "x-max-length-bytes" ∷ codes "x-overflow"
     ∷ codes "x-dead-letter-exchange" ∷ codes "x-dead-letter-routing-key" ∷ []
 
--- the arguments of a queue
+-- the arguments of a queue, and whether no other is given
 unfoldable pub queue_arguments_at : Data → Option QueueArguments
 queue_arguments_at d = do
   stated ← arguments_member d
@@ -90,11 +90,11 @@ queue_arguments_at d = do
     listed = has_only queue_argument_names stated;
   })
 
--- the members of a queue
+-- the known members of a queue
 abbrev pub queue_members : List (List ℕ)
 queue_members = codes "name" ∷ codes "vhost" ∷ codes "durable" ∷ codes "auto_delete" ∷ codes "arguments" ∷ []
 
--- a queue
+-- an entry of `queues`, and whether it has only known members
 unfoldable pub queue_entry_at : Data → Option QueueEntry
 queue_entry_at d = do
   name ← text_member (codes "name") d
@@ -104,17 +104,17 @@ queue_entry_at d = do
   arguments ← queue_arguments_at d
   Some (record { name = name; vhost = vhost; auto_delete = auto_delete; arguments = arguments; listed = has_only queue_members d })
 
--- the members of a binding
+-- the known members of a binding
 abbrev pub binding_members : List (List ℕ)
 binding_members = codes "source" ∷ codes "vhost" ∷ codes "destination" ∷ codes "destination_type" ∷ codes "routing_key" ∷ codes "arguments" ∷ []
 
--- a binding has no other member, and no argument
+-- whether a binding has only known members, and no argument
 unfoldable pub binding_listed_at : Data → Option Bool
 binding_listed_at d = do
   stated ← arguments_member d
   Some (has_only binding_members d && has_only [] stated)
 
--- a binding
+-- an entry of `bindings`, and whether it has only known members and no argument
 unfoldable pub binding_entry_at : Data → Option BindingEntry
 binding_entry_at d = do
   source ← text_member (codes "source") d

@@ -20,18 +20,18 @@ use Rattle.definitions.specs.declared.document.QueueEntry.{QueueEntry}
 use Rattle.definitions.specs.declared.document.BindingEntry.{BindingEntry}
 use Rattle.definitions.specs.File.{File}
 
--- the exchange type of this name
+-- the exchange type called `t`
 abbrev pub kind_named : Text → Option ExchangeKind
 kind_named t =
     if bytes_eq t (codes "direct") then Some Direct
     else if bytes_eq t (codes "fanout") then Some Fanout
     else if bytes_eq t (codes "topic") then Some Topic else None
 
--- an exchange of a known type
+-- the exchange that an entry sets up; an unknown type counts as direct
 abbrev pub exchange_of : ExchangeEntry → Exchange
 exchange_of x = record { name = x.name; kind = unwrap_or (kind_named x.kind) Direct; internal = x.internal; alternate = x.arguments.alternate }
 
--- a queue
+-- the queue that an entry sets up
 abbrev pub queue_of : QueueEntry → DeclaredQueue
 queue_of q = record {
   name = q.name;
@@ -41,31 +41,31 @@ queue_of q = record {
   dead_letter_key = q.arguments.dead_letter_key;
 }
 
--- where a binding leads; one of an unknown destination type is taken to lead back to its source, so that nothing else is looked for
+-- the destination of a binding; one of an unknown type counts as the binding's source, so that no other name is looked up
 abbrev pub destination_of : BindingEntry → Place
 destination_of b =
     if bytes_eq b.destination_type (codes "queue") then place.Queue b.destination else
     if bytes_eq b.destination_type (codes "exchange") then place.Exchange b.destination else
     place.Exchange b.source
 
--- a binding
+-- the binding that an entry sets up
 abbrev pub binding_of : BindingEntry → Binding
 binding_of b = record { source = b.source; to = destination_of b; key = b.key }
 
--- exactly 36 bytes
+-- the bytes, if there are exactly 36
 abbrev pub of_36 : Text → Option Text
 of_36 hash = if length hash == 36 then Some hash else None
 
--- the 36 bytes of which this is the padded Base64 (RFC 4648, section 4)
+-- the decoded bytes, if decoding succeeded and there are exactly 36
 abbrev pub hash_decoded : Result Text DecodeError → Option Text
 hash_decoded (Ok hash) = of_36 hash
 hash_decoded (Err e) = None
 
--- a user's salt and hash, if it is hashed by SHA-256
+-- a user's salt and hash: 36 bytes, hashed by SHA-256 and written in Base64 (RFC 4648, section 4)
 unfoldable pub hash_of : UserEntry → Option Text
 hash_of u = if bytes_eq u.hashing_algorithm (codes "rabbit_password_hashing_sha256") then hash_decoded (decode_of standard u.password_hash) else None
 
--- a user whose password is hashed as it is to be
+-- the user that an entry sets up; without a hash if the password is hashed in another way
 abbrev pub user_of : UserEntry → User
 user_of u = record { name = u.name; hash = unwrap_or (hash_of u) [] }
 

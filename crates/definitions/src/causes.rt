@@ -1,4 +1,4 @@
-//! What stands in a file beside its topology, cause by cause.
+//! The conditions on a definitions file, by the number of the cause for which it is refused otherwise.
 
 ghost use Rattle.std.specs.Prelude.{codes, ◌≡◌, ◌⊎◌, All, Decides, List, ℕ, Some, None};
 ghost use Rattle.definitions.specs.States.{kind_named, topology_of};
@@ -16,14 +16,14 @@ use topology_drafts::{Directory, Draft};
 
 // ---- 3: one vhost
 
-/// Whether a vhost is the one that there is.
+/// Returns whether `name` is `/`, the only vhost.
 fn is_root(name: &Text) -> bool
     ensures { Decides result (name.now ≡ codes "/") }
 {
     name.as_bytes() == b"/".as_slice()
 }
 
-/// Whether there is one vhost, `/`, and no entry names another.
+/// Returns whether the only vhost is `/`, and no entry names another.
 pub fn has_one_vhost(document: &Document) -> bool
     ensures { Decides result (HasOneVhost (file_of document.now)) }
 {
@@ -44,9 +44,9 @@ pub fn has_one_vhost(document: &Document) -> bool
             .all(|binding| is_root(&binding.vhost))
 }
 
-// ---- 4: names apart
+// ---- 4: distinct names
 
-/// Whether no two users, queues or exchanges have one name.
+/// Returns whether the users have distinct names, the queues have, and the exchanges have.
 pub fn has_names_apart(
     document: &Document,
     users: &Directory<'_, UserEntry>,
@@ -60,9 +60,9 @@ pub fn has_names_apart(
     users.is_apart() && draft.is_apart()
 }
 
-// ---- 5: what a binding names is there
+// ---- 5: the ends of bindings
 
-/// Whether what the bindings name is there.
+/// Returns whether the source and the destination of every binding exist.
 pub fn has_all_join(document: &Document, draft: &Draft<'_>) -> bool
     requires { draft.now ≡ topology_of (file_of document.now) }
     ensures { Decides result (HasAllJoin (file_of document.now)) }
@@ -73,7 +73,7 @@ pub fn has_all_join(document: &Document, draft: &Draft<'_>) -> bool
 
 // ---- 6: exchange types
 
-/// The exchange type of this name.
+/// Returns the exchange type called `name`: `direct`, `fanout` or `topic`.
 pub fn kind_named(name: &[u8]) -> Option<ExchangeKind>
     ensures { result ≡ kind_named name.now }
 {
@@ -89,7 +89,7 @@ pub fn kind_named(name: &[u8]) -> Option<ExchangeKind>
     None
 }
 
-/// Whether each exchange's type is known.
+/// Returns whether the type of every exchange is known.
 pub fn has_types(document: &Document) -> bool
     ensures { Decides result (HasTypes (file_of document.now)) }
 {
@@ -99,16 +99,16 @@ pub fn has_types(document: &Document) -> bool
         .all(|exchange| kind_named(exchange.kind.as_bytes()).is_some())
 }
 
-// ---- 7: nothing that is not built
+// ---- 7: nothing that isn't supported
 
-/// Whether an exchange states only what is built.
+/// Returns whether `exchange` asks only for what is supported.
 fn is_plain_exchange(exchange: &ExchangeEntry) -> bool
     ensures { Decides result (IsPlainExchange exchange.now) }
 {
     exchange.listed && exchange.arguments.listed && !exchange.auto_delete
 }
 
-/// Whether an overflow, if it is stated, is to refuse what is too much.
+/// Returns whether `overflow`, if it is given, is `reject-publish`.
 fn refuses(overflow: &Option<Text>) -> bool
     ensures { Decides result ((o : List ℕ) → overflow.now ≡ Some o → o ≡ codes "reject-publish") }
 {
@@ -118,14 +118,14 @@ fn refuses(overflow: &Option<Text>) -> bool
     }
 }
 
-/// Whether a dead-letter key has a dead-letter exchange.
+/// Returns whether `queue` has a dead-letter exchange, if it has a dead-letter key.
 fn key_has_exchange(queue: &QueueEntry) -> bool
     ensures { Decides result ((key : List ℕ) → queue.now.arguments.dead_letter_key ≡ Some key → queue.now.arguments.dead_letter_exchange ≡ None → ⊥) }
 {
     queue.arguments.dead_letter_key.is_none() || queue.arguments.dead_letter_exchange.is_some()
 }
 
-/// Whether a queue states only what is built.
+/// Returns whether `queue` asks only for what is supported.
 fn is_plain_queue(queue: &QueueEntry) -> bool
     ensures { Decides result (IsPlainQueue queue.now) }
 {
@@ -136,21 +136,21 @@ fn is_plain_queue(queue: &QueueEntry) -> bool
         && key_has_exchange(queue)
 }
 
-/// Whether a destination type is known.
+/// Returns whether `kind` is a destination type: `queue` or `exchange`.
 fn is_destination(kind: &[u8]) -> bool
     ensures { Decides result ((kind.now ≡ codes "queue") ⊎ (kind.now ≡ codes "exchange")) }
 {
     kind == b"queue".as_slice() || kind == b"exchange".as_slice()
 }
 
-/// Whether a binding states only what is built.
+/// Returns whether `binding` asks only for what is supported.
 fn is_plain_binding(binding: &BindingEntry) -> bool
     ensures { Decides result (IsPlainBinding binding.now) }
 {
     binding.listed && is_destination(binding.destination_type.as_bytes())
 }
 
-/// Whether a file states only what is built.
+/// Returns whether the file asks only for what is supported.
 pub fn is_supported(document: &Document) -> bool
     ensures { Decides result (IsSupported (file_of document.now)) }
 {
@@ -166,16 +166,16 @@ pub fn is_supported(document: &Document) -> bool
             .all(|binding| is_plain_binding(binding))
 }
 
-// ---- 8: limits refuse
+// ---- 8: a length limit needs an overflow
 
-/// Whether a limit, if it is stated, has an overflow beside it.
+/// Returns whether `overflow` is given, if `limit` is.
 fn has_overflow(limit: &Option<u32>, overflow: &Option<Text>) -> bool
     ensures { Decides result ((n : ℕ) → limit.now ≡ Some n → overflow.now ≡ None → ⊥) }
 {
     limit.is_none() || overflow.is_some()
 }
 
-/// Whether a queue with a limit, of messages or of bytes, says what it does past it.
+/// Returns whether `queue` has an overflow, if it has a limit of messages or of bytes.
 fn says_overflow(queue: &QueueEntry) -> bool
     ensures { Decides result (SaysOverflow queue.now) }
 {
@@ -183,7 +183,7 @@ fn says_overflow(queue: &QueueEntry) -> bool
         && has_overflow(&queue.arguments.max_bytes, &queue.arguments.overflow)
 }
 
-/// Whether each queue with a limit says what it does past it.
+/// Returns whether every queue with a limit has an overflow.
 pub fn has_overflows(document: &Document) -> bool
     ensures { Decides result (HasOverflows (file_of document.now)) }
 {
@@ -192,14 +192,14 @@ pub fn has_overflows(document: &Document) -> bool
 
 // ---- 9: names and keys
 
-/// Whether a name has at most 255 bytes.
+/// Returns whether `name` has at most 255 bytes.
 fn is_short(name: &Text) -> bool
     ensures { Decides result (IsShortName name.now) }
 {
     name.len() <= limits::SHORT_BYTES
 }
 
-/// Whether all names and keys have their form.
+/// Returns whether all names and keys are well-formed.
 pub fn has_all_worded(document: &Document, draft: &Draft<'_>) -> bool
     requires { draft.now ≡ topology_of (file_of document.now) }
     ensures { Decides result (HasAllWorded (file_of document.now)) }
@@ -207,9 +207,9 @@ pub fn has_all_worded(document: &Document, draft: &Draft<'_>) -> bool
     document.users.iter().all(|user| is_short(&user.name)) && draft.is_worded()
 }
 
-// ---- 10: limits of a file
+// ---- 10: the limits of a file
 
-/// Whether there are few enough entries.
+/// Returns whether there are at most 256 exchanges, 256 queues, 4,096 bindings and 256 users.
 pub fn has_few(document: &Document, draft: &Draft<'_>) -> bool
     requires { draft.now ≡ topology_of (file_of document.now) }
     ensures { Decides result (HasFew (file_of document.now)) }
@@ -217,9 +217,9 @@ pub fn has_few(document: &Document, draft: &Draft<'_>) -> bool
     document.users.len() <= 256 && draft.is_small()
 }
 
-// ---- 11: where exchanges and queues pass on
+// ---- 11: alternate and dead-letter exchanges
 
-/// Whether all alternate and dead-letter exchanges are there.
+/// Returns whether all alternate and dead-letter exchanges exist; a dead-letter exchange may also be the default one.
 pub fn has_names_lead(document: &Document, draft: &Draft<'_>) -> bool
     requires { draft.now ≡ topology_of (file_of document.now) }
     ensures { Decides result (HasNamesLead (file_of document.now)) }
@@ -230,7 +230,7 @@ pub fn has_names_lead(document: &Document, draft: &Draft<'_>) -> bool
 
 // ---- 12: permissions
 
-/// Whether a permission is to configure nothing, and to write and read all.
+/// Returns whether `permission` allows configuring nothing, and writing and reading everything.
 fn permits_all(permission: &PermissionEntry) -> bool
     ensures { Decides result (PermitsAll permission.now) }
 {
@@ -239,35 +239,35 @@ fn permits_all(permission: &PermissionEntry) -> bool
         && permission.read.as_bytes() == b".*".as_slice()
 }
 
-/// Whether these permissions are.
+/// Returns whether all `permissions` allow configuring nothing, and writing and reading everything.
 fn all_permit_all(permissions: &[PermissionEntry]) -> bool
     ensures { Decides result (All PermitsAll permissions.now) }
 {
     permissions.iter().all(|permission| permits_all(permission))
 }
 
-/// Whether a user is among the permitted ones.
+/// Returns whether one of the permissions `permitted` is of `user`.
 fn is_permitted(permitted: &Directory<'_, PermissionEntry>, user: &UserEntry) -> bool
     ensures { Decides result (IsPermitted permitted.now user.now) }
 {
     permitted.has(user.name.as_bytes())
 }
 
-/// Whether these users are among the permitted ones.
+/// Returns whether each of `users` has one of the permissions `permitted`.
 fn are_permitted(permitted: &Directory<'_, PermissionEntry>, users: &[UserEntry]) -> bool
     ensures { Decides result (All (IsPermitted permitted.now) users.now) }
 {
     users.iter().all(|user| is_permitted(permitted, user))
 }
 
-/// Whether a permission is of a user.
+/// Returns whether `permission` is of one of `users`.
 fn is_of_user(users: &Directory<'_, UserEntry>, permission: &PermissionEntry) -> bool
     ensures { Decides result (IsOfUser users.now permission.now) }
 {
     users.has(permission.user.as_bytes())
 }
 
-/// Whether these permissions are of users.
+/// Returns whether each of `permissions` is of one of `users`.
 fn are_of_users(users: &Directory<'_, UserEntry>, permissions: &[PermissionEntry]) -> bool
     ensures { Decides result (All (IsOfUser users.now) permissions.now) }
 {
@@ -276,7 +276,8 @@ fn are_of_users(users: &Directory<'_, UserEntry>, permissions: &[PermissionEntry
         .all(|permission| is_of_user(users, permission))
 }
 
-/// Whether each of the users is permitted once, and nobody else is.
+/// Returns whether each user has exactly one permission, each permission is of a user, and each allows configuring nothing, and writing and reading everything.
+/// `permitted` has the users of the permissions.
 fn permissions_fit(
     document: &Document,
     users: &Directory<'_, UserEntry>,
@@ -293,7 +294,7 @@ fn permissions_fit(
     whole & apart & each & known
 }
 
-/// Whether each user has exactly one permission, each is of a user, and each is whole.
+/// Returns whether each user has exactly one permission, each permission is of a user, and each allows configuring nothing, and writing and reading everything.
 pub fn has_permissions(alloc: Global, document: &Document, users: &Directory<'_, UserEntry>) -> bool
     requires { users.now ≡ user_names (file_of document.now) }
     ensures { Decides result (HasPermissions (file_of document.now)) }

@@ -1,4 +1,4 @@
-//! Definitions files.
+//! Reads definitions files. Start with [`read_definitions`].
 
 ghost use Rattle.std.specs.Prelude.{◌≡◌};
 ghost use Rattle.definitions.specs.File.{file_of};
@@ -15,16 +15,16 @@ use model::User;
 use std::alloc::Global;
 use std::marker::Model;
 
-/// Who may log in, in the order of the file.
+/// The users that may log in, in the file's order.
 pub type Users = Vec<User>;
 
-/// What a file sets up.
+/// The topology and the users that a file sets up.
 pub struct Definitions {
     topology: Topology,
     users: Users,
 }
 
-/// Written out, so that a drop is one call.
+/// Written out, so that dropping is one call.
 impl Drop for Definitions {
     fn drop(self) {
         let Definitions {
@@ -43,21 +43,21 @@ impl Model for Definitions {
 }
 
 impl Definitions {
-    /// Its exchanges, queues and bindings, each in the order of the file.
+    /// Returns the exchanges, queues and bindings, each in the file's order.
     pub fn topology(&self) -> &Topology
         ensures { result.now ≡ self.now.topology }
     {
         &self.topology
     }
 
-    /// Its users, in the order of the file.
+    /// Returns the users, in the file's order.
     pub fn users(&self) -> &[User]
         ensures { result.now ≡ self.now.users }
     {
         self.users.as_slice()
     }
 
-    /// Its topology and its users, each as it stands.
+    /// Splits the definitions into topology and users.
     pub fn into_parts(self) -> (Topology, Vec<User>)
         ensures topology { result.0 ≡ self.topology }
         ensures users { result.1.items ≡ self.users }
@@ -67,7 +67,7 @@ impl Definitions {
     }
 }
 
-/// The entries of a file, or why it has none.
+/// Parses the entries of a file, without checking them.
 fn open(alloc: Global, bytes: &[u8]) -> Result<Document, FileCause>
     ensures { OpensDefinitions result bytes.now }
 {
@@ -76,7 +76,8 @@ fn open(alloc: Global, bytes: &[u8]) -> Result<Document, FileCause>
     Ok(document)
 }
 
-/// What the entries of a file set up, or the least cause that stands in them.
+/// Checks the entries, and returns what they set up. Fails with the lowest-numbered cause that applies to them, or with
+/// [`FileCause::Memory`] if an allocation fails.
 fn set_up(alloc: Global, document: &Document) -> Result<Definitions, FileCause>
     ensures { StatesOrTells result (file_of document.now) }
 {
@@ -89,10 +90,11 @@ fn set_up(alloc: Global, document: &Document) -> Result<Definitions, FileCause>
     Ok(Definitions { topology, users })
 }
 
-/// What a definitions file sets up. It is refused by the least cause that stands anywhere in it.
+/// Reads the topology and the users that a definitions file sets up.
 ///
-/// A file has at most 16,777,216 bytes. Source: RabbitMQ, "Definition Export and Import"; `docs/FORMATS.md` lists the
-/// members, the causes and the limits.
+/// A file has at most 16,777,216 bytes. Fails with the lowest-numbered cause that applies anywhere in the file, or with
+/// [`FileCause::Memory`] if an allocation fails. Source: RabbitMQ, "Definition Export and Import"; `docs/FORMATS.md` lists
+/// the members, the causes and the limits.
 pub fn read_definitions(alloc: Global, bytes: &[u8]) -> Result<Definitions, FileCause>
     ensures { ReadsDefinitions result bytes.now }
 {

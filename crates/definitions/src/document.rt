@@ -1,14 +1,14 @@
-//! A definitions file as it is written, entry by entry.
+//! The entries of a definitions file, as they are written. Start with [`Document`].
 
 use model::Text;
 
-/// A vhost.
+/// An entry of `vhosts`.
 #[derive(Drop)]
 pub struct VhostEntry {
     pub name: Text,
 }
 
-/// A user.
+/// An entry of `users`.
 #[derive(Drop)]
 pub struct UserEntry {
     pub name: Text,
@@ -16,7 +16,7 @@ pub struct UserEntry {
     pub hashing_algorithm: Text,
 }
 
-/// What a user may do.
+/// An entry of `permissions`: what a user may do.
 #[derive(Drop)]
 pub struct PermissionEntry {
     pub user: Text,
@@ -30,11 +30,11 @@ pub struct PermissionEntry {
 #[derive(Drop)]
 pub struct ExchangeArguments {
     pub alternate: Option<Text>,
-    /// There is no other.
+    /// Whether no other argument is given.
     pub listed: bool,
 }
 
-/// An exchange.
+/// An entry of `exchanges`.
 #[derive(Drop)]
 pub struct ExchangeEntry {
     pub name: Text,
@@ -43,7 +43,7 @@ pub struct ExchangeEntry {
     pub auto_delete: bool,
     pub internal: bool,
     pub arguments: ExchangeArguments,
-    /// There is no other member.
+    /// Whether no unknown member is given.
     pub listed: bool,
 }
 
@@ -55,22 +55,22 @@ pub struct QueueArguments {
     pub overflow: Option<Text>,
     pub dead_letter_exchange: Option<Text>,
     pub dead_letter_key: Option<Text>,
-    /// There is no other.
+    /// Whether no other argument is given.
     pub listed: bool,
 }
 
-/// A queue.
+/// An entry of `queues`.
 #[derive(Drop)]
 pub struct QueueEntry {
     pub name: Text,
     pub vhost: Text,
     pub auto_delete: bool,
     pub arguments: QueueArguments,
-    /// There is no other member.
+    /// Whether no unknown member is given.
     pub listed: bool,
 }
 
-/// A binding.
+/// An entry of `bindings`.
 #[derive(Drop)]
 pub struct BindingEntry {
     pub source: Text,
@@ -78,11 +78,11 @@ pub struct BindingEntry {
     pub destination: Text,
     pub destination_type: Text,
     pub key: Text,
-    /// There is no other member, and no argument.
+    /// Whether no unknown member and no argument is given.
     pub listed: bool,
 }
 
-/// A file: its entries, each list in its order.
+/// A file's entries, each list in the file's order.
 #[derive(Drop)]
 pub struct Document {
     pub vhosts: Vec<VhostEntry>,
@@ -91,6 +91,6 @@ pub struct Document {
     pub exchanges: Vec<ExchangeEntry>,
     pub queues: Vec<QueueEntry>,
     pub bindings: Vec<BindingEntry>,
-    /// There is no policy, parameter or topic permission.
+    /// Whether there is no policy, parameter or topic permission.
     pub plain: bool,
 }

@@ -1,4 +1,5 @@
-//! The least cause that stands in a file, but for the users' hashes.
+//! Finds the lowest-numbered cause below 13 that applies to the entries of a file. The users' password hashes, cause 13, are
+//! checked when the users are built.
 
 ghost use Rattle.std.specs.Prelude.{◌≡◌, ◌+◌, ◌<◌, Decides, MatchResult};
 ghost use Rattle.json_file.specs.Causes.{cause_number};
@@ -18,7 +19,7 @@ use std::alloc::Global;
 use std::marker::Model;
 use topology_drafts::{Directory, Draft};
 
-/// The entries of a file, with what is looked up in them.
+/// The entries of a file, with the directories in which names are looked up.
 #[derive(Drop)]
 struct Entries<'a> {
     alloc: Global,
@@ -39,7 +40,7 @@ impl<'a> Model for Entries<'a> {
 }
 
 impl<'a> Entries<'a> {
-    /// Whether they are clear of a cause.
+    /// Returns whether `cause`, below number 13, does not apply.
     fn is_clear(&self, cause: FileCause) -> bool
         requires { cause_number cause < 13 }
         ensures { Decides result (IsClear cause self.now) }
@@ -59,7 +60,7 @@ impl<'a> Entries<'a> {
         }
     }
 
-    /// Tells a cause, where they are not clear of it.
+    /// Fails with `cause`, below number 13, if it applies.
     fn tell(&self, cause: FileCause) -> Result<(), FileCause>
         requires asked { cause_number cause < 13 }
         requires below { IsClearBelow (cause_number cause) self.now }
@@ -72,7 +73,7 @@ impl<'a> Entries<'a> {
         }
     }
 
-    /// Tells the least cause that stands in them, if one below the users' hashes does.
+    /// Fails with the lowest-numbered cause below 13 that applies.
     fn tell_least(&self) -> Result<(), FileCause>
         ensures { JudgesFile result self.now }
     {
@@ -89,8 +90,7 @@ impl<'a> Entries<'a> {
     }
 }
 
-/// Tells the least cause that stands in a file, if one below the users' hashes does. What the file sets up is asked of
-/// its draft.
+/// Fails with the lowest-numbered cause below 13 that applies to `document`. `parts` is what it sets up.
 pub fn check_entries(alloc: Global, document: &Document, parts: &Parts) -> Result<(), FileCause>
     requires { parts.now ≡ topology_of (file_of document.now) }
     ensures { JudgesFile result (file_of document.now) }

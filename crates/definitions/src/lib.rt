@@ -1,4 +1,6 @@
-//! Definitions files: a topology and its users, read from JSON as RabbitMQ exports it.
+//! Reads definitions files: a topology and its users, in JSON as RabbitMQ exports it.
+//!
+//! Start with [`read_definitions`].
 #![tactic(auto)]
 
 mod causes;

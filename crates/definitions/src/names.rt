@@ -1,4 +1,4 @@
-//! The names of entries.
+//! The names by which users and permissions are looked up.
 
 ghost use Rattle.std.specs.Prelude.{◌≡◌};
 

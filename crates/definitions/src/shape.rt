@@ -1,4 +1,4 @@
-//! From a JSON value to its entries.
+//! Parses JSON values into entries. Start with [`document`].
 
 ghost use Rattle.std.specs.Prelude.{◌≡◌};
 ghost use Rattle.serde_json.specs.View.{view};
@@ -62,7 +62,7 @@ impl FromValue for PermissionEntry {
     }
 }
 
-/// The arguments of an exchange.
+/// Parses the arguments of an exchange.
 #[tactic(auto, unfolding(crate::specs::Shape::exchange_arguments_at))]
 fn exchange_arguments(alloc: Global, value: &Value) -> Result<ExchangeArguments, FileCause>
     ensures { GivesValue result (exchange_arguments_at (view value.now)) }
@@ -112,7 +112,7 @@ impl FromValue for ExchangeEntry {
     }
 }
 
-/// The arguments of a queue.
+/// Parses the arguments of a queue.
 #[tactic(auto, unfolding(crate::specs::Shape::queue_arguments_at))]
 fn queue_arguments(alloc: Global, value: &Value) -> Result<QueueArguments, FileCause>
     ensures { GivesValue result (queue_arguments_at (view value.now)) }
@@ -169,7 +169,7 @@ impl FromValue for QueueEntry {
     }
 }
 
-/// Whether a binding has only its members, and no argument.
+/// Returns whether a binding has only known members, and no argument.
 #[tactic(auto, unfolding(crate::specs::Shape::binding_listed_at))]
 fn binding_listed(value: &Value) -> Result<bool, FileCause>
     ensures { GivesValue result (binding_listed_at (view value.now)) }
@@ -213,7 +213,7 @@ impl FromValue for BindingEntry {
     }
 }
 
-/// Whether there is no policy, parameter or topic permission.
+/// Returns whether there is no policy, parameter or topic permission.
 #[tactic(auto, unfolding(crate::specs::Shape::plain_at))]
 fn plain(value: &Value) -> Result<bool, FileCause>
     ensures { GivesValue result (plain_at (view value.now)) }
@@ -224,7 +224,8 @@ fn plain(value: &Value) -> Result<bool, FileCause>
     Ok(!policies & !parameters & !topic_permissions)
 }
 
-/// The entries that a value states, if it is an object with all of them, each of its kind.
+/// Parses a file's entries. Fails with [`FileCause::Malformed`] unless `value` is an object with all lists and every entry
+/// has the right form, or with [`FileCause::Memory`] if an allocation fails.
 #[tactic(auto, unfolding(crate::specs::File::file_at))]
 pub fn document(alloc: Global, value: &Value) -> Result<Document, FileCause>
     ensures { GivesFile result (file_at (view value.now)) }

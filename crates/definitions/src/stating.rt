@@ -1,4 +1,4 @@
-//! What the entries of a file set up.
+//! Builds what the entries of a file set up: a topology and its users.
 
 ghost use Rattle.std.specs.Prelude.{◌≡◌, All, IfOk, IsSome, MatchOption, map};
 ghost use Rattle.topology_drafts.specs.Causes.{IsBuildable};
@@ -16,7 +16,7 @@ use std::alloc::{AllocError, Global};
 use std::marker::Model;
 use topology_drafts::Draft;
 
-/// The same text, if there is one.
+/// Copies a text, if there is one. Fails only if an allocation fails.
 fn copy(text: &Option<Text>) -> Result<Option<Text>, AllocError>
     ensures { IfOk result (λ t. t ≡ text.now) }
 {
@@ -33,10 +33,10 @@ trait Entry {
     /// An exchange, a queue or a binding.
     type Part: Drop;
 
-    // what an entry sets up
+    // the part that an entry sets up
     ghost sets_up: { Self → Self.Part };
 
-    /// The part that the entry sets up.
+    /// Builds the part that the entry sets up. Fails only if an allocation fails.
     fn part(&self) -> Result<Self::Part, AllocError>
         ensures { IfOk result (λ made. made ≡ sets_up self.now) };
 }
@@ -76,7 +76,7 @@ impl Entry for QueueEntry {
     }
 }
 
-/// Where a binding leads. One of an unknown destination type is taken to lead back to its source.
+/// Returns the destination of a binding. If the destination type is unknown it is the binding's own source.
 fn destination_of(entry: &BindingEntry) -> Result<Place, AllocError>
     ensures { IfOk result (λ p. p ≡ destination_of entry.now) }
 {
@@ -105,7 +105,7 @@ impl Entry for BindingEntry {
     }
 }
 
-/// The parts that these entries set up, in their order.
+/// Builds the parts that `entries` set up, in order. Fails only if an allocation fails.
 fn parts_of<E: Entry>(alloc: Global, entries: &[E]) -> Result<Vec<E::Part>, AllocError>
     ensures { IfOk result (λ made. made.items ≡ map E.sets_up entries.now) }
 {
@@ -116,14 +116,14 @@ fn parts_of<E: Entry>(alloc: Global, entries: &[E]) -> Result<Vec<E::Part>, Allo
     Ok(made)
 }
 
-/// What the entries of a file set up, but for its users.
+/// The exchanges, queues and bindings that a file sets up.
 pub struct Parts {
     exchanges: Vec<Exchange>,
     queues: Vec<DeclaredQueue>,
     bindings: Vec<Binding>,
 }
 
-/// Written out, so that a drop is one call.
+/// Written out, so that dropping is one call.
 impl Drop for Parts {
     fn drop(self) {
         let Parts {
@@ -143,7 +143,7 @@ impl Model for Parts {
 }
 
 impl Parts {
-    /// The parts that these entries set up.
+    /// Builds what `document` sets up, without its users. Fails only if an allocation fails.
     pub fn of(alloc: Global, document: &Document) -> Result<Parts, AllocError>
         ensures { IfOk result (λ p. p ≡ topology_of (file_of document.now)) }
     {
@@ -157,7 +157,7 @@ impl Parts {
         })
     }
 
-    /// A draft of them.
+    /// Returns a draft, which checks the conditions on a topology.
     pub fn draft(&self, alloc: Global) -> Draft<'_>
         ensures { result ≡ self.entry.now }
     {
@@ -169,7 +169,7 @@ impl Parts {
         )
     }
 
-    /// Their topology, against which nothing stands.
+    /// Builds the topology, which meets every condition. Fails only if an allocation fails.
     pub fn sound(self, alloc: Global) -> Result<Topology, AllocError>
         requires { IsBuildable self }
         ensures { IfOk result (λ t. t ≡ self) }
@@ -183,7 +183,7 @@ impl Parts {
     }
 }
 
-/// These bytes, if there are exactly 36.
+/// Copies `bytes` if there are exactly 36, and returns `None` otherwise. Fails only if an allocation fails.
 fn of_36(alloc: Global, bytes: &[u8]) -> Result<Option<Text>, AllocError>
     ensures { IfOk result (λ o. o ≡ of_36 bytes.now) }
 {
@@ -194,7 +194,7 @@ fn of_36(alloc: Global, bytes: &[u8]) -> Result<Option<Text>, AllocError>
     }
 }
 
-/// A user's salt and hash, if the password is hashed as it is to be.
+/// Returns the salt and hash of a user, 36 bytes, or `None` if the password is hashed in another way. Fails only if an allocation fails.
 #[tactic(auto, unfolding(crate::specs::States::hash_of))]
 fn hash_of(alloc: Global, entry: &UserEntry) -> Result<Option<Text>, AllocError>
     ensures { IfOk result (λ o. o ≡ hash_of entry.now) }
@@ -209,7 +209,7 @@ fn hash_of(alloc: Global, entry: &UserEntry) -> Result<Option<Text>, AllocError>
     }
 }
 
-/// The users, or `None` where a password is hashed in another way.
+/// Builds the users, or returns `None` if a password is hashed in another way. Fails only if an allocation fails.
 pub fn users_of(alloc: Global, entries: &[UserEntry]) -> Result<Option<Vec<User>>, AllocError>
     ensures { IfOk result (λ o. MatchOption o (All (λ u. IsSome (hash_of u)) entries.now → ⊥) (λ made. AreHashed entries.now made.items)) }
 {

@@ -12,6 +12,7 @@ pub mod Naming
 pub mod Planned
 pub mod Purged
 pub mod Rejected
+pub mod Rooms
 pub mod Settled
 pub mod Signing
 pub mod Turning

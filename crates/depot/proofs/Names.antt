@@ -7,7 +7,7 @@ pub use Rattle.depot.specs.Purging.{IsPurgedBy}
 pub use Rattle.depot.specs.Settled.{AreOf, AreSettledBy, IsApart, departure_in, left_at, returned_at, store_of}
 pub use Rattle.depot.specs.Signs.{AreSignedBut, TellsNext, ready_bit, ready_places}
 pub use Rattle.depot.specs.Store.{IsNextReady, IsStoreWhole, Store, entries_named, entries_of, queue_at, with_entries_at}
-pub use Rattle.depot.specs.Turns.{Enters, IsPlan, IsRoomy, LinesHaveRoom, TurnOutcome, all_entered, arriving, entered_one, is_full_at, is_refusal, no_line, no_turns, notes_of_outcomes, outcome, outcome_at, outcome_of, outcomes, places, room_at, times, turn_at}
+pub use Rattle.depot.specs.Turns.{AreEmptied, CanTake, CanTakeAt, Enters, GainsNone, IsPlan, IsRoomy, LinesHaveRoom, MakesRoom, Promises, SpendsRoom, TurnOutcome, all_entered, arriving, entered_one, is_full_at, is_refusal, no_line, no_turns, notes_of_outcomes, outcome, outcome_at, outcome_of, outcomes, places, room_at, times, turn_at}
 pub use Rattle.depot.specs.declared.plans.Death.{Death}
 pub use Rattle.depot.specs.declared.turns.PlannedTurn.{PlannedTurn}
 pub use Rattle.exchange_graph.specs.Marks.{queue_name}

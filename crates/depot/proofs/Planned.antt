@@ -1,7 +1,6 @@
 -- Deaths, planned and counted one after another.
-use Rattle.depot.proofs.Names.{◌≡◌, ℕ, zero, suc, ◌<◌, ◌≤◌, List, [], ◌∷◌, ◌++◌, length, get_or, refl, sym, ap, subst, ◌∙◌, arith, All, AllPairs, Option, Some, None, append_assoc, inl, inr, ◌⊎◌, take, Bool, true, false, ◌+◌, append-nil, Topology, queue_names, key_after, dead_letter, Message, Text, Entry, DeclaredQueue, Line, Delivery, Death, PlannedTurn, places, room_at, LinesHaveRoom, is_waiting, waiting, AreWithin, MayHaveLetters, IsDeathOf, Plans, PlansAt, given_at, ArePlanned, IsSoundDeath, times_in}
+use Rattle.depot.proofs.Names.{◌≡◌, ℕ, zero, suc, ◌<◌, List, [], ◌∷◌, ◌++◌, length, get_or, refl, sym, ap, subst, ◌∙◌, arith, All, AllPairs, Option, Some, None, append_assoc, take, Bool, true, false, ◌+◌, append-nil, Topology, queue_names, key_after, dead_letter, Message, Text, Entry, DeclaredQueue, Delivery, Death, PlannedTurn, places, is_waiting, waiting, AreWithin, MayHaveLetters, IsDeathOf, Plans, PlansAt, given_at, ArePlanned, IsSoundDeath}
 use Rattle.depot.proofs.Waiting.{waiting_more}
-use Rattle.depot.proofs.Turning.{times_rising, times_or}
 use Rattle.depot.proofs.Naming.{turned_within, turned_rising}
 
 -- ---- one more is planned
@@ -74,29 +73,6 @@ sound_all t c h entries (g ∷ gs) ds n same within are =
     let lt : g.queue < length t.queues = within 0 g (omega arith) in
     sound_first t c h g (given_at c h entries g) are.0 are.1 ds n same (omega (arith, lt, same)) are.2 are.3
     (sound_all t c h entries gs are.1 n same (λ i d l. within (suc i) d (omega (arith, l))) are.4)
-
--- ---- room
-
-rooms_or : (lines : List Line) (n m : ℕ) (ds : List Death) (k : ℕ) → ((j : ℕ) (d : Death) → j < length ds → LinesHaveRoom lines (places (get_or ds j d).turns.items) n) → All (IsSoundDeath m) ds
-    → (times_in k ds ≤ length ds) × ((times_in k ds ≡ 0) ⊎ (n ≤ room_at lines k))
-rooms_or lines n m [] k room sound = (omega arith, inl refl)
-rooms_or lines n m (d ∷ ds) k room sound =
-    let rest = rooms_or lines n m ds k (λ j e lt. room (suc j) e (omega (arith, lt))) (λ j e lt. sound (suc j) e (omega (arith, lt))) in
-    let here : IsSoundDeath m d = sound 0 d (omega arith) in
-    let once = times_rising k (places d.turns.items) here.rising in
-    let few = rest.0 in (
-      omega (arith, once, few),
-      elim (times_or k (places d.turns.items)) [
-        | inl none ↦ (elim rest.1 [ inl others ↦ inl (omega (arith, none, others)) | inr enough ↦ inr enough ])
-        | inr there ↦ inr (let made : LinesHaveRoom lines (places d.turns.items) n = room 0 d (omega arith) in let enough = made there.0 there.1 in let at = ap (λ (p : ℕ). room_at lines p) there.2 in omega (arith, enough, at))
-      ],
-    )
-
-pub rooms : (lines : List Line) (m : ℕ) (ds : List Death) → ((j : ℕ) (d : Death) → j < length ds → LinesHaveRoom lines (places (get_or ds j d).turns.items) (length ds)) → All (IsSoundDeath m) ds → (k : ℕ) → times_in k ds ≤ room_at lines k
-rooms lines m ds room sound k =
-    let both = rooms_or lines (length ds) m ds k room sound in
-    let most = both.0 in
-    elim both.1 [ inl none ↦ omega (arith, none) | inr enough ↦ omega (arith, most, enough) ]
 
 -- ---- names
 

@@ -1,10 +1,10 @@
 -- A message that comes to its queues one after another, by their places in the file.
-use Rattle.std.specs.Prelude.{◌≡◌, ◌<◌, ◌≤◌, ◌+◌, ◌==◌, ℕ, Bool, true, false, cond, if◌then◌else◌, Option, Some, None}
-use Rattle.std.specs.Prelude.{List, [], ◌∷◌, ◌++◌, length, map, slice_get, slice_index_or, slice_set}
+use Rattle.std.specs.Prelude.{◌≡◌, ◌<◌, ◌≤◌, ◌+◌, ◌==◌, ◌⊎◌, ℕ, Bool, true, false, cond, if◌then◌else◌, Option, Some, None}
+use Rattle.std.specs.Prelude.{All, List, [], ◌∷◌, ◌++◌, length, map, slice_get, slice_index_or, slice_set}
 use Rattle.std.specs.List.{list_any}
 use Rattle.model.specs.Words.{Text}
 use Rattle.model.specs.Topology.{Topology, queue_names}
-use Rattle.model.specs.Broker.{ready_bytes, refuses}
+use Rattle.model.specs.Broker.{is_at, limit_of, ready_bytes, refuses}
 use Rattle.model.specs.Message.{Message}
 use Rattle.model.specs.declared.messages.Entry.{Entry}
 use Rattle.model.specs.declared.messages.Mark.TheVariants.{Ready}
@@ -117,6 +117,37 @@ LinesHaveRoom lines targets count = (k : ℕ) → k < length targets → count �
 -- each queue has capacity for as many messages as it occurs in the list
 abbrev pub IsRoomy : List Line → List ℕ → Type 0
 IsRoomy lines targets = (place : ℕ) → times place targets ≤ room_at lines place
+
+-- a queue with this limit has room for `count` messages, or for as many as bring it to the limit
+abbrev pub CanTake : Option ℕ → Line → ℕ → Type 0
+CanTake limit l count = (count ≤ l.room) ⊎ (is_at limit (ready_count l.entries + l.room) ≡ true)
+
+-- the same of the queue at this index
+abbrev pub CanTakeAt : List DeclaredQueue → List Line → ℕ → ℕ → Type 0
+CanTakeAt queues lines place count = CanTake (limit_of (slice_get queues place)) (slice_index_or lines place no_line) count
+
+-- each queue has room for this number of messages more than before
+abbrev pub MakesRoom : List DeclaredQueue → List Line → List Line → (ℕ → ℕ) → Type 0
+MakesRoom queues old new more = (place n : ℕ) → CanTakeAt queues old place n → CanTakeAt queues new place (n + more place)
+
+-- each queue has room for as many messages as before, less this number
+abbrev pub SpendsRoom : List DeclaredQueue → List Line → List Line → (ℕ → ℕ) → Type 0
+SpendsRoom queues old new spent = (place n : ℕ) → CanTakeAt queues old place (n + spent place) → CanTakeAt queues new place n
+
+-- no queue has more room than before
+abbrev pub GainsNone : List Line → List Line → Type 0
+GainsNone old new = (place : ℕ) → room_at new place ≤ room_at old place
+
+-- each queue that something leads to has no room
+abbrev pub AreEmptied : List Line → (ℕ → ℕ) → Type 0
+AreEmptied lines leading = (place : ℕ) → 0 < leading place → room_at lines place ≡ 0
+
+-- Each queue has room for at most this number of messages more than before, and each queue that had none and has some now is listed.
+pub record Promises (old new : List Line) (listed listed' : List ℕ) (leading : ℕ → ℕ) : Type 0 where
+  pub kept : (place : ℕ) → times place listed ≤ times place listed'
+  pub within : All (λ (i : ℕ). i < length old) listed → All (λ (i : ℕ). i < length old) listed'
+  pub named : (place : ℕ) → room_at old place ≡ 0 → 0 < room_at new place → 0 < times place listed'
+  pub few : (place : ℕ) → room_at new place ≤ room_at old place + leading place
 
 -- ---- a publish
 

@@ -5,7 +5,7 @@ ghost use Rattle.depot.specs.Store.{Store, IsStoreWhole, IsQueueNamed};
 
 use crate::entering::enter;
 use crate::givings::Giving;
-use crate::moving::places_in;
+use crate::moving::indices_in;
 use crate::publishing::{note_of, publish_to_many, route_of};
 use crate::purging::purge_in;
 use crate::queues::Queues;
@@ -167,7 +167,7 @@ impl Depot {
         let route = route_of(alloc, &mut self.router, publish, route)?;
         let message = Message::of_publish(alloc, number, publish, content)?;
         let topology = self.router.topology();
-        topology.is_well_formed();
+        topology.ghost_is_well_formed();
         let targets: &[usize] = &route.targets;
         if targets.len() != 1 {
             let routed = publish_to_many(
@@ -219,7 +219,7 @@ impl Depot {
         ensures notes { OnErr result (notes.new.items ≡ notes.old.items) }
     {
         let topology = self.router.topology();
-        topology.is_well_formed();
+        topology.ghost_is_well_formed();
         if gone.len() != 1 {
             return ack_all(alloc, topology, &mut self.queues, id, gone, notes);
         }
@@ -256,7 +256,7 @@ impl Depot {
         ensures store { OnErr result (self.new ≡ self.old) }
         ensures notes { OnErr result (notes.new.items ≡ notes.old.items) }
     {
-        self.router.topology().is_well_formed();
+        self.router.topology().ghost_is_well_formed();
         reject_in(alloc, &mut self.router, &mut self.queues, id, gone, notes)
     }
 
@@ -266,7 +266,7 @@ impl Depot {
         requires { AreWithin self.old.topology (waiting gone.now) }
         ensures { AreSettledBy Returns self.old id.connection id.number (waiting gone.now) [] [] self.new }
     {
-        self.router.topology().is_well_formed();
+        self.router.topology().ghost_is_well_formed();
         requeue_in(&mut self.queues, id, gone);
     }
 
@@ -310,9 +310,9 @@ impl Depot {
     pub fn first_ready(&self, name: &[u8]) -> Option<&Entry>
         ensures { option_map (λ e. e.now) result ≡ find is_ready (entries_named self.now name.now) }
     {
-        self.is_whole();
+        self.ghost_is_whole();
         let place = self.topology().queue_at(name)?;
-        self.is_named(place);
+        self.ghost_is_named(place);
         self.first_ready_at(place)
     }
 
@@ -328,7 +328,7 @@ impl Depot {
         let Some(place) = self.topology().queue_at(name) else {
             return None;
         };
-        self.is_named(place);
+        self.ghost_is_named(place);
         self.take_at(place, how, notes)
     }
 
@@ -343,23 +343,23 @@ impl Depot {
         let Some(place) = self.topology().queue_at(name) else {
             return Ok(0);
         };
-        self.is_named(place);
+        self.ghost_is_named(place);
         self.purge_at(place, notes)
     }
 
     /// Shows the invariant of a depot. Does nothing at run time.
-    pub fn is_whole(&self)
+    pub fn ghost_is_whole(&self)
         ensures { IsStoreWhole self.now }
     {
-        self.router.topology().is_well_formed();
+        self.router.topology().ghost_is_well_formed();
     }
 
-    /// Shows that the queue at index `place` is the one with its name. Does nothing at run time.
-    pub fn is_named(&self, place: usize)
-        requires { place < length self.now.topology.queues }
-        ensures { IsQueueNamed self.now place }
+    /// Shows that the queue at `index` is the one with its name. Does nothing at run time.
+    pub fn ghost_is_named(&self, index: usize)
+        requires { index < length self.now.topology.queues }
+        ensures { IsQueueNamed self.now index }
     {
-        self.is_whole();
+        self.ghost_is_whole();
     }
 
     /// Returns the index of the first queue at or after `from` with a ready message. Looks at a set of indices, not at queues without
@@ -370,49 +370,49 @@ impl Depot {
         self.queues.next_ready(from)
     }
 
-    /// Returns the number of messages of the queue at index `place` that can be given out.
-    pub fn ready_at(&self, place: usize) -> usize
-        requires { place < length self.now.topology.queues }
-        ensures { result ≡ ready_count (queue_at self.now place) }
+    /// Returns the number of messages of the queue at `index` that can be given out.
+    pub fn ready_at(&self, index: usize) -> usize
+        requires { index < length self.now.topology.queues }
+        ensures { result ≡ ready_count (queue_at self.now index) }
     {
-        self.queues.queue(place).ready()
+        self.queues.queue(index).ready()
     }
 
-    /// Returns the first message of the queue at index `place` that can be given out.
-    pub fn first_ready_at(&self, place: usize) -> Option<&Entry>
-        requires { place < length self.now.topology.queues }
-        ensures { option_map (λ e. e.now) result ≡ find is_ready (queue_at self.now place) }
+    /// Returns the first message of the queue at `index` that can be given out.
+    pub fn first_ready_at(&self, index: usize) -> Option<&Entry>
+        requires { index < length self.now.topology.queues }
+        ensures { option_map (λ e. e.now) result ≡ find is_ready (queue_at self.now index) }
     {
-        self.queues.queue(place).first_ready()
+        self.queues.queue(index).first_ready()
     }
 
-    /// Gives out the first ready message of the queue at index `place`, if any. As `how` says, it is held, and the number of its arrival is returned,
+    /// Gives out the first ready message of the queue at `index`, if any. As `how` says, it is held, and the number of its arrival is returned,
     /// by which [`Depot::held`] finds it; or it leaves the queue with a note. Nothing is held there under this tag before, and there is capacity for
     /// the note. Never allocates.
-    pub fn take_at(&mut self, place: usize, how: Giving, notes: &mut Notes) -> Option<u64>
+    pub fn take_at(&mut self, index: usize, how: Giving, notes: &mut Notes) -> Option<u64>
         // What the caller knows: nothing is held under the new tag, or there is capacity for the note.
-        requires within { place < length self.old.topology.queues }
-        requires free { CanGive how (queue_at self.old place) }
+        requires within { index < length self.old.topology.queues }
+        requires free { CanGive how (queue_at self.old index) }
         requires room { HasRoomFor how (vec_len notes.old) (vec_capacity notes.old) }
         // What is returned, what changes, and what is noted.
-        ensures told { TellsArrival how (find is_ready (queue_at self.old place)) result }
-        ensures store { self.new ≡ with_entries_at self.old place (given_so how (queue_at self.old place)) }
-        ensures notes { notes.new.items ≡ notes.old.items ++ given_notes how (find is_ready (queue_at self.old place)) }
+        ensures told { TellsArrival how (find is_ready (queue_at self.old index)) result }
+        ensures store { self.new ≡ with_entries_at self.old index (given_so how (queue_at self.old index)) }
+        ensures notes { notes.new.items ≡ notes.old.items ++ given_notes how (find is_ready (queue_at self.old index)) }
     {
-        let queue = self.queues.queue_mut(place);
+        let queue = self.queues.queue_mut(index);
         let arrival = give(queue, how, notes);
         let ready = queue.ready();
-        self.queues.count_taking(place, ready);
+        self.queues.count_taking(index, ready);
         arrival
     }
 
-    /// Returns the message of the queue at index `place` that is held by `holder`. `arrival` is the number that
+    /// Returns the message of the queue at `index` that is held by `holder`. `arrival` is the number that
     /// [`Depot::take_at`] returned for it.
-    pub fn held(&self, place: usize, holder: &Holder, arrival: u64) -> Option<&Entry>
-        requires { place < length self.now.topology.queues }
-        ensures { option_map (λ e. e.now) result ≡ find (is_held_as holder.now) (queue_at self.now place) }
+    pub fn held(&self, index: usize, holder: &Holder, arrival: u64) -> Option<&Entry>
+        requires { index < length self.now.topology.queues }
+        ensures { option_map (λ e. e.now) result ≡ find (is_held_as holder.now) (queue_at self.now index) }
     {
-        self.queues.queue(place).held(holder, arrival)
+        self.queues.queue(index).held(holder, arrival)
     }
 
     /// Removes the ready messages of the queue at index `place`, in the order in which they arrived, with a note for each, and returns their number.
@@ -427,32 +427,32 @@ impl Depot {
         ensures wanted { OnErr result (0 < ready_count (queue_at self.old place)) }
     {
         let topology = self.router.topology();
-        topology.is_well_formed();
+        topology.ghost_is_well_formed();
         let name = &topology.queue(place).name;
         purge_in(self.queues.queue_mut(place), name, notes)
     }
 
-    /// Returns an iterator over the entries of the queue at index `place`, ready and held, in the order of arrival; empty if there is no such queue.
-    pub fn walk(&self, place: usize) -> Walk<'_>
-        ensures { result ≡ queue_at self.now place }
+    /// Returns an iterator over the entries of the queue at `index`, ready and held, in the order of arrival; empty if there is no such queue.
+    pub fn walk(&self, index: usize) -> Walk<'_>
+        ensures { result ≡ queue_at self.now index }
     {
-        self.queues.walk(place)
+        self.queues.walk(index)
     }
 
     /// Returns, for each queue, the index of the queue with its name in `topology`, or the index past its end if there is none. Fails only if an
     /// allocation fails.
-    pub fn places_in(&self, alloc: Global, topology: &Topology) -> Result<Vec<usize>, AllocError>
+    pub fn indices_in(&self, alloc: Global, topology: &Topology) -> Result<Vec<usize>, AllocError>
         ensures { IfOk result (λ places. AreMoved (queue_names self.now.topology.queues) (queue_names topology.now.queues) places.items) }
     {
-        places_in(alloc, self.router.topology(), topology)
+        indices_in(alloc, self.router.topology(), topology)
     }
 
     /// Moves all messages of `old` into this depot, which has none: each queue gets the messages of its name, each marked as one that a reload found
-    /// there. `places` is `old.places_in(..)`, and no queue that this depot lacks has a message. The count of publishes goes on. Never
+    /// there. `indices` is `old.indices_in(..)`, and no queue that this depot lacks has a message. The count of publishes goes on. Never
     /// allocates; the work for a message is setting its mark.
-    pub fn take_over(&mut self, old: Depot, places: &[usize])
+    pub fn take_over(&mut self, old: Depot, indices: &[usize])
         // What the caller knows of the table and of the queues.
-        requires moved { AreMoved (queue_names old.topology.queues) (queue_names self.old.topology.queues) places.now }
+        requires moved { AreMoved (queue_names old.topology.queues) (queue_names self.old.topology.queues) indices.now }
         requires empty { self.old.queues ≡ replicate (length self.old.topology.queues) [] }
         requires gone { GoneAreEmpty old (queue_names self.old.topology.queues) }
         // Each queue has the entries of its name; the frame.
@@ -460,21 +460,21 @@ impl Depot {
         ensures published { self.new.published ≡ old.published }
         ensures topology { self.new.topology ≡ self.old.topology }
     {
-        self.router.topology().is_well_formed();
-        old.router.topology().is_well_formed();
+        self.router.topology().ghost_is_well_formed();
+        old.router.topology().ghost_is_well_formed();
         let Depot {
             router: _,
             queues,
             published,
             keeps_notes,
         } = old;
-        self.queues.take_over(queues, places);
+        self.queues.take_over(queues, indices);
         self.published = published;
         self.keeps_notes = keeps_notes;
     }
 }
 
 /// Shows that in any depot the queue at an index is the one with its name. Does nothing at run time.
-pub fn places_are_named()
+pub fn ghost_indices_are_named()
     ensures { (s : Store) (place : ℕ) → IsStoreWhole s → place < length s.topology.queues → IsQueueNamed s place }
 {}

@@ -15,12 +15,16 @@ ghost use Rattle.std.specs.Prelude.{
   map,
   cond,
   All,
+  Some,
+  false,
   IfOk,
   OnOk,
   vec_len,
   vec_capacity,
 };
 ghost use Rattle.std.specs.List.{list_any};
+ghost use Rattle.model.specs.Broker.{ready_bytes, refuses};
+ghost use Rattle.queue.specs.Line.{ready_count};
 ghost use Rattle.depot.specs.Store.{entries_of};
 ghost use Rattle.depot.specs.Turns.{
   turn_at,
@@ -36,7 +40,9 @@ ghost use Rattle.depot.specs.Turns.{
   room_at,
   times,
   LinesHaveRoom,
-  IsRoomy,
+  CanTakeAt,
+  SpendsRoom,
+  GainsNone,
 };
 
 use crate::queues::{Queue, Queues};
@@ -117,11 +123,12 @@ pub(crate) fn enter(
     way: Way,
     notes: &mut Notes,
 ) -> bool
-    requires room { 0 < queue.old.room }
+    requires room { refuses (Some declared.now) (ready_count queue.old.entries) (ready_bytes queue.old.entries) (length turn.message.content.body) ≡ false
+        → 0 < queue.old.room }
     requires notes { vec_len notes.old < vec_capacity notes.old }
     ensures refused { result ≡ is_refusal (outcome_at way declared.now queue.old.entries turn) }
     ensures entries { queue.new.entries ≡ queue.old.entries ++ arriving (outcome_at way declared.now queue.old.entries turn).message }
-    ensures room { queue.old.room ≤ queue.new.room + 1 }
+    ensures room { queue.new.room + length (arriving (outcome_at way declared.now queue.old.entries turn).message) ≡ queue.old.room }
     ensures notes { notes.new.items ≡ notes.old.items ++ (outcome_at way declared.now queue.old.entries turn).note ∷ [] }
     ensures notes_len { vec_len notes.new ≡ vec_len notes.old + 1 }
     ensures notes_capacity { vec_capacity notes.new ≡ vec_capacity notes.old }
@@ -159,11 +166,12 @@ fn enter_at(
 ) -> bool
     requires len { length queues.old ≡ length declared.now }
     requires within { turn.place < length queues.old }
-    requires room { 0 < room_at queues.old turn.place }
+    requires room { CanTakeAt declared.now queues.old turn.place 1 }
     requires notes { vec_len notes.old < vec_capacity notes.old }
     ensures refused { result ≡ is_refusal (outcome way declared.now (entries_of queues.old) turn) }
     ensures entries { entries_of queues.new ≡ entered_one (outcome way declared.now (entries_of queues.old) turn) (entries_of queues.old) }
-    ensures spent { (place : ℕ) → room_at queues.old place ≤ room_at queues.new place + cond (place == turn.place) 1 0 }
+    ensures spent { SpendsRoom declared.now queues.old queues.new (λ place. cond (place == turn.place) 1 0) }
+    ensures gains { GainsNone queues.old queues.new }
     ensures len { length queues.new ≡ length queues.old }
     ensures notes { notes.new.items ≡ notes.old.items ++ (outcome way declared.now (entries_of queues.old) turn).note ∷ [] }
     ensures notes_len { vec_len notes.new ≡ vec_len notes.old + 1 }
@@ -187,11 +195,12 @@ pub(crate) fn enter_all(
 ) -> bool
     requires len { length queues.old ≡ length declared.now }
     requires within { All (λ i. i < length queues.old) (places turns.items) }
-    requires room { IsRoomy queues.old (places turns.items) }
+    requires room { (place : ℕ) → CanTakeAt declared.now queues.old place (times place (places turns.items)) }
     requires notes { vec_len notes.old + vec_len turns ≤ vec_capacity notes.old }
     ensures refused { result ≡ list_any is_refusal (outcomes way declared.now turns.items (entries_of queues.old)) }
     ensures entries { entries_of queues.new ≡ all_entered (outcomes way declared.now turns.items (entries_of queues.old)) (entries_of queues.old) }
-    ensures spent { (place : ℕ) → room_at queues.old place ≤ room_at queues.new place + times place (places turns.items) }
+    ensures spent { SpendsRoom declared.now queues.old queues.new (λ place. times place (places turns.items)) }
+    ensures gains { GainsNone queues.old queues.new }
     ensures len { length queues.new ≡ length queues.old }
     ensures notes { notes.new.items ≡ notes.old.items ++ notes_of_outcomes (outcomes way declared.now turns.items (entries_of queues.old)) }
     ensures notes_len { vec_len notes.new ≡ vec_len notes.old + vec_len turns }

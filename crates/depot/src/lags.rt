@@ -27,21 +27,21 @@ impl Lags {
         Ok(Lags { left, count: 0 })
     }
 
-    /// Records that a message was taken from the queue at index `place`, behind which `ready` can be given out.
-    pub(crate) fn take(&mut self, place: usize, ready: usize) {
-        if place < self.left.len() {
-            self.left[place] = if ready > MANY {
-                self.left[place].saturating_add(COUNTED).min(MOST_COUNTED)
+    /// Records that a message was taken from the queue at `index`, behind which `ready` can be given out.
+    pub(crate) fn take(&mut self, index: usize, ready: usize) {
+        if index < self.left.len() {
+            self.left[index] = if ready > MANY {
+                self.left[index].saturating_add(COUNTED).min(MOST_COUNTED)
             } else {
                 0
             };
         }
     }
 
-    /// Counts a message that enters the queue at index `place` if that lags, unless `is_exempt`: it was refused there, or is a dead letter.
-    pub(crate) fn come(&mut self, place: usize, is_exempt: bool) {
-        if !is_exempt && place < self.left.len() && self.left[place] > 0 {
-            self.left[place] -= 1;
+    /// Counts a message that enters the queue at `index` if that lags, unless `is_exempt`: it was refused there, or is a dead letter.
+    pub(crate) fn come(&mut self, index: usize, is_exempt: bool) {
+        if !is_exempt && index < self.left.len() && self.left[index] > 0 {
+            self.left[index] -= 1;
             self.count = self.count.wrapping_add(1);
         }
     }

@@ -13,6 +13,7 @@ mod markers;
 mod marking;
 mod moving;
 mod plans;
+mod promising;
 mod publishing;
 mod purging;
 mod queues;
@@ -22,5 +23,5 @@ mod signs;
 mod taking;
 mod turns;
 
-pub use depots::{Depot, Routed, places_are_named};
+pub use depots::{Depot, Routed, ghost_indices_are_named};
 pub use givings::Giving;

@@ -26,7 +26,7 @@ fn place_in(topology: &Topology, name: &[u8]) -> usize
 
 /// Returns, for each queue of `old`, the index of the queue with its name in `new`, or the index past the end if there is none. Looks each name up
 /// once. Fails only if an allocation fails.
-pub(crate) fn places_in(
+pub(crate) fn indices_in(
     alloc: Global,
     old: &Topology,
     new: &Topology,
@@ -50,7 +50,7 @@ fn exchange_at(queues: &mut [Queue], place: usize, old: &mut [Queue], from: usiz
     ensures rest { drop (from + 1) (entries_of old.new) ≡ drop (from + 1) (entries_of old.old) }
     ensures old_len { length old.new ≡ length old.old }
 {
-    old[from].stand_all();
+    old[from].mark_reloaded();
     swap(&mut queues[place], &mut old[from]);
 }
 

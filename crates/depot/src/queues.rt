@@ -117,30 +117,30 @@ impl Queues {
         })
     }
 
-    /// Returns the queue at index `place`.
-    pub(crate) fn queue(&self, place: usize) -> &Queue
-        requires { place < length self.now }
-        ensures { result.now.entries ≡ slice_index_or (entries_of self.now) place [] }
+    /// Returns the queue at `index`.
+    pub(crate) fn queue(&self, index: usize) -> &Queue
+        requires { index < length self.now }
+        ensures { result.now.entries ≡ slice_index_or (entries_of self.now) index [] }
     {
-        &self.queues[place]
+        &self.queues[index]
     }
 
-    /// Borrows the queue at index `place` mutably. Never allocates.
-    pub(crate) fn queue_mut(&mut self, place: usize) -> &mut Queue
-        requires { place < length self.old }
-        ensures* writes_back { sem 𝓛 (LendsQueue self.entry place result) }
-        ensures value { result.now ≡ slice_index_or self.old place no_line }
+    /// Borrows the queue at `index` mutably. Never allocates.
+    pub(crate) fn queue_mut(&mut self, index: usize) -> &mut Queue
+        requires { index < length self.old }
+        ensures* writes_back { sem 𝓛 (LendsQueue self.entry index result) }
+        ensures value { result.now ≡ slice_index_or self.old index no_line }
     {
-        move_loan(&self.queues, &mut self.signs, self.lent, place);
-        self.lent = place;
-        &mut self.queues[place]
+        move_loan(&self.queues, &mut self.signs, self.lent, index);
+        self.lent = index;
+        &mut self.queues[index]
     }
 
-    /// Returns an iterator over the entries of the queue at index `place`, in the order of arrival; empty if there is no such queue.
-    pub(crate) fn walk(&self, place: usize) -> Walk<'_>
-        ensures { result ≡ slice_index_or (entries_of self.now) place [] }
+    /// Returns an iterator over the entries of the queue at `index`, in the order of arrival; empty if there is no such queue.
+    pub(crate) fn walk(&self, index: usize) -> Walk<'_>
+        ensures { result ≡ slice_index_or (entries_of self.now) index [] }
     {
-        match self.queues.get(place) {
+        match self.queues.get(index) {
             Some(queue) => queue.walk(),
             None => Walk::empty(),
         }
@@ -153,18 +153,18 @@ impl Queues {
         next_in(&self.queues, &self.signs, self.lent, from)
     }
 
-    /// Counts a message that entered the queue at index `place` if that lags, unless `is_exempt`.
-    pub(crate) fn count_coming(&mut self, place: usize, is_exempt: bool)
+    /// Counts a message that entered the queue at `index` if that lags, unless `is_exempt`.
+    pub(crate) fn count_coming(&mut self, index: usize, is_exempt: bool)
         ensures { self.new ≡ self.old }
     {
-        self.lags.come(place, is_exempt);
+        self.lags.come(index, is_exempt);
     }
 
-    /// Records that a message was taken from the queue at index `place`, behind which `ready` can be given out.
-    pub(crate) fn count_taking(&mut self, place: usize, ready: usize)
+    /// Records that a message was taken from the queue at `index`, behind which `ready` can be given out.
+    pub(crate) fn count_taking(&mut self, index: usize, ready: usize)
         ensures { self.new ≡ self.old }
     {
-        self.lags.take(place, ready);
+        self.lags.take(index, ready);
     }
 
     /// Returns how many messages have entered queues that lagged.
@@ -172,11 +172,11 @@ impl Queues {
         self.lags.count()
     }
 
-    /// Moves each queue of `old` to the index that `places` has for it, if there is one, each entry marked as one that a reload found there. Never
+    /// Moves each queue of `old` to the index that `indices` has for it, if there is one, each entry marked as one that a reload found there. Never
     /// allocates.
-    pub(crate) fn take_over(&mut self, old: Queues, places: &[usize])
-        requires { length places.now ≡ length old }
-        ensures entries { entries_of self.new ≡ taken places.now (entries_of old) (entries_of self.old) }
+    pub(crate) fn take_over(&mut self, old: Queues, indices: &[usize])
+        requires { length indices.now ≡ length old }
+        ensures entries { entries_of self.new ≡ taken indices.now (entries_of old) (entries_of self.old) }
         ensures len { length self.new ≡ length self.old }
     {
         let Queues {
@@ -185,6 +185,6 @@ impl Queues {
             lent: _,
             lags: _,
         } = old;
-        take_over_in(&mut self.queues, &mut self.signs, &mut left, places);
+        take_over_in(&mut self.queues, &mut self.signs, &mut left, indices);
     }
 }

@@ -5,13 +5,14 @@ ghost use Rattle.std.specs.Prelude.{true, false, IfOk, OnOk, OnErr, vec_len, vec
 ghost use Rattle.model.specs.Routing.{key_after};
 ghost use Rattle.depot.specs.declared.plans.Death.{Death as Planned};
 ghost use Rattle.depot.specs.Store.{entries_of};
-ghost use Rattle.depot.specs.Turns.{places, room_at, times, IsRoomy};
+ghost use Rattle.depot.specs.Turns.{places, times, CanTakeAt, SpendsRoom, GainsNone, AreEmptied, Promises};
 ghost use Rattle.model.specs.Placed.{is_waiting, waiting, AreWithin};
 ghost use Rattle.depot.specs.Dying.{LettersAt, PlansAt, ArePlanned, died, death_notes, died_all, all_notes, IsSoundDeath, notes_in, times_in, Rejects};
 
-use crate::entering::{enter_all, make_room, turns};
+use crate::entering::{enter_all, turns};
 use crate::markers::Marker;
 use crate::plans::Death;
+use crate::promising::{give_back_all, give_back_turns, promise_turns};
 use crate::queues::Queues;
 use crate::turns::PlannedTurn;
 use exchange_graph::Router;
@@ -141,15 +142,36 @@ fn plan(
     Ok(deaths)
 }
 
-/// Makes room for every dead letter in each queue to which it may come.
-fn make_rooms(queues: &mut Queues, deaths: &[Death]) -> Result<(), AllocError>
+/// Gives back the room of each queue that these deaths are routed to. Never allocates.
+fn give_back_targets(queues: &mut Queues, deaths: &[Death])
     requires { All (IsSoundDeath (length queues.old)) deaths.now }
     ensures same { entries_of queues.new ≡ entries_of queues.old }
     ensures len { length queues.new ≡ length queues.old }
-    ensures room { OnOk result ((place : ℕ) → times_in place deaths.now ≤ room_at queues.new place) }
+    ensures gains { GainsNone queues.old queues.new }
+    ensures emptied { AreEmptied queues.new (λ place. times_in place deaths.now) }
 {
     for death in deaths {
-        make_room(queues, &death.turns, deaths.len())?;
+        give_back_turns(queues, &death.turns);
+    }
+}
+
+/// Reserves room for the dead letters in each routed queue, but no more than its limit leaves. Appends the index of each queue that had no room
+/// to `roomy`. Fails only if an allocation fails; some of the room may be reserved then.
+fn make_rooms(
+    declared: &[DeclaredQueue],
+    queues: &mut Queues,
+    deaths: &[Death],
+    roomy: &mut Vec<usize>,
+) -> Result<(), AllocError>
+    requires len { length queues.old ≡ length declared.now }
+    requires sound { All (IsSoundDeath (length queues.old)) deaths.now }
+    ensures same { entries_of queues.new ≡ entries_of queues.old }
+    ensures len { length queues.new ≡ length queues.old }
+    ensures room { OnOk result ((place : ℕ) → CanTakeAt declared.now queues.new place (times_in place deaths.now)) }
+    ensures promises { Promises queues.old queues.new roomy.old.items roomy.new.items (λ place. times_in place deaths.now) }
+{
+    for death in deaths {
+        promise_turns(declared, queues, &death.turns, roomy)?;
     }
     Ok(())
 }
@@ -169,10 +191,11 @@ fn count_notes(deaths: &[Death]) -> usize
 fn die(declared: &[DeclaredQueue], queues: &mut Queues, death: Death, notes: &mut Notes)
     requires len { length queues.old ≡ length declared.now }
     requires sound { IsSoundDeath (length queues.old) death }
-    requires room { IsRoomy queues.old (places death.turns.items) }
+    requires room { (place : ℕ) → CanTakeAt declared.now queues.old place (times place (places death.turns.items)) }
     requires notes { vec_len notes.old + 1 + vec_len death.turns ≤ vec_capacity notes.old }
     ensures entries { entries_of queues.new ≡ died declared.now death (entries_of queues.old) }
-    ensures spent { (place : ℕ) → room_at queues.old place ≤ room_at queues.new place + times place (places death.turns.items) }
+    ensures spent { SpendsRoom declared.now queues.old queues.new (λ place. times place (places death.turns.items)) }
+    ensures gains { GainsNone queues.old queues.new }
     ensures len { length queues.new ≡ length queues.old }
     ensures notes { notes.new.items ≡ notes.old.items ++ death_notes declared.now death (entries_of queues.old) }
     ensures notes_len { vec_len notes.new ≡ vec_len notes.old + 1 + vec_len death.turns }
@@ -194,10 +217,11 @@ fn die(declared: &[DeclaredQueue], queues: &mut Queues, death: Death, notes: &mu
 fn perform(declared: &[DeclaredQueue], queues: &mut Queues, deaths: Vec<Death>, notes: &mut Notes)
     requires len { length queues.old ≡ length declared.now }
     requires sound { All (IsSoundDeath (length queues.old)) deaths.items }
-    requires room { (place : ℕ) → times_in place deaths.items ≤ room_at queues.old place }
+    requires room { (place : ℕ) → CanTakeAt declared.now queues.old place (times_in place deaths.items) }
     requires notes { vec_len notes.old + notes_in deaths.items ≤ vec_capacity notes.old }
     ensures entries { entries_of queues.new ≡ died_all declared.now deaths.items (entries_of queues.old) }
     ensures len { length queues.new ≡ length queues.old }
+    ensures gains { GainsNone queues.old queues.new }
     ensures notes { notes.new.items ≡ notes.old.items ++ all_notes declared.now deaths.items (entries_of queues.old) }
 {
     for death in deaths {
@@ -224,10 +248,19 @@ pub(crate) fn reject_in(
     ensures len { length queues.new ≡ length queues.old }
     ensures queues { OnErr result (entries_of queues.new ≡ entries_of queues.old) }
     ensures notes { OnErr result (notes.new.items ≡ notes.old.items) }
+    // what was reserved and not used is given back
+    ensures gains { GainsNone queues.old queues.new }
 {
     let deaths = plan(alloc, router, queues, id, gone)?;
-    make_rooms(queues, &deaths)?;
     notes.reserve_exact(count_notes(&deaths))?;
-    perform(router.topology().queues(), queues, deaths, notes);
+    give_back_targets(queues, &deaths);
+    let declared = router.topology().queues();
+    let mut roomy = Vec::new(alloc);
+    if make_rooms(declared, queues, &deaths, &mut roomy).is_err() {
+        give_back_all(queues, &roomy);
+        return Err(AllocError);
+    }
+    perform(declared, queues, deaths, notes);
+    give_back_all(queues, &roomy);
     Ok(())
 }

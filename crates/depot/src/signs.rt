@@ -70,13 +70,13 @@ impl QueueSigns {
         Ok(QueueSigns { ready })
     }
 
-    /// Sets the bit of index `place` to whether `queue` has a ready message. Never allocates.
-    pub(crate) fn sign(&mut self, place: usize, queue: &Queue)
-        requires { place < length self.old * 64 }
-        ensures bit { Differs (bit_of self.old) (bit_of self.new) place (ready_bit queue.now.entries) }
+    /// Sets the bit of `index` to whether `queue` has a ready message. Never allocates.
+    pub(crate) fn sign(&mut self, index: usize, queue: &Queue)
+        requires { index < length self.old * 64 }
+        ensures bit { Differs (bit_of self.old) (bit_of self.new) index (ready_bit queue.now.entries) }
         ensures len { length self.new ≡ length self.old }
     {
-        put(&mut self.ready, place, has_ready(queue));
+        put(&mut self.ready, index, has_ready(queue));
     }
 
     /// Returns the first index of the set at or after `from`.

@@ -200,7 +200,7 @@ next_read c k s e broke new (inr h) = (
 -- it stays where memory was refused
 pub stays_refused : (l : Connection) (s : Session) (k : Option Event) (o : WaitingBytes) → s ≡ l.session → k ≡ kept_for l.kept → o.bytes ≡ l.output.bytes → HoldsNone o
     → ConnectionStays l (record l { session = s; kept = k; output = o })
-stays_refused l s k o session left bytes none = record { rest = λ i. record { number = l.number; session = session i; stream = l.stream; kept = left i; output = o }; bytes = bytes; none = none }
+stays_refused l s k o session left bytes none = record { rest = λ i. record { number = l.number; session = session i; stream = l.stream; kept = left i; output = o; allowance = l.allowance }; bytes = bytes; none = none }
 
 -- ---- what is read was there
 

@@ -14,7 +14,7 @@ pub record IsPut (old : WithTurn) (offered : Config) (new : WithTurn) : Type 0 w
   pub topology : topology_kept new ≡ offered.topology
   pub broker : Is (with_all_stood (broker_of old)) (broker_of new)
 
--- It was not put in force: the first obstacle is reported, or an allocation failed, and nothing has changed.
+-- The topology was not put in force: the first obstacle is reported, or an allocation failed, and nothing has changed.
 abbrev pub TellsNotPut : WithTurn → Config → Option Obstacle → WithTurn → Type 0
 TellsNotPut old offered (Some o) new = IsObstacle (topology_kept old) offered (broker_of old) o × (new ≡ old)
 TellsNotPut old offered None new = new ≡ old

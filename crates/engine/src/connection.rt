@@ -6,6 +6,7 @@ ghost use Rattle.model.specs.Opening.{new_session};
 ghost use Rattle.model.specs.Commands.{opened_stream, running_stream};
 ghost use Rattle.engine.specs.World.{is_connection_gone, IsNew};
 
+use crate::reserve::FIRST_ALLOWANCE;
 use assembly::Stream;
 use model::{Event, Phase};
 use outputs::Output;
@@ -24,6 +25,8 @@ pub(crate) struct Connection {
     /// The pending event: read and not performed yet. Between turns it is a command for which an allocation failed.
     pub(crate) kept: Option<Event>,
     pub(crate) output: Output,
+    /// The most bytes of unread input with which its reading may use the memory of the reserve, by the last command that was performed.
+    pub(crate) allowance: usize,
 }
 
 /// Written out so that a drop is one call.
@@ -35,6 +38,7 @@ impl Drop for Connection {
             stream: _,
             kept,
             output: _,
+            allowance: _,
         } = self;
         drop(kept);
     }
@@ -53,6 +57,7 @@ impl Connection {
             stream,
             kept: None,
             output: Output::new(alloc),
+            allowance: FIRST_ALLOWANCE,
         }
     }
 
@@ -66,6 +71,7 @@ impl Connection {
             stream: Stream::running(alloc),
             kept: None,
             output: Output::new(alloc),
+            allowance: FIRST_ALLOWANCE,
         }
     }
 

@@ -34,7 +34,7 @@ use std::alloc::AllocError;
 
 /// Returns the index of connection `number`, if it is in the list. Tries the remembered index first, and falls back to a binary
 /// search.
-pub(crate) fn connection_place(
+pub(crate) fn connection_index(
     connections: &[Connection],
     places: &Places,
     number: u64,
@@ -51,7 +51,7 @@ pub(crate) fn connection_place(
 
 /// Returns the index of connection `number`, which is in the list. Tries the remembered index first, and falls back to a binary
 /// search.
-pub(crate) fn known_place(connections: &[Connection], places: &Places, number: u64) -> usize
+pub(crate) fn known_index(connections: &[Connection], places: &Places, number: u64) -> usize
     requires rising { AreRising 0 connections.now }
     requires there { HasConnection connections.now number }
     ensures place { IsConnectionPlace connections.now number (Some result) }
@@ -87,31 +87,31 @@ fn place_by_search(connections: &[Connection], number: u64) -> Option<usize>
     }
 }
 
-/// Removes the connection at index `place` if it is over and its output is empty, and remembers the new indices of those
+/// Removes the connection at `index` if it is over and its output is empty, and remembers the new indices of those
 /// behind it.
-pub(crate) fn sweep(places: &mut Places, connections: &mut Vec<Connection>, place: usize)
-    requires { place < length connections.old.items }
-    ensures { (l : seen.Connection) → get_or connections.old.items place l ≡ l → IsSwept connections.old.items place l connections.new.items }
+pub(crate) fn sweep(places: &mut Places, connections: &mut Vec<Connection>, index: usize)
+    requires { index < length connections.old.items }
+    ensures { (l : seen.Connection) → get_or connections.old.items index l ≡ l → IsSwept connections.old.items index l connections.new.items }
 {
-    if connections[place].is_gone() {
-        connections.remove(place);
-        places.learn_from(connections, place);
+    if connections[index].is_gone() {
+        connections.remove(index);
+        places.learn_from(connections, index);
     }
 }
 
-/// Sweeps after a turn of the connection at index `place`, if the turn performed something. Otherwise the connection is not gone.
+/// Sweeps after a turn of the connection at `index`, if the turn performed something. Otherwise the connection is not gone.
 pub(crate) fn sweep_after(
     turn: &Result<Turn, AllocError>,
     places: &mut Places,
     connections: &mut Vec<Connection>,
-    place: usize,
+    index: usize,
 )
-    requires within { place < length connections.old.items }
-    requires stands { performs turn.now ≡ false → IsStanding connections.old.items place }
-    ensures { (l : seen.Connection) → get_or connections.old.items place l ≡ l → IsSwept connections.old.items place l connections.new.items }
+    requires within { index < length connections.old.items }
+    requires stands { performs turn.now ≡ false → IsStanding connections.old.items index }
+    ensures { (l : seen.Connection) → get_or connections.old.items index l ≡ l → IsSwept connections.old.items index l connections.new.items }
 {
     if has_performed(turn) {
-        sweep(places, connections, place);
+        sweep(places, connections, index);
     }
 }
 
@@ -135,14 +135,14 @@ pub(crate) fn take_from(
     resume_if(broker, connection.number, was, is);
 }
 
-/// Removes the connection at index `place`, which was lost. The storage of its output becomes spare, even if bytes are left in it, unless 256
+/// Removes the connection at `index`, which was lost. The storage of its output becomes spare, even if bytes are left in it, unless 256
 /// are spare or it has grown past 1,125,536 bytes.
-pub(crate) fn remove_lost(spares: &mut Spares, connections: &mut Vec<Connection>, place: usize)
-    requires { place < length connections.old.items }
-    ensures left { connections.new.items ≡ remove connections.old.items place }
-    ensures kept { (l : seen.Connection) → get_or connections.old.items place l ≡ l → IsSpared spares.old l spares.new }
+pub(crate) fn remove_lost(spares: &mut Spares, connections: &mut Vec<Connection>, index: usize)
+    requires { index < length connections.old.items }
+    ensures left { connections.new.items ≡ remove connections.old.items index }
+    ensures kept { (l : seen.Connection) → get_or connections.old.items index l ≡ l → IsSpared spares.old l spares.new }
 {
-    let mut lost = connections.remove(place);
+    let mut lost = connections.remove(index);
     spares.take_lost(&mut lost.output);
 }
 
@@ -161,5 +161,6 @@ pub(crate) fn feed_connection(
     if connection.session.is_over() {
         return Ok(());
     }
-    feed(spares, &mut connection.stream, bytes)
+    let allowance = connection.allowance;
+    feed(spares, &mut connection.stream, bytes, allowance)
 }

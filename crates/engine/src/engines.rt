@@ -19,7 +19,7 @@ ghost use Rattle.engine.specs.InForce.{in_force};
 
 use crate::connection::Connection;
 use crate::connections::{
-    connection_place, feed_connection, known_place, remove_lost, sweep, sweep_after, take_from,
+    connection_index, feed_connection, known_index, remove_lost, sweep, sweep_after, take_from,
 };
 use crate::places::Places;
 use crate::pumping::pump_connection;
@@ -36,7 +36,8 @@ use std::marker::Model;
 /// The greatest number of connections that are not gone.
 const MOST_CONNECTIONS: usize = 1024;
 
-/// The number of a connection. Numbers count from 1 in the order of the openings, and none is given twice.
+/// The number of a connection. Connections are numbered from 1 in the order in which they are opened, and no number is used
+/// twice.
 pub type ConnId = u64;
 
 /// Why no connection was opened.
@@ -44,7 +45,7 @@ pub type ConnId = u64;
 pub enum Refused {
     /// 1,024 connections are not gone.
     Full,
-    /// The last number was given.
+    /// No connection number is left.
     Spent,
     /// An allocation failed.
     Memory,
@@ -185,7 +186,7 @@ impl Engine {
         // The frame: the broker is not touched.
         ensures broker { self.new.broker ≡ self.old.broker }
     {
-        match connection_place(&self.connections, &self.places, c) {
+        match connection_index(&self.connections, &self.places, c) {
             Some(place) => {
                 feed_connection(&mut self.spares, &mut self.connections[place], bytes)
             }
@@ -212,7 +213,7 @@ impl Engine {
         ensures turns { IfOk result (λ t. TurnLeaves c ((world_of self.old).wire c) self.old.broker t self.new.broker) }
         ensures broker { OnErr result (self.new.broker ≡ self.old.broker) }
     {
-        let Some(place) = connection_place(&self.connections, &self.places, c) else {
+        let Some(place) = connection_index(&self.connections, &self.places, c) else {
             return Ok(Turn::Over);
         };
         let turn = turn_connection(
@@ -249,7 +250,7 @@ impl Engine {
             return Ok(None);
         };
         let connection = pick.connection;
-        let place = known_place(&self.connections, &self.places, connection);
+        let place = known_index(&self.connections, &self.places, connection);
         let notes = pump_connection(
             alloc,
             &mut self.broker,
@@ -266,7 +267,7 @@ impl Engine {
         ensures taken { TakesAway (world_of self.old) c n (world_of self.new) }
         ensures turns { KeepsTurns self.old.broker self.new.broker }
     {
-        let Some(place) = connection_place(&self.connections, &self.places, c) else {
+        let Some(place) = connection_index(&self.connections, &self.places, c) else {
             return;
         };
         take_from(
@@ -283,7 +284,7 @@ impl Engine {
         ensures lost { IsLost (world_of self.old) c (world_of self.new) }
         ensures turns { KeepsTurns self.old.broker self.new.broker }
     {
-        if let Some(place) = connection_place(&self.connections, &self.places, c) {
+        if let Some(place) = connection_index(&self.connections, &self.places, c) {
             self.broker.lose(c);
             remove_lost(&mut self.spares, &mut self.connections, place);
             self.places.learn_from(&self.connections, place);
@@ -294,7 +295,7 @@ impl Engine {
     pub fn output(&self, c: ConnId) -> &[u8]
         ensures { result.now ≡ ((world_of self.now).wire c).output }
     {
-        match connection_place(&self.connections, &self.places, c) {
+        match connection_index(&self.connections, &self.places, c) {
             Some(place) => self.connections[place].output.bytes(),
             None => &[],
         }
@@ -304,7 +305,7 @@ impl Engine {
     pub fn is_over(&self, c: ConnId) -> bool
         ensures { result ≡ is_over (world_of self.now) c }
     {
-        match connection_place(&self.connections, &self.places, c) {
+        match connection_index(&self.connections, &self.places, c) {
             Some(place) => self.connections[place].session.is_over(),
             None => true,
         }
@@ -314,7 +315,7 @@ impl Engine {
     pub fn runs(&self, c: u64) -> bool
         ensures { result ≡ runs (world_of self.now) c }
     {
-        match connection_place(&self.connections, &self.places, c) {
+        match connection_index(&self.connections, &self.places, c) {
             Some(place) => self.connections[place].runs(),
             None => false,
         }
@@ -326,7 +327,7 @@ impl Engine {
     }
 
     /// Shows that what is in force is sound: the topology is well formed, and its guarantees hold. Does nothing at run time.
-    pub fn is_sound(&self)
+    pub fn ghost_is_sound(&self)
         ensures { IsSound (world_of self.now).config }
     {
         // Borrowing a field brings the invariant of an engine into scope.
@@ -335,7 +336,7 @@ impl Engine {
 
     /// Shows that each message is in a queue of the topology, and that no guarantee forbids it any queue that it can still reach by dead-lettering,
     /// nor, unless the last reload found it there, the queue that it is in. So before any reload no message is in a queue that is forbidden it.
-    pub fn is_safe(&self)
+    pub fn ghost_is_safe(&self)
         ensures kept { AreKept (world_of self.now).config (world_of self.now).state.broker }
         ensures safe { NoneStood (world_of self.now).state.broker
             → AreSafe (world_of self.now).config.topology (world_of self.now).config.guarantees (world_of self.now).state.broker }

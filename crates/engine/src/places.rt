@@ -21,17 +21,17 @@ impl Places {
         })
     }
 
-    /// Remembers that connection `number` is at index `place`.
-    pub(crate) fn learn(&mut self, number: u64, place: usize) {
+    /// Remembers that connection `number` is at `index`.
+    pub(crate) fn learn(&mut self, number: u64, index: usize) {
         let at = number as usize % REMEMBERED;
         if at < self.places.len() {
-            self.places[at] = (place % 65_536) as u16;
+            self.places[at] = (index % 65_536) as u16;
         }
     }
 
-    /// Remembers the indices of all connections from index `place` on.
-    pub(crate) fn learn_from(&mut self, connections: &[Connection], place: usize) {
-        for at in place..connections.len() {
+    /// Remembers the indices of all connections from `index` on.
+    pub(crate) fn learn_from(&mut self, connections: &[Connection], index: usize) {
+        for at in index..connections.len() {
             self.learn(connections[at].number, at);
         }
     }

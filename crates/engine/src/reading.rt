@@ -14,11 +14,13 @@ use outputs::Spares;
 use std::alloc::AllocError;
 
 /// Reads the next event of connection `number` into `kept`, unless one is pending: the next command in its bytes, or the fault that they
-/// end in. Fails only if an allocation fails; nothing is pending then, and the same event comes next.
+/// end in. The reserve is freed for it only up to `allowance` unread bytes. Fails only if an allocation fails; nothing is pending then, and
+/// the same event comes next.
 pub(crate) fn read_next(
     number: u64,
     spares: &mut Spares,
     stream: &mut Stream,
+    allowance: usize,
     kept: &mut Option<Event>,
 ) -> Result<(), AllocError>
     requires { IsKeptEvent number kept.old stream.old.fault }
@@ -30,7 +32,7 @@ pub(crate) fn read_next(
     if kept.is_some() {
         return Ok(());
     }
-    match next(spares, stream) {
+    match next(spares, stream, allowance) {
         Ok(Some(command)) => {
             keep(kept, number, command);
             Ok(())

@@ -1,9 +1,10 @@
 //! Calls that retry with the memory of the reserve.
 //!
 //! The spare storages of the outputs are the reserve. If an allocation fails, they are freed, and the call is made again. Only a command that
-//! brings a message in, which a publish does, leaves them alone: it is performed only while the reserve is whole.
+//! brings a message in, which a publish does, leaves them alone: it is performed only while the reserve is whole. Reading uses them only up to
+//! the connection's allowance, a number of unread bytes, so that publishers that press on don't take what others need to empty their queues.
 
-ghost use Rattle.std.specs.Prelude.{◌≡◌, ◌≤◌, ◌<◌, None, IsOk, IfOk, OnOk, OnErr, length, true, false};
+ghost use Rattle.std.specs.Prelude.{◌≡◌, ◌≤◌, ◌<◌, ◌+◌, None, IsOk, IfOk, OnOk, OnErr, length, true, false};
 ghost use Rattle.model.specs.Arrivals.{IsSaid};
 ghost use Rattle.model.specs.Commands.{heard};
 ghost use Rattle.model.specs.Naming.{AreNamed};
@@ -22,10 +23,34 @@ ghost use Rattle.engine.specs.Wanting.{brings_message as brings, IsFreed, IsHeld
 use crate::performing;
 use assembly::{Fault, Stream};
 use broker::{Broker, Pick, Step};
-use model::{Command, Event, User};
+use model::{Command, Event, Method, User};
 use outputs::{Output, Spares};
 use session::Session;
 use std::alloc::{AllocError, Global};
+
+/// The allowance in bytes of a connection until its first command: a login is shorter.
+pub(crate) const FIRST_ALLOWANCE: usize = 4096;
+
+/// The allowance in bytes of a connection that settles messages, which frees memory: what two reads of its socket give at most.
+const SETTLING_ALLOWANCE: usize = 131_072;
+
+/// Returns the allowance in bytes of a connection whose last command was `event`: 0 after a publish, [`SETTLING_ALLOWANCE`] after an ack, nack
+/// or reject, and otherwise [`FIRST_ALLOWANCE`].
+pub(crate) fn allowance_after(event: &Event) -> usize
+    ensures none { brings event.now ≡ true → result ≡ 0 }
+{
+    match event {
+        Event::Command {
+            content: Some(_),
+            ..
+        } => 0,
+        Event::Command {
+            method: Method::BasicAck(_) | Method::BasicNack(_) | Method::BasicReject(_),
+            ..
+        } => SETTLING_ALLOWANCE,
+        _ => FIRST_ALLOWANCE,
+    }
+}
 
 /// Returns whether `event` is a command with a content, which a publish is.
 fn brings_message(event: &Event) -> bool
@@ -65,17 +90,36 @@ fn release_for(spares: &mut Spares, event: &Event) -> Result<(), AllocError>
     Ok(())
 }
 
-/// Appends `bytes` to the unread input of `stream`, if necessary with the memory of the reserve. If that fails, nothing has changed, and at
-/// most 2 storages are spare.
-pub(crate) fn feed(spares: &mut Spares, stream: &mut Stream, bytes: &[u8]) -> Result<(), AllocError>
+/// Returns whether `unread` and `more` bytes together are at most `allowance`.
+fn is_within(unread: usize, more: usize, allowance: usize) -> bool
+    ensures yes { result ≡ true → unread + more ≤ allowance }
+    ensures no { result ≡ false → allowance < unread + more }
+{
+    match unread.checked_add(more) {
+        Some(sum) => sum <= allowance,
+        None => false,
+    }
+}
+
+/// Appends `bytes` to the unread input of `stream`, if necessary with the memory of the reserve, which is freed only for at most `allowance`
+/// unread bytes. If it fails, nothing has changed.
+pub(crate) fn feed(
+    spares: &mut Spares,
+    stream: &mut Stream,
+    bytes: &[u8],
+    allowance: usize,
+) -> Result<(), AllocError>
     ensures ok { OnOk result (stream_of stream.new ≡ heard (stream_of stream.old) bytes.now) }
     ensures err { OnErr result (stream.new ≡ stream.old) }
     ensures full { OnErr result (stream.old.room < length bytes.now) }
     ensures fault { stream.new.fault ≡ stream.old.fault }
-    ensures last { OnErr result (IsFreed spares.new) }
+    // The reserve is freed before a failure within the allowance, and left alone past it.
+    ensures last { OnErr result (length (stream_of stream.old).unread + length bytes.now ≤ allowance → IsFreed spares.new) }
+    ensures whole { allowance < length (stream_of stream.old).unread + length bytes.now → spares.new ≡ spares.old }
 {
+    let is_little = is_within(stream.unread(), bytes.len(), allowance);
     match stream.feed(bytes) {
-        Err(_) => {
+        Err(_) if is_little => {
             spares.release();
             stream.feed(bytes)
         }
@@ -83,13 +127,19 @@ pub(crate) fn feed(spares: &mut Spares, stream: &mut Stream, bytes: &[u8]) -> Re
     }
 }
 
-/// Reads the next command of `stream`, if necessary with the memory of the reserve.
-pub(crate) fn next(spares: &mut Spares, stream: &mut Stream) -> Result<Option<Command>, Fault>
+/// Reads the next command of `stream`, if necessary with the memory of the reserve, which is freed only for at most `allowance` unread bytes.
+pub(crate) fn next(
+    spares: &mut Spares,
+    stream: &mut Stream,
+    allowance: usize,
+) -> Result<Option<Command>, Fault>
     ensures yields { YieldsNext (stream_of stream.old) result (stream_of stream.new) }
     ensures keeps { stream.new.fault ≡ broken_by result }
+    ensures whole { allowance < length (stream_of stream.old).unread → spares.new ≡ spares.old }
 {
+    let unread = stream.unread();
     match stream.next() {
-        Err(Fault::Memory) => {
+        Err(Fault::Memory) if unread <= allowance => {
             spares.release();
             stream.next()
         }

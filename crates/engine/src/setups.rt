@@ -75,10 +75,10 @@ impl Setup {
     }
 
     /// Shows that what a setup would put in force is sound. Does nothing at run time.
-    pub fn is_sound(&self)
+    pub fn ghost_is_sound(&self)
         ensures { IsSound self.now }
     {
-        self.checked.holds();
+        self.checked.ghost_holds();
     }
 
     /// Splits the setup into the topology with its guarantees, and the users.

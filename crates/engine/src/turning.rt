@@ -100,8 +100,9 @@ fn do_next(
     // The frame.
     ensures topology { topology_kept broker.new ≡ topology_kept broker.old }
     ensures turn { broker.new.turn ≡ broker.old.turn }
-    // A publish leaves the reserve whole, and anything else is refused memory only after the reserve was freed for it.
+    // A publish leaves the reserve whole, and the reading behind it uses none of it. Anything else is refused memory only after the reserve was freed.
     ensures whole { OnOk result (IfSome connection.old.kept (λ e. brings_message e ≡ true → IsHeld spares.new)) }
+    ensures after { OnOk result (IfSome connection.old.kept (λ e. brings_message e ≡ true → connection.new.allowance ≡ 0)) }
     ensures last { OnErr result (IfSome connection.old.kept (λ e. brings_message e ≡ false → spares.new ≤ 3)) }
 {
     let Some(event) = &connection.kept else {
@@ -114,6 +115,7 @@ fn do_next(
     }
     let number = connection.number;
     let max = connection.session.frame_max();
+    let allowance = reserve::allowance_after(event);
     match perform(
         number,
         alloc,
@@ -134,6 +136,7 @@ fn do_next(
             );
             forget(&mut connection.kept);
             follow(&mut connection.stream, &connection.session);
+            connection.allowance = allowance;
             Ok(Turn::Did(step.notes))
         }
         Err(error) => {
@@ -218,6 +221,7 @@ pub(crate) fn turn_connection(
         connection.number,
         spares,
         &mut connection.stream,
+        connection.allowance,
         &mut connection.kept,
     ) {
         Ok(()) => do_next(alloc, users, broker, scratch, spares, connection),

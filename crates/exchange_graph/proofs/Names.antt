@@ -1,7 +1,7 @@
 -- The names that several files of these proofs use.
-pub use Rattle.exchange_graph.specs.Fans.{ArePassing, AreSteps, EndsWithin, Fan, LeadOn, end_of, ends_at, ends_by_key, ends_of, exchange_place, fan_of, or_alternate, patterns_of, place_of, queue_place, way_of, ways_from}
+pub use Rattle.exchange_graph.specs.Fans.{ArePassing, AreSteps, EndsWithin, Fan, LeadOn, end_of, ends_at, ends_by_key, ends_of, exchange_index, fan_of, or_alternate, patterns_of, place_of, queue_place, way_of, ways_from}
 pub use Rattle.exchange_graph.specs.Keyed.{IsEven, PutsUnder, ends_beside, ends_under}
-pub use Rattle.exchange_graph.specs.Marks.{AreFound, AreMet, AreSeen, Arrives, Expands, IsMet, IsPending, IsSet, MarksAreClosed, MarksEnds, Reaching, exchange_name, queue_name, set_places, unset}
+pub use Rattle.exchange_graph.specs.Marks.{AreFound, AreMet, AreSeen, Arrives, Expands, IsMet, IsPending, IsSet, MarksAreClosed, MarksEnds, Reaching, exchange_name, queue_name, set_indices, unset}
 pub use Rattle.exchange_graph.specs.Targets.{AreTargets, AreVisited, names_at}
 pub use Rattle.exchange_graph.specs.declared.ends.Branch.{Branch}
 pub use Rattle.exchange_graph.specs.declared.ends.End.{End}

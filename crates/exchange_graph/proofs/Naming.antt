@@ -1,5 +1,5 @@
 -- Names, and where they stand.
-use Rattle.exchange_graph.proofs.Names.{◌≡◌, ℕ, zero, suc, ◌+◌, ◌<◌, List, [], ◌∷◌, Bool, true, false, cond, refl, sym, ap, ◌∙◌, subst, length, map, get_or, inl, inr, arith, Contains, IfNone, bytes_eq, position_or_len, bytes_eq-Decides, length-map, Text, Topology, IsIn, AreApart, IsThere, IsWellFormed, exchange_names, queue_names, Exchange, DeclaredQueue, Place, queue_name, exchange_place, queue_place, end_of, place_of, EndsWithin, in_get, in_contains, contains_in}
+use Rattle.exchange_graph.proofs.Names.{◌≡◌, ℕ, zero, suc, ◌+◌, ◌<◌, List, [], ◌∷◌, Bool, true, false, cond, refl, sym, ap, ◌∙◌, subst, length, map, get_or, inl, inr, arith, Contains, IfNone, bytes_eq, position_or_len, bytes_eq-Decides, length-map, Text, Topology, IsIn, AreApart, IsThere, IsWellFormed, exchange_names, queue_names, Exchange, DeclaredQueue, Place, queue_name, exchange_index, queue_place, end_of, place_of, EndsWithin, in_get, in_contains, contains_in}
 use Rattle.std.specs.Prelude.{not, Option, Some, None, position, IfSome}
 use Rattle.exchange_graph.proofs.Indices.{place_if_some, place_if_none}
 use Rattle.model.specs.declared.topologies.Place.TheVariants as place
@@ -38,7 +38,7 @@ named_place {A} name_of (x ∷ xs) name h =
       | inr r ↦ named_place name_of xs name r
     ]))
 
-pub exchange_stands : (xs : List Exchange) (name : Text) → IsIn name (exchange_names xs) → (exchange_place xs name < length xs) × (get_or (exchange_names xs) (exchange_place xs name) [] ≡ name)
+pub exchange_stands : (xs : List Exchange) (name : Text) → IsIn name (exchange_names xs) → (exchange_index xs name < length xs) × (get_or (exchange_names xs) (exchange_index xs name) [] ≡ name)
 exchange_stands xs name h = let p = named_place (λ (x : Exchange). x.name) xs name h in (p.within, p.named)
 
 pub queue_stands : (qs : List DeclaredQueue) (name : Text) → IsIn name (queue_names qs) → (queue_place qs name < length qs) × (get_or (queue_names qs) (queue_place qs name) [] ≡ name)

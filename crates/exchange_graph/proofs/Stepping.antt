@@ -1,5 +1,5 @@
 -- What leads on from an exchange are exactly the steps of a route.
-use Rattle.exchange_graph.proofs.Names.{◌≡◌, ℕ, ◌<◌, List, [], ◌∷◌, Bool, true, false, cond, refl, sym, ap, ◌∙◌, subst, length, map, get_or, inl, inr, Contains, option_map, bytes_eq, bytes_eq-Decides, Text, Topology, IsIn, IsThere, IsWellFormed, exchange_names, Passes, Binds, Edge, bound, alternate, default, of_key, Exchange, Binding, Place, Fanout, End, Onward, Branch, exchange_name, Fan, ArePassing, LeadOn, AreSteps, EndsWithin, ways_from, way_of, fan_of, end_of, place_of, or_alternate, exchange_place, in_contains, contains_in, in_map}
+use Rattle.exchange_graph.proofs.Names.{◌≡◌, ℕ, ◌<◌, List, [], ◌∷◌, Bool, true, false, cond, refl, sym, ap, ◌∙◌, subst, length, map, get_or, inl, inr, Contains, option_map, bytes_eq, bytes_eq-Decides, Text, Topology, IsIn, IsThere, IsWellFormed, exchange_names, Passes, Binds, Edge, bound, alternate, default, of_key, Exchange, Binding, Place, Fanout, End, Onward, Branch, exchange_name, Fan, ArePassing, LeadOn, AreSteps, EndsWithin, ways_from, way_of, fan_of, end_of, place_of, or_alternate, exchange_index, in_contains, contains_in, in_map}
 use Rattle.std.proofs.Common.{Option, Some, None}
 use Rattle.model.specs.declared.topologies.Place.TheVariants as place
 use Rattle.exchange_graph.specs.Built.{IsBuilt}
@@ -72,7 +72,7 @@ passing_end : (t : Topology) (key : Text) (x : Exchange) (passing : List End) �
 passing_end t key x passing a to b s p = a.all (way_of t.exchanges t.queues b) (way_in t x.name t.bindings b (in_contains t.bindings b s.is_binding) s.source) p
 
 alternate_step : (t : Topology) (key : Text) (x : Exchange) → IsWellFormed t → Contains t.exchanges x → ArePassing x.kind key (Ways t x.name t.bindings) []
-    → (other : Text) → x.alternate ≡ Some other → IsStep t key x.name (Onward (exchange_place t.exchanges other))
+    → (other : Text) → x.alternate ≡ Some other → IsStep t key x.name (Onward (exchange_index t.exchanges other))
 alternate_step t key x w c a other q =
     let s = exchange_stands t.exchanges other (w.alternates x other c q) in
     record {
@@ -81,7 +81,7 @@ alternate_step t key x w c a other q =
     }
 
 alternate_steps : (t : Topology) (key : Text) (x : Exchange) → IsWellFormed t → Contains t.exchanges x → ArePassing x.kind key (Ways t x.name t.bindings) []
-    → (o : Option Text) → x.alternate ≡ o → (e : End) → IsIn e (or_alternate (option_map (exchange_place t.exchanges) o) []) → IsStep t key x.name e
+    → (o : Option Text) → x.alternate ≡ o → (e : End) → IsIn e (or_alternate (option_map (exchange_index t.exchanges) o) []) → IsStep t key x.name e
 alternate_steps t key x w c a None q e h = absurd h
 alternate_steps t key x w c a (Some other) q e h = elim h [
   | inl r ↦ subst (λ (z : End). IsStep t key x.name z) (sym r) (alternate_step t key x w c a other q)
@@ -116,7 +116,7 @@ alternate_end : (t : Topology) (x : Exchange) → IsWellFormed t → Contains t.
     → HasEnd t (or_alternate (fan_of t x).alternate []) (place.Exchange other)
 alternate_end t x w c other q =
     let s = exchange_stands t.exchanges other (w.alternates x other c q) in
-    rw q (Onward (exchange_place t.exchanges other), inl refl, ap (λ (z : Text). place.Exchange z) s.1)
+    rw q (Onward (exchange_index t.exchanges other), inl refl, ap (λ (z : Text). place.Exchange z) s.1)
 
 every_step : (t : Topology) (key : Text) (x : Exchange) (passing : List End) → IsWellFormed t → Contains t.exchanges x
     → ArePassing x.kind key (Ways t x.name t.bindings) passing → {name : Text} (to : Place) → Edge t (of_key key) name to → name ≡ x.name → HasEnd t (or_alternate (fan_of t x).alternate passing) to

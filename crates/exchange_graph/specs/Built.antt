@@ -1,4 +1,4 @@
--- What a topology keeps beside its lists.
+-- What a topology keeps beside its lists (own).
 use Rattle.std.specs.Prelude.{◌≡◌, List, map}
 use Rattle.model.specs.Words.{Text}
 use Rattle.model.specs.Topology.{Topology, exchange_names, queue_names}
@@ -7,14 +7,14 @@ use Rattle.model.specs.declared.topologies.DeclaredQueue.{DeclaredQueue}
 use Rattle.topology_drafts.specs.Causes.{IsBuildable}
 use Rattle.exchange_graph.specs.Fans.{Fan, fan_of}
 
--- nothing stands against it, for each exchange it is known what leads on, and names are known by their places
+-- the topology is valid, `fans` has for each exchange what leads on from it, and `of_exchanges` and `of_queues` are the names
 pub record IsBuilt (t : Topology) (fans : List Fan) (of_exchanges of_queues : List Text) : Type 0 where
   pub good : IsBuildable t
   pub known : fans ≡ map (fan_of t) t.exchanges
   pub exchanges : of_exchanges ≡ exchange_names t.exchanges
   pub queues : of_queues ≡ queue_names t.queues
 
--- these are the names of the exchanges, and those of the queues
+-- `of_exchanges` are the names of the exchanges, and `of_queues` those of the queues
 pub record AreNamed (exchanges : List Exchange) (queues : List DeclaredQueue) (of_exchanges of_queues : List Text) : Type 0 where
   pub each_exchange : of_exchanges ≡ exchange_names exchanges
   pub each_queue : of_queues ≡ queue_names queues

@@ -1,4 +1,4 @@
--- What leads on from an exchange, by places in the lists of the topology.
+-- What leads on from an exchange, by indices into the lists of the topology (own).
 use Rattle.std.specs.Prelude.{◌≡◌, ◌<◌, ℕ, List, [], ◌∷◌, Option, Some, None, map, length, slice_index_or, if◌then◌else◌, option_map}
 use Rattle.std.specs.List.{position_or_len}
 use Rattle.std.specs.Str.{bytes_eq}
@@ -16,88 +16,88 @@ use Rattle.exchange_graph.specs.declared.ends.End.{End}
 use Rattle.exchange_graph.specs.declared.ends.End.TheVariants.{Onward, Into}
 use Rattle.exchange_graph.specs.declared.ends.Branch.{Branch}
 
--- the place of the first exchange of this name, or how many there are
-abbrev pub exchange_place : List Exchange → Text → ℕ
-exchange_place exchanges name = position_or_len (λ (x : Exchange). bytes_eq x.name name) exchanges
+-- the index of the first exchange of this name, or the number of exchanges if there is none
+abbrev pub exchange_index : List Exchange → Text → ℕ
+exchange_index exchanges name = position_or_len (λ (x : Exchange). bytes_eq x.name name) exchanges
 
--- the place of the first queue of this name, or how many there are
+-- the index of the first queue of this name, or the number of queues if there is none
 abbrev pub queue_place : List DeclaredQueue → Text → ℕ
 queue_place queues name = position_or_len (λ (q : DeclaredQueue). bytes_eq q.name name) queues
 
--- a place, by where it stands in its list
+-- the destination of a binding, by its index
 abbrev pub end_of : List Exchange → List DeclaredQueue → Place → End
-end_of exchanges queues (place.Exchange name) = Onward (exchange_place exchanges name)
+end_of exchanges queues (place.Exchange name) = Onward (exchange_index exchanges name)
 end_of exchanges queues (place.Queue name) = Into (queue_place queues name)
 
--- a binding, without its source
+-- a binding without its source
 abbrev pub way_of : List Exchange → List DeclaredQueue → Binding → Branch
 way_of exchanges queues b = record { key = b.key; end = end_of exchanges queues b.to }
 
--- the bindings of the exchange of this name
+-- the bindings whose source is the exchange of this name, in order
 abbrev pub ways_from : List Exchange → List DeclaredQueue → Text → List Binding → List Branch
 ways_from exchanges queues name [] = []
 ways_from exchanges queues name (b ∷ bs) =
     if bytes_eq b.source name then way_of exchanges queues b ∷ ways_from exchanges queues name bs else ways_from exchanges queues name bs
 
--- their keys as topic patterns
+-- their binding keys as topic patterns
 abbrev pub patterns_of : List Branch → List (List Token)
 patterns_of ways = map (λ (w : Branch). tokens (words w.key)) ways
 
--- what leads on from one exchange
+-- what leads on from one exchange: its kind, its bindings, and the index of its alternate exchange
 pub record Fan : Type 0 where
   pub kind : ExchangeKind
   pub list : List Branch
   pub alternate : Option ℕ
 
--- what leads on from this exchange
+-- what leads on from exchange `x`
 abbrev pub fan_of : Topology → Exchange → Fan
 fan_of t x = record {
   kind = x.kind;
   list = ways_from t.exchanges t.queues x.name t.bindings;
-  alternate = option_map (exchange_place t.exchanges) x.alternate;
+  alternate = option_map (exchange_index t.exchanges) x.alternate;
 }
 
--- the place where a way ends, by its name
+-- the exchange or the queue at an end, by its name
 abbrev pub place_of : Topology → End → Place
 place_of t (Onward i) = place.Exchange (slice_index_or (exchange_names t.exchanges) i [])
 place_of t (Into i) = place.Queue (slice_index_or (queue_names t.queues) i [])
 
--- it ends at a place of the topology
+-- the end is the index of an exchange below `exchanges`, or of a queue below `queues`
 abbrev pub EndsWithin : ℕ → ℕ → End → Type 0
 EndsWithin exchanges queues (Onward i) = i < exchanges
 EndsWithin exchanges queues (Into i) = i < queues
 
--- These are exactly the ends of the ways whose key lets this key pass.
+-- `ends` has exactly the destinations of those of `ways` whose binding key lets `key` pass, for this kind of exchange.
 pub record ArePassing (kind : ExchangeKind) (key : Text) (ways : List Branch) (ends : List End) : Type 0 where
   pub only : (e : End) → IsIn e ends → (w : Branch) × IsIn w ways × (w.end ≡ e) × Passes kind w.key key
   pub all : (w : Branch) → IsIn w ways → Passes kind w.key key → IsIn w.end ends
 
--- the ends of these ways
+-- the destinations of these bindings
 abbrev pub ends_of : List Branch → List End
 ends_of ways = map (λ (w : Branch). w.end) ways
 
--- the ends of the ways with this key
+-- the destinations of the bindings with this binding key
 abbrev pub ends_by_key : Text → List Branch → List End
 ends_by_key key [] = []
 ends_by_key key (w ∷ ws) = if bytes_eq w.key key then w.end ∷ ends_by_key key ws else ends_by_key key ws
 
--- the ends of the ways at these places
+-- the destinations of the bindings at these indices
 abbrev pub ends_at : List Branch → List ℕ → List End
 ends_at ways places = map (λ (i : ℕ). slice_index_or (ends_of ways) i (Onward 0)) places
 
--- the alternate exchange, where nothing else leads on
+-- the ends, or the alternate exchange if there are none and the exchange has one
 abbrev pub or_alternate : Option ℕ → List End → List End
 or_alternate alternate (e ∷ es) = e ∷ es
 or_alternate (Some i) [] = Onward i ∷ []
 or_alternate None [] = []
 
--- These are the ends of the ways that let this key pass, or else of the alternate exchange.
+-- `ends` has the destinations of the bindings that let `key` pass, or the alternate exchange if there are none.
 pub record LeadOn (key : Text) (fan : Fan) (ends : List End) : Type 0 where
   pub passing : List End
   pub are : ArePassing fan.kind key fan.list passing
   pub is : ends ≡ or_alternate fan.alternate passing
 
--- These are exactly the steps of a route from the exchange of this name.
+-- `ends` has exactly the next steps of a message with `key` from the exchange `name`.
 pub record AreSteps (t : Topology) (key name : Text) (ends : List End) : Type 0 where
   pub within : (e : End) → IsIn e ends → EndsWithin (length t.exchanges) (length t.queues) e
   pub only : (e : End) → IsIn e ends → Edge t (of_key key) name (place_of t e)

@@ -7,21 +7,21 @@ use crate::topologies::Topology;
 use model::Text;
 use std::alloc::{AllocError, Global};
 
-/// What a dead letter is sent to: this exchange, under this key.
+/// The exchange that a dead letter is sent to, and its routing key.
 #[derive(Drop)]
 pub struct DeadLetter<'a> {
     pub exchange: &'a [u8],
     pub key: &'a [u8],
 }
 
-/// Where one death leads: into the queues at these places, in the order of the file, under this key.
+/// The queues into which one death leads, by index in the order of the file, and the routing key there.
 #[derive(Drop)]
 pub struct DeadRoute<'a> {
     pub queues: Vec<usize>,
     pub key: &'a [u8],
 }
 
-/// The key that a queue fixes, or else the one that a message has.
+/// Returns `fixed`, or `key` if it is `None`.
 fn key_after<'a>(fixed: &'a Option<Text>, key: &'a [u8]) -> &'a [u8]
     ensures { result.now ≡ unwrap_or fixed.now key.now }
 {
@@ -32,12 +32,12 @@ fn key_after<'a>(fixed: &'a Option<Text>, key: &'a [u8]) -> &'a [u8]
 }
 
 impl Topology {
-    /// What a message with this key is sent to if it dies in the queue of this name. A queue that is not there, or that has
-    /// no dead-letter exchange, sends it nowhere.
+    /// Returns where a message with `key` is sent if it dies in `queue`.
+    /// Returns `None` if the queue doesn't exist or has no dead-letter exchange. Never allocates.
     pub fn dead_letter<'a>(&'a self, queue: &[u8], key: &'a [u8]) -> Option<DeadLetter<'a>>
         ensures { LeavesFor result self.now queue.now key.now }
     {
-        self.is_well_formed();
+        self.ghost_is_well_formed();
         let Some(place) = self.queue_at(queue) else {
             return None;
         };
@@ -51,8 +51,8 @@ impl Topology {
         }
     }
 
-    /// The queues into which one death leads a message with this key from the queue of this name, with the key under which
-    /// it comes there; none if the queue is not there or has no dead-letter exchange.
+    /// Returns the queues into which one death leads a message with `key` from `queue`, and its key there.
+    /// Returns `None` if the queue doesn't exist or has no dead-letter exchange. Fails only if an allocation fails.
     pub fn dead_route<'a>(
         &'a self,
         alloc: Global,

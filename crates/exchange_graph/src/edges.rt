@@ -10,7 +10,7 @@ use crate::ends::End;
 use crate::topologies::Topology;
 use std::alloc::{AllocError, Global};
 
-/// Whether some end is the exchange at this place.
+/// Returns whether one of `ends` is the exchange at index `place`.
 fn any_onward(ends: &[End], place: usize) -> bool
     ensures { result ≡ list_any (λ e. is_onward place e) ends.now }
 {
@@ -20,7 +20,7 @@ fn any_onward(ends: &[End], place: usize) -> bool
     })
 }
 
-/// Whether some end is the queue at this place.
+/// Returns whether one of `ends` is the queue at index `place`.
 fn any_into(ends: &[End], place: usize) -> bool
     ensures { result ≡ list_any (λ e. is_into place e) ends.now }
 {
@@ -31,8 +31,8 @@ fn any_into(ends: &[End], place: usize) -> bool
 }
 
 impl Topology {
-    /// Whether one step leads a message with this key from the exchange of this name on to that exchange: a binding, or
-    /// the alternate exchange where no binding lets the key pass.
+    /// Returns whether one step leads a message with `key` from `exchange` to the exchange `other`: a binding, or the alternate exchange if
+    /// no binding lets the key pass. Fails only if an allocation fails.
     pub fn leads_on(
         &self,
         alloc: Global,
@@ -42,7 +42,7 @@ impl Topology {
     ) -> Result<bool, AllocError>
         ensures { IfOk result (λ yes. Decides yes (LeadsOn self.now key.now exchange.now other.now)) }
     {
-        self.is_well_formed();
+        self.ghost_is_well_formed();
         let Some(from) = self.exchange_at(exchange) else {
             return Ok(false);
         };
@@ -53,8 +53,8 @@ impl Topology {
         Ok(any_onward(ends.as_slice(), to))
     }
 
-    /// Whether one step leads a message with this key from the exchange of this name into that queue: a binding, or the
-    /// default exchange where the key is the queue's name.
+    /// Returns whether one step leads a message with `key` from `exchange` into `queue`: a binding, or the default exchange if the key is
+    /// the queue's name. Fails only if an allocation fails.
     pub fn leads_in(
         &self,
         alloc: Global,
@@ -64,7 +64,7 @@ impl Topology {
     ) -> Result<bool, AllocError>
         ensures { IfOk result (λ yes. Decides yes (LeadsToQueue self.now key.now exchange.now queue.now)) }
     {
-        self.is_well_formed();
+        self.ghost_is_well_formed();
         let Some(to) = self.queue_at(queue) else {
             return Ok(false);
         };

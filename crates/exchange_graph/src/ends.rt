@@ -1,4 +1,4 @@
-//! Where ways end.
+//! Where bindings lead, by index.
 
 ghost use Rattle.std.specs.Prelude.{◌≡◌, ◌∷◌, ◌++◌, [], IfOk, OnOk};
 
@@ -7,23 +7,23 @@ use std::alloc::{AllocError, Global};
 use std::marker::Model;
 use topology_drafts::Names;
 
-/// A place of a topology, by where it stands in its list.
+/// The destination of a binding, by its index in the list of exchanges or of queues.
 #[derive(Clone, Copy, Drop)]
 pub enum End {
-    /// The exchange at this place.
+    /// The exchange at this index.
     Onward(usize),
-    /// The queue at this place.
+    /// The queue at this index.
     Into(usize),
 }
 
-/// A binding of one exchange.
+/// A binding without its source.
 #[derive(Drop)]
 pub struct Branch {
     pub key: Text,
     pub end: End,
 }
 
-/// The ends of the bindings with one key.
+/// The destinations of the bindings with one binding key.
 #[derive(Drop)]
 pub struct Ends {
     list: Vec<End>,
@@ -39,7 +39,7 @@ impl Model for Ends {
 }
 
 impl Ends {
-    /// This end alone.
+    /// Returns a list of `end` alone. Fails only if an allocation fails.
     pub fn of(alloc: Global, end: End) -> Result<Ends, AllocError>
         ensures { IfOk result (λ made. made ≡ end ∷ []) }
     {
@@ -48,7 +48,7 @@ impl Ends {
         Ok(Ends { list })
     }
 
-    /// One end more.
+    /// Appends `end`. Fails only if an allocation fails.
     pub fn push(&mut self, end: End) -> Result<(), AllocError>
         ensures { OnOk result (self.new ≡ self.old ++ end ∷ []) }
     {
@@ -56,7 +56,6 @@ impl Ends {
         Ok(())
     }
 
-    /// The ends, in their order.
     pub fn as_slice(&self) -> &[End]
         ensures { result.now ≡ self.now }
     {
@@ -64,7 +63,7 @@ impl Ends {
     }
 }
 
-/// The ends of bindings by the keys of the bindings, each key once.
+/// The destinations of bindings by binding key, each key once.
 #[derive(Drop)]
 pub struct KeyedEnds {
     pub keys: Names,

@@ -1,4 +1,4 @@
-//! What leads on from an exchange.
+//! What leads on from an exchange: its bindings, an index over them, and its alternate exchange. Start with [`Fan`].
 
 ghost use Rattle.std.specs.Prelude.{◌≡◌, ◌<◌, All, length, IfOk, OnOk, map, option_map};
 ghost use Rattle.model.specs.declared.topologies.ExchangeKind.TheVariants.{Topic};
@@ -7,7 +7,7 @@ ghost use Rattle.exchange_graph.specs.Fans.{
   LeadOn,
   ends_at,
   ends_of,
-  exchange_place,
+  exchange_index,
   fan_of,
   or_alternate,
   patterns_of,
@@ -23,18 +23,18 @@ use std::alloc::{AllocError, Global};
 use std::marker::Model;
 use topic_match::{Matcher, Pattern, Trie};
 
-/// How the bindings of an exchange are found that let a key pass.
+/// How the bindings of an exchange that let a key pass are found.
 #[derive(Drop)]
 pub enum Index {
-    /// Of a direct exchange: their ends by their keys.
+    /// For a direct exchange: the destinations by binding key.
     Keys(KeyedEnds),
-    /// Of a fanout exchange: all of them do.
+    /// For a fanout exchange, whose bindings let each key pass.
     All,
-    /// Of a topic exchange: by their patterns.
+    /// For a topic exchange: a trie of the patterns.
     Patterns(Trie),
 }
 
-/// The bindings of one exchange, how those that let a key pass are found, and the alternate exchange.
+/// The bindings of one exchange, an index over them, and the index of its alternate exchange.
 #[derive(Drop)]
 pub struct Fan {
     list: Vec<Branch>,
@@ -53,7 +53,7 @@ impl Model for Fan {
     ghost invariant = { λ f. IsIndex f.list.items f.index };
 }
 
-/// The keys of these ways as topic patterns.
+/// Returns the binding keys of `ways` as topic patterns. Fails only if an allocation fails.
 fn patterns_of(alloc: Global, ways: &[Branch]) -> Result<Vec<Pattern>, AllocError>
     ensures { IfOk result (λ found. found.items ≡ patterns_of ways.now) }
 {
@@ -64,7 +64,7 @@ fn patterns_of(alloc: Global, ways: &[Branch]) -> Result<Vec<Pattern>, AllocErro
     Ok(found)
 }
 
-/// How the ways of an exchange of this kind are found.
+/// Builds the index over `ways` for an exchange of kind `kind`. Fails only if an allocation fails.
 fn index_of(alloc: Global, kind: ExchangeKind, ways: &[Branch]) -> Result<Index, AllocError>
     ensures { IfOk result (Indexes kind ways.now) }
 {
@@ -75,17 +75,17 @@ fn index_of(alloc: Global, kind: ExchangeKind, ways: &[Branch]) -> Result<Index,
     }
 }
 
-/// The place of an alternate exchange.
+/// Returns the index of the exchange's alternate exchange, or `None` if it has none.
 fn alternate_of(lists: &NamedLists<'_>, exchange: &Exchange) -> Option<usize>
-    ensures { result ≡ option_map (exchange_place lists.now.exchanges) exchange.now.alternate }
+    ensures { result ≡ option_map (exchange_index lists.now.exchanges) exchange.now.alternate }
 {
     match &exchange.alternate {
-        Some(name) => Some(lists.exchange_place(name.as_bytes())),
+        Some(name) => Some(lists.exchange_index(name.as_bytes())),
         None => None,
     }
 }
 
-/// What leads on from this exchange.
+/// Returns what leads on from `exchange`. Fails only if an allocation fails.
 pub fn fan_of(alloc: Global, lists: &NamedLists<'_>, exchange: &Exchange) -> Result<Fan, AllocError>
     ensures { IfOk result (λ made. made ≡ fan_of lists.now exchange.now) }
 {
@@ -98,7 +98,7 @@ pub fn fan_of(alloc: Global, lists: &NamedLists<'_>, exchange: &Exchange) -> Res
     })
 }
 
-/// What leads on from each exchange.
+/// Returns what leads on from each exchange, in their order. Fails only if an allocation fails.
 pub fn all_fans(alloc: Global, lists: &NamedLists<'_>) -> Result<Vec<Fan>, AllocError>
     ensures { IfOk result (λ made. made.items ≡ map (fan_of lists.now) lists.now.exchanges) }
 {
@@ -109,7 +109,7 @@ pub fn all_fans(alloc: Global, lists: &NamedLists<'_>) -> Result<Vec<Fan>, Alloc
     Ok(made)
 }
 
-/// Lists the ends of the ways with this key.
+/// Replaces `ends` by the destinations under `key`. Fails only if an allocation fails.
 fn list_by_key(keyed: &KeyedEnds, key: &[u8], ends: &mut Vec<End>) -> Result<(), AllocError>
     requires { IsEven keyed.now }
     ensures { OnOk result (ends.new.items ≡ ends_under key.now keyed.now) }
@@ -118,7 +118,7 @@ fn list_by_key(keyed: &KeyedEnds, key: &[u8], ends: &mut Vec<End>) -> Result<(),
     ends.extend_from_slice(ends_under(keyed, key))
 }
 
-/// Lists the ends of these ways.
+/// Replaces `ends` by the destinations of all `ways`. Fails only if an allocation fails.
 fn list_all(ways: &[Branch], ends: &mut Vec<End>) -> Result<(), AllocError>
     ensures { OnOk result (ends.new.items ≡ ends_of ways.now) }
 {
@@ -129,7 +129,7 @@ fn list_all(ways: &[Branch], ends: &mut Vec<End>) -> Result<(), AllocError>
     Ok(())
 }
 
-/// Lists the ends of the ways at these places.
+/// Replaces `ends` by the destinations of the bindings at the indices `places`. Fails only if an allocation fails.
 fn list_at(ways: &[Branch], places: &[usize], ends: &mut Vec<End>) -> Result<(), AllocError>
     requires { All (λ i. i < length ways.now) places.now }
     ensures { OnOk result (ends.new.items ≡ ends_at ways.now places.now) }
@@ -141,7 +141,7 @@ fn list_at(ways: &[Branch], places: &[usize], ends: &mut Vec<End>) -> Result<(),
     Ok(())
 }
 
-/// Lists the ends of the ways whose pattern matches the key.
+/// Replaces `ends` by the destinations of the bindings whose pattern matches `key`. Fails only if an allocation fails.
 fn list_by_topic(
     alloc: Global,
     topics: &Trie,
@@ -156,7 +156,7 @@ fn list_by_topic(
     list_at(ways, places.as_slice(), ends)
 }
 
-/// Lists the ends of the ways that let the key pass.
+/// Replaces `ends` by the destinations of the bindings that let `key` pass. Fails only if an allocation fails.
 fn list_passing(
     alloc: Global,
     index: &Index,
@@ -174,7 +174,7 @@ fn list_passing(
     }
 }
 
-/// The alternate exchange, where nothing else leads on.
+/// Appends the alternate exchange if `ends` is empty. Fails only if an allocation fails.
 fn or_alternate(alternate: Option<usize>, ends: &mut Vec<End>) -> Result<(), AllocError>
     ensures { OnOk result (ends.new.items ≡ or_alternate alternate ends.old.items) }
 {
@@ -187,7 +187,8 @@ fn or_alternate(alternate: Option<usize>, ends: &mut Vec<End>) -> Result<(), All
 }
 
 impl Fan {
-    /// Lists the ends of the ways that let the key pass, or else of the alternate exchange.
+    /// Replaces `ends` by the destinations of the bindings that let `key` pass, or by the alternate exchange if there are none.
+    /// Fails only if an allocation fails.
     pub fn lead_on(&self, alloc: Global, key: &[u8], ends: &mut Vec<End>) -> Result<(), AllocError>
         ensures { OnOk result (LeadOn key.now self.now ends.new.items) }
     {

@@ -1,4 +1,4 @@
-//! The ends of ways, found by the keys of the ways.
+//! Indexes the bindings of a direct exchange by binding key. Start with `keyed`.
 
 ghost use Rattle.std.specs.Prelude.{◌≡◌, ◌<◌, ◌∷◌, ◌++◌, [], length, IfOk, OnOk, slice_index_or, slice_set};
 ghost use Rattle.model.specs.Topology.{IsIn};
@@ -8,7 +8,7 @@ use crate::ends::{Branch, End, Ends, KeyedEnds};
 use std::alloc::{AllocError, Global};
 use topology_drafts::Names;
 
-/// One end more in the list at this place.
+/// Appends `end` to the list at index `place`. Fails only if an allocation fails.
 fn push_at(lists: &mut Vec<Ends>, place: usize, end: End) -> Result<(), AllocError>
     requires { place < length lists.old.items }
     ensures { OnOk result (lists.new.items ≡ slice_set lists.old.items place (slice_index_or lists.old.items place [] ++ end ∷ [])) }
@@ -16,7 +16,7 @@ fn push_at(lists: &mut Vec<Ends>, place: usize, end: End) -> Result<(), AllocErr
     lists[place].push(end)
 }
 
-/// Puts an end under a key that is a new one.
+/// Adds the new key `key` with `end`. Fails only if an allocation fails.
 fn put_new(keyed: &mut KeyedEnds, alloc: Global, key: &[u8], end: End) -> Result<(), AllocError>
     requires even { IsEven keyed.old }
     requires is_new { IsIn key.now keyed.old.keys → ⊥ }
@@ -28,7 +28,7 @@ fn put_new(keyed: &mut KeyedEnds, alloc: Global, key: &[u8], end: End) -> Result
     Ok(())
 }
 
-/// Puts an end behind those that stand under its key.
+/// Appends `end` to the destinations under `key`. Fails only if an allocation fails.
 fn put(keyed: &mut KeyedEnds, alloc: Global, key: &[u8], end: End) -> Result<(), AllocError>
     requires { IsEven keyed.old }
     ensures { OnOk result (PutsUnder key.now end keyed.old keyed.new) }
@@ -40,7 +40,7 @@ fn put(keyed: &mut KeyedEnds, alloc: Global, key: &[u8], end: End) -> Result<(),
     Ok(())
 }
 
-/// The ends of these ways by their keys.
+/// Returns the destinations of `ways` by binding key. Fails only if an allocation fails.
 pub fn keyed(alloc: Global, ways: &[Branch]) -> Result<KeyedEnds, AllocError>
     ensures { IfOk result (AreKeyed ways.now) }
 {
@@ -54,7 +54,7 @@ pub fn keyed(alloc: Global, ways: &[Branch]) -> Result<KeyedEnds, AllocError>
     Ok(keyed)
 }
 
-/// The ends of the ways with this key.
+/// Returns the destinations of the bindings with this binding key. Never allocates.
 pub fn ends_under<'a>(keyed: &'a KeyedEnds, key: &[u8]) -> &'a [End]
     requires { IsEven keyed.now }
     ensures { result.now ≡ ends_under key.now keyed.now }

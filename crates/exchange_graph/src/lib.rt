@@ -1,10 +1,12 @@
-//! Routing: exchanges, queues and bindings, and the queues that a key leads to; the routes that were taken last are kept (`Router`).
+//! Routes messages: exchanges, queues and bindings, and the queues that a key leads to.
+//! Start with [`Topology`], or with [`Router`], which also keeps the routes that were taken last.
 #![tactic(auto)]
 
 mod dying;
 mod edges;
 mod ends;
 mod fans;
+mod kept;
 mod keyed;
 mod marks;
 mod places;

@@ -1,18 +1,18 @@
-//! Marks of the exchanges and queues that were met on the way.
+//! Marks the exchanges and queues that a route has met, by index.
 
 ghost use Rattle.std.specs.Prelude.{◌≡◌, ◌<◌, ◌∷◌, [], length, IfOk, OnOk, false, true, replicate, slice_set};
 ghost use Rattle.model.specs.Topology.{IsIn};
 ghost use Rattle.exchange_graph.specs.Fans.{EndsWithin};
-ghost use Rattle.exchange_graph.specs.Marks.{IsPending, MarksEnds, set_places};
+ghost use Rattle.exchange_graph.specs.Marks.{IsPending, MarksEnds, set_indices};
 
 use crate::ends::End;
 use smallvec::SmallVec;
 use std::alloc::{AllocError, Global};
 
-/// The places of queues that a message is routed to. Four of them take no memory.
+/// The indices of the queues that a message is routed to. Up to four need no allocation.
 pub type Targets = SmallVec<usize, 4>;
 
-/// Makes this many marks of them, none of them set.
+/// Replaces `marks` by `count` marks, none of them set. Fails only if an allocation fails.
 pub fn unmark(marks: &mut Vec<bool>, count: usize) -> Result<(), AllocError>
     ensures { OnOk result (marks.new.items ≡ replicate count false) }
 {
@@ -20,17 +20,17 @@ pub fn unmark(marks: &mut Vec<bool>, count: usize) -> Result<(), AllocError>
     marks.resize(count, false)
 }
 
-/// Makes this many marks of them, of which the one at this place is set.
-pub fn mark_one(marks: &mut Vec<bool>, count: usize, place: usize) -> Result<(), AllocError>
-    requires { place < count }
-    ensures { OnOk result (marks.new.items ≡ slice_set (replicate count false) place true) }
+/// Replaces `marks` by `count` marks, of which only the one at `index` is set. Fails only if an allocation fails.
+pub fn mark_one(marks: &mut Vec<bool>, count: usize, index: usize) -> Result<(), AllocError>
+    requires { index < count }
+    ensures { OnOk result (marks.new.items ≡ slice_set (replicate count false) index true) }
 {
     unmark(marks, count)?;
-    marks[place] = true;
+    marks[index] = true;
     Ok(())
 }
 
-/// Marks one end.
+/// Marks the exchange in `seen` or the queue in `found`.
 fn mark(end: End, seen: &mut [bool], found: &mut [bool])
     requires { EndsWithin (length seen.old) (length found.old) end }
     ensures { MarksEnds (end ∷ []) seen.old found.old seen.new found.new }
@@ -41,7 +41,7 @@ fn mark(end: End, seen: &mut [bool], found: &mut [bool])
     }
 }
 
-/// Marks these ends.
+/// Marks each of `ends`.
 pub fn mark_all(ends: &[End], seen: &mut [bool], found: &mut [bool])
     requires { (e : End) → IsIn e ends.now → EndsWithin (length seen.old) (length found.old) e }
     ensures { MarksEnds ends.now seen.old found.old seen.new found.new }
@@ -51,7 +51,7 @@ pub fn mark_all(ends: &[End], seen: &mut [bool], found: &mut [bool])
     }
 }
 
-/// The first exchange that was met and is not done, if there is one.
+/// Returns the index of the first exchange that was met and is not done, or `None`.
 pub fn pending(seen: &[bool], done: &[bool]) -> Option<usize>
     requires { length done.now ≡ length seen.now }
     ensures { IsPending seen.now done.now result }
@@ -64,9 +64,9 @@ pub fn pending(seen: &[bool], done: &[bool]) -> Option<usize>
     None
 }
 
-/// The places of the marks that are set.
-pub fn set_places(alloc: Global, marks: &[bool]) -> Result<Targets, AllocError>
-    ensures { IfOk result (λ places. places.items ≡ set_places 0 marks.now) }
+/// Returns the indices of the marks that are set, in increasing order. Fails only if an allocation fails.
+pub fn set_indices(alloc: Global, marks: &[bool]) -> Result<Targets, AllocError>
+    ensures { IfOk result (λ places. places.items ≡ set_indices 0 marks.now) }
 {
     let mut places = SmallVec::new(alloc);
     for place in 0..marks.len() {

@@ -1,8 +1,8 @@
-//! Names are looked up once, when a topology is built.
+//! Replaces names by indices. This is done once, when a topology is built.
 
 ghost use Rattle.std.specs.Prelude.{◌≡◌, IfOk};
 ghost use Rattle.exchange_graph.specs.Built.{AreNamed};
-ghost use Rattle.exchange_graph.specs.Fans.{exchange_place, queue_place, end_of, ways_from};
+ghost use Rattle.exchange_graph.specs.Fans.{exchange_index, queue_place, end_of, ways_from};
 
 use crate::ends::{Branch, End};
 use model::{Binding, DeclaredQueue, Exchange, Place};
@@ -10,7 +10,7 @@ use std::alloc::{AllocError, Global};
 use std::marker::Model;
 use topology_drafts::Names;
 
-/// The lists of a topology, and where each name stands in them.
+/// The lists of a topology, and indices from the names of its exchanges and queues.
 pub struct NamedLists<'a> {
     exchanges: &'a [Exchange],
     queues: &'a [DeclaredQueue],
@@ -44,7 +44,7 @@ impl<'a> Model for NamedLists<'a> {
 }
 
 impl<'a> NamedLists<'a> {
-    /// These lists, with the names of their exchanges and of their queues.
+    /// Returns these lists with the names of their exchanges and queues.
     pub fn of(
         exchanges: &'a [Exchange],
         queues: &'a [DeclaredQueue],
@@ -71,9 +71,9 @@ impl<'a> NamedLists<'a> {
         self.exchanges
     }
 
-    /// The place of the exchange of this name, or how many there are.
-    pub fn exchange_place(&self, name: &[u8]) -> usize
-        ensures { result ≡ exchange_place self.now.exchanges name.now }
+    /// Returns the index of the exchange `name`, or the number of exchanges if there is none.
+    pub fn exchange_index(&self, name: &[u8]) -> usize
+        ensures { result ≡ exchange_index self.now.exchanges name.now }
     {
         match self.exchange_names.place(name) {
             Some(place) => place,
@@ -81,7 +81,7 @@ impl<'a> NamedLists<'a> {
         }
     }
 
-    /// The place of the queue of this name, or how many there are.
+    /// Returns the index of the queue `name`, or the number of queues if there is none.
     fn queue_place(&self, name: &[u8]) -> usize
         ensures { result ≡ queue_place self.now.queues name.now }
     {
@@ -91,17 +91,17 @@ impl<'a> NamedLists<'a> {
         }
     }
 
-    /// A place, by where it stands in its list.
+    /// Returns the destination `to` by its index.
     fn end_of(&self, to: &Place) -> End
         ensures { result ≡ end_of self.now.exchanges self.now.queues to.now }
     {
         match to {
-            Place::Exchange(name) => End::Onward(self.exchange_place(name.as_bytes())),
+            Place::Exchange(name) => End::Onward(self.exchange_index(name.as_bytes())),
             Place::Queue(name) => End::Into(self.queue_place(name.as_bytes())),
         }
     }
 
-    /// The bindings of the exchange of this name.
+    /// Returns the bindings whose source is the exchange `name`. Fails only if an allocation fails.
     pub fn ways_from(&self, alloc: Global, name: &[u8]) -> Result<Vec<Branch>, AllocError>
         ensures { IfOk result (λ ways. ways.items ≡ ways_from self.now.exchanges self.now.queues name.now self.now.bindings) }
     {

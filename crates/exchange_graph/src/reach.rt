@@ -1,4 +1,4 @@
-//! The queues that a key leads to.
+//! Finds the queues that a key leads to, and the exchanges on the way. Start with `find` and `see`.
 
 ghost use Rattle.std.specs.Prelude.{◌≡◌, ◌<◌, [], length, OnOk};
 ghost use Rattle.model.specs.Topology.{IsWellFormed};
@@ -18,7 +18,7 @@ use crate::scratches::Scratch;
 use crate::topologies::Topology;
 use std::alloc::{AllocError, Global};
 
-/// Marks what one exchange leads to.
+/// Marks the next steps from the exchange at index `place`, and marks it as done. Fails only if an allocation fails.
 fn expand(
     topology: &Topology,
     alloc: Global,
@@ -40,7 +40,7 @@ fn expand(
     Ok(())
 }
 
-/// Marks all that the exchanges met lead to.
+/// Marks all that the marked exchanges lead to. Fails only if an allocation fails.
 fn spread(
     topology: &Topology,
     alloc: Global,
@@ -54,14 +54,14 @@ fn spread(
     requires { Reaching topology.now start.now key.now seen.old found.old done.old }
     ensures { OnOk result (AreMet topology.now start.now key.now seen.new found.new) }
 {
-    topology.is_well_formed();
+    topology.ghost_is_well_formed();
     'passes: while let Some(place) = pending(seen, done) {
         expand(topology, alloc, place, key, ends, seen, found, done)?;
     }
     Ok(())
 }
 
-/// Marks what is met on the ways from the exchange at this place.
+/// Marks what a message with `key` meets from the exchange at index `place`. Fails only if an allocation fails.
 fn meet_from(
     topology: &Topology,
     alloc: Global,
@@ -89,18 +89,18 @@ fn meet_from(
     )
 }
 
-/// Marks what the default exchange leads to: the queue of this name.
+/// Marks the queue that the default exchange leads to: the one whose name is `key`, if any. Fails only if an allocation fails.
 fn find_by_name(topology: &Topology, found: &mut Vec<bool>, key: &[u8]) -> Result<(), AllocError>
     ensures { OnOk result (AreFound topology.now [] key.now found.new.items) }
 {
-    topology.is_well_formed();
+    topology.ghost_is_well_formed();
     match topology.queue_at(key) {
         Some(place) => mark_one(found, topology.queues().len(), place),
         None => unmark(found, topology.queues().len()),
     }
 }
 
-/// Marks the queues that an exchange leads to, by its name.
+/// Marks in `scratch.found` the queues that `exchange` routes a message with `key` to. Fails only if an allocation fails.
 pub fn find(
     topology: &Topology,
     alloc: Global,
@@ -119,7 +119,8 @@ pub fn find(
     }
 }
 
-/// Marks the exchanges that an exchange leads to, by its name, itself among them.
+/// Marks in `scratch.seen` the exchanges that a message with `key` passes from `exchange`, which is one of them if it exists.
+/// The default exchange is not in the list. Fails only if an allocation fails.
 pub fn see(
     topology: &Topology,
     alloc: Global,

@@ -1,19 +1,19 @@
-//! A topology with the routes that were taken last.
+//! Routing with the routes that were taken last ([`Router`]).
 
+use crate::kept::Kept;
 use crate::routes::{Found, Route};
 use crate::scratches::Scratch;
-use crate::slots::{empty_slots, found, learned, routed, slot_of};
+use crate::slots::{found, kept, looked_for, slot_of};
 use crate::topologies::Topology;
 use model::Text;
 use std::alloc::{AllocError, Global};
 use std::marker::Model;
 use std::sync::Arc;
 
-/// A topology, and up to 1,024 routes: in each slot the last one of those that fall on it. What it answers is the same
-/// whatever it keeps.
+/// A topology with the routes that were taken last: at most 1,024, and at most 1 MiB. What it returns does not depend on which routes it keeps.
 pub struct Router {
     topology: Topology,
-    slots: Vec<Option<Arc<Route>>>,
+    kept: Kept,
     scratch: Scratch,
 }
 
@@ -22,7 +22,7 @@ impl Drop for Router {
     fn drop(self) {
         let Router {
             topology: _,
-            slots: _,
+            kept: _,
             scratch: _,
         } = self;
     }
@@ -36,7 +36,7 @@ impl Model for Router {
 
     ghost view = { λ r. r.topology };
 
-    ghost invariant = { λ r. KeepsRoutes r.topology r.slots.items };
+    ghost invariant = { λ r. KeepsRoutes r.topology r.kept };
 }
 
 impl Router {
@@ -44,32 +44,28 @@ impl Router {
     ghost use Rattle.std.specs.Arc.{arc_value};
     ghost use Rattle.exchange_graph.specs.Routers.{access_to, IsRoute};
 
-    /// A router of this topology, which keeps no route yet.
+    /// Returns a router of `topology` that keeps no route yet. Fails only if an allocation fails.
     pub fn new(alloc: Global, topology: Topology) -> Result<Router, AllocError>
         ensures { IfOk result (λ r. r ≡ topology) }
     {
-        let slots = empty_slots(alloc, 1024)?;
-        let scratch = Scratch::new(alloc);
         Ok(Router {
             topology,
-            slots,
-            scratch,
+            kept: Kept::new(alloc)?,
+            scratch: Scratch::new(alloc),
         })
     }
 
-    /// What is known at once of a message that is sent to this exchange under this key: whether clients may publish there, and
-    /// the route, where it is kept. It takes no memory.
+    /// Returns whether clients may publish to `exchange`, and the route of `exchange` and `key` if it is kept. Never allocates.
     pub fn find(&self, exchange: &Text, key: &Text) -> Found<'_>
         ensures access { result.access ≡ access_to self.now exchange.now }
         ensures route { IfSome result.route (λ r. IsRoute self.now exchange.now key.now (arc_value r.now)) }
     {
-        let place = slot_of(exchange.as_bytes(), key.as_bytes());
-        found(&self.topology, &self.slots[place], exchange, key)
+        let index = slot_of(exchange.as_bytes(), key.as_bytes());
+        found(&self.topology, &self.kept.slots[index], exchange, key)
     }
 
-    /// The route of a message that is sent to this exchange under this key, looked for in the topology. It is kept, with the
-    /// names that are given here, until another one takes its slot. An exchange that is not there leads nowhere; `""` is the
-    /// default exchange. Where memory is wanting, the topology is as it was.
+    /// Looks for the route of a message that is sent to `exchange` under `key` in the topology, and keeps it with both names if it fits.
+    /// An exchange that does not exist leads nowhere; `""` is the default exchange. Fails only if an allocation fails.
     pub fn learn(
         &mut self,
         alloc: Global,
@@ -79,18 +75,13 @@ impl Router {
         ensures route { IfOk result (λ r. IsRoute self.old exchange.now key.now (arc_value r)) }
         ensures same { self.new ≡ self.old }
     {
-        let place = slot_of(exchange.as_bytes(), key.as_bytes());
-        learned(
-            alloc,
-            &self.topology,
-            &mut self.scratch,
-            &mut self.slots[place],
-            exchange,
-            key,
-        )
+        let route = looked_for(alloc, &self.topology, &mut self.scratch, exchange, key)?;
+        let index = slot_of(exchange.as_bytes(), key.as_bytes());
+        self.kept.keep(index, Arc::try_clone(&route)?);
+        Ok(route)
     }
 
-    /// The same, but a route that is kept is given at once.
+    /// Returns the route of `exchange` and `key` that is kept, or else learns it. Fails only if an allocation fails.
     pub fn route(
         &mut self,
         alloc: Global,
@@ -100,18 +91,14 @@ impl Router {
         ensures route { IfOk result (λ r. IsRoute self.old exchange.now key.now (arc_value r)) }
         ensures same { self.new ≡ self.old }
     {
-        let place = slot_of(exchange.as_bytes(), key.as_bytes());
-        routed(
-            alloc,
-            &self.topology,
-            &mut self.scratch,
-            &mut self.slots[place],
-            exchange,
-            key,
-        )
+        let index = slot_of(exchange.as_bytes(), key.as_bytes());
+        match kept(&self.kept.slots[index], exchange.as_bytes(), key.as_bytes()) {
+            Some(route) => Arc::try_clone(route),
+            None => self.learn(alloc, exchange, key),
+        }
     }
 
-    /// The topology that was handed in.
+    /// Returns the topology that was handed in.
     pub fn topology(&self) -> &Topology
         ensures { result.now ≡ self.now }
     {

@@ -1,4 +1,4 @@
-//! What is kept of a route.
+//! Routes as they are kept.
 
 use crate::marks::Targets;
 use model::Text;
@@ -7,21 +7,19 @@ use std::sync::Arc;
 /// Whether clients may publish to an exchange.
 #[derive(Clone, Copy, PartialEq, Eq, Debug, Drop)]
 pub enum Access {
-    /// They may. The default exchange is one of these.
+    /// They may. The default exchange is always open.
     Open,
-    /// Only other exchanges lead to it.
+    /// The exchange is internal: only other exchanges lead to it.
     Internal,
-    /// There is no such exchange.
     Absent,
 }
 
-/// Where a message comes that is sent to this exchange under this key.
+/// Where a message that is sent to `exchange` under `key` goes.
 pub struct Route {
     pub exchange: Text,
     pub key: Text,
-    /// Whether clients may publish to the exchange.
     pub access: Access,
-    /// The queues that it is routed to, by their places, in the order of the file, each once.
+    /// The queues that it is routed to, by index in the order of the file, each once.
     pub targets: Targets,
 }
 
@@ -37,11 +35,10 @@ impl Drop for Route {
     }
 }
 
-/// What is known at once of an exchange and a key.
+/// What is known of an exchange and a key without an allocation.
 #[derive(Drop)]
 pub struct Found<'a> {
-    /// Whether clients may publish to the exchange.
     pub access: Access,
-    /// The route, where it is kept.
+    /// The route, if it is in the cache.
     pub route: Option<&'a Arc<Route>>,
 }

@@ -1,25 +1,25 @@
-//! What is used while a message is routed, and kept for the next one.
+//! Buffers that routing uses and keeps.
 
 use crate::ends::End;
 use std::alloc::Global;
 
-/// The marks and the ends that are used while a message is routed. What stands in them from another route is of no account, so
-/// that routes one after another need no memory for them. None of them grows past what the topology has: its queues, its
-/// exchanges, and room for at most twice the ends that lead on from one exchange (four at least).
+/// The marks and ends that routing uses.
+/// Their content doesn't matter between two routes; they are kept so that routes one after another need no allocation for them. The marks
+/// never grow past the topology's queues and exchanges, the ends never past twice those that lead on from one exchange (four at least).
 #[derive(Drop)]
 pub struct Scratch {
-    /// A mark for each exchange that a way leads to.
+    /// A mark for each exchange that was met.
     pub seen: Vec<bool>,
-    /// A mark for each queue that a way leads to.
+    /// A mark for each queue that was met.
     pub found: Vec<bool>,
     /// A mark for each exchange that is done.
     pub done: Vec<bool>,
-    /// Where the ways from one exchange end.
+    /// The next steps from one exchange.
     pub ends: Vec<End>,
 }
 
 impl Scratch {
-    /// With nothing in it.
+    /// Returns empty buffers. Never allocates.
     pub fn new(alloc: Global) -> Scratch {
         Scratch {
             seen: Vec::new(alloc),

@@ -1,6 +1,6 @@
-//! One place for a route that is kept.
+//! Looking for a route: in the slot on which it falls ([`found`]), or in the topology ([`looked_for`]).
 
-ghost use Rattle.std.specs.Prelude.{◌≡◌, ◌<◌, IfOk, IfSome, IsTrue, None, option_copied, replicate};
+ghost use Rattle.std.specs.Prelude.{◌≡◌, ◌<◌, IfOk, IfSome, IsTrue, option_copied};
 ghost use Rattle.std.specs.Arc.{arc_value};
 ghost use Rattle.model.specs.Topology.{Topology as Handed};
 ghost use Rattle.exchange_graph.specs.Routers.{IsRight, IsRoute, access_at, access_to};
@@ -12,7 +12,7 @@ use model::{Exchange, Text};
 use std::alloc::{AllocError, Global};
 use std::sync::Arc;
 
-/// Bytes mixed into a number. Nothing rests on how.
+/// Mixes `bytes` into the hash `from`. Correctness does not depend on it.
 fn mixed(from: u64, bytes: &[u8]) -> u64 {
     let mut mix = from;
     for byte in bytes {
@@ -21,7 +21,7 @@ fn mixed(from: u64, bytes: &[u8]) -> u64 {
     mix
 }
 
-/// The slot on which an exchange and a key fall.
+/// Returns the index of the slot for `exchange` and `key`, by their hash.
 pub fn slot_of(exchange: &[u8], key: &[u8]) -> usize
     ensures { result < 1024 }
 {
@@ -29,7 +29,7 @@ pub fn slot_of(exchange: &[u8], key: &[u8]) -> usize
     ((mix ^ (mix >> 32)) % 1024) as usize
 }
 
-/// Whether clients may publish to this exchange.
+/// Returns whether clients may publish to `exchange`.
 fn access_at(exchange: Option<&Exchange>) -> Access
     ensures { result ≡ access_at (option_copied exchange.entry) }
 {
@@ -45,7 +45,7 @@ fn access_at(exchange: Option<&Exchange>) -> Access
     }
 }
 
-/// Whether clients may publish to the exchange of this name.
+/// Returns whether clients may publish to the exchange with the name `exchange`.
 fn access_to(topology: &Topology, exchange: &[u8]) -> Access
     ensures { result ≡ access_to topology.now exchange.now }
 {
@@ -56,7 +56,7 @@ fn access_to(topology: &Topology, exchange: &[u8]) -> Access
     }
 }
 
-/// Whether this is the route of this exchange and this key.
+/// Returns whether `route` is that of `exchange` and `key`.
 fn is_of(route: &Route, exchange: &[u8], key: &[u8]) -> bool
     ensures exchange { IsTrue result → route.now.exchange ≡ exchange.now }
     ensures key { IsTrue result → route.now.key ≡ key.now }
@@ -64,8 +64,8 @@ fn is_of(route: &Route, exchange: &[u8], key: &[u8]) -> bool
     route.key.as_bytes() == key && route.exchange.as_bytes() == exchange
 }
 
-/// The route of this exchange and this key, if it is kept here.
-fn kept<'a>(slot: &'a Option<Arc<Route>>, exchange: &[u8], key: &[u8]) -> Option<&'a Arc<Route>>
+/// Returns the route of `exchange` and `key` if it is the one in `slot`.
+pub fn kept<'a>(slot: &'a Option<Arc<Route>>, exchange: &[u8], key: &[u8]) -> Option<&'a Arc<Route>>
     ensures { (t : Handed) → IsRight t slot.now → IfSome result (λ a. IsRoute t exchange.now key.now (arc_value a.now)) }
 {
     match slot {
@@ -80,7 +80,7 @@ fn kept<'a>(slot: &'a Option<Arc<Route>>, exchange: &[u8], key: &[u8]) -> Option
     }
 }
 
-/// Whether clients may publish to this exchange, and the route of this exchange and this key, if it is kept here.
+/// Returns whether clients may publish to `exchange`, and the route of `exchange` and `key` if it is the one in `slot`.
 pub fn found<'a>(
     topology: &Topology,
     slot: &'a Option<Arc<Route>>,
@@ -103,8 +103,8 @@ pub fn found<'a>(
     }
 }
 
-/// The route of this exchange and this key, looked for in the topology.
-fn looked_for(
+/// Looks for the route of `exchange` and `key` in the topology. Fails only if an allocation fails.
+pub fn looked_for(
     alloc: Global,
     topology: &Topology,
     scratch: &mut Scratch,
@@ -124,53 +124,4 @@ fn looked_for(
         Ok(route) => Ok(route),
         Err(_) => Err(AllocError),
     }
-}
-
-/// The route of this exchange and this key, looked for in the topology, and kept here from now on.
-pub fn learned(
-    alloc: Global,
-    topology: &Topology,
-    scratch: &mut Scratch,
-    slot: &mut Option<Arc<Route>>,
-    exchange: &Text,
-    key: &Text,
-) -> Result<Arc<Route>, AllocError>
-    requires { IsRight topology.now slot.old }
-    ensures right { IsRight topology.now slot.new }
-    ensures route { IfOk result (λ a. IsRoute topology.now exchange.now key.now (arc_value a)) }
-{
-    let route = looked_for(alloc, topology, scratch, exchange, key)?;
-    *slot = Some(Arc::try_clone(&route)?);
-    Ok(route)
-}
-
-/// The route of this exchange and this key, which is kept here, or is from now on.
-pub fn routed(
-    alloc: Global,
-    topology: &Topology,
-    scratch: &mut Scratch,
-    slot: &mut Option<Arc<Route>>,
-    exchange: &Text,
-    key: &Text,
-) -> Result<Arc<Route>, AllocError>
-    requires { IsRight topology.now slot.old }
-    ensures right { IsRight topology.now slot.new }
-    ensures route { IfOk result (λ a. IsRoute topology.now exchange.now key.now (arc_value a)) }
-{
-    match kept(slot, exchange.as_bytes(), key.as_bytes()) {
-        Some(route) => Arc::try_clone(route),
-        None => learned(alloc, topology, scratch, slot, exchange, key),
-    }
-}
-
-/// So many slots with nothing in them.
-pub fn empty_slots(alloc: Global, count: usize) -> Result<Vec<Option<Arc<Route>>>, AllocError>
-    ensures { IfOk result (λ slots. slots.items ≡ replicate count None) }
-{
-    let mut slots = Vec::new(alloc);
-    slots.reserve_exact(count)?;
-    for _ in 0..count {
-        slots.push(None)?;
-    }
-    Ok(slots)
 }

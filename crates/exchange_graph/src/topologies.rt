@@ -1,4 +1,4 @@
-//! Topologies that were found good.
+//! Valid topologies. Start with [`Topology::build`] and [`Topology::route`].
 
 ghost use Rattle.std.specs.Prelude.{
   ◌≡◌,
@@ -24,7 +24,7 @@ ghost use Rattle.exchange_graph.specs.Marks.{exchange_name, queue_name};
 
 use crate::ends::End;
 use crate::fans::{Fan, all_fans};
-use crate::marks::{Targets, set_places};
+use crate::marks::{Targets, set_indices};
 use crate::places::NamedLists;
 use crate::reach::{find, see};
 use crate::scratches::Scratch;
@@ -33,7 +33,7 @@ use std::alloc::{AllocError, Global};
 use std::marker::Model;
 use topology_drafts::{BadTopology, Names, judge};
 
-/// Exchanges, queues and bindings, each in the order of the file.
+/// Exchanges, queues and bindings, each in the order of the file, prepared for routing.
 pub struct Topology {
     exchanges: Vec<Exchange>,
     queues: Vec<DeclaredQueue>,
@@ -69,7 +69,7 @@ impl Model for Topology {
         t.fans.items t.exchange_names t.queue_names };
 }
 
-/// The names of the exchanges at these places.
+/// Returns copies of the names of the exchanges at the indices `places`. Fails only if an allocation fails.
 fn names_at(
     alloc: Global,
     exchanges: &[Exchange],
@@ -86,7 +86,8 @@ fn names_at(
 }
 
 impl Topology {
-    /// Exactly what is handed in, where nothing stands against it.
+    /// Builds the topology of exactly these lists.
+    /// Fails with the first cause for which they are refused, or with `BadTopology::Memory` if an allocation fails.
     #[tactic(auto, using(crate::proofs::Good::refused))]
     pub fn build(
         alloc: Global,
@@ -109,7 +110,7 @@ impl Topology {
         Ok(topology)
     }
 
-    /// Exactly what is handed in, against which nothing stands.
+    /// Builds the topology of lists that are valid (`IsBuildable`). Fails only if an allocation fails.
     pub fn sound(
         alloc: Global,
         exchanges: Vec<Exchange>,
@@ -141,46 +142,46 @@ impl Topology {
         })
     }
 
-    /// Nothing stands against a topology.
-    pub fn is_buildable(&self)
+    /// Shows that a topology is valid (`IsBuildable`). Does nothing at run time.
+    pub fn ghost_is_buildable(&self)
         ensures { IsBuildable self.now }
     {
         let _ = &self.queues;
     }
 
-    /// What every topology keeps, as routes need it.
-    pub fn is_well_formed(&self)
+    /// Shows what routing needs of each topology. Does nothing at run time.
+    pub fn ghost_is_well_formed(&self)
         ensures { IsWellFormed self.now }
     {
-        self.is_buildable();
+        self.ghost_is_buildable();
     }
 
-    /// The steps of a route from the exchange at this place.
-    pub fn steps(&self, alloc: Global, place: usize, key: &[u8]) -> Result<Vec<End>, AllocError>
-        requires { place < length self.now.exchanges }
-        ensures { IfOk result (λ ends. AreSteps self.now key.now (exchange_name self.now place) ends.items) }
+    /// Returns the next steps of a message with `key` from the exchange at `index`. Fails only if an allocation fails.
+    pub fn steps(&self, alloc: Global, index: usize, key: &[u8]) -> Result<Vec<End>, AllocError>
+        requires { index < length self.now.exchanges }
+        ensures { IfOk result (λ ends. AreSteps self.now key.now (exchange_name self.now index) ends.items) }
     {
         let mut ends = Vec::new(alloc);
-        self.find_steps(alloc, place, key, &mut ends)?;
+        self.find_steps(alloc, index, key, &mut ends)?;
         Ok(ends)
     }
 
-    /// Lists the steps of a route from the exchange at this place.
+    /// Replaces `ends` by the next steps of a message with `key` from the exchange at `index`. Fails only if an allocation fails.
     pub fn find_steps(
         &self,
         alloc: Global,
-        place: usize,
+        index: usize,
         key: &[u8],
         ends: &mut Vec<End>,
     ) -> Result<(), AllocError>
-        requires { place < length self.now.exchanges }
-        ensures { OnOk result (AreSteps self.now key.now (exchange_name self.now place) ends.new.items) }
+        requires { index < length self.now.exchanges }
+        ensures { OnOk result (AreSteps self.now key.now (exchange_name self.now index) ends.new.items) }
     {
-        self.fans[place].lead_on(alloc, key, ends)
+        self.fans[index].lead_on(alloc, key, ends)
     }
 
-    /// The queues that a message sent to this exchange under this key is routed to, by their places, in the order of the
-    /// file, each once. An exchange that is not there leads nowhere; `""` is the default exchange.
+    /// Returns the indices of the queues that a message sent to `exchange` under `key` is routed to, in the order of the file, each once.
+    /// An exchange that doesn't exist leads nowhere; `""` is the default exchange. Fails only if an allocation fails.
     pub fn route(
         &self,
         alloc: Global,
@@ -194,7 +195,7 @@ impl Topology {
         Ok(targets.into_vec()?)
     }
 
-    /// The same, where what is used on the way is kept.
+    /// Returns the same indices, and uses the buffers of `scratch`, whatever they contain. Fails only if an allocation fails.
     pub fn targets(
         &self,
         alloc: Global,
@@ -205,12 +206,12 @@ impl Topology {
         ensures { IfOk result (λ targets. AreTargets self.now exchange.now key.now targets.items) }
     {
         find(self, alloc, scratch, exchange, key)?;
-        set_places(alloc, scratch.found.as_slice())
+        set_indices(alloc, scratch.found.as_slice())
     }
 
-    /// The names of the exchanges that a message sent to this exchange under this key passes, in the order of the file, each
-    /// once, and this one among them. The default exchange `""` leads on to no exchange, so it passes itself alone; one
-    /// that is not there passes none.
+    /// Returns the names of the exchanges that a message sent to `exchange` under `key` passes, in the order of the file, each once,
+    /// `exchange` included. The default exchange `""` leads on to no exchange, so it passes only itself. An exchange that doesn't exist
+    /// passes none. Fails only if an allocation fails.
     pub fn visited(
         &self,
         alloc: Global,
@@ -219,13 +220,13 @@ impl Topology {
     ) -> Result<Vec<Text>, AllocError>
         ensures { IfOk result (λ visited. AreVisited self.now exchange.now key.now visited.items) }
     {
-        self.is_well_formed();
+        self.ghost_is_well_formed();
         if exchange.is_empty() {
             return Ok(vec![in alloc; Text::empty()]?);
         }
         let mut scratch = Scratch::new(alloc);
         see(self, alloc, &mut scratch, exchange, key)?;
-        let places = set_places(alloc, scratch.seen.as_slice())?;
+        let places = set_indices(alloc, scratch.seen.as_slice())?;
         names_at(alloc, self.exchanges.as_slice(), places.as_slice())
     }
 
@@ -250,7 +251,7 @@ impl Topology {
         self.bindings.as_slice()
     }
 
-    /// The exchange of this name, if it is there. The default exchange is not.
+    /// Returns the exchange `name`, or `None` if there is none. The default exchange is not in the list.
     pub fn exchange(&self, name: &[u8]) -> Option<&Exchange>
         ensures { option_copied result ≡ find (λ x. bytes_eq x.name name.now) self.now.exchanges }
     {
@@ -260,7 +261,7 @@ impl Topology {
         }
     }
 
-    /// The place of the exchange of this name, if it is there. The default exchange is not.
+    /// Returns the index of the exchange `name`, or `None` if there is none. The default exchange is not in the list.
     pub fn exchange_at(&self, name: &[u8]) -> Option<usize>
         ensures place { result ≡ position (λ x. bytes_eq x.name name.now) self.now.exchanges }
         ensures within { IfSome result (λ i. i < length self.now.exchanges) }
@@ -270,7 +271,7 @@ impl Topology {
         self.exchange_names.place(name)
     }
 
-    /// The place of the queue of this name, if it is there.
+    /// Returns the index of the queue `name`, or `None` if there is none.
     pub fn queue_at(&self, name: &[u8]) -> Option<usize>
         ensures place { result ≡ position (λ q. bytes_eq q.name name.now) self.now.queues }
         ensures within { IfSome result (λ i. i < length self.now.queues) }
@@ -280,11 +281,11 @@ impl Topology {
         self.queue_names.place(name)
     }
 
-    /// The queue at this place.
-    pub fn queue(&self, place: usize) -> &DeclaredQueue
-        requires { place < length self.now.queues }
-        ensures { result.now ≡ slice_index_or self.now.queues place result.now }
+    /// The queue at `index`, which has to be below the number of queues.
+    pub fn queue(&self, index: usize) -> &DeclaredQueue
+        requires { index < length self.now.queues }
+        ensures { result.now ≡ slice_index_or self.now.queues index result.now }
     {
-        &self.queues[place]
+        &self.queues[index]
     }
 }

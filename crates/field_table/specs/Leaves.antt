@@ -1,4 +1,4 @@
--- Single values of tables and arrays: a type letter, and arguments behind it. Source: AMQP 0-9-1, section 4.2.5.5, "Field Tables".
+-- Single values of tables and arrays: a type letter and arguments after it. Source: AMQP 0-9-1, section 4.2.5.5, "Field Tables".
 use Rattle.std.specs.Prelude.{ℕ, List, [], ◌∷◌, length, drop, slice_index, nat_lt, ◌==◌, if◌then◌else◌, Option, Some, None}
 use Rattle.model.specs.Grammar.{Argument, Octet, Short, Long, Long_long, Long_text, Bits}
 use Rattle.field_table.specs.Arguments.{Kind, an_octet, a_short, a_long, a_long_long, a_long_text, some_bits, argument_at}
@@ -6,16 +6,16 @@ use Rattle.model.specs.Options.{◌>>=◌}
 use Rattle.field_table.specs.declared.leaves.Leaf.{Leaf}
 use Rattle.field_table.specs.declared.leaves.Leaf.TheVariants as leaves
 
--- a type letter, and what stands behind it; an array or a table is still bytes
+-- a type letter and the arguments after it, in which an array or a table is still bytes
 pub record Unread : Type 0 where
   pub letter : ℕ
   pub contents : List Argument
 
--- a value of this letter, with these arguments behind it
+-- the value with this letter and these arguments after it
 abbrev pub unread : ℕ → List Argument → Unread
 unread letter contents = record { letter = letter; contents = contents }
 
--- what is on the wire for a leaf: its type letter, and what stands behind it; of an array or a table, its bytes
+-- a leaf as it is on the wire: its type letter and the arguments after it; an array or a table is its bytes
 abbrev pub leaf_seen : Leaf → Unread
 leaf_seen (leaves.Truth b) = unread 116 (Bits (b ∷ []) ∷ [])
 leaf_seen (leaves.Byte n) = unread 98 (Octet n ∷ [])
@@ -32,7 +32,7 @@ leaf_seen (leaves.Table body) = unread 70 (Long_text body.now ∷ [])
 leaf_seen (leaves.Bytes t) = unread 120 (Long_text t.now ∷ [])
 leaf_seen leaves.Void = unread 86 []
 
--- the kinds of what stands behind a letter
+-- the kinds of the arguments after a type letter, or nothing if the letter is unknown
 abbrev pub kinds_behind : ℕ → Option (List Kind)
 kinds_behind letter =
     if letter == 116 then Some (some_bits 1 ∷ [])
@@ -51,15 +51,15 @@ kinds_behind letter =
     else if letter == 86 then Some []
     else None
 
--- arguments of these kinds, and the bytes after them
+-- arguments of these kinds at the front, and the bytes after them
 abbrev pub front_at : List Kind → List ℕ → Option (List Argument × List ℕ)
 front_at [] bytes = Some ([], bytes)
 front_at (k ∷ ks) bytes = argument_at k bytes >>= λ x. front_at ks x.1 >>= λ y. Some (x.0 ∷ y.0, y.1)
 
--- the value behind a letter, and the bytes after it
+-- the value after a type letter, and the bytes after it
 abbrev pub behind : ℕ → List ℕ → Option (Unread × List ℕ)
 behind letter bytes = kinds_behind letter >>= λ ks. front_at ks bytes >>= λ y. Some (unread letter y.0, y.1)
 
--- the value at the front, and the bytes after it
+-- the value at the front, type letter first, and the bytes after it
 abbrev pub read_leaf : List ℕ → Option (Unread × List ℕ)
 read_leaf bytes = if nat_lt (length bytes) 1 then None else behind (slice_index bytes 0) (drop 1 bytes)

@@ -4,7 +4,7 @@ use Rattle.model.specs.Words.{Text}
 use Rattle.model.specs.Tables.{Pairs, pairs_bytes, HavePairsSpelling}
 use Rattle.model.specs.Deaths.{IsFieldOf}
 
--- the bytes are the pairs of a table that has a spelling, and a field of this name stands in it
+-- the bytes are the pairs of a table that can be encoded, and one of its fields is named `name`
 pub record HasField (name : Text) (bytes : List ℕ) : Type 0 where
   pub pairs : Pairs
   pub fits : HavePairsSpelling pairs

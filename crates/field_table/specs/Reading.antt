@@ -1,4 +1,4 @@
--- What stands at the front of bytes, and what whole bytes are. Source: AMQP 0-9-1, section 4.2.5.5, "Field Tables".
+-- Which value or pair is at the front of bytes, and what all bytes encode. Source: AMQP 0-9-1, section 4.2.5.5, "Field Tables".
 use Rattle.std.specs.Prelude.{◌≡◌, ◌<◌, ◌≤◌, ◌-◌, ℕ, List, ◌∷◌, ◌++◌, length}
 use Rattle.model.specs.Words.{Text}
 use Rattle.model.specs.Tables.{Value, Values, Pairs, letter, content, values_bytes, pairs_bytes, IsValue, AreValues, ArePairs}
@@ -9,36 +9,36 @@ use Rattle.field_table.specs.Values.{unread_of, contents_of}
 use Rattle.field_table.specs.declared.leaves.Leaf.{Leaf}
 use Rattle.field_table.specs.declared.leaves.Leaf.TheVariants as leaves
 
--- this value stands at the front, where arrays and tables may stand inside one another so many levels deep
+-- the value `v` is at the front; arrays and tables are nested at most `depth` levels deep, `v` itself included
 pub record IsFirstValue (depth : ℕ) (bytes : List ℕ) (v : Value) (rest : List ℕ) : Type 0 where
   pub fits : IsValue depth v
   pub parts : bytes ≡ letter v ∷ content v ++ rest
 
--- no value stands at the front
+-- no value is at the front
 abbrev pub HasNone : ℕ → List ℕ → Type 0
 HasNone depth bytes = (v : Value) (rest : List ℕ) → IsFirstValue depth bytes v rest → ⊥
 
--- this name and this value stand at the front
+-- the pair of `name` and `v` is at the front; arrays and tables are nested at most `depth` levels deep, `v` itself included
 pub record IsFirstPair (depth : ℕ) (bytes : List ℕ) (name : Text) (v : Value) (rest : List ℕ) : Type 0 where
   pub short : length name < 256
   pub fits : IsValue depth v
   pub parts : bytes ≡ (length name ∷ name) ++ (letter v ∷ content v ++ rest)
 
--- no name with a value behind it stands at the front
+-- no pair is at the front
 abbrev pub HasNoPair : ℕ → List ℕ → Type 0
 HasNoPair depth bytes = (name : Text) (v : Value) (rest : List ℕ) → IsFirstPair depth bytes name v rest → ⊥
 
--- the bytes are these values
+-- the bytes are exactly these values
 pub record SpellsValues (depth : ℕ) (bytes : List ℕ) (vs : Values) : Type 0 where
   pub fits : AreValues depth vs
   pub parts : bytes ≡ values_bytes vs
 
--- the bytes are these pairs
+-- the bytes are exactly these pairs
 pub record SpellsPairs (depth : ℕ) (bytes : List ℕ) (ps : Pairs) : Type 0 where
   pub fits : ArePairs depth ps
   pub parts : bytes ≡ pairs_bytes ps
 
--- the bytes are values, or pairs
+-- the bytes are the values of some array
 abbrev pub HasValues : ℕ → List ℕ → Type 0
 HasValues depth bytes = (vs : Values) × SpellsValues depth bytes vs
 
@@ -46,13 +46,13 @@ HasValues depth bytes = (vs : Values) × SpellsValues depth bytes vs
 abbrev pub HasPairs : ℕ → List ℕ → Type 0
 HasPairs depth bytes = (ps : Pairs) × SpellsPairs depth bytes ps
 
--- what an array or a table holds is values, or pairs, one level deeper
+-- a level is left, and the content of an array is values, of a table pairs, one level deeper; other leaves have no content to check
 abbrev pub HoldsValues : ℕ → Leaf → Type 0
 HoldsValues depth (leaves.Array body) = (1 ≤ depth) × HasValues (depth - 1) body.now
 HoldsValues depth (leaves.Table body) = (1 ≤ depth) × HasPairs (depth - 1) body.now
 HoldsValues depth _ = Unit {0}
 
--- what is read of the value is the leaf, and it fits where its numbers do
+-- the leaf is what is read first of the value, and the value can be encoded if its arguments can
 pub record Means (depth : ℕ) (leaf : Leaf) (v : Value) : Type 0 where
   pub read : leaf_seen leaf ≡ unread_of v
   pub fits : AllByRecursion IsSized (contents_of v) → IsValue depth v

@@ -1,11 +1,11 @@
--- Values, as they are read. Source: AMQP 0-9-1, section 4.2.5.5, "Field Tables".
+-- A value as it is read in a first step, with arrays and tables still as bytes. Source: AMQP 0-9-1, section 4.2.5.5, "Field Tables".
 use Rattle.std.specs.Prelude.{List, [], ◌∷◌}
 use Rattle.model.specs.Grammar.{Argument, Octet, Short, Long, Long_long, Long_text, Bits}
 use Rattle.model.specs.Tables.{Value, letter, values_bytes, pairs_bytes}
 use Rattle.model.specs.Tables as tables
 use Rattle.field_table.specs.Leaves.{Unread, unread}
 
--- what stands behind the letter of a value, as arguments
+-- the arguments after a value's type letter
 abbrev pub contents_of : Value → List Argument
 contents_of (tables.Truth b) = Bits (b ∷ []) ∷ []
 contents_of (tables.Byte n) = Octet n ∷ []
@@ -22,6 +22,6 @@ contents_of (tables.Inner_table ps) = Long_text (pairs_bytes ps) ∷ []
 contents_of (tables.Byte_array t) = Long_text t ∷ []
 contents_of tables.Void = []
 
--- a value as it is read at first: its letter, and behind it numbers, or bytes that are not read yet
+-- a value as it is read first: its letter and the arguments after it, an array or a table as its bytes
 abbrev pub unread_of : Value → Unread
 unread_of v = unread (letter v) (contents_of v)

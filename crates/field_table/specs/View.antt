@@ -1,4 +1,4 @@
--- The table or value that a `FieldTable` or a `Field` stands for.
+-- The table or value that a `FieldTable` or a `Field` represents.
 use Rattle.std.specs.Prelude.{List, [], ◌∷◌, map}
 use Rattle.model.specs.Words.{Text}
 use Rattle.model.specs.Tables.{Value, Values, Pairs, Truth, Byte, Short, Long, Long_long, Float, Double, Decimal, Long_string}
@@ -13,17 +13,17 @@ pub record Named : Type 0 where
   pub name : Text
   pub value : Value
 
--- these values, and then those
+-- the values `xs` followed by the values `vs`
 abbrev pub values_then : List Value → Values → Values
 values_then [] vs = vs
 values_then (x ∷ xs) vs = value x (values_then xs vs)
 
--- these pairs, and then those
+-- the pairs `xs` followed by the pairs `ps`
 abbrev pub pairs_then : List Named → Pairs → Pairs
 pairs_then [] ps = ps
 pairs_then (x ∷ xs) ps = pair x.name x.value (pairs_then xs ps)
 
--- one level, with each value inside already seen
+-- the value of a `Field` whose inner values are already converted
 abbrev pub field_step : fields.Field-F Value Pairs Named → Value
 field_step (fields.Truth b) = Truth b
 field_step (fields.Byte n) = Byte n
@@ -40,35 +40,35 @@ field_step (fields.Table t) = Inner_table t
 field_step (fields.Bytes t) = Byte_array t
 field_step fields.Void = Void
 
--- a name with its value, which is already seen
+-- the pair of a `TableEntry` whose value is already converted
 abbrev pub entry_step : fields.TableEntry-F Value Pairs Named → Named
 entry_step e = record { name = e.name; value = e.value }
 
--- the pairs of a table, whose values are already seen
+-- the pairs of a `FieldTable` whose values are already converted
 abbrev pub table_step : fields.FieldTable-F Value Pairs Named → Pairs
 table_step t = pairs_then t.entries.items no_pairs
 
--- the value that a `Field` stands for, with all that stands inside it
+-- the value that a `Field` represents, with everything nested in it
 abbrev pub field_view : Field → Value
 field_view = fold-Field Value Pairs Named field_step table_step entry_step
 
--- the name and the value that a `TableEntry` stands for
+-- the pair that a `TableEntry` represents
 abbrev pub entry_view : TableEntry → Named
 entry_view = fold-TableEntry Value Pairs Named field_step table_step entry_step
 
--- the pairs that a `FieldTable` stands for, in their order
+-- the pairs that a `FieldTable` represents, in order
 abbrev pub table_view : FieldTable → Pairs
 table_view = fold-FieldTable Value Pairs Named field_step table_step entry_step
 
--- the values of an array, and the pairs of a table
+-- the values that these fields represent, as a list
 abbrev pub fields_view : List Field → List Value
 fields_view fs = map field_view fs
 
--- the names and values of these entries, in their order
+-- the pairs that these entries represent, as a list
 abbrev pub entries_view : List TableEntry → List Named
 entries_view es = map entry_view es
 
--- the values of an array of these fields
+-- the array of these fields
 abbrev pub array_view : List Field → Values
 array_view fs = values_then (fields_view fs) no_values
 

@@ -1,4 +1,4 @@
-//! Whether bytes are a table, without reading what it says.
+//! Checks that bytes are a field table without building it. Start at [`is_table`].
 
 ghost use Rattle.std.specs.Prelude.{MatchBool, MatchOption};
 ghost use Rattle.model.specs.Tables.{Value, IsTable};
@@ -7,10 +7,10 @@ ghost use Rattle.field_table.specs.Reading.{IsFirstValue, HasNone, IsFirstPair, 
 use crate::leaves::{Leaf, leaf_at};
 use crate::takes::short_text_at;
 
-/// How deep arrays and tables may stand inside a table.
+/// How many levels deep arrays and tables may be nested inside a table.
 pub(crate) const DEPTH: usize = 15;
 
-/// Whether the bytes are the pairs of a table, without the length before them. It takes no memory.
+/// Returns whether `pairs` are the pairs of a field table, without the table's length in front. Never allocates.
 pub fn is_table(pairs: &[u8]) -> bool
     ensures { MatchBool result (IsTable pairs.now) (IsTable pairs.now → ⊥) }
 {
@@ -20,7 +20,7 @@ pub fn is_table(pairs: &[u8]) -> bool
     are_pairs(pairs, DEPTH)
 }
 
-/// The bytes are the pairs of a table in which arrays and tables may stand `depth` levels deep.
+/// Returns whether `bytes` are the pairs of a table with at most `depth` levels of arrays and tables inside.
 #[cycle(check)]
 fn are_pairs(bytes: &[u8], depth: usize) -> bool
     ensures { MatchBool result (HasPairs depth bytes.now) (HasPairs depth bytes.now → ⊥) }
@@ -35,7 +35,7 @@ fn are_pairs(bytes: &[u8], depth: usize) -> bool
     true
 }
 
-/// The name of the pair at the front, and what follows the pair.
+/// Returns the name of the pair at the front and the bytes after the pair, or `None` if no pair is there.
 #[cycle(check)]
 pub(crate) fn pair_at(bytes: &[u8], depth: usize) -> Option<(&[u8], &[u8])>
     ensures { MatchOption result (HasNoPair depth bytes.now) (λ found. (v : Value) × IsFirstPair depth bytes.now found.0.now v found.1.now) }
@@ -45,7 +45,7 @@ pub(crate) fn pair_at(bytes: &[u8], depth: usize) -> Option<(&[u8], &[u8])>
     Some((name, after))
 }
 
-/// The bytes are the values of an array in which arrays and tables may stand `depth` levels deep.
+/// Returns whether `bytes` are the values of an array with at most `depth` levels of arrays and tables inside.
 #[cycle(check)]
 fn are_values(bytes: &[u8], depth: usize) -> bool
     ensures { MatchBool result (HasValues depth bytes.now) (HasValues depth bytes.now → ⊥) }
@@ -60,7 +60,7 @@ fn are_values(bytes: &[u8], depth: usize) -> bool
     true
 }
 
-/// What follows the value at the front.
+/// Returns the bytes after the value at the front, or `None` if no value is there.
 #[cycle(check)]
 fn value_end(bytes: &[u8], depth: usize) -> Option<&[u8]>
     ensures { MatchOption result (HasNone depth bytes.now) (λ rest. (v : Value) × IsFirstValue depth bytes.now v rest.now) }
@@ -75,7 +75,7 @@ fn value_end(bytes: &[u8], depth: usize) -> Option<&[u8]>
     }
 }
 
-/// What an array or a table holds is right.
+/// Returns whether an array's or table's content is well formed and at most `depth` levels deep, itself included; `true` for other leaves.
 #[cycle(check)]
 fn is_sound(leaf: Leaf<'_>, depth: usize) -> bool
     ensures { MatchBool result (HoldsValues depth leaf.entry) (HoldsValues depth leaf.entry → ⊥) }

@@ -1,11 +1,11 @@
-//! Tables and their fields.
+//! The types of a decoded field table. Start at [`FieldTable`].
 
 use model::Text;
 
-/// A field table: names and values, in the order of the wire. A name may stand there twice.
+/// A field table: names and values in wire order. A name may occur twice.
 ///
-/// Not every table has a spelling: names have fewer than 256 bytes, other texts, arrays and tables fewer than 2^32, and
-/// tables and arrays stand inside one another at most 16 levels deep, the outermost counted.
+/// Not every table can be encoded: a name has fewer than 256 bytes, a text, array or table fewer than 2^32, and tables and
+/// arrays are nested at most 16 levels deep, the outermost counted.
 ///
 /// Source: AMQP 0-9-1, section 4.2.5.5, "Field Tables".
 #[cycle(fields)]
@@ -22,9 +22,9 @@ pub struct TableEntry {
     pub value: Field,
 }
 
-/// A value of a table or an array, by RabbitMQ's type letters.
+/// A value of a table or an array, with RabbitMQ's type letter for each variant.
 ///
-/// Numbers are kept as their bytes say: where a client means a signed number, this is its two's complement.
+/// Numbers are kept as their bytes are: a signed number of the client is its two's complement.
 #[cycle(fields)]
 #[derive(Drop)]
 pub enum Field {
@@ -38,11 +38,11 @@ pub enum Field {
     Long(u32),
     /// `l`.
     LongLong(u64),
-    /// `f`: the bits of a float, which are not read.
+    /// `f`: the bits of a float, which are not interpreted.
     Float(u32),
-    /// `d`: the bits of a double, which are not read.
+    /// `d`: the bits of a double, which are not interpreted.
     Double(u64),
-    /// `D`: `digits`, of which `scale` stand behind the point.
+    /// `D`: the number `digits`, of which `scale` digits are after the decimal point.
     Decimal { scale: u8, digits: u32 },
     /// `S`.
     Text(Text),

@@ -1,4 +1,4 @@
-//! Values of tables and arrays, whose own tables and arrays are still bytes.
+//! Reads one value of a table or array and leaves nested arrays and tables as bytes. Start at [`leaf_at`].
 
 ghost use Rattle.std.specs.Prelude.{◌≡◌, [], ◌∷◌, Some, option_map};
 ghost use Rattle.field_table.specs.Arguments.{a_long, a_long_long, a_long_text};
@@ -6,7 +6,7 @@ ghost use Rattle.field_table.specs.Leaves.{leaf_seen, kinds_behind, read_leaf, b
 
 use crate::takes::{long_at, long_long_at, long_text_at, octet_at, one_bit_at, short_at};
 
-/// A value whose array or table is still bytes.
+/// A value whose array or table is still encoded.
 #[derive(Clone, Copy, Drop)]
 pub enum Leaf<'a> {
     Truth(bool),
@@ -25,7 +25,7 @@ pub enum Leaf<'a> {
     Void,
 }
 
-/// The value at the front, and the bytes after it.
+/// Splits the value at the front, type letter included: returns it and the bytes after it.
 pub fn leaf_at(bytes: &[u8]) -> Option<(Leaf<'_>, &[u8])>
     ensures { option_map (λ x. (leaf_seen x.0, x.1.now)) result ≡ read_leaf bytes.now }
 {
@@ -33,7 +33,7 @@ pub fn leaf_at(bytes: &[u8]) -> Option<(Leaf<'_>, &[u8])>
     leaf_behind(letter, rest)
 }
 
-/// The value behind this letter, and the bytes after it.
+/// Splits the value whose type letter is `letter` off the front of `bytes`, which begin after the letter.
 fn leaf_behind(letter: u8, bytes: &[u8]) -> Option<(Leaf<'_>, &[u8])>
     ensures { option_map (λ x. (leaf_seen x.0, x.1.now)) result ≡ behind letter bytes.now }
 {
@@ -50,7 +50,7 @@ fn leaf_behind(letter: u8, bytes: &[u8]) -> Option<(Leaf<'_>, &[u8])>
     }
 }
 
-// ---- what stands behind each letter
+// ---- the value after each letter
 
 fn truth_behind(bytes: &[u8]) -> Option<(Leaf<'_>, &[u8])>
     ensures { option_map (λ x. (leaf_seen x.0, x.1.now)) result ≡ behind 116 bytes.now }
@@ -73,7 +73,7 @@ fn short_behind(bytes: &[u8]) -> Option<(Leaf<'_>, &[u8])>
     Some((Leaf::Short(number), rest))
 }
 
-/// `I` or `f`.
+/// Reads the number after `I` or `f`.
 fn long_behind(letter: u8, bytes: &[u8]) -> Option<(Leaf<'_>, &[u8])>
     requires { kinds_behind letter ≡ Some (a_long ∷ []) }
     ensures { option_map (λ x. (leaf_seen x.0, x.1.now)) result ≡ behind letter bytes.now }
@@ -86,7 +86,7 @@ fn long_behind(letter: u8, bytes: &[u8]) -> Option<(Leaf<'_>, &[u8])>
     Some((leaf, rest))
 }
 
-/// `l`, `d` or `T`.
+/// Reads the number after `l`, `d` or `T`.
 fn long_long_behind(letter: u8, bytes: &[u8]) -> Option<(Leaf<'_>, &[u8])>
     requires { kinds_behind letter ≡ Some (a_long_long ∷ []) }
     ensures { option_map (λ x. (leaf_seen x.0, x.1.now)) result ≡ behind letter bytes.now }
@@ -108,7 +108,7 @@ fn decimal_behind(bytes: &[u8]) -> Option<(Leaf<'_>, &[u8])>
     Some((Leaf::Decimal(scale, digits), rest))
 }
 
-/// `S`, `A`, `F` or `x`.
+/// Reads the bytes after `S`, `A`, `F` or `x`.
 fn text_behind(letter: u8, bytes: &[u8]) -> Option<(Leaf<'_>, &[u8])>
     requires { kinds_behind letter ≡ Some (a_long_text ∷ []) }
     ensures { option_map (λ x. (leaf_seen x.0, x.1.now)) result ≡ behind letter bytes.now }

@@ -1,8 +1,9 @@
-//! Field tables, and the single arguments that tables, methods and headers are made of.
+//! Field tables, and the single arguments that tables, methods and headers consist of.
 //!
-//! A table is a length (4 bytes) and then pairs, each a name (a short text), a type letter and a value; an array is a
-//! length and then letters and values. Tables and arrays stand inside one another, at most 16 levels deep.
-//! Source: AMQP 0-9-1, section 4.2.5, "Data Types", with the type letters of RabbitMQ.
+//! A table is a length (4 bytes) and pairs, each a name (a short string), a type letter and a value. An array is a length
+//! and letters with values. Tables and arrays are nested at most 16 levels deep. Source: AMQP 0-9-1, section 4.2.5, "Data
+//! Types", with the type letters of RabbitMQ.
+//! Start at [`read_table`] and [`write_table`]; [`is_table`] checks without allocating.
 #![tactic(auto)]
 
 mod checking;

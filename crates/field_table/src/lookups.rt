@@ -1,12 +1,11 @@
-//! Whether a table has a field, without reading what it says.
+//! Looks for a field by its name in an encoded table.
 
 ghost use Rattle.std.specs.Prelude.{MatchBool};
 ghost use Rattle.field_table.specs.Lookups.{HasField};
 
 use crate::checking::{DEPTH, pair_at};
 
-/// Whether the bytes are the pairs of a table, without the length before them, in which a field of this name stands. It
-/// takes no memory.
+/// Returns whether `pairs` are the pairs of a field table, without its length in front, and one of them is named `name`. Never allocates.
 pub fn has_field(pairs: &[u8], name: &[u8]) -> bool
     ensures { MatchBool result (HasField name.now pairs.now) (HasField name.now pairs.now → ⊥) }
 {

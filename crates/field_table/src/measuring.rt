@@ -1,4 +1,4 @@
-//! How long tables are when they are spelled, and whether they can be.
+//! Computes encoded lengths, and finds out whether a value can be encoded at all.
 
 ghost use Rattle.std.specs.Prelude.{◌≡◌, ◌<◌, ◌≤◌, ◌+◌, ◌^◌, ◌∷◌, ◌++◌, length, MatchOption, IfSome};
 ghost use Rattle.model.specs.Tables.{letter, content, values_bytes, pairs_bytes, IsValue};
@@ -7,10 +7,10 @@ ghost use Rattle.field_table.specs.Writing.{AreValuesWithin, ArePairsWithin, IsE
 
 use crate::fields::{Field, TableEntry};
 
-/// A length that 4 bytes cannot hold.
+/// The first length that 4 bytes cannot hold.
 const LIMIT: usize = 0x1_0000_0000;
 
-/// How many bytes the pairs of a table have, in which arrays and tables may stand `depth` levels deep.
+/// Returns the encoded length in bytes of a table's pairs, or `None` if they can't be encoded with at most `depth` levels inside.
 #[cycle(measure)]
 pub(crate) fn pairs_len(entries: &[TableEntry], depth: usize) -> Option<usize>
     ensures cases { MatchOption result (ArePairsWithin depth (pairs_view entries.now) → ⊥)
@@ -27,7 +27,7 @@ pub(crate) fn pairs_len(entries: &[TableEntry], depth: usize) -> Option<usize>
     Some(len)
 }
 
-/// How many bytes a name and its value have.
+/// Returns the encoded length in bytes of a name with its value, or `None` if they can't be encoded.
 #[cycle(measure)]
 fn entry_len(entry: &TableEntry, depth: usize) -> Option<usize>
     ensures cases { MatchOption result (IsEntry depth (entry_view entry.now) → ⊥)
@@ -42,7 +42,7 @@ fn entry_len(entry: &TableEntry, depth: usize) -> Option<usize>
     Some(1 + name + value)
 }
 
-/// How many bytes the values of an array have, in which arrays and tables may stand `depth` levels deep.
+/// Returns the encoded length in bytes of an array's values, or `None` if they can't be encoded with at most `depth` levels inside.
 #[cycle(measure)]
 pub(crate) fn values_len(values: &[Field], depth: usize) -> Option<usize>
     ensures cases { MatchOption result (AreValuesWithin depth (array_view values.now) → ⊥)
@@ -59,7 +59,7 @@ pub(crate) fn values_len(values: &[Field], depth: usize) -> Option<usize>
     Some(len)
 }
 
-/// How many bytes a value has, with its letter.
+/// Returns the encoded length in bytes of a value with its type letter, or `None` if it can't be encoded.
 #[cycle(measure)]
 fn field_len(field: &Field, depth: usize) -> Option<usize>
     ensures cases { MatchOption result (IsValue depth (field_view field.now) → ⊥)
@@ -110,7 +110,7 @@ fn field_len(field: &Field, depth: usize) -> Option<usize>
     }
 }
 
-/// How many bytes a text of this length has, with its letter and its length.
+/// Returns the encoded length of a text of `len` bytes with its letter and length, or `None` if 4 bytes don't hold the length.
 fn text_len(len: usize) -> Option<usize>
     ensures { MatchOption result (2 ^ 32 ≤ len) (λ n. (len < 2 ^ 32) × (n ≡ 5 + len)) }
 {
@@ -120,7 +120,7 @@ fn text_len(len: usize) -> Option<usize>
     Some(5 + len)
 }
 
-/// One level less, where there is one.
+/// Returns `depth - 1`, or `None` for 0.
 fn less(depth: usize) -> Option<usize>
     ensures { MatchOption result (depth ≡ 0) (λ n. n + 1 ≡ depth) }
 {

@@ -1,4 +1,4 @@
-//! Tables are read.
+//! Decodes a field table into a [`crate::Table`].
 
 ghost use Rattle.std.specs.Prelude.{◌≡◌, ◌+◌};
 ghost use Rattle.model.specs.Tables.{Pairs, no_values};
@@ -14,13 +14,13 @@ use crate::takes::{long_text_at, short_text_at};
 use model::Text;
 use std::alloc::Global;
 
-/// The table that the bytes spell, its length (4 bytes) among them.
+/// Decodes the field table that `bytes` are, its length (4 bytes) included.
 ///
-/// Bytes that are left over, a length that is not filled exactly, a letter or a truth octet that no value has, and
-/// tables and arrays inside one another more than 16 levels deep are `SyntaxError`.
+/// Returns [`BadTable::SyntaxError`] if bytes are left over, a length isn't filled exactly, a type letter or a truth octet
+/// is unknown, or tables and arrays are nested more than 16 levels deep; [`BadTable::Memory`] if an allocation fails.
 pub fn read_table(alloc: Global, bytes: &[u8]) -> Result<FieldTable, BadTable>
     ensures tells { AnswersOr result (λ t. SpellsTable bytes.now (table_view t)) ((ps : Pairs) → SpellsTable bytes.now ps → ⊥) }
-    // A table that is spelled so is read, unless memory was refused.
+    // Promise: a table that `bytes` encode is returned, unless an allocation fails.
     ensures only { (ps : Pairs) → SpellsTable bytes.now ps → IsOr result (λ t. table_view t ≡ ps) }
 {
     let (pairs, rest) = long_text_at(bytes).ok_or(BadTable::SyntaxError)?;
@@ -30,7 +30,7 @@ pub fn read_table(alloc: Global, bytes: &[u8]) -> Result<FieldTable, BadTable>
     table_in(alloc, pairs, DEPTH)
 }
 
-/// The table of these pairs, in which arrays and tables may stand `depth` levels deep.
+/// Decodes a table's pairs, with at most `depth` levels of arrays and tables inside.
 #[cycle(read)]
 fn table_in(alloc: Global, bytes: &[u8], depth: usize) -> Result<FieldTable, BadTable>
     ensures { AnswersOr result (λ t. SpellsPairs depth bytes.now (table_view t)) (HasPairs depth bytes.now → ⊥) }
@@ -45,7 +45,7 @@ fn table_in(alloc: Global, bytes: &[u8], depth: usize) -> Result<FieldTable, Bad
     Ok(FieldTable { entries })
 }
 
-/// The name and the value at the front, and what follows them.
+/// Decodes the pair at the front, and returns it with the bytes after it.
 #[cycle(read)]
 fn entry_at(alloc: Global, bytes: &[u8], depth: usize) -> Result<(TableEntry, &[u8]), BadTable>
     ensures { AnswersOr result (λ x. IsFirstPair depth bytes.now x.0.name (field_view x.0.value) x.1.now) (HasNoPair depth bytes.now) }
@@ -60,7 +60,7 @@ fn entry_at(alloc: Global, bytes: &[u8], depth: usize) -> Result<(TableEntry, &[
     }
 }
 
-/// The values of an array, in which arrays and tables may stand `depth` levels deep.
+/// Decodes an array's values, with at most `depth` levels of arrays and tables inside.
 #[cycle(read)]
 fn values_in(alloc: Global, bytes: &[u8], depth: usize) -> Result<Vec<Field>, BadTable>
     ensures { AnswersOr result (λ v. SpellsValues depth bytes.now (values_then (fields_view v.items) no_values)) (HasValues depth bytes.now → ⊥) }
@@ -75,7 +75,7 @@ fn values_in(alloc: Global, bytes: &[u8], depth: usize) -> Result<Vec<Field>, Ba
     Ok(values)
 }
 
-/// The value at the front, and what follows it.
+/// Decodes the value at the front, and returns it with the bytes after it.
 #[cycle(read)]
 fn field_at(alloc: Global, bytes: &[u8], depth: usize) -> Result<(Field, &[u8]), BadTable>
     ensures { AnswersOr result (λ x. IsFirstValue depth bytes.now (field_view x.0) x.1.now) (HasNone depth bytes.now) }
@@ -89,7 +89,7 @@ fn field_at(alloc: Global, bytes: &[u8], depth: usize) -> Result<(Field, &[u8]),
     }
 }
 
-/// The value itself, with what its array or table holds.
+/// Builds the value of `leaf`, decoding the content of an array or table.
 #[cycle(read)]
 fn field_of(alloc: Global, leaf: Leaf<'_>, depth: usize) -> Result<Field, BadTable>
     ensures { AnswersOr result (λ f. Means depth leaf.entry (field_view f)) (HoldsValues depth leaf.entry → ⊥) }
@@ -112,7 +112,7 @@ fn field_of(alloc: Global, leaf: Leaf<'_>, depth: usize) -> Result<Field, BadTab
     }
 }
 
-/// One level less, where there is one.
+/// Returns `depth - 1`, or a syntax error for 0.
 fn less(depth: usize) -> Result<usize, BadTable>
     ensures { AnswersOr result (λ n. n + 1 ≡ depth) (depth ≡ 0) }
 {

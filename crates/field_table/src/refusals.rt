@@ -1,15 +1,15 @@
-//! Why a table is refused.
+//! The errors of reading and writing a table.
 
 use std::alloc::{AllocError, AllocFailed};
 use thiserror::Error;
 
-/// Why no table was read or written.
+/// Why a table was not read or not written.
 #[derive(Clone, Copy, PartialEq, Eq, Debug, Drop, Error)]
 pub enum BadTable {
-    /// The bytes are no table, or the table has no spelling. Reply code 502, syntax-error.
+    /// The bytes are not a table, or the table can't be encoded. Reply code 502, syntax-error.
     #[error("syntax-error: no field table")]
     SyntaxError,
-    /// Memory was refused.
+    /// An allocation failed.
     #[error("out of memory")]
     Memory,
 }

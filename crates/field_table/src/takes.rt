@@ -1,4 +1,4 @@
-//! Single arguments, taken from the front of bytes.
+//! Splits one argument off the front of bytes. Each call returns the argument and the rest, or `None` if it isn't there.
 
 ghost use Rattle.std.specs.Prelude.{◌≡◌, ℕ, List, [], ◌∷◌, option_map};
 ghost use Rattle.model.specs.Grammar.{Argument, Octet, Short, Long, Long_long, Short_text, Long_text, Field_table, Bits};
@@ -17,7 +17,7 @@ ghost use Rattle.field_table.specs.Arguments.{
 
 use byteorder::{BigEndian, ByteOrder};
 
-/// A number of 1 byte.
+/// Splits an octet (1 byte) off the front of `bytes`.
 pub fn octet_at(bytes: &[u8]) -> Option<(u8, &[u8])>
     ensures { option_map (λ x. (Octet x.0, x.1.now)) result ≡ argument_at an_octet bytes.now }
 {
@@ -25,7 +25,7 @@ pub fn octet_at(bytes: &[u8]) -> Option<(u8, &[u8])>
     Some((front[0], rest))
 }
 
-/// A number of 2 bytes.
+/// Splits a short integer (2 bytes, big-endian) off the front of `bytes`.
 pub fn short_at(bytes: &[u8]) -> Option<(u16, &[u8])>
     ensures { option_map (λ x. (Short x.0, x.1.now)) result ≡ argument_at a_short bytes.now }
 {
@@ -33,7 +33,7 @@ pub fn short_at(bytes: &[u8]) -> Option<(u16, &[u8])>
     Some((BigEndian::read_u16(front), rest))
 }
 
-/// A number of 4 bytes.
+/// Splits a long integer (4 bytes, big-endian) off the front of `bytes`.
 pub fn long_at(bytes: &[u8]) -> Option<(u32, &[u8])>
     ensures { option_map (λ x. (Long x.0, x.1.now)) result ≡ argument_at a_long bytes.now }
 {
@@ -41,7 +41,7 @@ pub fn long_at(bytes: &[u8]) -> Option<(u32, &[u8])>
     Some((BigEndian::read_u32(front), rest))
 }
 
-/// A number of 8 bytes.
+/// Splits a long-long integer (8 bytes, big-endian) off the front of `bytes`.
 pub fn long_long_at(bytes: &[u8]) -> Option<(u64, &[u8])>
     ensures { option_map (λ x. (Long_long x.0, x.1.now)) result ≡ argument_at a_long_long bytes.now }
 {
@@ -49,7 +49,7 @@ pub fn long_long_at(bytes: &[u8]) -> Option<(u64, &[u8])>
     Some((BigEndian::read_u64(front), rest))
 }
 
-/// A text of fewer than 256 bytes.
+/// Splits a short string (a one-byte length and that many bytes) off the front of `bytes`.
 pub fn short_text_at(bytes: &[u8]) -> Option<(&[u8], &[u8])>
     ensures { option_map (λ x. (Short_text x.0.now, x.1.now)) result ≡ argument_at a_short_text bytes.now }
 {
@@ -57,21 +57,21 @@ pub fn short_text_at(bytes: &[u8]) -> Option<(&[u8], &[u8])>
     rest.split_at_checked(len as usize)
 }
 
-/// A text with its length in 4 bytes before it.
+/// Splits a long string (a four-byte length and that many bytes) off the front of `bytes`.
 pub fn long_text_at(bytes: &[u8]) -> Option<(&[u8], &[u8])>
     ensures { option_map (λ x. (Long_text x.0.now, x.1.now)) result ≡ argument_at a_long_text bytes.now }
 {
     sized_at(bytes)
 }
 
-/// The pairs of a table, with their length in 4 bytes before them. Whether they are pairs is [`crate::is_table`]'s to say.
+/// Splits the pairs of a table (a four-byte length and that many bytes) off the front of `bytes`. Doesn't check the pairs: [`crate::is_table`] does.
 pub fn pairs_at(bytes: &[u8]) -> Option<(&[u8], &[u8])>
     ensures { option_map (λ x. (Field_table x.0.now, x.1.now)) result ≡ argument_at a_field_table bytes.now }
 {
     sized_at(bytes)
 }
 
-/// As many bytes as a number of 4 bytes before them says.
+/// Splits a four-byte length and that many bytes off the front of `bytes`.
 fn sized_at(bytes: &[u8]) -> Option<(&[u8], &[u8])>
     ensures { (made : List ℕ → Argument) → option_map (λ x. (made x.0.now, x.1.now)) result ≡ read_long_text made bytes.now }
 {
@@ -79,7 +79,7 @@ fn sized_at(bytes: &[u8]) -> Option<(&[u8], &[u8])>
     rest.split_at_checked(BigEndian::read_u32(front) as usize)
 }
 
-/// One bit, in an octet of its own.
+/// Splits one bit off the front of `bytes`: an octet that is 0 or 1.
 pub fn one_bit_at(bytes: &[u8]) -> Option<(bool, &[u8])>
     ensures { option_map (λ x. (Bits (x.0 ∷ []), x.1.now)) result ≡ argument_at (some_bits 1) bytes.now }
 {
@@ -90,7 +90,7 @@ pub fn one_bit_at(bytes: &[u8]) -> Option<(bool, &[u8])>
     None
 }
 
-/// Two bits that share an octet.
+/// Splits two bits off the front of `bytes`: an octet below 4, the lowest bit first.
 pub fn two_bits_at(bytes: &[u8]) -> Option<(bool, bool, &[u8])>
     ensures { option_map (λ x. (Bits (x.0 ∷ x.1 ∷ []), x.2.now)) result ≡ argument_at (some_bits 2) bytes.now }
 {
@@ -101,7 +101,7 @@ pub fn two_bits_at(bytes: &[u8]) -> Option<(bool, bool, &[u8])>
     None
 }
 
-/// Four bits that share an octet.
+/// Splits four bits off the front of `bytes`: an octet below 16, the lowest bit first.
 pub fn four_bits_at(bytes: &[u8]) -> Option<([bool; 4], &[u8])>
     ensures { option_map (λ x. (Bits x.0, x.1.now)) result ≡ argument_at (some_bits 4) bytes.now }
 {
@@ -118,7 +118,7 @@ pub fn four_bits_at(bytes: &[u8]) -> Option<([bool; 4], &[u8])>
     None
 }
 
-/// Five bits that share an octet.
+/// Splits five bits off the front of `bytes`: an octet below 32, the lowest bit first.
 pub fn five_bits_at(bytes: &[u8]) -> Option<([bool; 5], &[u8])>
     ensures { option_map (λ x. (Bits x.0, x.1.now)) result ≡ argument_at (some_bits 5) bytes.now }
 {

@@ -1,4 +1,4 @@
-//! Tables are written.
+//! Encodes a field table: measured first, so that the output grows once.
 
 ghost use Rattle.std.specs.Prelude.{◌≡◌, ◌<◌, ◌≤◌, ◌+◌, ◌-◌, ◌^◌, [], ◌∷◌, ◌++◌, length, vec_len, vec_capacity, OnOk, IfErr, IfSome, IsSome, Err};
 ghost use Rattle.std.specs.Int.{w32, to_be_bytes};
@@ -13,13 +13,14 @@ use crate::fields::{Field, FieldTable, TableEntry};
 use crate::measuring::{pairs_len, values_len};
 use crate::refusals::BadTable;
 
-/// Appends the spelling of the table to `out`, its length (4 bytes) first.
+/// Appends the encoding of `table` to `out`, its length (4 bytes) first.
 ///
-/// A table that has no spelling is `SyntaxError`. On an error `out` is as it was.
+/// Returns [`BadTable::SyntaxError`] if the table can't be encoded, [`BadTable::Memory`] if an allocation fails. The content
+/// of `out` has not changed then.
 pub fn write_table(out: &mut Vec<u8>, table: &FieldTable) -> Result<(), BadTable>
     ensures ok { OnOk result (HavePairsSpelling (table_view table.now) × (out.new.items ≡ out.old.items ++ table_bytes (table_view table.now))) }
     ensures err { IfErr result (λ e. TableRefused e (HavePairsSpelling (table_view table.now) → ⊥) × (out.new.items ≡ out.old.items)) }
-    // Memory was really wanted.
+    // On an allocation failure the capacity was too small.
     ensures full { result ≡ Err Memory → vec_capacity out.old < vec_len out.old + length (table_bytes (table_view table.now)) }
 {
     match pairs_len(&table.entries, DEPTH) {
@@ -35,7 +36,7 @@ pub fn write_table(out: &mut Vec<u8>, table: &FieldTable) -> Result<(), BadTable
     }
 }
 
-/// Appends the pairs of a table, in which arrays and tables may stand `depth` levels deep.
+/// Appends a table's pairs. They can be encoded with at most `depth` levels inside, and `out` has enough spare capacity.
 #[cycle(put)]
 fn put_pairs(out: &mut Vec<u8>, entries: &[TableEntry], depth: usize)
     requires fits { ArePairsWithin depth (pairs_view entries.now) }
@@ -63,7 +64,7 @@ fn put_entry(out: &mut Vec<u8>, entry: &TableEntry, depth: usize)
     put_field(out, &entry.value, depth);
 }
 
-/// Appends the values of an array, in which arrays and tables may stand `depth` levels deep.
+/// Appends an array's values. They can be encoded with at most `depth` levels inside, and `out` has enough spare capacity.
 #[cycle(put)]
 fn put_values(out: &mut Vec<u8>, values: &[Field], depth: usize)
     requires fits { AreValuesWithin depth (array_view values.now) }
@@ -77,7 +78,7 @@ fn put_values(out: &mut Vec<u8>, values: &[Field], depth: usize)
     }
 }
 
-/// Appends a value with its letter.
+/// Appends the type letter and the value.
 #[cycle(put)]
 fn put_field(out: &mut Vec<u8>, field: &Field, depth: usize)
     requires fits { IsValue depth (field_view field.now) }
@@ -113,7 +114,7 @@ fn put_field(out: &mut Vec<u8>, field: &Field, depth: usize)
     }
 }
 
-/// Appends a letter and bytes with their length before them.
+/// Appends `letter`, the length of `body` (4 bytes) and `body`.
 fn put_sized(out: &mut Vec<u8>, letter: u8, body: &[u8])
     requires fits { length body.now < 2 ^ 32 }
     requires room { vec_len out.old + length (letter ∷ with_length body.now) ≤ vec_capacity out.old }
@@ -125,11 +126,13 @@ fn put_sized(out: &mut Vec<u8>, letter: u8, body: &[u8])
     put_bytes(out, body);
 }
 
-/// Appends a letter and a length that is known.
+/// Appends `letter` and the length `len` (4 bytes).
 fn put_size(out: &mut Vec<u8>, letter: u8, len: Option<usize>)
+    // Premises: the length is known and fits, and `out` has 5 bytes of spare capacity.
     requires known { IsSome len }
     requires fits { IfSome len (λ n. n < 2 ^ 32) }
     requires room { vec_len out.old + 5 ≤ vec_capacity out.old }
+    // Promise: letter and length are appended, and the capacity doesn't shrink.
     ensures items { IfSome len (λ n. out.new.items ≡ out.old.items ++ letter ∷ to_be_bytes w32 n) }
     ensures len { vec_len out.new ≡ vec_len out.old + 5 }
     ensures capacity { vec_capacity out.old ≤ vec_capacity out.new }
@@ -140,7 +143,7 @@ fn put_size(out: &mut Vec<u8>, letter: u8, len: Option<usize>)
     }
 }
 
-/// Appends a letter and bytes for which there is room.
+/// Appends `letter` and `bytes`, for which `out` has enough spare capacity.
 fn put(out: &mut Vec<u8>, letter: u8, bytes: &[u8])
     requires { vec_len out.old + length (letter ∷ bytes.now) ≤ vec_capacity out.old }
     ensures items { out.new.items ≡ out.old.items ++ letter ∷ bytes.now }
@@ -151,7 +154,7 @@ fn put(out: &mut Vec<u8>, letter: u8, bytes: &[u8])
     put_bytes(out, bytes);
 }
 
-/// Appends bytes for which there is room.
+/// Appends `bytes` to `out`, which has enough spare capacity. It cannot fail.
 pub fn put_bytes(out: &mut Vec<u8>, bytes: &[u8])
     requires { vec_len out.old + length bytes.now ≤ vec_capacity out.old }
     ensures items { out.new.items ≡ out.old.items ++ bytes.now }

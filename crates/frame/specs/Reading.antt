@@ -1,4 +1,4 @@
--- What a reading of frames tells. Source: AMQP 0-9-1, section 4.2.3, "General Frame Format".
+-- What `read_frame` must return. Source: AMQP 0-9-1, section 4.2.3, "General Frame Format".
 use Rattle.std.specs.Prelude.{◌≡◌, ◌<◌, ◌⊎◌, ℕ, List, ◌++◌, length, drop, slice_index}
 use Rattle.model.specs.Frames
 use Rattle.model.specs.Frames.{frame_bytes, Begins, IsBroken}
@@ -6,15 +6,15 @@ use Rattle.frame.specs.declared.frames.Frame.{Frame}
 use Rattle.frame.specs.declared.frames.ReadFrame.{ReadFrame}
 use Rattle.frame.specs.declared.frames.ReadFrame.TheVariants.{Whole, More, Fault}
 
--- the frame, apart from where its payload lies
+-- the frame as `model` defines it, without where its payload is stored
 abbrev pub seen : Frame → Frames.Frame
 seen f = record { kind = f.kind; channel = f.channel; payload = f.payload.now }
 
--- a method, a content header, a body or a heartbeat
+-- a frame type of AMQP: method (1), content header (2), body (3) or heartbeat (8)
 abbrev pub IsKind : ℕ → Type 0
 IsKind kind = (kind ≡ 1) ⊎ (kind ≡ 2) ⊎ (kind ≡ 3) ⊎ (kind ≡ 8)
 
--- some bytes after these make a frame stand at the front
+-- some bytes exist that, appended to these, put a whole frame at the front
 pub record MayGoOn (max : ℕ) (bytes : List ℕ) : Type 0 where
   pub more : List ℕ
   pub are_bytes : (i : ℕ) → slice_index more i < 256
@@ -22,24 +22,24 @@ pub record MayGoOn (max : ℕ) (bytes : List ℕ) : Type 0 where
   pub frame : Frames.Frame
   pub front : Begins max (bytes ++ more) frame rest
 
--- no whole frame stands at the front, and one still may
+-- no whole frame is at the front, and either fewer than 7 bytes are there or more bytes can complete a frame
 pub record IsUnfinished (max : ℕ) (bytes : List ℕ) : Type 0 where
   pub none : (rest : List ℕ) (f : Frames.Frame) → Begins max bytes f rest → ⊥
   pub open_still : (length bytes < 7) ⊎ MayGoOn max bytes
   pub unbroken : IsBroken max bytes → ⊥
 
--- this frame of so many bytes stands at the front
+-- the frame `f` is at the front, and is `size` bytes long
 pub record IsFrontFrame (max : ℕ) (bytes : List ℕ) (f : Frame) (size : ℕ) : Type 0 where
   pub front : Begins max bytes (seen f) (drop size bytes)
   pub whole : size ≡ length (frame_bytes (seen f))
 
--- the answer is right for these bytes
+-- the result is correct for these bytes: the frame at the front with its length, `More` if it is unfinished, 501 if no bytes can complete it
 abbrev pub TellsFrame : ℕ → List ℕ → ReadFrame → Type 0
 TellsFrame max bytes (Whole f len) = IsFrontFrame max bytes f len
 TellsFrame max bytes More = IsUnfinished max bytes
 TellsFrame max bytes (Fault code) = (code ≡ 501) × IsBroken max bytes
 
--- the answer is this frame, and these bytes stand after it
+-- the result is the frame `g`, and `rest` are the bytes after it
 abbrev pub IsWholeFrame : List ℕ → ReadFrame → Frames.Frame → List ℕ → Type 0
 IsWholeFrame bytes (Whole f len) g rest = (seen f ≡ g) × (drop len bytes ≡ rest)
 IsWholeFrame bytes More g rest = ⊥

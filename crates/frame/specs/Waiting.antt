@@ -1,20 +1,20 @@
--- Bytes that wait to be taken.
+-- The value of a `Buffer`, and what putting bytes into it means.
 use Rattle.std.specs.Prelude.{◌≡◌, ◌≤◌, ◌+◌, ℕ, List, [], ◌++◌, length}
 
--- bytes put in at the end and taken from the front, and the room made for more
+-- a byte queue with its spare room and the size of its storage
 pub record WaitingBytes : Type 0 where
-  -- put in and not yet taken
+  -- the bytes that were put and not yet taken, oldest first
   pub bytes : List ℕ
-  -- how many more go in with no growth
+  -- the number of bytes that can be put without an allocation
   pub room : ℕ
-  -- how many bytes the storage has
+  -- the size of the storage in bytes
   pub storage : ℕ
 
--- These bytes were put in, and no more room is gone than they take.
+-- `more` was appended, and the room shrank by at most its length
 pub record PutsBytes (old : WaitingBytes) (more : List ℕ) (new : WaitingBytes) : Type 0 where
   pub bytes : new.bytes ≡ old.bytes ++ more
   pub room : old.room ≤ new.room + length more
 
--- no storage is held where no bytes wait
+-- an empty buffer holds no storage
 abbrev pub HoldsNone : WaitingBytes → Type 0
 HoldsNone w = w.bytes ≡ [] → w.storage ≡ 0

@@ -1,4 +1,4 @@
-//! Bytes that are put in at the back and taken from the front.
+//! A byte queue: bytes are appended at the back and taken from the front. See [`Buffer`].
 
 ghost use Rattle.std.specs.Prelude.{◌≡◌, ◌≤◌, ◌+◌, ◌^◌, ◌<◌, [], ◌++◌, length, take, drop, true, OnOk, OnErr, Decides, vec_len, vec_capacity};
 ghost use Rattle.model.specs.Frames.{frame_bytes};
@@ -10,10 +10,11 @@ use std::alloc::{AllocError, Global};
 use std::marker::Model;
 use std::mem;
 
-/// From so many taken bytes on, what is left moves to the front.
+/// The number of taken bytes from which on the rest may move to the front.
 const MOVED_FROM: usize = 16_384;
 
-/// Bytes that wait to be taken. What was taken lies in front of `start` for a while.
+/// A byte queue for output that a socket hasn't taken yet, in one `Vec`.
+/// Taken bytes stay in front of `start` until the rest moves to the front.
 #[derive(Drop)]
 pub struct Buffer {
     bytes: Vec<u8>,
@@ -32,7 +33,7 @@ impl Model for Buffer {
 }
 
 impl Buffer {
-    /// Nothing waits. It holds no storage, and takes no memory.
+    /// Returns an empty buffer without storage. Never allocates.
     pub fn new(alloc: Global) -> Buffer
         ensures bytes { result.bytes ≡ [] }
         ensures room { result.room ≡ 0 }
@@ -44,14 +45,14 @@ impl Buffer {
         }
     }
 
-    /// All that waits.
+    /// Returns the bytes that are not taken yet, in the order in which they were put.
     pub fn bytes(&self) -> &[u8]
         ensures { result.now ≡ self.now.bytes }
     {
         &self.bytes[self.start..]
     }
 
-    /// Whether it has no storage.
+    /// Returns whether the buffer has no storage. A buffer without storage is empty.
     pub fn has_none(&self) -> bool
         ensures storage { Decides result (self.now.storage ≡ 0) }
         ensures bytes { result ≡ true → self.now.bytes ≡ [] }
@@ -60,7 +61,7 @@ impl Buffer {
         self.bytes.capacity() == 0
     }
 
-    /// Moves to this storage, where nothing waits in its own, which it gives back.
+    /// Replaces the storage of an empty buffer by `storage`, whose content is cleared, and returns the old storage.
     pub fn move_into(&mut self, mut storage: Vec<u8>) -> Vec<u8>
         requires { self.old.bytes ≡ [] }
         ensures bytes { self.new.bytes ≡ [] }
@@ -73,7 +74,7 @@ impl Buffer {
         mem::replace(&mut self.bytes, storage)
     }
 
-    /// Makes room for `n` more bytes. Where memory is refused, which was wanted then, all stays as it was.
+    /// Reserves room for `n` more bytes. Fails only if the room was smaller and the allocation fails; nothing has changed then.
     pub fn reserve(&mut self, n: usize) -> Result<(), AllocError>
         ensures bytes { self.new.bytes ≡ self.old.bytes }
         ensures ok { OnOk result (n ≤ self.new.room) }
@@ -84,7 +85,7 @@ impl Buffer {
         self.bytes.reserve(n)
     }
 
-    /// Puts bytes in, for which there is room.
+    /// Appends `more`. It cannot fail, since there is room for it: see [`Buffer::reserve`].
     pub fn put(&mut self, more: &[u8])
         requires { length more.now ≤ self.old.room }
         ensures bytes { self.new.bytes ≡ self.old.bytes ++ more.now }
@@ -94,7 +95,7 @@ impl Buffer {
         put_bytes(&mut self.bytes, more);
     }
 
-    /// Puts a frame in, for which there is room.
+    /// Appends the encoding of `frame`, for which there is room: 8 bytes more than its payload, which has at most 2^32 - 9 bytes.
     pub fn put_frame(&mut self, frame: &Frame<'_>)
         requires size { length frame.now.payload.now + 9 ≤ 2 ^ 32 }
         requires room { length frame.now.payload.now + 8 ≤ self.old.room }
@@ -105,8 +106,11 @@ impl Buffer {
         put_frame(&mut self.bytes, frame);
     }
 
-    /// Takes `n` bytes. Where none is left the front is free at once; else what is left moves there once 16 KiB or more
-    /// were taken since it last moved, and no less than what is left.
+    /// Removes the first `n` bytes.
+    ///
+    /// The rest moves to the front of the storage if at least 16 KiB have been taken since it last moved, and no fewer bytes
+    /// than are left. So no more than one byte is moved for each byte taken. If none is left all of the storage is free
+    /// again.
     pub fn take(&mut self, n: usize)
         requires { n ≤ length self.old.bytes }
         ensures bytes { self.new.bytes ≡ drop n self.old.bytes }
@@ -125,7 +129,7 @@ impl Buffer {
         }
     }
 
-    /// Takes `n` bytes, or all if there are fewer.
+    /// Removes the first `n` bytes, or all if there are fewer than `n`.
     pub fn take_up_to(&mut self, n: u64)
         ensures bytes { self.new.bytes ≡ drop n self.old.bytes }
         ensures room { self.old.room ≤ self.new.room }
@@ -140,7 +144,7 @@ impl Buffer {
     }
 }
 
-/// Takes `n` bytes from the front, no less than what is left, which moves there at once.
+/// Removes the first `n` bytes of `bytes` and moves the rest, at most `n` bytes, to the front.
 fn drop_front(bytes: &mut Vec<u8>, n: usize)
     requires within { n ≤ vec_len bytes.old }
     requires half { vec_len bytes.old ≤ n + n }
@@ -153,7 +157,7 @@ fn drop_front(bytes: &mut Vec<u8>, n: usize)
     bytes.truncate(left);
 }
 
-/// Copies the bytes behind the first `n`, of which there are `left`, to the front.
+/// Copies the last `left` bytes, which follow the first `n`, to the front.
 fn move_to_front(bytes: &mut [u8], n: usize, left: usize)
     requires within { n + left ≡ length bytes.old }
     requires apart { left ≤ n }

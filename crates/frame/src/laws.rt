@@ -1,8 +1,8 @@
-//! What holds of frames, whatever is done with them.
+//! A law of frames: the contract of a function without a body.
 
 ghost use Rattle.frame.specs.Laws.{OneFrame};
 
-/// At most one frame stands at the front of any bytes.
+/// Proves that at most one frame is at the front of any bytes. Does nothing when called.
 pub fn one_frame()
     ensures { OneFrame }
 {}

@@ -1,4 +1,4 @@
-//! Frames are read.
+//! Reads the frame at the front of a byte slice.
 
 ghost use Rattle.std.specs.Prelude.{◌≡◌, ◌≤◌, ◌⊎◌, ℕ, List, [], ◌∷◌, length, slice_index, IsTrue};
 ghost use Rattle.std.specs.Int.{w16, w32, from_be_bytes};
@@ -9,13 +9,14 @@ ghost use Rattle.frame.specs.Reading.{TellsFrame, IsWholeFrame, IsKind};
 use crate::frames::{Frame, ReadFrame};
 use byteorder::{BigEndian, ByteOrder};
 
-/// The frame at the front of `input`, where a whole frame has at most `max` bytes.
+/// Reads the frame at the front of `input`. A whole frame has at most `max` bytes, header and end byte included; `max` is 4096 or more.
 ///
-/// `More` where no whole frame stands there but one may still come, `Fault(501)` where none can.
+/// Returns `More` if fewer than 7 bytes are there or more bytes can complete a frame, and `Fault(501)` if none can. The
+/// payload borrows `input`. Never allocates.
 pub fn read_frame(input: &[u8], max: u32) -> ReadFrame<'_>
     requires { 4096 ≤ max }
     ensures tells { TellsFrame max input.now result }
-    // A frame that stands there is read.
+    // Promise: a frame that is at the front is returned.
     ensures only { (f : Frames.Frame) (rest : List ℕ) → Begins max input.now f rest → IsWholeFrame input.now result f rest }
 {
     front_of(input, max)
@@ -55,7 +56,7 @@ fn front_of(input: &[u8], max: u32) -> ReadFrame<'_>
     )
 }
 
-/// The size that the header at the front says.
+/// Returns the payload's size from the frame header at the front.
 fn size_at(input: &[u8]) -> u32
     requires { 7 ≤ length input.now }
     ensures { result ≡ from_be_bytes w32 (slice_index input.now 3 ∷ slice_index input.now 4 ∷ slice_index input.now 5 ∷ slice_index input.now 6 ∷ []) }
@@ -63,7 +64,7 @@ fn size_at(input: &[u8]) -> u32
     BigEndian::read_u32(&input[3..])
 }
 
-/// The channel that the header at the front says.
+/// Returns the channel from the frame header at the front.
 fn channel_at(input: &[u8]) -> u16
     requires { 7 ≤ length input.now }
     ensures { result ≡ from_be_bytes w16 (slice_index input.now 1 ∷ slice_index input.now 2 ∷ []) }
@@ -71,7 +72,7 @@ fn channel_at(input: &[u8]) -> u16
     BigEndian::read_u16(&input[1..])
 }
 
-// A type of frame that AMQP has.
+// Returns whether AMQP has this frame type.
 fn is_kind(kind: u8) -> bool
     ensures yes { IsTrue result → IsKind kind }
     ensures no { IsKind kind → IsTrue result }

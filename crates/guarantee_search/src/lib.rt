@@ -1,4 +1,4 @@
-//! Finds a certificate of a guarantee, or a key that breaks it.
+//! Finds a certificate of a guarantee, or a key that breaks it. Start with [`search`].
 #![tactic(auto)]
 
 mod forms;

@@ -1,4 +1,4 @@
-//! Words that letters stand for, and the keys that they make.
+//! Spells letters as words, and lists of letters as keys.
 
 ghost use Rattle.std.specs.Prelude.{◌≡◌, ◌<◌, ◌∷◌, length, IfOk, OnOk, Decides};
 ghost use Rattle.std.specs.List.{AllByRecursion, list_any};
@@ -13,7 +13,7 @@ use model::Text;
 use std::alloc::{AllocError, Global};
 use word_automata::Letters;
 
-/// A word that is not empty and has no dot is one that a key may have alone.
+/// Shows that a word that is not empty and has no dot is a key of one word.
 fn is_word(word: &[u8])
     requires { IsFilled word.now }
     ensures { IsWord word.now }
@@ -21,7 +21,7 @@ fn is_word(word: &[u8])
     let _ = word;
 }
 
-/// Words that are not empty and have no dot are words that a key may have alone.
+/// Shows the same of each of `words`.
 fn are_words(words: &[Text])
     requires { AllByRecursion IsFilled words.now }
     ensures { AllByRecursion IsWord words.now }
@@ -31,21 +31,21 @@ fn are_words(words: &[Text])
     }
 }
 
-/// Whether some word is this one.
+/// Returns whether one of `words` has these bytes.
 fn any_word(words: &[Text], word: &[u8]) -> bool
     ensures { result ≡ list_any (λ w. bytes_eq w word.now) words.now }
 {
     words.iter().any(|w| w.as_bytes() == word)
 }
 
-/// Whether the word is named.
+/// Returns whether `word` is among `words`.
 fn has_word(words: &[Text], word: &[u8]) -> bool
     ensures { Decides result (IsIn word.now words.now) }
 {
     any_word(words, word)
 }
 
-/// A word that is made of a number.
+/// Returns the word `w` with a decimal number behind it.
 fn numbered(alloc: Global, number: usize) -> Result<Text, AllocError>
     ensures { IfOk result (λ w. w ≡ 119 ∷ decimal number) }
 {
@@ -53,7 +53,7 @@ fn numbered(alloc: Global, number: usize) -> Result<Text, AllocError>
     Text::from_slice(alloc, word.as_bytes())
 }
 
-/// The first numbered word that is not named.
+/// Returns the first numbered word that is not among `names`.
 fn other_word(alloc: Global, names: &[Text]) -> Result<Text, AllocError>
     ensures word { IfOk result (λ w. IsWord w) }
     ensures other { IfOk result (λ w. IsIn w names.now → ⊥) }
@@ -67,7 +67,7 @@ fn other_word(alloc: Global, names: &[Text]) -> Result<Text, AllocError>
     unreachable!()
 }
 
-/// The same words.
+/// Copies `words`. Fails only if an allocation fails.
 pub fn copy_words(alloc: Global, words: &[Text]) -> Result<Vec<Text>, AllocError>
     ensures { IfOk result (λ made. made.items ≡ words.now) }
 {
@@ -78,7 +78,7 @@ pub fn copy_words(alloc: Global, words: &[Text]) -> Result<Vec<Text>, AllocError
     Ok(made)
 }
 
-/// A word for each letter: its own, and for the letter of all others one that is not named.
+/// Returns a word for each letter: its own, and for the letter of all other words one that no pattern names. Fails only if an allocation fails.
 pub fn spellings(alloc: Global, letters: &Letters) -> Result<Vec<Text>, AllocError>
     requires { HavePatterns letters.now }
     ensures { IfOk result (λ words. SpellsLetters letters.now words.items) }
@@ -89,7 +89,7 @@ pub fn spellings(alloc: Global, letters: &Letters) -> Result<Vec<Text>, AllocErr
     Ok(words)
 }
 
-/// Adds a word to a key.
+/// Appends `word` to `key`, with a dot between them unless the key is empty.
 fn add_word(key: &mut Vec<u8>, word: &[u8]) -> Result<(), AllocError>
     ensures { OnOk result (key.new.items ≡ followed_by key.old.items word.now) }
 {
@@ -100,7 +100,7 @@ fn add_word(key: &mut Vec<u8>, word: &[u8]) -> Result<(), AllocError>
     Ok(())
 }
 
-/// The key of these letters, the last one first.
+/// Returns the key of `letters`, of which the last is the key's first word. Fails only if an allocation fails.
 pub fn spelled_key(alloc: Global, words: &[Text], letters: &[usize]) -> Result<Vec<u8>, AllocError>
     requires { AllByRecursion (λ a. a < length words.now) letters.now }
     ensures { IfOk result (λ key. key.items ≡ spelled_key words.now letters.now) }

@@ -1,8 +1,8 @@
-//! What a search says of a guarantee.
+//! The verdict of a search.
 
 use certificate::{Certificate, Refutation};
 
-/// Why a guarantee is not decided.
+/// Why a search doesn't decide a guarantee.
 #[derive(Clone, Copy, PartialEq, Eq, Debug, Drop)]
 pub enum UndecidedCause {
     /// There are more than 64 tracked patterns, or more than 65,536 states.
@@ -11,12 +11,13 @@ pub enum UndecidedCause {
     KeyTooLong,
 }
 
-/// Whether a guarantee holds.
+/// Whether a guarantee holds, with what shows it.
 #[derive(Drop)]
 pub enum Verdict {
-    /// It does, as this shows.
+    /// It holds: the certificate is accepted.
     Yes(Certificate),
-    /// It doesn't, as this shows.
+    /// It doesn't hold: the refutation has a key that breaks it.
     No(Refutation),
+    /// The search doesn't decide it.
     Undecided(UndecidedCause),
 }

@@ -12,7 +12,7 @@ use Rattle.json_file.specs.Files.{IsCauseTold}
 abbrev pub IsExchangeOrDefault : Topology → Text → Type 0
 IsExchangeOrDefault t name = (name ≡ []) ⊎ IsIn name (exchange_names t.exchanges)
 
--- cause 5: the exchange and the queue of a guarantee exist
+-- cause 5: the exchange and the queue of a guarantee exist; the default exchange does
 pub record NamesAreThere (t : Topology) (g : Guarantee) : Type 0 where
   pub exchange : IsExchangeOrDefault t g.exchange
   pub queue : IsIn g.queue (queue_names t.queues)

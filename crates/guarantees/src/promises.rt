@@ -69,7 +69,7 @@ impl Guarantee {
     }
 
     /// Proves that the pattern and the `except` patterns are topic patterns. Does nothing at run time.
-    pub fn are_patterns(&self)
+    pub fn ghost_are_patterns(&self)
         ensures { ArePatterns self.now }
     {
         let _ = &self.stated;

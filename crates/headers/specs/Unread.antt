@@ -1,4 +1,4 @@
--- Properties that were read and are still bytes.
+-- Properties that were read and still are bytes of the payload.
 use Rattle.std.specs.Prelude.{◌≡◌, ℕ, List, [], ◌∷◌, ◌++◌, Option, Some, None, Result, Ok, Err, ⊤}
 use Rattle.std.specs.Borrow.{Bor}
 use Rattle.model.specs.Tables.{IsTable}
@@ -17,7 +17,7 @@ abbrev pub text_in : Option (Bor (List ℕ)) → Option Argument
 text_in None = None
 text_in (Some t) = Some (Short_text t.now)
 
--- a table that is present, as an argument: the bytes where its pairs should stand
+-- the bytes of a table that is present, as an argument; they need not be a table's pairs
 abbrev pub table_in : Option (Bor (List ℕ)) → Option Argument
 table_in None = None
 table_in (Some t) = Some (Field_table t.now)
@@ -28,19 +28,19 @@ front_in f =
     text_in f.content_type ∷ text_in f.content_encoding ∷ table_in f.headers ∷ octet_of f.delivery_mode ∷ octet_of f.priority
     ∷ text_in f.correlation_id ∷ text_in f.reply_to ∷ []
 
--- the other seven
+-- the last seven properties in the order of their flags
 abbrev pub back_in : Back → List (Option Argument)
 back_in b =
     text_in b.expiration ∷ text_in b.message_id ∷ time_of b.timestamp ∷ text_in b.kind ∷ text_in b.user_id ∷ text_in b.app_id
     ∷ text_in b.reserved ∷ []
 
--- all fourteen
+-- all fourteen properties in the order of their flags
 abbrev pub parts_in : Parts → List (Option Argument)
 parts_in p = front_in p.front ++ back_in p.back
 
--- ---- tables
+-- ---- the headers' table
 
--- the bytes of a table, if there is one, are pairs
+-- the headers are the pairs of a table, or absent
 abbrev pub HeadersAreWhole : Option (List ℕ) → Type 0
 HeadersAreWhole None = ⊤
 HeadersAreWhole (Some pairs) = IsTable pairs
@@ -50,32 +50,32 @@ abbrev pub pairs_in : Option (Bor (List ℕ)) → Option (List ℕ)
 pairs_in None = None
 pairs_in (Some t) = Some t.now
 
--- ---- what becomes of what was read
+-- ---- the result
 
--- the first seven are these
+-- the first seven properties are those of `front`
 abbrev pub CopiesFront : Front → Properties → Type 0
 CopiesFront front p = front_of p ≡ front_in front
 
--- the other seven are these, and the first are as they were
+-- the last seven properties are those of `back`, and the first seven have not changed
 abbrev pub CopiesBack : Back → Properties → Properties → Type 0
 CopiesBack back before after = (back_of after ≡ back_in back) × (front_of after ≡ front_of before)
 
--- the pairs of the headers among the properties, which stand third
+-- the pairs of the headers, the third property
 abbrev pub headers_in : List (Option Argument) → Option (List ℕ)
 headers_in (a ∷ b ∷ Some (Field_table pairs) ∷ os) = Some pairs
 headers_in _ = None
 
--- there are no properties, or their table is none
+-- no properties were read, or their headers are no table
 abbrev pub LacksHeaders : Option (List (Option Argument)) → Type 0
 LacksHeaders read = (given : List (Option Argument)) → read ≡ Some given → HeadersAreWhole (headers_in given) → ⊥
 
--- no properties were read for this reason, or memory was refused
+-- the error is a syntax error and no properties were read or their headers are no table, or an allocation failed
 abbrev pub WantsHeaders : Option (List (Option Argument)) → BadHeader → Type 0
 WantsHeaders read FrameError = ⊥
 WantsHeaders read SyntaxError = LacksHeaders read
 WantsHeaders read Memory = ⊤
 
--- what was read is these properties
+-- the result is the properties that were read and their headers are a table, or the error is correct
 abbrev pub GivesProperties : Result Properties BadHeader → Option (List (Option Argument)) → Type 0
 GivesProperties (Ok p) read = (read ≡ Some (properties_of p)) × HeadersAreWhole p.headers
 GivesProperties (Err e) read = WantsHeaders read e

@@ -1,27 +1,27 @@
-//! A header, and why there is none.
+//! The types of a decoded header, and the errors of reading and writing one.
 
 use model::Properties;
 use std::alloc::AllocError;
 use thiserror::Error;
 
-/// The size of a body in bytes, and its properties.
+/// A content header: the declared size of the body in bytes, and the properties.
 #[derive(Drop)]
 pub struct Header {
     pub size: u64,
     pub properties: Properties,
 }
 
-/// Why no header was read.
+/// Why a payload was not read as a header.
 #[derive(Clone, Copy, PartialEq, Eq, Debug, Drop, Error)]
 pub enum BadHeader {
     /// The payload is shorter than 14 bytes, or of another class or weight. Reply code 501, frame-error.
     #[error("frame-error: no header of a content of the basic class")]
     FrameError,
-    /// The properties end early, leave bytes over, hold a table that is none, or one of the two lowest flags is set. Reply
-    /// code 502, syntax-error.
+    /// The properties end early, leave bytes over or hold a table that isn't one, or one of the two lowest flags is set.
+    /// Reply code 502, syntax-error.
     #[error("syntax-error: properties that the flags do not say")]
     SyntaxError,
-    /// Memory was refused.
+    /// An allocation failed.
     #[error("out of memory")]
     Memory,
 }
@@ -37,13 +37,13 @@ impl From<AllocError> for BadHeader {
     }
 }
 
-/// Why no header was written.
+/// Why a header was not written.
 #[derive(Clone, Copy, PartialEq, Eq, Debug, Drop, Error)]
 pub enum UnwrittenHeader {
-    /// The properties have no spelling: a text is too long, or the table is none. Reply code 502, syntax-error.
+    /// The properties can't be encoded: a text is too long, or the headers aren't a table. Reply code 502, syntax-error.
     #[error("syntax-error: a text that is too long, or headers that are no table")]
     SyntaxError,
-    /// Memory was refused.
+    /// An allocation failed.
     #[error("out of memory")]
     Memory,
 }

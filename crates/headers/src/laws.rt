@@ -1,13 +1,14 @@
-//! What holds of all payloads of header frames.
+//! Laws of header payloads: each is the contract of a function without a body.
 
 ghost use Rattle.headers.specs.Laws.{OneHeader, SyntaxErrors};
 
-/// A payload says at most one thing: one header, or one reply code.
+/// Proves that a payload means at most one thing: one header or one reply code. Does nothing when called.
 pub fn one_header()
     ensures { OneHeader }
 {}
 
-/// Two low flags that are set, properties that end early or leave bytes over, and headers that are no table are 502.
+/// Proves what is a syntax error (502): a set bit 1 or 0 of the flags, properties that end early or leave bytes over, headers that are no table.
+/// Does nothing when called.
 pub fn syntax_errors()
     ensures { SyntaxErrors }
 {}

@@ -1,7 +1,8 @@
-//! Content headers, read and written.
+//! Reads and writes the payloads of content headers.
 //!
-//! A header's payload is class (2 bytes), weight (2), size of the body (8), flags (2) and the properties that the flags
-//! name. Class is 60 and weight 0. Source: AMQP 0-9-1, section 4.2.6.1, "The Content Header".
+//! A payload is a class id (2 bytes, 60), a weight (2 bytes, 0), the body's size (8 bytes), flags (2 bytes), and the
+//! properties that the flags name. Source: AMQP 0-9-1, section 4.2.6.1, "The Content Header".
+//! Start at [`read_header`] and [`write_header`].
 #![tactic(auto)]
 
 mod contents;

@@ -1,4 +1,4 @@
-//! How long properties are when they are spelled, whether they can be, and their flags.
+//! Computes encoded lengths and flags, and finds out whether properties can be encoded.
 
 ghost use Rattle.std.specs.Prelude.{◌≡◌, ◌+◌, ◌<◌, ◌≤◌, ◌^◌, length, is_some, MatchOption, IfSome};
 ghost use Rattle.model.specs.Headers.{text_of, table_of, octet_of, time_of, value_of, IsValue};
@@ -8,7 +8,7 @@ ghost use Rattle.headers.specs.Writing.{front_of, back_of, values, AreValues};
 use field_table::is_table;
 use model::{Fields, Table, Text};
 
-/// How many bytes the first seven properties have.
+/// Returns the encoded length in bytes of the first seven properties (content-type to reply-to), or `None` if they can't be encoded.
 pub(crate) fn front_len(p: &Fields) -> Option<usize>
     ensures cases { MatchOption result (AreValues (front_of p.now) → ⊥) (λ n. AreValues (front_of p.now) × (n ≡ length (values (front_of p.now)))) }
     ensures bound { IfSome result (λ n. n < 2 ^ 34) }
@@ -22,7 +22,7 @@ pub(crate) fn front_len(p: &Fields) -> Option<usize>
     Some(content_type + content_encoding + headers + numbers + correlation_id + reply_to)
 }
 
-/// How many bytes the other seven have.
+/// Returns the encoded length in bytes of the last seven properties (expiration to the reserved one), or `None` if they can't be encoded.
 pub(crate) fn back_len(p: &Fields) -> Option<usize>
     ensures cases { MatchOption result (AreValues (back_of p.now) → ⊥) (λ n. AreValues (back_of p.now) × (n ≡ length (values (back_of p.now)))) }
     ensures bound { IfSome result (λ n. n < 2 ^ 12) }
@@ -97,7 +97,7 @@ fn time_len(time: &Option<u64>) -> usize
     }
 }
 
-/// The flags of the first seven properties.
+/// Returns the flags of the first seven properties: bits 15 to 9.
 pub(crate) fn front_flags(p: &Fields) -> u16
     ensures is { result ≡ Writing.front_flags p.now }
     ensures bound { result ≤ 65024 }
@@ -111,7 +111,7 @@ pub(crate) fn front_flags(p: &Fields) -> u16
         + flag(&p.reply_to, 0x0200)
 }
 
-/// The flags of the other seven.
+/// Returns the flags of the last seven properties: bits 8 to 2.
 pub(crate) fn back_flags(p: &Fields) -> u16
     ensures is { result ≡ Writing.back_flags p.now }
     ensures bound { result ≤ 508 }
@@ -125,7 +125,7 @@ pub(crate) fn back_flags(p: &Fields) -> u16
         + flag(&p.reserved, 0x0004)
 }
 
-/// This bit where there is a property.
+/// Returns `bit` if `property` is present, or else 0.
 fn flag<T>(property: &Option<T>, bit: u16) -> u16
     ensures is { result ≡ Writing.flag (is_some property.now) bit }
     ensures bound { result ≤ bit }

@@ -1,4 +1,4 @@
-//! Properties that may be there, taken from the front of bytes.
+//! Splits optional properties off the front of bytes, and leaves texts and the table as bytes.
 
 ghost use Rattle.std.specs.Prelude.{◌≡◌, ◌<◌, option_map};
 ghost use Rattle.model.specs.Headers.{octet_of, time_of};
@@ -9,7 +9,7 @@ ghost use Rattle.headers.specs.Unread.{text_in, table_in, front_in, back_in, par
 
 use field_table::{long_long_at, octet_at, pairs_at, short_text_at};
 
-/// The first seven properties, as bytes.
+/// The first seven properties, borrowed from a payload.
 #[derive(Clone, Copy, Drop)]
 pub(crate) struct Front<'a> {
     pub(crate) content_type: Option<&'a [u8]>,
@@ -21,7 +21,7 @@ pub(crate) struct Front<'a> {
     pub(crate) reply_to: Option<&'a [u8]>,
 }
 
-/// The other seven.
+/// The last seven properties, borrowed from a payload.
 #[derive(Clone, Copy, Drop)]
 pub(crate) struct Back<'a> {
     pub(crate) expiration: Option<&'a [u8]>,
@@ -33,14 +33,14 @@ pub(crate) struct Back<'a> {
     pub(crate) reserved: Option<&'a [u8]>,
 }
 
-/// All fourteen.
+/// All fourteen properties, borrowed from a payload.
 #[derive(Clone, Copy, Drop)]
 pub(crate) struct Parts<'a> {
     pub(crate) front: Front<'a>,
     pub(crate) back: Back<'a>,
 }
 
-/// All of the bytes, as the properties of these flags.
+/// Reads all of `bytes` as the properties that `flags` name. Returns `None` if they aren't exactly that, or if bit 1 or 0 is set.
 pub(crate) fn parts_at(flags: u16, bytes: &[u8]) -> Option<Parts<'_>>
     ensures { option_map parts_in result ≡ properties_at flags bytes.now }
 {
@@ -55,7 +55,7 @@ pub(crate) fn parts_at(flags: u16, bytes: &[u8]) -> Option<Parts<'_>>
     Some(Parts { front, back })
 }
 
-/// The first seven properties that are flagged, and the bytes after them.
+/// Splits those of the first seven properties that `flags` name off the front, and returns them with the rest.
 fn front_at(flags: u16, bytes: &[u8]) -> Option<(Front<'_>, &[u8])>
     ensures { option_map (λ x. (front_in x.0, x.1.now)) result ≡ options_at flags front_rows bytes.now }
 {
@@ -78,7 +78,7 @@ fn front_at(flags: u16, bytes: &[u8]) -> Option<(Front<'_>, &[u8])>
     Some((front, rest))
 }
 
-/// The other properties that are flagged, and the bytes after them.
+/// Splits those of the last seven properties that `flags` name off the front, and returns them with the rest.
 fn back_at(flags: u16, bytes: &[u8]) -> Option<(Back<'_>, &[u8])>
     ensures { option_map (λ x. (back_in x.0, x.1.now)) result ≡ options_at flags back_rows bytes.now }
 {
@@ -101,7 +101,7 @@ fn back_at(flags: u16, bytes: &[u8]) -> Option<(Back<'_>, &[u8])>
     Some((back, rest))
 }
 
-/// The flags have this bit.
+/// Returns whether `flags` have bit number `bit`, from 0.
 fn has(flags: u16, bit: u32) -> bool
     requires { bit < 16 }
     ensures { result ≡ Properties.has_flag flags bit }

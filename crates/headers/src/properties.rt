@@ -1,4 +1,4 @@
-//! Properties are read.
+//! Checks properties that were read, and copies them.
 
 ghost use Rattle.std.specs.Prelude.{◌≡◌, ◌++◌, MatchBool, IfOk};
 ghost use Rattle.std.specs.Int.{w16, to_be_bytes};
@@ -12,7 +12,7 @@ use field_table::is_table;
 use model::{Fields, Properties, Table, Text};
 use std::alloc::{AllocError, Global};
 
-/// All of the bytes, as the properties of these flags. `spelled` has the flags, and the bytes behind them.
+/// Reads all of `bytes` as the properties that `flags` name. `spelled` are the two bytes of the flags followed by `bytes`.
 pub(crate) fn properties_in(
     alloc: Global,
     flags: u16,
@@ -28,7 +28,7 @@ pub(crate) fn properties_in(
     flagged_in(alloc, flags, bytes, spelled)
 }
 
-/// The same, where there may be some.
+/// Does what [`properties_in`] does, without its shortcut for no properties.
 fn flagged_in(
     alloc: Global,
     flags: u16,
@@ -50,7 +50,7 @@ fn flagged_in(
     }
 }
 
-/// Whether the bytes of the table, if there is one, are pairs.
+/// Returns whether `pairs` are the pairs of a table, or `true` if there are none.
 fn is_whole(pairs: Option<&[u8]>) -> bool
     ensures { MatchBool result (HeadersAreWhole (pairs_in pairs.entry)) (HeadersAreWhole (pairs_in pairs.entry) → ⊥) }
 {
@@ -60,7 +60,7 @@ fn is_whole(pairs: Option<&[u8]>) -> bool
     }
 }
 
-/// The properties one by one, of their own.
+/// Copies `parts` into properties of their own. Fails only if an allocation fails.
 pub(crate) fn copied(alloc: Global, parts: &Parts<'_>) -> Result<Fields, AllocError>
     ensures { IfOk result (λ p. properties_of p ≡ parts_in parts.now) }
 {
@@ -70,7 +70,7 @@ pub(crate) fn copied(alloc: Global, parts: &Parts<'_>) -> Result<Fields, AllocEr
     Ok(fields)
 }
 
-/// Copies the first seven properties.
+/// Copies the first seven properties into `fields`. Fails only if an allocation fails.
 fn copy_front(alloc: Global, fields: &mut Fields, front: &Front<'_>) -> Result<(), AllocError>
     ensures { IfOk result (λ _. CopiesFront front.now fields.new) }
 {
@@ -84,7 +84,7 @@ fn copy_front(alloc: Global, fields: &mut Fields, front: &Front<'_>) -> Result<(
     Ok(())
 }
 
-/// Copies the other seven, and leaves the first as they are.
+/// Copies the last seven properties into `fields`, and leaves the first seven as they are. Fails only if an allocation fails.
 fn copy_back(alloc: Global, fields: &mut Fields, back: &Back<'_>) -> Result<(), AllocError>
     ensures { IfOk result (λ _. CopiesBack back.now fields.old fields.new) }
 {
@@ -98,7 +98,7 @@ fn copy_back(alloc: Global, fields: &mut Fields, back: &Back<'_>) -> Result<(), 
     Ok(())
 }
 
-/// A copy of the text, if there is one.
+/// Copies a text, if there is one. Fails only if an allocation fails.
 fn text(alloc: Global, bytes: Option<&[u8]>) -> Result<Option<Text>, AllocError>
     ensures { IfOk result (λ t. text_of t ≡ text_in bytes.entry) }
 {
@@ -108,7 +108,7 @@ fn text(alloc: Global, bytes: Option<&[u8]>) -> Result<Option<Text>, AllocError>
     }
 }
 
-/// A copy of the table, if there is one.
+/// Copies a table, if there is one. Fails only if an allocation fails.
 fn table(alloc: Global, pairs: Option<&[u8]>) -> Result<Option<Table>, AllocError>
     ensures { IfOk result (λ t. table_of t ≡ table_in pairs.entry) }
 {

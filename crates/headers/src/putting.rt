@@ -1,4 +1,4 @@
-//! Properties are put behind bytes.
+//! Appends the parts of a header to a vector that has enough spare capacity.
 
 ghost use Rattle.std.specs.Prelude.{◌≡◌, ◌+◌, ◌≤◌, ◌++◌, length, vec_len, vec_capacity};
 ghost use Rattle.model.specs.Headers.{text_of, table_of, octet_of, time_of, value_of, IsValue};
@@ -7,7 +7,7 @@ ghost use Rattle.headers.specs.Writing.{front_of, back_of, values, AreValues, si
 use field_table::put_bytes;
 use model::{Fields, Table, Text};
 
-/// Appends class, weight, size and flags.
+/// Appends class, weight, `size` and `flags`: 14 bytes.
 pub(crate) fn put_fixed(out: &mut Vec<u8>, size: u64, flags: u16)
     requires { vec_len out.old + 14 ≤ vec_capacity out.old }
     ensures items { out.new.items ≡ out.old.items ++ fixed size flags }
@@ -18,7 +18,7 @@ pub(crate) fn put_fixed(out: &mut Vec<u8>, size: u64, flags: u16)
     put_bytes(out, &flags.to_be_bytes());
 }
 
-/// Appends class, weight and size.
+/// Appends class, weight and `size`: 12 bytes.
 pub(crate) fn put_sized(out: &mut Vec<u8>, size: u64)
     requires { vec_len out.old + 12 ≤ vec_capacity out.old }
     ensures items { out.new.items ≡ out.old.items ++ sized size }
@@ -29,7 +29,7 @@ pub(crate) fn put_sized(out: &mut Vec<u8>, size: u64)
     put_bytes(out, &[0, 60, 0, 0, a, b, c, d, e, f, g, h]);
 }
 
-/// Appends the first seven properties.
+/// Appends those of the first seven properties that are present.
 pub(crate) fn put_front(out: &mut Vec<u8>, p: &Fields)
     requires fits { AreValues (front_of p.now) }
     requires room { vec_len out.old + length (values (front_of p.now)) ≤ vec_capacity out.old }
@@ -46,7 +46,7 @@ pub(crate) fn put_front(out: &mut Vec<u8>, p: &Fields)
     put_text(out, &p.reply_to);
 }
 
-/// Appends the other seven.
+/// Appends those of the last seven properties that are present.
 pub(crate) fn put_back(out: &mut Vec<u8>, p: &Fields)
     requires fits { AreValues (back_of p.now) }
     requires room { vec_len out.old + length (values (back_of p.now)) ≤ vec_capacity out.old }

@@ -1,4 +1,4 @@
-//! Headers are read.
+//! Decodes a header, or only the size that it declares.
 
 ghost use Rattle.std.specs.Prelude.{◌≡◌, ◌<◌, ◌^◌};
 ghost use Rattle.model.specs.Headers;
@@ -10,7 +10,7 @@ use crate::fields::fields_at;
 use crate::properties::properties_in;
 use std::alloc::Global;
 
-/// The size of the body that the payload of a header frame declares. It takes no memory.
+/// Returns the body size in bytes that `payload` declares, or [`BadHeader::FrameError`]. Flags and properties are not looked at. Never allocates.
 pub fn read_size(payload: &[u8]) -> Result<u64, BadHeader>
     ensures { TellsSize payload.now result }
 {
@@ -20,10 +20,12 @@ pub fn read_size(payload: &[u8]) -> Result<u64, BadHeader>
     }
 }
 
-/// The header that the payload of a header frame spells.
+/// Decodes the payload of a header frame.
+///
+/// Each refusal is a variant of [`BadHeader`] with its reply code. [`BadHeader::Memory`] means that an allocation failed.
 pub fn read_header(alloc: Global, payload: &[u8]) -> Result<Header, BadHeader>
     ensures tells { TellsHeader payload.now result }
-    // A header that is spelled so is read, unless memory was refused.
+    // Promise: a header that `payload` encodes is returned, unless an allocation fails.
     ensures only { (h : Headers.Header) → h.size < 2 ^ 64 → AreProperties h.properties → payload.now ≡ header_bytes h.size h.properties → IsHeaderOr h result }
 {
     match fields_at(payload) {

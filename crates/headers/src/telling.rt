@@ -1,4 +1,4 @@
-//! Properties are told one by one.
+//! Takes properties apart.
 
 ghost use Rattle.std.specs.Prelude.{◌≡◌, IfOk, option_map};
 ghost use Rattle.model.specs.Headers.{properties_of};
@@ -11,7 +11,7 @@ use byteorder::{BigEndian, ByteOrder};
 use model::{Fields, Form, Properties};
 use std::alloc::{AllocError, Global};
 
-/// The properties one by one: a copy, which shares their bytes where they are kept so.
+/// Copies `properties` one by one. The copy may share their bytes. Fails only if an allocation fails.
 pub fn fields_of(alloc: Global, properties: &Properties) -> Result<Fields, AllocError>
     ensures { IfOk result (λ fields. fields ≡ properties.now) }
 {
@@ -21,7 +21,7 @@ pub fn fields_of(alloc: Global, properties: &Properties) -> Result<Fields, Alloc
     }
 }
 
-/// The pairs of the headers, where there are any.
+/// Returns the encoded pairs of the headers, if there are any. Never allocates.
 pub fn headers_of(properties: &Properties) -> Option<&[u8]>
     ensures { option_map (λ h. h.now) result ≡ properties.now.headers }
 {
@@ -34,7 +34,7 @@ pub fn headers_of(properties: &Properties) -> Option<&[u8]>
     }
 }
 
-/// The properties that flags and values spell.
+/// Decodes the properties that `bytes` encode: flags, followed by values. Fails only if an allocation fails.
 fn spelled_fields(alloc: Global, bytes: &[u8]) -> Result<Fields, AllocError>
     requires { IsSpelling bytes.now }
     ensures { IfOk result (λ fields. fields ≡ spelled_by bytes.now) }
@@ -42,7 +42,7 @@ fn spelled_fields(alloc: Global, bytes: &[u8]) -> Result<Fields, AllocError>
     copied(alloc, &spelled_parts(bytes))
 }
 
-/// The same, as bytes.
+/// Returns the properties that `bytes` encode, borrowed from them.
 fn spelled_parts(bytes: &[u8]) -> Parts<'_>
     requires { IsSpelling bytes.now }
     ensures { parts_in result ≡ properties_of (spelled_by bytes.now) }

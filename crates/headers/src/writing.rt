@@ -1,4 +1,4 @@
-//! Headers are written.
+//! Encodes a header: measured first, so that the output grows once.
 
 ghost use Rattle.std.specs.Prelude.{◌≡◌, ◌+◌, ◌<◌, ◌≤◌, ◌++◌, length, vec_len, vec_capacity, OnOk, IfErr, Err};
 ghost use Rattle.model.specs.Headers.{header_bytes, AreProperties};
@@ -11,7 +11,10 @@ use crate::putting::{put_back, put_fixed, put_front, put_sized};
 use field_table::put_bytes;
 use model::{Fields, Form, Properties};
 
-/// Appends the payload of the header frame of a body of `size` bytes to `out`. On an error `out` is as it was.
+/// Appends the payload of the header frame for a body of `size` bytes to `out`.
+///
+/// Returns [`UnwrittenHeader::SyntaxError`] if `properties` can't be encoded, [`UnwrittenHeader::Memory`] if an allocation
+/// fails. The content of `out` has not changed then.
 pub fn write_header(
     out: &mut Vec<u8>,
     size: u64,
@@ -19,7 +22,7 @@ pub fn write_header(
 ) -> Result<(), UnwrittenHeader>
     ensures ok { OnOk result (AreProperties properties.now × (out.new.items ≡ out.old.items ++ header_bytes size properties.now)) }
     ensures err { IfErr result (λ e. PropertiesRefused properties.now e × (out.new.items ≡ out.old.items)) }
-    // Memory was really wanted.
+    // On an allocation failure the capacity was too small.
     ensures full { result ≡ Err Memory → vec_capacity out.old < vec_len out.old + length (header_bytes size properties.now) }
 {
     match spelled_len(properties) {
@@ -35,7 +38,7 @@ pub fn write_header(
     }
 }
 
-/// How many bytes the header of a body with these properties has, whatever the body's size, if they have a spelling.
+/// Returns the length of a header payload with these properties in bytes, whatever the body's size, or `None` if they can't be encoded.
 pub fn spelled_len(properties: &Properties) -> Option<usize>
     ensures { CountsHeader properties.now result }
 {
@@ -45,7 +48,7 @@ pub fn spelled_len(properties: &Properties) -> Option<usize>
     }
 }
 
-/// The same of the properties one by one.
+/// Returns what [`spelled_len`] does, for properties that are kept one by one.
 fn fields_len(fields: &Fields) -> Option<usize>
     ensures { CountsHeader fields.now result }
 {
@@ -54,7 +57,7 @@ fn fields_len(fields: &Fields) -> Option<usize>
     Some(14 + front + back)
 }
 
-/// Appends the header to `out`, which has room for it. It takes no memory.
+/// Appends the header's payload to `out`, which has enough spare capacity; `properties` can be encoded. Never allocates.
 pub fn put_header(out: &mut Vec<u8>, size: u64, properties: &Properties)
     requires spelled { AreProperties properties.now }
     requires room { vec_len out.old + length (header_bytes size properties.now) ≤ vec_capacity out.old }
@@ -68,7 +71,7 @@ pub fn put_header(out: &mut Vec<u8>, size: u64, properties: &Properties)
     }
 }
 
-/// The same with flags and values as they are spelled.
+/// Appends the header's payload; `bytes` are its flags and values.
 fn put_spelled(out: &mut Vec<u8>, size: u64, bytes: &[u8])
     requires { vec_len out.old + 12 + length bytes.now ≤ vec_capacity out.old }
     ensures items { out.new.items ≡ out.old.items ++ sized size ++ bytes.now }
@@ -79,7 +82,7 @@ fn put_spelled(out: &mut Vec<u8>, size: u64, bytes: &[u8])
     put_bytes(out, bytes);
 }
 
-/// The same with the properties one by one.
+/// Appends the header's payload for properties that are kept one by one.
 fn put_fields(out: &mut Vec<u8>, size: u64, fields: &Fields)
     requires spelled { AreProperties fields.now }
     requires room { vec_len out.old + length (header_bytes size fields.now) ≤ vec_capacity out.old }

@@ -20,12 +20,12 @@ abbrev pub GivesValue : {A : Type 0} → Result A FileCause → Option A → Typ
 GivesValue (Ok x) o = o ≡ Some x
 GivesValue (Err e) o = FailsJson e (o ≡ None)
 
--- the same, for a value that is borrowed
+-- the reader returns the part that the value states, borrowed, and refuses it only if it states nothing
 abbrev pub GivesView : Result (Bor Value) FileCause → Option Data → Type 0
 GivesView (Ok v) o = o ≡ Some (view v.now)
 GivesView (Err e) o = FailsJson e (o ≡ None)
 
--- the same, for a list
+-- the reader returns the list that the value states, and refuses it only if it states nothing
 abbrev pub GivesItems : {A : Type 0} → Result (Vec A Global) FileCause → Option (List A) → Type 0
 GivesItems (Ok v) o = o ≡ Some v.items
 GivesItems (Err e) o = FailsJson e (o ≡ None)

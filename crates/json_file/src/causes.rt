@@ -24,22 +24,26 @@ pub enum FileCause {
     Absent,
     /// 6: an exchange has another type than `direct`, `fanout` and `topic`.
     OtherType,
-    /// 7: the file asks for something that isn't supported: an argument or a member that is not listed, arguments of a binding,
-    /// another destination type, auto-delete, another overflow, a dead-letter key without a dead-letter exchange, or a policy,
-    /// parameter or topic permission.
+    /// 7: the file asks for something that isn't supported.
+    ///
+    /// That is an argument or a member that is not listed, arguments of a binding, another destination type, auto-delete,
+    /// another overflow, a dead-letter key without a dead-letter exchange, or a policy, parameter or topic permission.
     Unsupported,
     /// 8: a queue has `x-max-length` or `x-max-length-bytes` without `x-overflow`.
     NoOverflow,
-    /// 9: a binding key, a dead-letter key, a pattern (of `except` too) or a queue name has an empty word, over 31 words or over
-    /// 255 bytes; an exchange or a queue has no name; or a name has over 255 bytes.
+    /// 9: a name, a key or a pattern is malformed.
+    ///
+    /// A binding key, a dead-letter key, a pattern (of `except` too) or a queue name has an empty word, over 31 words or
+    /// over 255 bytes; an exchange or a queue has no name; or a name has over 255 bytes.
     Worded,
-    /// 10: there are over 256 exchanges, 256 queues, 4,096 bindings or 256 users; there are over 64 guarantees, or one has over
+    /// 10: there is too much of something.
+    ///
+    /// There are over 256 exchanges, 256 queues, 4,096 bindings or 256 users; there are over 64 guarantees, or one has over
     /// 16 `except` patterns; or the file has over 16,777,216 bytes.
     TooMany,
     /// 11: an alternate exchange doesn't exist, or a dead-letter exchange doesn't exist and isn't the default one.
     NoExchange,
-    /// 12: a user doesn't have exactly one permission, a permission is of no user, or it isn't to configure nothing and to write
-    /// and read all.
+    /// 12: a user doesn't have exactly one permission, a permission is of no user, or it isn't to configure nothing and to write and read all.
     OtherPermission,
     /// 13: a password is hashed in another way, or its hash is not the Base64 of 36 bytes.
     OtherHash,

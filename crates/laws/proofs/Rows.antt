@@ -179,7 +179,7 @@ stands_so offered in_force state obstacle refused = subst (IsObstacle with_audit
 -- the queue is not gone
 refused_for_nothing : IsDecided (refused_reload with_audit (with_entries []) (InUse (codes "audit")) with_audit) → ⊥
 refused_for_nothing (inl done) = let other : ReloadRefused (InUse (codes "audit")) ∷ [] ≡ Reloaded ∷ [] = done.noted in cc
-refused_for_nothing (inr refused) = let first = stands_so with_audit with_audit (with_entries []) (InUse (codes "audit")) refused in first.stranded.gone (inl refl)
+refused_for_nothing (inr refused) = let first = stands_so with_audit with_audit (with_entries []) (InUse (codes "audit")) refused in first.orphaned.gone (inl refl)
 
 -- the queue is gone, and is looked at first
 refused_for_the_second : IsDecided (refused_reload (under []) (with_entries (first_entry ∷ [])) (Breaks (codes "audit") (codes "new") 1) with_audit) → ⊥

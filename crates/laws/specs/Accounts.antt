@@ -1,4 +1,4 @@
--- What becomes of deliveries in every run from the empty broker, and what the promises about them refuse.
+-- What becomes of deliveries in every run from the empty broker, and examples that the promises about them refuse.
 use Rattle.std.specs.Prelude.{List, [], ◌∷◌, false, true, ◌==◌, ◌&&◌, if◌then◌else◌, Some, None, codes}
 use Rattle.std.specs.List.{AllByRecursion}
 use Rattle.model.specs.Agreement.{IsAgreed}
@@ -23,7 +23,7 @@ use Rattle.laws.specs.Rows.{one_queue, first_entry, second_entry, event_of_notes
 
 -- ---- every run
 
--- Of one event, and of the state after it:
+-- What holds of one event, and of the state after it.
 pub record Lasts (h : Happening) : Type 0 where
   pub agreed : IsAgreed h.after.broker
   pub present : ArePresent h.after
@@ -34,18 +34,19 @@ pub record Lasts (h : Happening) : Type 0 where
   pub purges : PurgesLeaveNone h
   pub taken : PublishesAreTaken h
 
--- In every run from the empty broker what is held and what is outstanding agree, a channel is of a connection that runs, which logged in,
--- what is settled is settled as the client asked, no delivery is forgotten, a get is answered, a purge leaves none, and a publish is noted.
+-- In every run from the empty broker, held messages and unacknowledged deliveries agree, a channel is
+-- of a connection that runs, which logged in, a command settles deliveries as the client asked, no
+-- delivery is forgotten, a get is answered, a purge leaves no ready message, and a publish is noted.
 abbrev pub DeliveriesAreAccountedFor : Type 0
 DeliveriesAreAccountedFor = (hs : List Happening) (new : State) → Run empty_state hs new → AllByRecursion Lasts hs
 
--- ---- what they refuse
+-- ---- what the promises refuse
 
--- the first publish, held by a get on channel 1 of connection 1, under the tag 1
+-- The first publish, held by a get on channel 1 of connection 1, under tag 1.
 abbrev pub taken_entry : Entry
 taken_entry = first_held (holder_of 1 1 taken)
 
--- connection 1 runs and has these deliveries outstanding on its channel 1, and the queue `audit` has these entries
+-- Connection 1 runs with these unacknowledged deliveries on its channel 1, and the queue `audit` has these entries.
 abbrev pub holding : List Outstanding → List Entry → State
 holding given entries = record {
   broker = record empty_broker {
@@ -57,56 +58,58 @@ holding given entries = record {
   session = λ c. if c == 1 then running_session else no_session;
 }
 
--- no connection runs, and the queue `audit` has these entries
+-- No connection runs, and the queue `audit` has these entries.
 abbrev pub left_behind : List Entry → State
 left_behind entries = record { broker = record empty_broker { published = 2; queue = one_queue (codes "audit") entries }; session = λ c. no_session }
 
--- an event between these states of which nothing is noted
+-- The event `e` between these states, which notes nothing.
 abbrev pub quiet_event : Event → State → State → Happening
 quiet_event e old new = record (event_of_notes [] old [] new) { event = e }
 
--- an acknowledgement of the tag 1, and a rejection that requeues
+-- An acknowledgement of tag 1.
 abbrev pub acknowledging : Event
 acknowledging = Command 1 1 (BasicAck (record { delivery_tag = 1; multiple = false })) None
 
+-- A rejection of tag 1 that requeues.
 abbrev pub requeueing : Event
 requeueing = Command 1 1 (BasicReject (record { delivery_tag = 1; requeue = true })) None
 
--- a get from `audit`, and a purge of it
+-- A get from `audit`.
 abbrev pub gets_one : Event
 gets_one = Command 1 1 (BasicGet (record { reserved = 0; queue = codes "audit"; no_ack = false })) None
 
+-- A purge of `audit`.
 abbrev pub purges_all : Event
 purges_all = Command 1 1 (QueuePurge (record { reserved = 0; queue = codes "audit"; no_wait = true })) None
 
--- such an event, over the queue `audit` alone
+-- The same event under the topology with the queue `audit` alone.
 abbrev pub over_audit : Event → State → State → Happening
 over_audit e old new = record (quiet_event e old new) { config = record (under []) { topology = audit_alone } }
 
--- Each promise fails where it should:
+-- Each promise is false for an example that breaks it.
 pub record AccountsRefuse : Type 0 where
-  -- an acknowledgement by which the message doesn't leave
+  -- An acknowledgement after which its message is still in the queue.
   pub ack_takes_nothing_out : SettlesAsAsked (quiet_event acknowledging (holding (taken ∷ []) (taken_entry ∷ [])) (holding [] (taken_entry ∷ []))) → ⊥
-  -- a message that is requeued, and stands nowhere
+  -- A message that is requeued, and is in no queue.
   pub requeued_is_lost : SettlesAsAsked (quiet_event requeueing (holding (taken ∷ []) (taken_entry ∷ [])) (holding [] [])) → ⊥
-  -- one that is requeued behind another before which it stood
+  -- A message that is requeued behind one that was behind it.
   pub requeued_at_the_end : SettlesAsAsked (quiet_event requeueing (holding (taken ∷ []) (taken_entry ∷ second_entry ∷ []))
       (holding [] (second_entry ∷ freed_now taken_entry ∷ []))) → ⊥
-  -- one that is requeued, and outstanding still
+  -- A message that is requeued, and still unacknowledged.
   pub requeued_is_outstanding : SettlesAsAsked (quiet_event requeueing (holding (taken ∷ []) (taken_entry ∷ []))
       (holding (taken ∷ []) (freed_now taken_entry ∷ []))) → ⊥
-  -- a delivery whose connection is lost, and whose message nobody can be given any more
+  -- A delivery whose connection is lost, and whose message nobody can be given.
   pub lost_with_its_connection : NoneIsForgotten (quiet_event (Lose 1) (holding (taken ∷ []) (taken_entry ∷ [])) (left_behind (taken_entry ∷ []))) → ⊥
-  -- a get beside which a message waits, and to which nothing is sent
+  -- A get that is sent nothing although a message is ready.
   pub get_without_answer : GetsAreAnswered (over_audit gets_one (holding [] (first_entry ∷ [])) (holding [] (first_entry ∷ []))) → ⊥
-  -- a purge after which a message waits
+  -- A purge that leaves a ready message.
   pub purge_leaves_one : PurgesLeaveNone (over_audit purges_all (holding [] (first_entry ∷ [])) (holding [] (first_entry ∷ []))) → ⊥
-  -- a connection that runs without a login
+  -- A connection that runs without a login.
   pub runs_without_login : EntersByLogin (quiet_event
       (Command 1 0 (ConnectionTuneOk (record { channel_max = 0; frame_max = 0; heartbeat = 0 })) None) (left_behind []) (holding [] [])) → ⊥
-  -- and one that logged in where no user is known
+  -- A connection that logged in although no user is known.
   pub login_of_nobody : (start : StartOk) → EntersByLogin (quiet_event (Command 1 0 (ConnectionStartOk start) None) (left_behind []) (holding [] [])) → ⊥
-  -- a connection that is there after its session ended
+  -- A connection in the broker whose session has ended.
   pub connection_of_none : ArePresent (record (holding [] []) { session = λ c. no_session }) → ⊥
-  -- a channel whose connection is gone
+  -- A channel whose connection is gone.
   pub channel_of_none : ArePresent (record (left_behind []) { broker = record (holding [] []).broker { connection = λ c. None } }) → ⊥

@@ -1,4 +1,4 @@
--- What stands in queues can be given out, and what is sent can be put out.
+-- What is in queues can be given out, and what is sent can be put out.
 use Rattle.std.specs.Prelude.{ℕ, List}
 use Rattle.std.specs.List.{AllByRecursion}
 use Rattle.model.specs.Topology.{Topology, IsWellFormed}
@@ -11,13 +11,14 @@ use Rattle.model.specs.declared.events.Send.{Send}
 use Rattle.model.specs.declared.events.Event.{Event}
 use Rattle.model.specs.declared.notes.Note.{Note}
 
--- In the empty broker each message can be given out, and each event leaves it so, under a topology that is well formed.
+-- In the empty broker each message can be given out, and each event keeps this, under a well-formed topology.
 pub record MessagesStayCarried : Type 0 where
   pub empty : AreCarried empty_broker
   pub acts : (t : Topology) (old new : Broker) (e : Event) (sends : List Send) (notes : List Note) → IsWellFormed t → IsSaid e → AreCarried old
       → Acts t old e sends notes new → AreCarried new
 
--- Where each message can be given out, what is sent at an event to one connection can be put out, if each of it has an address.
+-- If each message in a queue can be given out, what is sent at an event can be put out, provided that
+-- each send goes to connection `c` on a channel that a frame can name, with a method that has a spelling.
 abbrev pub SendsAreOwn : Type 0
 SendsAreOwn = (t : Topology) (old new : Broker) (c : ℕ) (e : Event) (sends : List Send) (notes : List Note)
     → IsSaid e → AreCarried old → Acts t old e sends notes new → AllByRecursion (IsAddressed c) sends → AreOwn c sends

@@ -1,4 +1,4 @@
--- What the promises about publishes, nacks and entries refuse.
+-- Examples that the promises about publishes, nacks and entries refuse.
 use Rattle.std.specs.Prelude.{ℕ, List, [], ◌∷◌, ◌++◌, ◌==◌, ◌&&◌, if◌then◌else◌, false, Some, None, codes}
 use Rattle.model.specs.Broker.{new_channel}
 use Rattle.model.specs.Entries.{freed_now}
@@ -22,7 +22,7 @@ use Rattle.laws.specs.Accounts.{holding, over_audit}
 
 -- ---- publishes
 
--- connection 1 runs, so many publishes were counted, and the last confirm number on its channel 1 is this
+-- Connection 1 runs, `published` publishes were counted, and `last` is the last confirm number on its channel 1.
 abbrev pub confirming : ℕ → ℕ → State
 confirming published last = record {
   broker = record (holding [] []).broker {
@@ -32,53 +32,55 @@ confirming published last = record {
   session = (holding [] []).session;
 }
 
--- what the client sends to the queue `audit` by its name
+-- A publish to the queue `audit` by its name.
 abbrev pub to_audit : Publishing
 to_audit = record { reserved = 0; exchange = []; routing_key = codes "audit"; mandatory = false; immediate = false }
 
+-- The event of this publish, on channel 1 of connection 1.
 abbrev pub publishes_one : Event
 publishes_one = Command 1 1 (BasicPublish to_audit) (Some no_content)
 
--- the note of it, under this confirm number
+-- The note of this publish, under this confirm number.
 abbrev pub noted_under : ℕ → Note
 noted_under confirm = Published 3 1 1 [] (codes "audit") (Some confirm)
 
--- it is performed, with what is sent and noted
+-- This event between the states before and after it, with what is sent and noted.
 abbrev pub publishing : List Send → List Note → Happening
 publishing sends notes = record (over_audit publishes_one (confirming 2 0) (confirming 3 1)) { sends = sends; notes = notes }
 
 -- ---- nacks
 
--- the frame of basic.nack on channel 1 for number 1 alone, and for all up to it
+-- The frame of basic.nack on channel 1 for number 1 alone.
 abbrev pub first_nack : List ℕ
 first_nack = 1 ∷ 0 ∷ 1 ∷ 0 ∷ 0 ∷ 0 ∷ 13 ∷ 0 ∷ 60 ∷ 0 ∷ 120 ∷ 0 ∷ 0 ∷ 0 ∷ 0 ∷ 0 ∷ 0 ∷ 0 ∷ 1 ∷ 0 ∷ 206 ∷ []
 
+-- The frame of basic.nack on channel 1 for all numbers up to 1.
 abbrev pub multiple_nack : List ℕ
 multiple_nack = 1 ∷ 0 ∷ 1 ∷ 0 ∷ 0 ∷ 0 ∷ 13 ∷ 0 ∷ 60 ∷ 0 ∷ 120 ∷ 0 ∷ 0 ∷ 0 ∷ 0 ∷ 0 ∷ 0 ∷ 0 ∷ 1 ∷ 1 ∷ 206 ∷ []
 
--- the nack of the first publish
+-- The nack of the first publish.
 abbrev pub first_nacked : Nack
 first_nacked = record { channel = 1; number = 1; multiple = false }
 
 -- ---- what is refused
 
--- Each promise fails where it should:
+-- Each promise is false for an example that breaks it.
 pub record ConfirmsRefuse : Type 0 where
-  -- a publish that is dropped, of which nothing is noted
+  -- A publish that is dropped without a note.
   pub dropped : PublishesAreTaken (publishing [] []) → ⊥
-  -- one in confirm mode that is noted, and never confirmed
+  -- A publish in confirm mode that is noted, and never confirmed.
   pub never_confirmed : PublishesAreTaken (publishing [] (noted_under 1 ∷ [])) → ⊥
-  -- one whose ack is noted, and not sent
+  -- A publish whose ack is noted, and not sent.
   pub ack_not_sent : PublishesAreTaken (publishing [] (noted_under 1 ∷ Confirmed 3 Ack ∷ [])) → ⊥
-  -- one that is confirmed under another number than the next
+  -- A publish that is confirmed under another number than the next.
   pub number_passed_over : PublishesAreTaken (publishing (reply 1 1 (confirm_method Ack 2) ∷ []) (noted_under 2 ∷ Confirmed 3 Ack ∷ [])) → ⊥
-  -- an output without the nack of a publish that was nacked
+  -- An output without the nack of a publish that was nacked.
   pub output_without_nack : HasNacks (first_nacked ∷ []) select_ok → ⊥
-  -- a nack too many
+  -- An output with a nack that no publish had.
   pub unearned_nack : HasNacks [] (select_ok ++ first_nack) → ⊥
-  -- a nack of all publishes up to its own, where it was of its own alone
+  -- A nack of all publishes up to its own, in place of one of its own alone.
   pub nack_of_more : HasNacks (first_nacked ∷ []) (select_ok ++ multiple_nack) → ⊥
-  -- an entry that is marked as redelivered as it enters
+  -- An entry that is marked as redelivered as it enters.
   pub entered_marked : EnterFresh (event_of_notes [] (with_entries []) (Entered 1 (codes "audit") Publish ∷ []) (with_entries (freed_now first_entry ∷ []))) → ⊥
-  -- one that is marked where it waits, and was not given out
+  -- An entry that comes to be marked while it waits, and was not given out.
   pub marked_where_it_waits : MarksWhatWasGiven (event_of_notes [] (with_entries (first_entry ∷ [])) [] (with_entries (freed_now first_entry ∷ []))) → ⊥

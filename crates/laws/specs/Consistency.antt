@@ -1,4 +1,4 @@
--- Whatever arrives, the world keeps what every world keeps.
+-- Whatever arrives, a world stays consistent.
 use Rattle.std.specs.Prelude.{◌+◌, ℕ, List}
 use Rattle.model.specs.Headline.{IsSound}
 use Rattle.model.specs.State.{Config}
@@ -11,7 +11,8 @@ use Rattle.model.specs.declared.events.Arrival.{Arrival}
 use Rattle.model.specs.declared.events.Event.TheVariants as event
 use Rattle.laws.specs.Reloading.{AreOffered}
 
--- So it is where no connection is, under what is sound, and each single thing that is done leaves it so.
+-- A world with no connection is consistent under a sound configuration, and each
+-- single thing that is done in it keeps this; a reload if what it offers is sound.
 pub record WorldsStayConsistent : Type 0 where
   pub new_worlds : (f : Config) → IsSound f → IsConsistent (new_world f)
   pub turns : (old new : World) (c : ℕ) (hs : List Happening) → IsConsistent old → Turns old c hs new → IsConsistent new
@@ -25,7 +26,7 @@ pub record WorldsStayConsistent : Type 0 where
   pub pumps : (old new : World) (hs : List Happening) → IsConsistent old → Pumps old hs new → IsConsistent new
   pub reloads : (old new : World) (offered : Config) (os : List Occurrence) → IsSound offered → IsConsistent old → Reloads old offered os new → IsConsistent new
 
--- And so it is after any arrivals, where what each reload offers is sound.
+-- Whatever arrives, a consistent world stays so, if what each reload offers is sound.
 abbrev pub PlaysStayConsistent : Type 0
 PlaysStayConsistent = (old new : World) (arrivals : List (Arrival Config)) (os : List Occurrence) → AreOffered arrivals → IsConsistent old
     → Plays old arrivals os new → IsConsistent new

@@ -1,4 +1,4 @@
--- Certified delivery, over every list of arrivals, reloads among them.
+-- Certified delivery, over every list of arrivals, reloads included.
 use Rattle.std.specs.Prelude.{◌≡◌, ◌++◌, ℕ, List}
 use Rattle.model.specs.Frames.{Frame}
 use Rattle.model.specs.State.{Config}
@@ -12,27 +12,27 @@ use Rattle.model.specs.Headline.{IsSound, KeepsEvents, KeepsPromises}
 use Rattle.model.specs.declared.events.Arrival.{Arrival}
 use Rattle.laws.specs.Reloading.{AreOffered}
 
--- a client reads an output in one way
+-- A client can read an output in one way only.
 abbrev pub OneReading : Type 0
 OneReading = (output : List ℕ) (fs gs : List Frame) → IsReading output fs → IsReading output gs → fs ≡ gs
 
--- in a world that a run reaches, one command and the pause that it brings keep the promises of their events
+-- In a consistent world, one command and the pause that it brings keep the promises of their events.
 abbrev pub TurnsKeep : Type 0
 TurnsKeep = (old new : World) (c : ℕ) (hs : List Happening) → IsSound old.config → IsConsistent old → Turns old c hs new
     → KeepsEvents old.state.broker hs new.state.broker
 
--- and so do a delivery and the pause that it brings
+-- In a consistent world, a delivery and the pause that it brings keep the promises of their events.
 abbrev pub PumpsKeep : Type 0
 PumpsKeep = (old new : World) (hs : List Happening) → IsSound old.config → IsConsistent old → Pumps old hs new
     → KeepsEvents old.state.broker hs new.state.broker
 
--- what is put out for a connection by one command, and by the pause that it brings, is behind what was put out before, and has the acks and
--- the nacks of its own publishes
+-- What one command and the pause that it brings put out for a connection is appended
+-- to what was put out before, and has the acks and the nacks of its own publishes.
 abbrev pub TurnsConfirm : Type 0
 TurnsConfirm = (old new : World) (c : ℕ) (hs : List Happening) → Turns old c hs new
     → ((new.wire c).output ≡ (old.wire c).output ++ put_out c hs) × Confirms c hs (put_out c hs)
 
--- Whatever arrives, the headline holds of what happened and of what was seen, where what each reload offers is sound.
+-- Whatever arrives, the promises of the headline are kept by what happened and by what was seen, if what each reload offers is sound.
 abbrev pub HeadlineHolds : Config → Type 0
 HeadlineHolds f = (arrivals : List (Arrival Config)) (os : List Occurrence) (w : World) (seen : Seen)
     → IsSound f → AreOffered arrivals → Plays (new_world f) arrivals os w → Shows os w seen → KeepsPromises f os w.state.broker seen.connections

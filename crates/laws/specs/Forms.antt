@@ -1,4 +1,4 @@
--- Functions that the definitions give step by step, said of the whole.
+-- Functions that the definitions give step by step, described as a whole.
 use Rattle.std.specs.Prelude.{◌≡◌, ◌<◌, ◌≤◌, ◌+◌, ℕ, List, Bool, true, false, Option, Some, None, length, map, filter, find, flat_map, not, ◌&&◌, slice_get}
 use Rattle.std.specs.Str.{bytes_eq}
 use Rattle.model.specs.Words.{Text}
@@ -19,18 +19,18 @@ use Rattle.model.specs.declared.methods.Method.TheVariants.{ConnectionClose, Con
 
 -- ---- what comes to a queue
 
--- the queue r is q, and takes a body of this size
+-- Whether the queue `r` is `q`, and takes a body of `size` bytes.
 abbrev pub takes_there : Topology → (Text → List Entry) → ℕ → Text → Text → Bool
 takes_there t entries size q r = bytes_eq r q && not (is_full t entries r size)
 
--- To a queue comes the message, ready, as often as the queue is among those it goes to, and not at all where the queue is full.
+-- The queue `q` gets the message, ready, as often as it is among `targets`, and not at all if it is full.
 abbrev pub MessagesCome : Type 0
 MessagesCome = (t : Topology) (entries : Text → List Entry) (m : Message) (q : Text) (targets : List Text)
     → comes_to t entries m q targets ≡ map (λ r. record { message = m; mark = Ready }) (filter (takes_there t entries (length m.content.body) q) targets)
 
 -- ---- the pieces of a body
 
--- The pieces are the bytes, one piece after another; each has a byte and at most `size`, and each before the last has `size`.
+-- The pieces are the bytes, one piece after another. Each has at least one byte and at most `size`, and each but the last has `size`.
 pub record ArePieces (size : ℕ) (bytes : List ℕ) (pieces : List (List ℕ)) : Type 0 where
   pub whole : flat_map (λ p. p) pieces ≡ bytes
   pub some : (i : ℕ) (p : List ℕ) → slice_get pieces i ≡ Some p → 1 ≤ length p
@@ -43,23 +43,23 @@ BodiesAreCut = (size : ℕ) (bytes : List ℕ) → 1 ≤ size → ArePieces size
 
 -- ---- the phase after what was sent
 
--- a method after which the phase is another
+-- Whether the phase is another after this method was sent.
 abbrev pub is_telling : Method → Bool
 is_telling (ConnectionClose m) = true
 is_telling ConnectionCloseOk = true
 is_telling m = false
 
--- it carries one
+-- Whether the send carries such a method.
 abbrev pub tells_phase : Send → Bool
 tells_phase (Greeting c) = false
 tells_phase (Command c h m content) = is_telling m
 
--- the phase that the first such send tells, and Running where there is none
+-- The phase that the first such send leads to; Running if there is none.
 abbrev pub phase_told : Option Send → Phase
 phase_told (Some (Command c h m content)) = after_method m phase.Running
 phase_told (Some (Greeting c)) = phase.Running
 phase_told None = phase.Running
 
--- The first close or close-ok among what was sent tells the phase, and without one it is Running.
+-- The first connection.close or close-ok among the sends decides the phase; without one it is Running.
 abbrev pub FirstTells : Type 0
 FirstTells = (sends : List Send) → after_sends sends ≡ phase_told (find tells_phase sends)

@@ -1,4 +1,4 @@
--- What adds up event by event.
+-- Three properties of a run that follow from those of its single events: each event balances, numbers are counted, and the run balances (own).
 use Rattle.std.specs.Prelude.{List}
 use Rattle.model.specs.State.{State}
 use Rattle.model.specs.Run.{Happening, Run, Balances, Stays, AreCounted, notes_of}
@@ -7,10 +7,10 @@ use Rattle.model.specs.Run.{Happening, Run, Balances, Stays, AreCounted, notes_o
 abbrev pub EveryRunStays : Type 0
 EveryRunStays = (hs : List Happening) (old new : State) → Run old hs new → Stays old.broker hs new.broker
 
--- No message comes to stand in a queue that was not counted.
+-- In every run no message in a queue has a greater number than that of publishes counted, if this was so at the beginning.
 abbrev pub EveryRunCounts : Type 0
 EveryRunCounts = (hs : List Happening) (old new : State) → Run old hs new → AreCounted old.broker → AreCounted new.broker
 
--- In every run, what stood in a queue and what entered it is what left it and what stands there.
+-- In every run, for each queue and each publish number: as many messages were in the queue or entered it as left it or are in it at the end.
 abbrev pub EveryRunBalances : Type 0
 EveryRunBalances = (hs : List Happening) (old new : State) → Run old hs new → Balances old.broker (notes_of hs) new.broker

@@ -1,4 +1,4 @@
--- Where the first eight bytes of a connection stand: they are awaited in Header, and of any other connection frames are read.
+-- When the first eight bytes of a connection are read: they are awaited in Header, and in any other phase frames are read.
 use Rattle.std.specs.Prelude.{◌≡◌, ℕ, List, Bool, true, false, Option, Some, None}
 use Rattle.model.specs.State.{Config}
 use Rattle.model.specs.History.{Occurrence}
@@ -12,26 +12,26 @@ use Rattle.model.specs.declared.events.Phase.{Phase}
 use Rattle.model.specs.declared.events.Phase.TheVariants as phase
 use Rattle.laws.specs.Streams.{is_head}
 
--- the phase that awaits the first eight bytes
+-- Whether the phase awaits the first eight bytes.
 abbrev pub is_header : Phase → Bool
 is_header phase.Header = true
 is_header p = false
 
--- they are performed by this event
+-- Whether the event performs the first eight bytes.
 abbrev pub is_first : Event → Bool
 is_first (First c bytes) = true
 is_first e = false
 
--- the first eight bytes are still to come, or are the command that is kept, exactly where it is said so
+-- Whether the first eight bytes are still to be read, or are the command that is kept, is as `said` says.
 abbrev pub AreToCome : Bool → Option Command → Stream → Type 0
 AreToCome said None s = s.is_new ≡ said
 AreToCome said (Some c) s = (is_head c ≡ said) × (s.is_new ≡ false)
 
--- they are, exactly where the phase of the connection awaits them
+-- They are, exactly while the phase of connection `c` awaits them.
 abbrev pub ReadsByPhase : World → ℕ → Type 0
 ReadsByPhase w c = AreToCome (is_header (w.state.session c).phase) (w.wire c).kept (w.wire c).stream
 
--- Whatever arrives, so it is of each connection.
+-- Whatever arrives, this is so of each connection.
 abbrev pub OpeningsReadByPhase : Type 0
 OpeningsReadByPhase = (f : Config) (arrivals : List (Arrival Config)) (os : List Occurrence) (w : World) → Plays (new_world f) arrivals os w
     → (c : ℕ) → ReadsByPhase w c

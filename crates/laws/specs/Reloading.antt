@@ -1,4 +1,4 @@
--- Histories: events, and reloads between them, each of which puts in force what is sound (own).
+-- Histories: events, and reloads between them that offer sound configurations (own).
 use Rattle.std.specs.Prelude.{List}
 use Rattle.std.specs.List.{AllByRecursion}
 use Rattle.model.specs.State.{Config, State}
@@ -8,26 +8,27 @@ use Rattle.model.specs.declared.events.Arrival.{Arrival}
 use Rattle.model.specs.declared.events.Arrival.TheVariants as arrival
 use Rattle.laws.specs.Promises.{AreSaid, IsBegun}
 
--- what each of these reloads offered is sound
+-- What each of the reloads offered is sound.
 abbrev pub OfferSound : List Reload → Type 0
 OfferSound rs = AllByRecursion (λ (r : Reload). IsSound r.offered) rs
 
--- what the arrival offers is sound, if it is a reload
+-- What the arrival offers is sound, if it is a reload.
 abbrev pub IsOffered : Arrival Config → Type 0
 IsOffered (arrival.Reload offered) = IsSound offered
 IsOffered a = Unit {0}
 
--- what each reload among these arrivals offers is sound
+-- What each reload among the arrivals offers is sound.
 abbrev pub AreOffered : List (Arrival Config) → Type 0
 AreOffered arrivals = AllByRecursion IsOffered arrivals
 
--- What holds of a history that left this in force: its events keep the promises, each by what was in force at it, and so the next ones will.
+-- What holds of a history that leaves `last` in force: its events keep the promises, each by what was in force
+-- at it, and the next ones will, too, as the messages that it leaves may be in their queues under `last`.
 pub record KeepsOn (old : State) (os : List Occurrence) (last : Config) (new : State) : Type 0 where
   pub kept : KeepsOccurrences old.broker os new.broker
   pub begun : IsBegun last new.broker
   pub sound : IsSound last
 
--- From messages that may stand where they do on, every history keeps the promises, also of messages that came under what was in force before.
+-- If each message may be in its queue at the beginning, every history keeps the promises, also for messages that came under what was in force before.
 abbrev pub HistoriesKeep : Type 0
 HistoriesKeep = (f last : Config) (os : List Occurrence) (old new : State) → IsSound f → OfferSound (reloads_of os) → AreSaid (events_of os)
     → IsBegun f old.broker → History f old os last new → KeepsOn old os last new

@@ -1,4 +1,4 @@
--- Worked examples, that the checker computes: a definition that says something else shows at once.
+-- Worked examples, which the checker computes: a definition that says something else is found at once.
 use Rattle.std.specs.Prelude.{◌≡◌, ◌++◌, ℕ, List, Bool, [], ◌∷◌, codes, true, false, Option, Some, None, replicate, filter_map, if◌then◌else◌}
 use Rattle.std.specs.Str.{bytes_eq}
 use Rattle.model.specs.Words.{Text, words}
@@ -59,7 +59,7 @@ use Rattle.model.specs.declared.notes.Answer.TheVariants.{Ack}
 
 -- ---- words of keys
 
--- the words of keys: a key with none, with two, and with empty ones
+-- The words of keys: a key with none, with two, and with empty ones.
 pub record WordsOfKeys : Type 0 where
   pub none : words [] ≡ []
   pub two : words (codes "orders.new") ≡ codes "orders" ∷ codes "new" ∷ []
@@ -68,7 +68,7 @@ pub record WordsOfKeys : Type 0 where
 
 -- ---- the first publish
 
--- what a client writes: confirm.select, and a publish to `orders` under the key `new`, with the body `hi`
+-- What a client writes: confirm.select, and a publish to `orders` under the key `new`, with the body `hi`.
 pub record FirstInput : Type 0 where
   pub select : frame_bytes (method_frame 1 (ConfirmSelect false)) ≡ 1 ∷ 0 ∷ 1 ∷ 0 ∷ 0 ∷ 0 ∷ 5 ∷ 0 ∷ 85 ∷ 0 ∷ 10 ∷ 0 ∷ 206 ∷ []
   pub publish : frame_bytes
@@ -78,26 +78,26 @@ pub record FirstInput : Type 0 where
       ≡ 2 ∷ 0 ∷ 1 ∷ 0 ∷ 0 ∷ 0 ∷ 14 ∷ 0 ∷ 60 ∷ 0 ∷ 0 ∷ 0 ∷ 0 ∷ 0 ∷ 0 ∷ 0 ∷ 0 ∷ 0 ∷ 2 ∷ 0 ∷ 0 ∷ 206 ∷ []
   pub body : frame_bytes (body_frame 1 (codes "hi")) ≡ 3 ∷ 0 ∷ 1 ∷ 0 ∷ 0 ∷ 0 ∷ 2 ∷ 104 ∷ 105 ∷ 206 ∷ []
 
--- the frame of confirm.select-ok on channel 1
+-- The frame of confirm.select-ok on channel 1.
 abbrev pub select_ok : List ℕ
 select_ok = 1 ∷ 0 ∷ 1 ∷ 0 ∷ 0 ∷ 0 ∷ 4 ∷ 0 ∷ 85 ∷ 0 ∷ 11 ∷ 206 ∷ []
 
--- the frame of basic.ack on channel 1 for number 1 alone
+-- The frame of basic.ack on channel 1 for number 1 alone.
 abbrev pub first_ack : List ℕ
 first_ack = 1 ∷ 0 ∷ 1 ∷ 0 ∷ 0 ∷ 0 ∷ 13 ∷ 0 ∷ 60 ∷ 0 ∷ 80 ∷ 0 ∷ 0 ∷ 0 ∷ 0 ∷ 0 ∷ 0 ∷ 0 ∷ 1 ∷ 0 ∷ 206 ∷ []
 
--- what it reads: select-ok, and then the ack of confirm number 1
+-- What the client reads: select-ok, and then the ack of confirm number 1.
 pub record FirstOutput : Type 0 where
   pub select : spelling 131072 (select_sends 1 1 false) ≡ select_ok
   pub ack : spelling 131072 (confirm_sends 1 1 (Some 1) Ack) ≡ first_ack
 
 -- ---- another end byte
 
--- confirm.select with CD in the place of CE
+-- confirm.select with CD in place of the end byte CE.
 abbrev pub bad_end : List ℕ
 bad_end = 1 ∷ 0 ∷ 1 ∷ 0 ∷ 0 ∷ 0 ∷ 5 ∷ 0 ∷ 85 ∷ 0 ∷ 10 ∷ 0 ∷ 205 ∷ []
 
--- no frame can stand there, and the answer is connection.close 501 with the text frame-error
+-- No frame can begin with these bytes, and the answer is connection.close 501 with the text frame-error.
 pub record BadEnd : Type 0 where
   pub broken : IsBroken 131072 bad_end
   pub answer : spelling 131072 (connection_close 1 501 (ids 0 0) ∷ [])
@@ -105,45 +105,45 @@ pub record BadEnd : Type 0 where
 
 -- ---- a content that is too large
 
--- which content is too large, what its bytes do as they come, and how it is answered
+-- Which content is too large, what its bytes do as they come, and how it is answered.
 pub record TooLargeContent : Type 0 where
-  -- a body of 1,048,576 bytes is taken, and one of a byte more is not
+  -- A body of 1,048,576 bytes is accepted, and one with a byte more is not.
   pub largest : is_too_large (header_bytes 1048576 no_properties) 1048576 ≡ false
   pub larger : is_too_large (header_bytes 1048577 no_properties) 1048577 ≡ true
-  -- a byte is missing of it, it has come, and a byte too many has come
+  -- A byte of the body is missing, the body is complete, and a byte too many has come.
   pub missing : taken_dropped 1 1048577 1048576 ≡ Goes_on (Drops 1048577 1048576)
   pub come : taken_dropped 1 1048577 1048577 ≡ Makes (TooLarge 1)
   pub past : taken_dropped 1 1048577 1048578 ≡ Breaks 501
-  -- channel.close 311 with the text content-too-large, for class 60, method 40
+  -- channel.close 311 with the text content-too-large, for class 60, method 40.
   pub answer : spelling 131072 (channel_close 1 1 311 (ids_of empty_publish) ∷ [])
       ≡ 1 ∷ 0 ∷ 1 ∷ 0 ∷ 0 ∷ 0 ∷ 28 ∷ 0 ∷ 20 ∷ 0 ∷ 40 ∷ 1 ∷ 55 ∷ 17 ∷ 99 ∷ 111 ∷ 110 ∷ 116 ∷ 101 ∷ 110 ∷ 116 ∷ 45 ∷ 116 ∷ 111 ∷ 111 ∷ 45 ∷ 108 ∷ 97
       ∷ 114 ∷ 103 ∷ 101 ∷ 0 ∷ 60 ∷ 0 ∷ 40 ∷ 206 ∷ []
 
 -- ---- what the headline refuses
 
--- what is sent to `orders` under `new` reaches `audit`
+-- What is sent to `orders` under `new` reaches `audit`.
 abbrev pub wanted : Guarantee
 wanted = record { mode = Reaches; exchange = codes "orders"; pattern = codes "new"; queue = codes "audit"; excepts = [] }
 
--- the first publish, confirmed by ack
+-- The first publish, confirmed by ack.
 abbrev pub first_acked : AckedPublish
 first_acked = record { number = 1; channel = 1; exchange = codes "orders"; key = codes "new"; confirm = 1; guarantees = wanted ∷ [] }
 
--- its notes, with nothing entered
+-- The notes of the first publish, without an entry.
 abbrev pub notes_without_entry : List Note
 notes_without_entry = Published 1 1 1 (codes "orders") (codes "new") (Some 1) ∷ Confirmed 1 Ack ∷ []
 
--- the same ack with `multiple` set: it acknowledges all up to its number
+-- The same ack with `multiple` set: it acknowledges all up to its number.
 abbrev pub multiple_ack : List ℕ
 multiple_ack = 1 ∷ 0 ∷ 1 ∷ 0 ∷ 0 ∷ 0 ∷ 13 ∷ 0 ∷ 60 ∷ 0 ∷ 80 ∷ 0 ∷ 0 ∷ 0 ∷ 0 ∷ 0 ∷ 0 ∷ 0 ∷ 1 ∷ 1 ∷ 206 ∷ []
 
 -- ---- what happens at single events
 
--- a content with no property and no body
+-- A content with no property and an empty body.
 abbrev pub no_content : Content
 no_content = record { properties = no_properties; body = [] }
 
--- the first publish as it stands in a queue
+-- The first publish as an entry of a queue.
 abbrev pub first_entry : Entry
 first_entry =
     record {
@@ -160,31 +160,31 @@ first_entry =
       mark = Ready;
     }
 
--- the entries of each queue, where only the one of this name has any
+-- The entries of each queue, if only the one called `name` has any.
 abbrev pub one_queue : Text → List Entry → Text → List Entry
 one_queue name entries q = if bytes_eq q name then entries else []
 
--- what the client sends
+-- The first publish, as the client sends it.
 abbrev pub first_sent : Publishing
 first_sent = record { reserved = 0; exchange = codes "orders"; routing_key = codes "new"; mandatory = false; immediate = false }
 
--- it is noted that it came, outside confirm mode
+-- The note that the first publish came, outside confirm mode.
 abbrev pub first_published : Note
 first_published = Published 1 1 1 (codes "orders") (codes "new") None
 
--- a broker with one publish counted, and with these entries in the queue `audit`
+-- A broker with one publish counted, and with these entries in the queue `audit`.
 abbrev pub with_entries : List Entry → State
 with_entries entries = record { broker = record empty_broker { published = 1; queue = one_queue (codes "audit") entries }; session = λ c. no_session }
 
--- what is sent to `orders` under `new` never comes to `bin`
+-- What is sent to `orders` under `new` never comes to `bin`.
 abbrev pub forbids : Guarantee
 forbids = record { mode = Never; exchange = codes "orders"; pattern = codes "new"; queue = codes "bin"; excepts = [] }
 
--- these guarantees in force, over a topology with nothing in it
+-- These guarantees in force, over an empty topology.
 abbrev pub under : List Guarantee → Config
 under guarantees = record { topology = record { exchanges = []; queues = []; bindings = [] }; guarantees = guarantees; users = [] }
 
--- an event between two states with these notes, under what is in force
+-- An event between two states with these notes, under these guarantees.
 abbrev pub event_of_notes : List Guarantee → State → List Note → State → Happening
 event_of_notes guarantees old notes new = record {
   config = under guarantees;
@@ -196,15 +196,15 @@ event_of_notes guarantees old notes new = record {
   after = new;
 }
 
--- one event alone
+-- One event alone.
 abbrev pub one_event : State → List Note → State → List Happening
 one_event old notes new = event_of_notes [] old notes new ∷ []
 
--- two events: by the first the entry vanishes, and these are the notes of both
+-- Two events, with the notes of each: by the first the entry vanishes.
 abbrev pub vanishing : List Note → List Note → State → List Happening
 vanishing first second last = event_of_notes [] (with_entries (first_entry ∷ [])) first (with_entries []) ∷ event_of_notes [] (with_entries []) second last ∷ []
 
--- a topology with the queue `audit` alone in force
+-- A configuration with the queue `audit` alone.
 abbrev pub with_audit : Config
 with_audit =
     record (under []) {
@@ -215,11 +215,11 @@ with_audit =
       };
     }
 
--- a reload between two states, noted as done, by which an empty topology is in force in its place
+-- A reload that is noted as done and puts an empty topology in force in place of `with_audit`.
 abbrev pub reload_of_none : State → State → Reload
 reload_of_none old new = record { config = with_audit; offered = under []; before = old; notes = Reloaded ∷ []; after = new; in_force = under [] }
 
--- one that is refused for this, after which this is in force
+-- A reload of `offered` that is refused for `obstacle`, and leaves `in_force`.
 abbrev pub refused_reload : Config → State → Obstacle → Config → Reload
 refused_reload offered state obstacle in_force = record {
   config = with_audit;
@@ -230,19 +230,19 @@ refused_reload offered state obstacle in_force = record {
   in_force = in_force;
 }
 
--- the queue `audit`, whose messages die into `bin` by the default exchange
+-- The queue `audit`, which dead-letters to `bin` by the default exchange.
 abbrev pub audit_to_bin : DeclaredQueue
 audit_to_bin = record { name = codes "audit"; limit = None; byte_limit = None; dead_letter_exchange = Some []; dead_letter_key = Some (codes "bin") }
 
--- the queue `bin`
+-- The queue `bin`.
 abbrev pub bin : DeclaredQueue
 bin = record { name = codes "bin"; limit = None; byte_limit = None; dead_letter_exchange = None; dead_letter_key = None }
 
--- both, where what is sent to `orders` under `new` must not come to `bin`
+-- Both queues, under a guarantee that what is sent to `orders` under `new` never comes to `bin`.
 abbrev pub into_bin : Config
 into_bin = record (under (forbids ∷ [])) { topology = record { exchanges = []; queues = audit_to_bin ∷ bin ∷ []; bindings = [] } }
 
--- a reload by which that is in force, while such a message waits in `audit`
+-- A reload that puts this in force, while such a message waits in `audit`.
 abbrev pub reload_into_bin : Reload
 reload_into_bin = record {
   config = with_audit;
@@ -253,79 +253,79 @@ reload_into_bin = record {
   in_force = into_bin;
 }
 
--- a user
+-- A user.
 abbrev pub somebody : User
 somebody = record { name = codes "bob"; hash = [] }
 
--- Each promise of the headline fails where it should: an output, notes or events that break it.
+-- Each promise of the headline is false for an output, notes or events that break it.
 pub record HeadlineRefuses : Type 0 where
-  -- an output from which the ack of an acked publish is missing
+  -- An output without the ack of an acked publish.
   pub output_without_ack : HasAcksOf (first_acked ∷ []) select_ok → ⊥
-  -- an output with an ack that no publish had
+  -- An output with an ack that no publish had.
   pub unearned_ack : HasAcksOf [] (select_ok ++ first_ack) → ⊥
-  -- an ack beside which the promised queue was not entered
+  -- An ack of a publish that did not enter the promised queue.
   pub ack_without_entry : EnteredOnce notes_without_entry first_acked → ⊥
-  -- an output whose ack acknowledges more than its publish
+  -- An output whose ack acknowledges more than its publish.
   pub ack_of_more : HasAcksOf (first_acked ∷ []) (select_ok ++ multiple_ack) → ⊥
-  -- a message that comes back by the next event
+  -- A message that vanishes, and comes back by the next event.
   pub message_comes_back : Stays (with_entries (first_entry ∷ [])).broker (vanishing [] [] (with_entries (first_entry ∷ [])))
       (with_entries (first_entry ∷ [])).broker → ⊥
-  -- one that is noted as gone an event late
+  -- A message whose leaving is noted an event late.
   pub late_note : Stays (with_entries (first_entry ∷ [])).broker (vanishing [] (Left 1 (codes "audit") Acked ∷ []) (with_entries []))
       (with_entries []).broker → ⊥
-  -- a dead letter that enters a queue forbidden to its publish, which is known by the queue that it stood in
+  -- A dead letter that enters a queue forbidden to its publish, which is known by the entry that was in a queue before.
   pub forbidden_entry : AreAllowed (event_of_notes (forbids ∷ []) (with_entries (first_entry ∷ [])) (Entered 1 (codes "bin") Dead ∷ [])
       (with_entries (first_entry ∷ []))) → ⊥
-  -- a message that leaves a queue twice in which it stood once
+  -- A message that leaves a queue twice in which it was once.
   pub left_twice : Stays (with_entries (first_entry ∷ [])).broker
       (one_event (with_entries (first_entry ∷ [])) (Left 1 (codes "audit") Acked ∷ Left 1 (codes "audit") Acked ∷ []) (with_entries []))
       (with_entries []).broker → ⊥
-  -- a message that leaves by an event that takes none out
+  -- A message that leaves by an event that takes none out.
   pub left_by_no_cause : HaveCauses (event_of_notes [] (with_entries (first_entry ∷ [])) (Left 1 (codes "audit") Acked ∷ []) (with_entries [])) → ⊥
-  -- one that enters with no publish and no death
+  -- A message that enters without a publish and without a death.
   pub entered_by_no_publish : HaveOrigins (event_of_notes [] (with_entries []) (Entered 1 (codes "audit") Publish ∷ []) (with_entries (first_entry ∷ []))) → ⊥
-  -- a dead letter of a message that stood nowhere
+  -- A dead letter of a message that was in no queue.
   pub dead_letter_of_none : HaveOrigins (event_of_notes [] (with_entries []) (Left 1 (codes "audit") Rejected ∷ Entered 1 (codes "bin") Dead ∷ [])
       (with_entries [])) → ⊥
-  -- and one of a message that stays where it stood
+  -- A dead letter of a message that stays where it was.
   pub dead_letter_of_one_that_stays : HaveOrigins (event_of_notes [] (with_entries (first_entry ∷ [])) (Entered 1 (codes "bin") Dead ∷ [])
       (with_entries (first_entry ∷ []))) → ⊥
-  -- a publish that enters a queue to which it is not routed
+  -- A publish that enters a queue to which it is not routed.
   pub entered_without_route : EnterAsRouted (event_of_notes [] (with_entries []) (first_published ∷ Entered 1 (codes "audit") Publish ∷ [])
       (with_entries (first_entry ∷ []))) → ⊥
-  -- two publishes of one number
+  -- Two publishes with one number.
   pub one_number_for_two : CountUp 0 (filter_map number_in (first_published ∷ first_published ∷ [])) 2 → ⊥
-  -- a content that is given out and that no publish came with
+  -- A content that is sent and that no publish came with.
   pub content_of_no_publish : HaveSources [] (record
       (event_of_notes [] (with_entries (first_entry ∷ [])) [] (with_entries (first_entry ∷ []))) { sends = return_of 1 1 first_sent no_content ∷ [] }) → ⊥
-  -- a reload by which a message that waits is gone
+  -- A reload by which a waiting message is gone.
   pub reload_loses_one : StaysOver (with_entries (first_entry ∷ [])).broker
       (Of_reload (reload_of_none (with_entries (first_entry ∷ [])) (with_entries [])) ∷ []) (with_entries []).broker → ⊥
-  -- one that is done although a queue in use is gone
+  -- A reload that is done although a queue in use is gone.
   pub reload_strands_one : IsDecided (reload_of_none (with_entries (first_entry ∷ [])) (with_entries (stood_now first_entry ∷ []))) → ⊥
-  -- a reload that is refused though nothing stands against it
+  -- A reload that is refused although there is no obstacle.
   pub reload_refused_for_nothing : IsDecided (refused_reload with_audit (with_entries []) (InUse (codes "audit")) with_audit) → ⊥
-  -- one that is refused for what could come to be forbidden, while a queue in use is gone
+  -- A reload that is refused for a message that could come where it is forbidden, while a queue in use is gone.
   pub reload_refused_for_the_second : IsDecided (refused_reload (under []) (with_entries (first_entry ∷ []))
       (Breaks (codes "audit") (codes "new") 1) with_audit) → ⊥
-  -- one that is refused, and puts other users in force
+  -- A reload that is refused, and puts other users in force.
   pub reload_refused_with_users : IsDecided (refused_reload (under []) (with_entries (first_entry ∷ [])) (InUse (codes "audit"))
       (record with_audit { users = somebody ∷ [] })) → ⊥
-  -- one that is done though a message could come where it is forbidden
+  -- A reload that is done although a message could come where it is forbidden.
   pub reload_beside_a_danger : IsDecided reload_into_bin → ⊥
-  -- a message where a guarantee forbids it
+  -- A message in a queue that a guarantee forbids it.
   pub forbidden_stay : AreSafe with_audit.topology (record forbids { queue = codes "audit" } ∷ []) (with_entries (first_entry ∷ [])).broker → ⊥
-  -- and one that may come there by its death
+  -- A message that may come by its death to a queue that a guarantee forbids it.
   pub forbidden_death : AreSafe into_bin.topology into_bin.guarantees (with_entries (first_entry ∷ [])).broker → ⊥
-  -- also if it stood when the last reload was done
+  -- Such a message, also if it was in a queue when the last reload was done.
   pub forbidden_death_after_a_reload : AreKept into_bin (with_entries (stood_now first_entry ∷ [])).broker → ⊥
-  -- two dead letters of one message, in one queue
+  -- Two dead letters of one message, in one queue.
   pub two_letters_of_one : DieOnce (event_of_notes [] (with_entries (first_entry ∷ []))
       (Left 1 (codes "audit") Rejected ∷ Entered 1 (codes "bin") Dead ∷ Entered 1 (codes "bin") Dead ∷ []) (with_entries [])) → ⊥
 
 -- ---- consumers
 
--- a consume of `audit` that gives this tag
+-- A consume of `audit` that gives this tag.
 abbrev pub consume_of : Text → Consume
 consume_of tag = record {
   reserved = 0;
@@ -338,43 +338,43 @@ consume_of tag = record {
   arguments = [];
 }
 
--- a new channel, on which each consumer may hold one message
+-- A new channel on which each consumer has a prefetch of 1.
 abbrev pub one_each : Channel
 one_each = record new_channel { each_limit = 1 }
 
--- the consumer of this tag that is made there
+-- The consumer that this consume makes on that channel.
 abbrev pub consumer_under : Text → Consumer
 consumer_under tag = consumer_of one_each (consume_of tag)
 
--- the channel with that consumer
+-- The channel with that consumer.
 abbrev pub consuming_under : Text → Channel
 consuming_under tag = with_consumer one_each (consume_of tag)
 
--- what stands against it after these messages were given out there
+-- Whether the consumer `mine` may take a message on that channel after the change `given`.
 abbrev pub may_after : (Channel → Channel) → Bool
 may_after given = may_take (given (consuming_under (codes "mine"))) (consumer_under (codes "mine"))
 
--- a publish after the first one
+-- The entry of a publish after the first one.
 abbrev pub second_entry : Entry
 second_entry = record first_entry { message = record first_entry.message { number = 2 } }
 
--- what a consume makes, and what its consumer may take
+-- What a consume makes, and what its consumer may take.
 pub record FirstConsumer : Type 0 where
-  -- where the client gives no tag, the answer on channel 1 is basic.consume-ok with the tag amq.ctag-1
+  -- If the client gives no tag, the answer on channel 1 is basic.consume-ok with the tag amq.ctag-1.
   pub answer : spelling 131072 (consume_sends 1 1 false (consumer_under []).tag)
       ≡ 1 ∷ 0 ∷ 1 ∷ 0 ∷ 0 ∷ 0 ∷ 15 ∷ 0 ∷ 60 ∷ 0 ∷ 21 ∷ 10 ∷ 97 ∷ 109 ∷ 113 ∷ 46 ∷ 99 ∷ 116 ∷ 97 ∷ 103 ∷ 45 ∷ 49 ∷ 206 ∷ []
-  -- the next tag is another, and one that a client took is passed over
+  -- The next tag is another, and one that a client took is skipped.
   pub next : tag_for (consuming_under []) [] ≡ codes "amq.ctag-2"
   pub past : tag_for (consuming_under (codes "amq.ctag-1")) [] ≡ codes "amq.ctag-2"
-  -- it may take a message, and none more while it holds one; what a get gave, or another consumer has, does not count
+  -- The consumer may take a message, but none while it has one; those of a get or of another consumer do not count.
   pub may : may_after (λ ch. ch) ≡ true
   pub full : may_after (channel_after false (codes "audit") (taker.Consumer 1)) ≡ false
   pub got : may_after (channel_after false (codes "audit") taker.Get) ≡ true
   pub another : may_after (channel_after false (codes "audit") (taker.Consumer 2)) ≡ true
-  -- what it is given is the oldest
+  -- It is given the oldest message.
   pub oldest : first_ready (first_entry ∷ second_entry ∷ []) ≡ Some first_entry
 
--- a topology with the queue `audit` alone
+-- A topology with the queue `audit` alone.
 abbrev pub audit_alone : Topology
 audit_alone =
     record {
@@ -389,15 +389,15 @@ audit_alone =
       bindings = [];
     }
 
--- a channel with so many consumers, under the tag `mine`
+-- A channel with `n` consumers, all under the tag `mine`.
 abbrev pub full_channel : ℕ → Channel
 full_channel n = record new_channel { consumers = replicate n (consumer_under (codes "mine")) }
 
--- a consume that asks to be the only one
+-- A consume that asks to be the only consumer.
 abbrev pub exclusive_consume : Consume
 exclusive_consume = record (consume_of (codes "mine")) { exclusive = true }
 
--- What stands against a consume, in the order in which it is looked for.
+-- What refuses a consume, in the order in which it is looked for.
 pub record RefusedConsumes : Type 0 where
   pub no_queue : refusal_of_consume (under []).topology (full_channel 256) exclusive_consume ≡ Some (Of_channel 404)
   pub exclusive : refusal_of_consume audit_alone (full_channel 256) exclusive_consume ≡ Some (Of_connection 540)
@@ -406,23 +406,23 @@ pub record RefusedConsumes : Type 0 where
   pub spent : refusal_of_consume audit_alone (record (full_channel 255) { next_number = greatest }) (consume_of (codes "other")) ≡ Some (Of_connection 541)
   pub none : refusal_of_consume audit_alone (full_channel 255) (consume_of (codes "other")) ≡ None
 
--- the queue `audit` with these limits, of messages and of bytes
+-- The queue `audit` with these limits, of messages and of bytes.
 abbrev pub audit_with : Option ℕ → Option ℕ → Option DeclaredQueue
 audit_with limit byte_limit =
     Some (record { name = codes "audit"; limit = limit; byte_limit = byte_limit; dead_letter_exchange = None; dead_letter_key = None })
 
 -- When a queue refuses a message, by how many messages are ready, how many bytes they have, and the size of the body.
 pub record FullQueues : Type 0 where
-  -- four bytes are taken and none more; no body is too small for a queue that has them
+  -- A queue takes four bytes and none above; one that has them still takes an empty body.
   pub long : refuses (audit_with None (Some 4)) 0 0 5 ≡ true
   pub whole : refuses (audit_with None (Some 4)) 0 0 4 ≡ false
   pub empty : refuses (audit_with None (Some 4)) 1 4 0 ≡ false
   pub more : refuses (audit_with None (Some 4)) 1 4 1 ≡ true
-  -- where a requeue passed the limit, not even an empty body is taken
+  -- If a requeue exceeded the limit, not even an empty body is taken.
   pub passed : refuses (audit_with None (Some 4)) 2 7 0 ≡ true
-  -- either limit refuses by itself
+  -- Either limit refuses by itself.
   pub count : refuses (audit_with (Some 2) (Some 4)) 2 0 0 ≡ true
   pub bytes : refuses (audit_with (Some 2) (Some 4)) 1 3 2 ≡ true
   pub neither : refuses (audit_with (Some 2) (Some 4)) 1 3 1 ≡ false
-  -- and a queue without limits takes all
+  -- A queue without limits takes all.
   pub unlimited : refuses (audit_with None None) 4294967296 4294967296 4294967296 ≡ false

@@ -1,5 +1,5 @@
--- Where messages stand: under one topology each came to its queue by the route of its publish and by deaths; and under whatever is in force
--- none stands where a guarantee forbids it.
+-- Where messages are. Under one topology each came to its queue by the route of its publish
+-- and by deaths. Through reloads, no message enters a queue that a guarantee forbids it.
 use Rattle.std.specs.Prelude.{List}
 use Rattle.model.specs.Topology.{Topology}
 use Rattle.model.specs.Broker.{Broker}
@@ -14,32 +14,32 @@ use Rattle.model.specs.declared.events.Send.{Send}
 use Rattle.model.specs.declared.events.Event.{Event}
 use Rattle.model.specs.declared.notes.Note.{Note}
 
--- In the empty broker messages are traced, and each event leaves it so.
+-- In the empty broker messages are traced, and each event under the topology keeps this.
 pub record MessagesStayTraced : Type 0 where
   pub empty : (t : Topology) → AreTraced t empty_broker
   pub acts : (t : Topology) (old new : Broker) (e : Event) (sends : List Send) (notes : List Note) → IsSaid e → AreCounted old → AreTraced t old
       → Acts t old e sends notes new → AreTraced t new
 
--- Where they are, none stands in a queue that a guarantee forbids it, nor may one come to such a queue by deaths.
+-- If messages are traced, none is in a queue that a guarantee forbids it, nor may it come to one by deaths.
 abbrev pub TracedAreSafe : Type 0
 TracedAreSafe = (f : Config) (b : Broker) → IsSound f → AreTraced f.topology b → AreSafe f.topology f.guarantees b
 
--- In the empty broker each message may stand in its queue, and each event leaves it so, where what is in force is sound.
+-- In the empty broker each message may be in its queue, and each event under a sound configuration keeps this.
 pub record MessagesStayKept : Type 0 where
   pub empty : (f : Config) → AreKept f empty_broker
   pub acts : (f : Config) (old new : Broker) (e : Event) (sends : List Send) (notes : List Note) → IsSound f → IsSaid e → AreCounted old
       → AreKept f old → Acts f.topology old e sends notes new → AreKept f new
 
--- A reload that nothing stands against leaves it so under what it puts in force.
+-- After a reload without an obstacle, each message may be in its queue under what the reload put in force.
 abbrev pub ReloadsKeep : Type 0
 ReloadsKeep = (f g : Config) (b : Broker) → AreKept f b → NothingStands f.topology g b → AreKept g (with_all_stood b)
 
--- No message of the empty broker is marked as having stood at a reload, and no event marks one.
+-- No message of the empty broker is marked as one that was in a queue when a reload was done, and no event marks one.
 pub record NoEventMarks : Type 0 where
   pub empty : NoneStood empty_broker
   pub acts : (t : Topology) (old new : Broker) (e : Event) (sends : List Send) (notes : List Note) → NoneStood old → Acts t old e sends notes new
       → NoneStood new
 
--- Where none is, what every broker keeps says that no guarantee forbids a message its queue, nor one to which it may come from there by deaths.
+-- If each message may be in its queue and none is marked so, no guarantee forbids a message its queue, nor one to which it may come from there by deaths.
 abbrev pub KeptAreSafe : Type 0
 KeptAreSafe = (f : Config) (b : Broker) → AreKept f b → NoneStood b → AreSafe f.topology f.guarantees b

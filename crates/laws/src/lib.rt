@@ -1,7 +1,8 @@
-//! Laws of the definitions: each is the contract of a function with an empty body.
+//! Theorems about the definitions of `model`: each is the contract of a function with an empty body.
 //!
-//! They say what every run of the broker keeps, by the definitions of `model` alone. What the code does is shown
-//! elsewhere, by contracts in the same words.
+//! They say what every run of the broker keeps, by the definitions alone; what the code does is shown elsewhere, by contracts
+//! in the same words. Start with [`headline`]. Each statement is a definition in `specs/`, which also has its premises: that
+//! the configurations in force are sound, that commands have a spelling, and what was in the queues at the beginning.
 #![tactic(auto)]
 
 ghost use Rattle.std.specs.Prelude.{◌≡◌};
@@ -36,7 +37,7 @@ pub fn words_tell_keys_apart()
     ensures { (a b : Text) → words a ≡ words b → a ≡ b }
 {}
 
-/// A guarantee whose pattern is words alone holds where it keeps its promise for the pattern as a key.
+/// A guarantee whose pattern has no wildcard holds if its promise is kept for the pattern as a key.
 pub fn word_patterns_are_sound()
     ensures { (t : Topology) (g : Guarantee) → SoundForWords t g }
 {}
@@ -46,37 +47,37 @@ pub fn runs_balance_event_by_event()
     ensures { EveryRunStays }
 {}
 
-/// In every run only messages of publishes that were counted stand in the queues.
+/// In every run no message in a queue has a greater number than that of publishes counted, if this was so at the beginning.
 pub fn runs_count_their_messages()
     ensures { EveryRunCounts }
 {}
 
-/// In every run, what stood in a queue and what entered it is what left it and what stands there.
+/// In every run the messages that were in a queue and those that entered it are as many, for each number, as those that left it and those that are in it.
 pub fn runs_balance()
     ensures { EveryRunBalances }
 {}
 
-/// In every run each publish that was confirmed by ack entered each queue that was promised at it exactly once.
+/// In every run each publish confirmed by ack entered every queue that a guarantee promises for it, exactly once.
 pub fn acked_publishes_enter_once()
     ensures { AckedEnterOnce }
 {}
 
-/// In every run the acks sent to a connection are those of its publishes confirmed by ack, one by one.
+/// In every run the acks sent to a connection are those of its publishes confirmed by ack, one for one and in order.
 pub fn acks_are_those_noted()
     ensures { AcksAreAcked }
 {}
 
-/// In every run the nacks sent to a connection are those of its publishes confirmed by nack, one by one.
+/// In every run the nacks sent to a connection are those of its publishes confirmed by nack, one for one and in order.
 pub fn nacks_are_those_noted()
     ensures { NacksAreNacked }
 {}
 
-/// In every run no message, of a publish or a dead letter, entered a queue that was forbidden to its publish.
+/// In every run no message, as a publish or a dead letter, entered a queue that was forbidden to its publish.
 pub fn forbidden_queues_are_not_entered()
     ensures { ForbiddenAreNotEntered }
 {}
 
-/// In every run each event by itself tells that what entered a queue was not forbidden there.
+/// In every run each event shows by itself that no message entered a queue that was forbidden to it.
 pub fn no_event_enters_a_forbidden_queue()
     ensures { ForbiddenAreNotEnteredAtEvents }
 {}
@@ -86,137 +87,134 @@ pub fn what_leaves_has_a_cause()
     ensures { CausesAreShown }
 {}
 
-/// In every run a message entered a queue only by its own publish, or as a dead letter by a rejection where it stood.
+/// In every run a message entered a queue only by its own publish, or as the dead letter of a message that was rejected in its queue.
 pub fn what_enters_has_an_origin()
     ensures { OriginsAreShown }
 {}
 
-/// In every run each publish entered each queue to which it was routed, once, or that queue was full; and it was acked only where none was.
+/// In every run each publish entered each queue to which it was routed, once, unless that queue was full. It was acked only if none was full.
 pub fn publishes_enter_as_routed()
     ensures { PublishesEnterAsRouted }
 {}
 
-/// In every run each message that was rejected came, as its dead letter, to each queue to which it goes on from there, or that queue was
-/// full; and no other dead letter came.
+/// In every run the dead letter of each rejected message entered each queue to which
+/// it goes on, unless that queue was full; no other dead letter entered a queue.
 pub fn rejected_messages_go_on()
     ensures { LettersComeAsRouted }
 {}
 
-/// So of the messages of a number no more dead letters came to a queue than were rejected.
+/// In every run, for each number, at most as many dead letters entered a queue at an event as messages were rejected at it.
 pub fn a_rejection_makes_one_letter()
     ensures { LettersComeOnce }
 {}
 
-/// In every run from empty queues each message is given out with the body and the properties with which it was published, but for headers
-/// that tell of its deaths.
+/// In every run from empty queues, each message is given out with the body and the properties of its publish, except for headers that tell of its deaths.
 pub fn messages_are_given_as_published()
     ensures { GivenAsPublished }
 {}
 
-/// All of this at once: what happens keeps the promises.
+/// In every run the events keep the promises of `KeepsEvents` at once: those above, except of acks, nacks and contents that are sent,
+/// and besides them the numbers of publishes, the marks of messages, the channels of other connections, and the balance of every queue.
 pub fn runs_keep_events()
     ensures { RunsKeepEvents }
 {}
 
-/// What a stream has yielded doesn't change when more bytes come, and goes on from there.
+/// The commands that a stream has yielded are the first of all that it yields after more bytes have come.
 pub fn cutting_does_not_matter()
     ensures { CuttingDoesNotMatter }
 {}
 
-/// Nor does it where the size of frames is agreed on meanwhile.
+/// The commands that a stream has yielded stay the same when more bytes come, also if another size of frames was agreed on meanwhile.
 pub fn tuning_does_not_matter()
     ensures { TuningDoesNotMatter }
 {}
 
-/// A fault of a stream stays, whatever bytes come behind it.
+/// A fault of a stream stays, whatever bytes follow.
 pub fn faults_stay()
     ensures { FaultsStay }
 {}
 
-/// Frames that end no command are put together alike, whatever bytes come behind them.
+/// Frames that complete no command are put together in the same way, whatever bytes follow.
 pub fn going_on_stays()
     ensures { GoingOnStays }
 {}
 
-/// A connection that awaits its first eight bytes reads them before all else, and then, as one that awaits none, frames
-/// alone.
+/// A stream that awaits the first eight bytes yields them before all else, and then, as one that awaits none, commands of frames alone.
 pub fn first_bytes_come_first()
     ensures { FirstBytesComeFirst }
 {}
 
-/// Whatever arrives, a connection is in Header exactly while its first eight bytes are not performed, and of any other
-/// frames alone are read.
+/// Whatever arrives, the first eight bytes of a connection are still to be performed
+/// exactly while its phase is Header; in any other phase frames alone are read.
 pub fn openings_read_by_phase()
     ensures { OpeningsReadByPhase }
 {}
 
-/// Whatever is done, the broker has the connections that run, knows those as paused whose output is past the bound, has
-/// the channel-max that was agreed on for each, and holds messages of publishes alone that it counted, each of which can
-/// be given out and came by a route and by deaths.
+/// Whatever arrives, a world stays consistent. The broker has exactly the connections that run, has those as
+/// paused whose output has reached the bound, and has the channel-max that was agreed on for each. No message in
+/// a queue has a greater number than that of publishes counted; each can be given out, and may be in that queue.
 pub fn worlds_stay_consistent()
     ensures worlds { WorldsStayConsistent }
     ensures plays { PlaysStayConsistent }
 {}
 
-/// Whatever happens, each message that is held in a queue is outstanding on the channel that holds it, under a tag of its
-/// own that is below the next one, and each that is outstanding on a channel is held in its queue by that channel.
+/// Whatever happens, each message that is held in a queue is unacknowledged on the channel that holds it, under a tag of its
+/// own that is below the next one, and the message of each unacknowledged delivery is held in its queue by that channel.
 pub fn brokers_stay_agreed()
     ensures { BrokersStayAgreed }
 {}
 
-/// In every run from the empty broker what is held and what is outstanding agree, a channel is open only on a connection that runs, which
-/// logged in, what is settled is settled as the client asked, no delivery is forgotten: it is outstanding still, or its message left, or can
-/// be given out again in its place; a get is answered, a purge leaves nothing that can be given out, and a publish is noted, and in confirm
-/// mode confirmed.
+/// In every run from the empty broker, held messages and unacknowledged deliveries agree, and a channel is open only on a connection that runs,
+/// which logged in. A command settles deliveries as the client asked. No delivery is forgotten: it is still unacknowledged, or its message left its
+/// queue, or is ready again in its place. A get is answered, a purge leaves no ready message, and a publish is noted, and in confirm mode confirmed.
 pub fn deliveries_are_accounted_for()
     ensures { DeliveriesAreAccountedFor }
 {}
 
-/// Whatever happens, each message that stands in a queue can be given out: it is made of a publish whose content is not too
-/// large, and grew by little where it died.
+/// Whatever happens under a well-formed topology, each message in a queue can be given out: its content
+/// is that of a publish, which is not too large, or grew once by the fields of its first death.
 pub fn messages_stay_carried()
     ensures { MessagesStayCarried }
 {}
 
-/// Whatever happens, each message that stands in a queue came there by the route of its publish and by deaths, where the
-/// topology stays.
+/// While the topology stays the same, each message in a queue came there by the route of its publish and by deaths.
 pub fn messages_stay_traced()
     ensures { MessagesStayTraced }
 {}
 
-/// Whatever happens, each message stands in a queue of the topology, and no guarantee in force forbids what it comes to by
-/// deaths from there, nor, unless it stood when the last reload was done, where it stands.
+/// Whatever happens, each message is in a queue of the topology. No guarantee in force forbids it a queue to which it
+/// may come from there by deaths, nor, unless it was in a queue when the last reload was done, the queue where it is.
 pub fn messages_stay_kept()
     ensures { MessagesStayKept }
 {}
 
-/// So it is after a reload that nothing stood against, under what it put in force.
+/// The same is true after a reload without an obstacle, under what it put in force.
 pub fn reloads_keep()
     ensures { ReloadsKeep }
 {}
 
-/// Whatever is reloaded between them, events keep the promises, each by what was in force at it: no event enters a message where that
-/// forbids it, also one that came under what was in force before.
+/// Whatever is reloaded between them, events keep the promises, each by what was in force at it. No
+/// message enters a queue that this forbids it, also if the message came under what was in force before.
 pub fn histories_keep()
     ensures { HistoriesKeep }
 {}
 
-/// No message that came so stands in a queue that a guarantee forbids it, nor may it come to one by deaths.
+/// No message that is traced is in a queue that a guarantee forbids it, nor may it come to one by deaths.
 pub fn traced_messages_are_safe()
     ensures { TracedAreSafe }
 {}
 
-/// A message is marked as having stood at a reload by a reload alone.
+/// If no message is marked as one that was in a queue when a reload was done, no event marks one.
 pub fn events_mark_no_message()
     ensures { NoEventMarks }
 {}
 
-/// Where no message is marked so, none stands in a queue that a guarantee forbids it, nor may it come to one by deaths.
+/// If no message is marked so, none is in a queue that a guarantee forbids it, nor may it come to one by deaths.
 pub fn kept_messages_are_safe()
     ensures { KeptAreSafe }
 {}
 
-/// What is sent at one event can be put out, and is spelled by 1,060,000 bytes at most.
+/// What is sent at one event can be put out, in frames of any size, and has at most 1,060,000 bytes.
 pub fn sends_can_be_put_out()
     ensures { SendsAreOwn }
 {}
@@ -226,13 +224,13 @@ pub fn consumers_stay_named()
     ensures { ConsumersStayNamed }
 {}
 
-/// So it is in every world, whatever is done there and whatever arrives.
+/// The same is true of every world, whatever is done in it and whatever arrives.
 pub fn worlds_stay_named()
     ensures worlds { WorldsStayNamed }
     ensures plays { PlaysStayNamed }
 {}
 
-/// No consumer comes but by a consume, under the next number of its channel.
+/// A consumer is made only by a consume, under the next number of its channel.
 pub fn consumers_are_made()
     ensures { ConsumersAreMade }
 {}
@@ -242,48 +240,47 @@ pub fn next_tags_are_found()
     ensures { NextTagsAreFound }
 {}
 
-/// What is delivered to a consumer has an address: its tags, its names and its key can be spelled.
+/// What is delivered to a consumer can be addressed: its tags, its names and its key can be spelled.
 pub fn deliveries_are_addressed()
     ensures { DeliveriesAreAddressed }
 {}
 
-/// In every run messages are first given out of a queue, to gets and to consumers, in the order in which they entered it, and
-/// each only after all that stand ahead of it. No message comes to be held in another way.
+/// In every run messages are first given out of a queue, to gets and to consumers, in the order in which they
+/// entered it, and each only when none ahead of it is ready. A message comes to be held in no other way.
 pub fn messages_are_given_in_order()
     ensures in_order { GivenInOrder }
     ensures ahead { GivenAfterThoseAhead }
     ensures held { HeldAreGiven }
 {}
 
-/// What enters a queue stands at its end, in the order of the notes, and is not marked as redelivered; and nothing else comes to be marked
-/// so but what was given out of its queue.
+/// What enters a queue is at its end, in the order of the notes, and not marked as redelivered. Only what was given out of its queue comes to be marked so.
 pub fn marks_tell_of_deliveries()
     ensures fresh { EnteringIsFresh }
     ensures marked { MarksAreGiven }
 {}
 
-/// To a queue comes a message, ready, as often as the queue is among those that it goes to, and not at all where it is full.
+/// A message enters a queue, ready, as often as the queue is among those that it goes to, and not at all if the queue is full.
 pub fn messages_come_as_routed()
     ensures { MessagesCome }
 {}
 
-/// The pieces of a body are its bytes; each has a byte, and each but the last is as long as a frame allows.
+/// The pieces of a body are its bytes. None is empty, and each but the last is as long as a frame allows.
 pub fn bodies_are_cut()
     ensures { BodiesAreCut }
 {}
 
-/// The first close or close-ok that was sent tells the phase of its connection, and without one it runs.
+/// The first connection.close or close-ok that was sent decides the phase of its connection; without one it runs.
 pub fn first_close_tells()
     ensures { FirstTells }
 {}
 
-/// A client reads an output in one way.
+/// A client can read an output in one way only.
 pub fn one_reading()
     ensures { OneReading }
 {}
 
-/// A content that is only counted is not missed: outside Running, and on a channel that is not open, as each is on which a publish began
-/// before Running, a publish is answered as one that is too large.
+/// Nobody sees that a content was only counted. In a phase other than Running, and on a
+/// channel that is not open, a publish is answered as one whose content is too large.
 pub fn unkept_contents_are_unseen()
     ensures { UnkeptIsUnseen }
 {}
@@ -308,21 +305,26 @@ pub fn headline()
     ensures { (f : Config) → HeadlineHolds f }
 {}
 
-/// Worked examples of the definitions, from the bytes of the first publish to what the headline refuses, of full queues, of
-/// what is held and outstanding, and of dead letters.
+/// Worked examples of the definitions: the bytes of the first publish, full queues,
+/// held and unacknowledged messages, dead letters, and what the promises refuse.
 pub fn worked_examples()
+    // Keys, bytes and contents that are too large.
     ensures words { WordsOfKeys }
     ensures input { FirstInput }
     ensures output { FirstOutput }
     ensures bad_end { BadEnd }
     ensures large { TooLargeContent }
+    // What the headline refuses.
     ensures refused { HeadlineRefuses }
+    // Consumers and full queues.
     ensures consumer { FirstConsumer }
     ensures refused_consumers { RefusedConsumes }
     ensures full_queues { FullQueues }
+    // What the promises about deliveries, publishes and entries refuse.
     ensures agreement { AgreementRefuses }
     ensures accounts { AccountsRefuse }
     ensures confirms { ConfirmsRefuse }
+    // Dead letters, and what the definitions refuse of them.
     ensures deaths { WorkedDeaths }
     ensures refused_deaths { DeathsRefuse }
 {}

@@ -1,6 +1,6 @@
-//! How many lines there were.
+//! Counts lines, and those that differ.
 
-/// How many lines there were, and how many of them were answered otherwise than they want.
+/// The number of lines, and of those whose answer differs from the expected one.
 #[derive(Clone, Copy, Drop)]
 pub struct Count {
     pub lines: u64,
@@ -15,7 +15,7 @@ impl Count {
         }
     }
 
-    /// One line more.
+    /// Counts a line.
     pub fn add_line(&mut self, is_answered: bool) {
         self.lines = self.lines.saturating_add(1);
         if !is_answered {
@@ -23,7 +23,7 @@ impl Count {
         }
     }
 
-    /// The lines of one more file. A file without a line counts as one that differs.
+    /// Adds the counts of a file. A file without lines counts as one line that differs.
     pub fn add_file(&mut self, file: Count) {
         self.lines = self.lines.saturating_add(file.lines);
         self.differing = self.differing.saturating_add(file.differing);
@@ -32,7 +32,7 @@ impl Count {
         }
     }
 
-    /// Whether there were lines, and none of them differs.
+    /// Returns whether there were lines, and none of them differs.
     pub fn is_passed(&self) -> bool {
         self.lines != 0 && self.differing == 0
     }

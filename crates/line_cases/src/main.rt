@@ -1,6 +1,7 @@
-//! Cases as lines of files: what is asked of the readers, writers and routes, and what is to be answered. A further line
-//! needs no proof. A line is `KIND ASKED -> WANTED`. An empty line and one that begins with `#` say nothing; each file of
-//! `data` says at its head what its lines ask.
+//! Cases as lines of files: what is asked of a reader, a writer or a route, and the expected answer. A new line needs no proof.
+//!
+//! A line is `KIND ASKED -> WANTED`. Empty lines and lines that begin with `#` are ignored. The head of each file in `data` says what its
+//! lines ask. Start with `running`.
 #![tactic(auto)]
 
 mod counts;

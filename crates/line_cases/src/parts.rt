@@ -1,17 +1,17 @@
-//! A line, and its parts.
+//! Splits a line into its parts.
 
-/// What a line asks, and what it wants as an answer.
+/// The question of a line, and the expected answer.
 #[derive(Clone, Copy, Drop)]
 pub struct LineParts<'a> {
     /// The first word of the line.
     pub kind: &'a str,
-    /// What stands between that word and the arrow.
+    /// The text between that word and the arrow.
     pub asked: &'a str,
-    /// What stands behind the arrow.
+    /// The text after the arrow.
     pub wanted: &'a str,
 }
 
-/// The parts of a line, unless it has no arrow. The last arrow counts.
+/// Returns the parts of `line`, or `None` if it has no arrow. The last arrow counts.
 pub fn parts_of(line: &str) -> Option<LineParts<'_>> {
     let (question, wanted) = line.rsplit_once(" -> ")?;
     let (kind, asked) = question.split_once(' ').unwrap_or((question, ""));
@@ -22,7 +22,7 @@ pub fn parts_of(line: &str) -> Option<LineParts<'_>> {
     })
 }
 
-/// Whether a line says nothing.
+/// Returns whether `line` is ignored: it is empty, or begins with `#`.
 pub(crate) fn is_silent(line: &str) -> bool {
     line.is_empty() || line.starts_with('#')
 }

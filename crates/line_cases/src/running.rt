@@ -1,4 +1,4 @@
-//! Files of lines are answered, and the answers compared.
+//! Answers the lines of files, and compares the answers. Start with `run`.
 
 use crate::counts::Count;
 use crate::parts::{LineParts, is_silent, parts_of};
@@ -7,7 +7,7 @@ use line_parts::{LineAnswer, Unanswered, certificates, routing, stores};
 use std::process::ExitCode;
 use std::{fs, io};
 
-/// Answers a line of this kind. One that is neither about routing, nor about certificates, nor about queues is about the wire.
+/// Answers a line of kind `kind`. A line that isn't about routing, certificates or queues is about the wire.
 fn put_answer(out: &mut LineAnswer, rt: &HostRuntime, kind: &str, asked: &str) {
     if !routing::answer(out, rt, kind, asked)
         && !certificates::answer(out, rt, kind, asked)
@@ -17,13 +17,13 @@ fn put_answer(out: &mut LineAnswer, rt: &HostRuntime, kind: &str, asked: &str) {
     }
 }
 
-/// Prints a line that is not answered as it wants, with what is said of it. Such a line differs.
+/// Prints a line without an answer, and the reason `said`. Returns `false`.
 fn differs(rt: &HostRuntime, file: &str, line: &str, said: &str) -> io::Result<bool> {
     println!(rt; "{file}: {line}\n  {said}")?;
     Ok(false)
 }
 
-/// Whether this is what the line wants. Where it is not, it is printed.
+/// Returns whether `got` is the expected answer, and prints the line if it isn't.
 fn is_wanted(
     rt: &HostRuntime,
     file: &str,
@@ -38,7 +38,7 @@ fn is_wanted(
     Ok(false)
 }
 
-/// Whether a line with these parts is answered as it wants.
+/// Returns whether a line with these parts has the expected answer, and prints the line if it hasn't.
 fn is_answered(rt: &HostRuntime, file: &str, line: &str, parts: LineParts<'_>) -> io::Result<bool> {
     let mut answer = LineAnswer::new(rt.alloc());
     put_answer(&mut answer, rt, parts.kind, parts.asked);
@@ -50,7 +50,7 @@ fn is_answered(rt: &HostRuntime, file: &str, line: &str, parts: LineParts<'_>) -
     }
 }
 
-/// Whether a line is answered as it wants. Where it is not, it is printed with what it got.
+/// Returns whether `line` has the expected answer, and prints it if it hasn't.
 fn is_met(rt: &HostRuntime, file: &str, line: &str) -> io::Result<bool> {
     match parts_of(line) {
         Some(parts) => is_answered(rt, file, line, parts),
@@ -69,7 +69,7 @@ fn answer_lines(rt: &HostRuntime, file: &str, text: &str) -> io::Result<Count> {
     Ok(count)
 }
 
-/// Answers the lines of one file, and prints how many there are.
+/// Answers the lines of one file, and prints their number.
 fn answer_file(rt: &HostRuntime, file: &str) -> io::Result<Count> {
     let text = fs::read_to_string(rt, file)?;
     let count = answer_lines(rt, file, text.as_str())?;
@@ -77,8 +77,9 @@ fn answer_file(rt: &HostRuntime, file: &str) -> io::Result<Count> {
     Ok(count)
 }
 
-/// Answers the lines of the files that standard input names, a file a line. Prints each line that differs with what it
-/// got, how many lines each file has, and at the end how many there are and how many of them differ.
+/// Answers the lines of the files that standard input names, one file a line.
+/// Prints each line that differs with its answer, the number of lines of each file, and at the end the number of all lines and of those
+/// that differ.
 pub fn run(rt: &HostRuntime) -> io::Result<ExitCode> {
     let mut count = Count::none();
     for file in rt.lines(rt.alloc()) {

@@ -1,11 +1,11 @@
 //! Lines about the wire: bytes, and what the readers and writers make of them.
 //!
-//! | kinds | asked of |
+//! | kinds | subject |
 //! |---|---|
-//! | `table`, `pairs` | `field_table`: a table is read, and written as it was |
-//! | `method`, `bind` | `methods`: a payload is read, and written as it was |
-//! | `header`, `properties`, `size`, `content-type` | `headers`: a content header is read, and written as it was; its properties |
-//! | `frame`, `write` | `frame`: what stands at the front of bytes; the bytes of a frame |
+//! | `table`, `pairs` | `field_table`: a table is read and written again |
+//! | `method`, `bind` | `methods`: a payload is read and written again |
+//! | `header`, `properties`, `size`, `content-type` | `headers`: a content header is read and written again; its properties |
+//! | `frame`, `write` | `frame`: what bytes begin with; the bytes of a frame |
 //! | `stream`, `commands` | `assembly`: the commands of pieces of bytes; the same commands whole, by single bytes and cut everywhere |
 
 mod payloads;
@@ -16,7 +16,7 @@ mod tables;
 
 use line_parts::{LineAnswer, Unanswered, bytes_of};
 
-/// Answers a line that asks about bytes alone.
+/// Answers a line that asks only about bytes.
 fn answer_of_bytes(out: &mut LineAnswer, kind: &str, bytes: &[u8]) {
     match kind {
         "table" => tables::put_table(out, bytes),
@@ -45,7 +45,7 @@ pub fn answer(out: &mut LineAnswer, kind: &str, asked: &str) {
     }
 }
 
-/// Appends `read`, where the same bytes were written as were read, and else what was written.
+/// Appends `read` if the bytes written are those that were read, otherwise what was written.
 fn put_again(out: &mut LineAnswer, read: &[u8], written: &[u8]) {
     if read == written {
         out.put("read");

@@ -1,7 +1,7 @@
 //! Reads the files that lines name, and edits them. Start with [`source_of`].
 //!
-//! In such a file a line `repeat FROM TO TEXT` stands for TEXT, once for each number in `FROM..TO`, separated by commas, with the
-//! number in place of TEXT's first `%`, if it has one.
+//! In such a file a line `repeat FROM TO TEXT` is replaced by TEXT, once for each number in `FROM..TO`, separated by commas, with
+//! the number in place of TEXT's first `%`, if it has one.
 
 use crate::answers::{LineAnswer, Unanswered};
 use crate::words::{cut, number_of};

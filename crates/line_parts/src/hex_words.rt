@@ -22,8 +22,8 @@ fn put_word(out: &mut LineAnswer, bytes: &mut Vec<u8>, word: &str) {
     }
 }
 
-/// Decodes words of hex digits into bytes. A word `HEX*COUNT` stands for its bytes COUNT times. Fails with [`Unanswered::Form`]
-/// if a word is of neither form.
+/// Decodes words of hex digits into bytes. A word `HEX*COUNT` is decoded to its bytes COUNT times. Fails with
+/// [`Unanswered::Form`] if a word is of neither form.
 pub fn bytes_of(out: &mut LineAnswer, text: &str) -> Vec<u8> {
     let mut bytes = Vec::new(out.alloc());
     for word in text.split(' ') {

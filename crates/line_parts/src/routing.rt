@@ -1,11 +1,12 @@
 //! Answers the lines about routing: patterns and keys, definitions and their topologies, guarantees and what they cover.
 //!
-//! | kinds | subject | |---|---| | `pattern`, `match`, `places`, `counted`, `numbered`, `words` | `topic_match`: patterns, and
-//! which keys they match, by both matchers | | `definitions`, `definitions-hex` | `definitions`: whether a file is read, or why
-//! it is refused | | `counts`, `queue`, `exchange`, `user` | `definitions`: what a file defines | | `route`, `visited`,
-//! `dead-route` | `exchange_graph`: the queues that a key reaches; the exchanges that it passes; one dead-letter step | |
-//! `guarantees`, `guarantees-hex`, `guarantee`, `covers` | `guarantees`: whether a file is read, or why not; what a guarantee
-//! says and covers |
+//! | kinds | subject |
+//! |---|---|
+//! | `pattern`, `match`, `places`, `counted`, `numbered`, `words` | `topic_match`: patterns, and which keys they match, by both matchers |
+//! | `definitions`, `definitions-hex` | `definitions`: whether a file is read, or why it is refused |
+//! | `counts`, `queue`, `exchange`, `user` | `definitions`: what a file defines |
+//! | `route`, `visited`, `dead-route` | `exchange_graph`: the queues that a key reaches; the exchanges that it passes; one dead-letter step |
+//! | `guarantees`, `guarantees-hex`, `guarantee`, `covers` | `guarantees`: whether a file is read, or why not; what a guarantee says and covers |
 
 mod guarantee_files;
 mod keys;

@@ -1,11 +1,11 @@
-//! Words alone, and words with a set of words above.
+//! A set as plain words, and a set with an index of its words above them.
 
 use crate::places::Places;
 use crate::words::{clear_in, first_from, grow_in, lowest_bit, next_here, set_in};
 use std::alloc::{AllocError, Global};
 use std::marker::Model;
 
-/// Words alone: the next place is found word by word.
+/// A set as plain words. Its next member is found word by word.
 #[derive(Drop)]
 pub struct Flat {
     words: Vec<u64>,
@@ -59,7 +59,7 @@ impl Places for Flat {
     }
 }
 
-/// Words, and above them the set of those that are not zero.
+/// A set whose words have a set `M` of the non-zero ones above them. Its next member is found without passing words that are zero.
 #[derive(Drop)]
 pub struct Over<M: Places> {
     words: Vec<u64>,

@@ -1,8 +1,7 @@
-//! Sets of places, of which the next place is found without a scan.
+//! Sets of indices, whose next member is found without a scan. Start with [`Places`].
 //!
-//! A set keeps a bit for each place, in words of 64. `Flat` is such words; `Over` has above them a set of those words that
-//! are not zero, so that `Over<Over<Flat>>` finds the next of 262,144 places by three words. Room is made by `grow`, which
-//! is the only call that takes memory (`specs/Places.antt`).
+//! A set keeps one bit an index, in 64-bit words. [`Flat`] is plain words; [`Over`] has above its words a set of those that are not zero,
+//! so that `Over<Over<Flat>>` finds the next member below 262,144 by at most three words. Only `grow` allocates.
 #![tactic(auto)]
 
 mod levels;

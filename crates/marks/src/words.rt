@@ -1,4 +1,4 @@
-//! Bits of words by place.
+//! Bits of words, by index.
 
 ghost use Rattle.std.specs.Prelude.{◌≡◌, ◌+◌, ◌*◌, ◌/◌, ◌<◌, ◌≤◌, ◌^◌, ◌==◌, ℕ, length, get_or, OnOk, OnErr, IfSome, IfNone};
 ghost use Rattle.std.specs.Int.{bit_at};
@@ -6,7 +6,7 @@ ghost use Rattle.marks.specs.Places.{bit_of, Differs, IsNextMark};
 
 use std::alloc::AllocError;
 
-/// The word with this bit set.
+/// Returns `word` with bit `bit` set.
 fn with_bit(word: u64, bit: u32) -> u64
     requires { bit < 64 }
     ensures there { bit_at result bit ≡ 1 }
@@ -15,7 +15,7 @@ fn with_bit(word: u64, bit: u32) -> u64
     word | 1 << bit
 }
 
-/// The word with this bit cleared.
+/// Returns `word` with bit `bit` cleared.
 fn without_bit(word: u64, bit: u32) -> u64
     requires { bit < 64 }
     ensures there { bit_at result bit ≡ 0 }
@@ -25,7 +25,7 @@ fn without_bit(word: u64, bit: u32) -> u64
     word & !(1 << bit)
 }
 
-/// The lowest bit that is set.
+/// Returns the index of the lowest bit that is set.
 pub(crate) fn lowest_bit(word: u64) -> usize
     requires { 0 < word }
     ensures within { result < 64 }
@@ -35,7 +35,7 @@ pub(crate) fn lowest_bit(word: u64) -> usize
     word.trailing_zeros() as usize
 }
 
-/// The lowest bit that is set, of those from `from` on.
+/// Returns the index of the lowest bit at or after `from` that is set, or `None`.
 fn next_bit(word: u64, from: usize) -> Option<usize>
     requires { from < 64 }
     ensures some { IfSome result (λ b. IsNextMark (bit_at word) from b) }
@@ -49,13 +49,16 @@ fn next_bit(word: u64, from: usize) -> Option<usize>
     Some(from + lowest_bit(rest))
 }
 
-/// Makes room for all places below this, by words that are zero.
+/// Appends words that are zero, until there is a bit for each index below `places`.
+/// Fails only if an allocation fails, which occurs only if words are missing.
 pub(crate) fn grow_in(words: &mut Vec<u64>, places: usize) -> Result<(), AllocError>
     requires { length words.old.items ≤ 2 ^ 58 }
+    // The members are as before; words were only appended, and no more than are needed.
     ensures words { (i : ℕ) → get_or words.new.items i 0 ≡ get_or words.old.items i 0 }
     ensures kept { length words.old.items ≤ length words.new.items }
     ensures most { (n : ℕ) → length words.old.items ≤ n → places ≤ n * 64 → length words.new.items ≤ n }
     ensures bounded { length words.new.items ≤ 2 ^ 58 }
+    // After `Ok` there are enough words; `Err` comes only if words were missing.
     ensures room { OnOk result (places ≤ length words.new.items * 64) }
     ensures full { OnErr result (length words.old.items * 64 < places) }
 {
@@ -66,32 +69,33 @@ pub(crate) fn grow_in(words: &mut Vec<u64>, places: usize) -> Result<(), AllocEr
     Ok(())
 }
 
-/// Puts a place in.
-pub(crate) fn set_in(words: &mut Vec<u64>, place: usize)
-    requires { place < length words.old.items * 64 }
+/// Sets the bit of `index`.
+pub(crate) fn set_in(words: &mut Vec<u64>, index: usize)
+    requires { index < length words.old.items * 64 }
     ensures len { length words.new.items ≡ length words.old.items }
-    ensures set { Differs (bit_of words.old.items) (bit_of words.new.items) place 1 }
-    ensures here { 0 < get_or words.new.items (place / 64) 0 }
-    ensures others { (i : ℕ) → (i ≡ place / 64 → ⊥) → get_or words.new.items i 0 ≡ get_or words.old.items i 0 }
+    ensures set { Differs (bit_of words.old.items) (bit_of words.new.items) index 1 }
+    ensures here { 0 < get_or words.new.items (index / 64) 0 }
+    ensures others { (i : ℕ) → (i ≡ index / 64 → ⊥) → get_or words.new.items i 0 ≡ get_or words.old.items i 0 }
 {
-    words[place / 64] = with_bit(words[place / 64], (place % 64) as u32);
+    words[index / 64] = with_bit(words[index / 64], (index % 64) as u32);
 }
 
-/// Takes a place out, and tells whether its word is zero now.
-pub(crate) fn clear_in(words: &mut Vec<u64>, place: usize) -> bool
-    requires { place < length words.old.items * 64 }
+/// Clears the bit of `index`. Returns whether its word is zero now.
+pub(crate) fn clear_in(words: &mut Vec<u64>, index: usize) -> bool
+    requires { index < length words.old.items * 64 }
+    // Only this bit changes: the number of words and the other words stay, and the result says whether its word is zero.
     ensures len { length words.new.items ≡ length words.old.items }
-    ensures cleared { Differs (bit_of words.old.items) (bit_of words.new.items) place 0 }
-    ensures less { get_or words.new.items (place / 64) 0 ≤ get_or words.old.items (place / 64) 0 }
-    ensures zero { result ≡ (get_or words.new.items (place / 64) 0 == 0) }
-    ensures others { (i : ℕ) → (i ≡ place / 64 → ⊥) → get_or words.new.items i 0 ≡ get_or words.old.items i 0 }
+    ensures cleared { Differs (bit_of words.old.items) (bit_of words.new.items) index 0 }
+    ensures less { get_or words.new.items (index / 64) 0 ≤ get_or words.old.items (index / 64) 0 }
+    ensures zero { result ≡ (get_or words.new.items (index / 64) 0 == 0) }
+    ensures others { (i : ℕ) → (i ≡ index / 64 → ⊥) → get_or words.new.items i 0 ≡ get_or words.old.items i 0 }
 {
-    let word = without_bit(words[place / 64], (place % 64) as u32);
-    words[place / 64] = word;
+    let word = without_bit(words[index / 64], (index % 64) as u32);
+    words[index / 64] = word;
     word == 0
 }
 
-/// The first place in the set, of those from `from` on in the same word.
+/// Returns the first member at or after `from` in the word of `from`, or `None`.
 pub(crate) fn next_here(words: &[u64], from: usize) -> Option<usize>
     requires { length words.now ≤ 2 ^ 58 }
     ensures some { IfSome result (λ p. IsNextMark (bit_of words.now) from p) }
@@ -107,7 +111,7 @@ pub(crate) fn next_here(words: &[u64], from: usize) -> Option<usize>
     }
 }
 
-/// The first place in the set, of those in the words from `start` on.
+/// Returns the first member in the words from index `start` on, or `None`.
 pub(crate) fn first_from(words: &[u64], start: usize) -> Option<usize>
     requires { length words.now ≤ 2 ^ 58 }
     ensures some { IfSome result (λ p. IsNextMark (bit_of words.now) (start * 64) p) }

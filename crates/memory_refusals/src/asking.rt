@@ -151,7 +151,8 @@ pub fn searched(
     }
 }
 
-/// Returns whether the refutation disproves the guarantee. `disprove` returns `false` if an allocation fails, so it is retried.
+/// Returns whether the refutation disproves the guarantee. A `false` of `disprove` may mean that an allocation failed: then it is
+/// called again.
 pub fn disproved(
     alloc: Global,
     topology: &Topology,

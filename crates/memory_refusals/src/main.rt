@@ -1,7 +1,7 @@
-//! Tests that a call that fails for memory changes nothing: makes each such call again, and prints the results.
+//! Tests that a call changes nothing if an allocation fails in it: repeats each such call, and prints the results.
 //!
-//! Standard input has sections (`sections`): files, scripts that run over them, and single calls. What is printed are their
-//! results. So it is the same whichever allocation failed, except for the last line, which counts the retried calls.
+//! Standard input has sections (`sections`): files, scripts that run over them, and single calls. Their results are printed. The
+//! output is the same whichever allocation failed, except for the last line, which counts the repeated calls.
 #![tactic(auto)]
 
 mod asking;

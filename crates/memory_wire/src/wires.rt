@@ -15,7 +15,7 @@ ghost use Rattle.memory_wire.specs.Served.{TellsBytes};
 use crate::clients::Client;
 use crate::logs::{Log, Logged, logged_accept, logged_read, logged_write};
 use runs::Machine;
-use serving::{Accept, Read, Server, Wire, Write, new_is_served, serve};
+use serving::{Accept, Read, Server, Wire, Write, ghost_new_is_served, serve};
 use std::alloc::Global;
 
 /// Clients, each of which comes at one accept as the socket with its index, and a log of all calls.
@@ -143,7 +143,7 @@ pub fn serve_in_memory<M: Machine>(
         → told_by wire.old.log ≡ Some [] → result ≡ true
         → TellsBytes M.lacks f (told_by wire.new.log) (M.world server.new.machine) }
 {
-    new_is_served(server, wire);
+    ghost_new_is_served(server, wire);
     serve(alloc, server, wire, turns);
     wire.log.is_whole
 }

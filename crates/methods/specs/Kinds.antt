@@ -1,76 +1,76 @@
--- The arguments of each method, by class and method. Source: AMQP 0-9-1's XML, with RabbitMQ's `confirm` class and `basic.nack`.
+-- The kinds of each method's arguments, by class and method id. Source: AMQP 0-9-1's XML, with RabbitMQ's `confirm` class and `basic.nack`.
 use Rattle.std.specs.Prelude.{◌==◌, ℕ, List, [], ◌∷◌, if◌then◌else◌}
 use Rattle.field_table.specs.Arguments.{Kind, an_octet, a_short, a_long, a_long_long, a_short_text, a_long_text, a_field_table, some_bits}
 
--- the arguments of connection.start
+-- the arguments of connection.start: version-major, version-minor, server-properties, mechanisms, locales
 abbrev pub start_kinds : List Kind
 start_kinds = an_octet ∷ an_octet ∷ a_field_table ∷ a_long_text ∷ a_long_text ∷ []
 
--- of connection.start-ok
+-- the arguments of connection.start-ok: client-properties, mechanism, response, locale
 abbrev pub start_ok_kinds : List Kind
 start_ok_kinds = a_field_table ∷ a_short_text ∷ a_long_text ∷ a_short_text ∷ []
 
--- of connection.tune and connection.tune-ok
+-- the arguments of connection.tune and connection.tune-ok: channel-max, frame-max, heartbeat
 abbrev pub tuning_kinds : List Kind
 tuning_kinds = a_short ∷ a_long ∷ a_short ∷ []
 
--- of connection.open
+-- the arguments of connection.open: virtual-host and two reserved ones
 abbrev pub open_kinds : List Kind
 open_kinds = a_short_text ∷ a_short_text ∷ some_bits 1 ∷ []
 
--- of connection.close and channel.close
+-- the arguments of connection.close and channel.close: reply-code, reply-text, class-id, method-id
 abbrev pub close_kinds : List Kind
 close_kinds = a_short ∷ a_short_text ∷ a_short ∷ a_short ∷ []
 
--- of exchange.declare
+-- the arguments of exchange.declare: a reserved one, exchange, type, five bits, arguments
 abbrev pub declare_exchange_kinds : List Kind
 declare_exchange_kinds = a_short ∷ a_short_text ∷ a_short_text ∷ some_bits 5 ∷ a_field_table ∷ []
 
--- of queue.declare
+-- the arguments of queue.declare: a reserved one, queue, five bits, arguments
 abbrev pub declare_queue_kinds : List Kind
 declare_queue_kinds = a_short ∷ a_short_text ∷ some_bits 5 ∷ a_field_table ∷ []
 
--- of queue.declare-ok
+-- the arguments of queue.declare-ok: queue, message-count, consumer-count
 abbrev pub declared_kinds : List Kind
 declared_kinds = a_short_text ∷ a_long ∷ a_long ∷ []
 
--- of queue.purge and of basic.get
+-- the arguments of queue.purge (its bit is no-wait) and basic.get (no-ack): a reserved one, queue, a bit
 abbrev pub queue_kinds : List Kind
 queue_kinds = a_short ∷ a_short_text ∷ some_bits 1 ∷ []
 
--- of basic.qos
+-- the arguments of basic.qos: prefetch-size, prefetch-count, global
 abbrev pub qos_kinds : List Kind
 qos_kinds = a_long ∷ a_short ∷ some_bits 1 ∷ []
 
--- of basic.consume
+-- the arguments of basic.consume: a reserved one, queue, consumer-tag, four bits, arguments
 abbrev pub consume_kinds : List Kind
 consume_kinds = a_short ∷ a_short_text ∷ a_short_text ∷ some_bits 4 ∷ a_field_table ∷ []
 
--- of basic.cancel
+-- the arguments of basic.cancel: consumer-tag, no-wait
 abbrev pub cancel_kinds : List Kind
 cancel_kinds = a_short_text ∷ some_bits 1 ∷ []
 
--- of basic.publish
+-- the arguments of basic.publish: a reserved one, exchange, routing-key, two bits
 abbrev pub publish_kinds : List Kind
 publish_kinds = a_short ∷ a_short_text ∷ a_short_text ∷ some_bits 2 ∷ []
 
--- of basic.return
+-- the arguments of basic.return: reply-code, reply-text, exchange, routing-key
 abbrev pub return_kinds : List Kind
 return_kinds = a_short ∷ a_short_text ∷ a_short_text ∷ a_short_text ∷ []
 
--- of basic.deliver
+-- the arguments of basic.deliver: consumer-tag, delivery-tag, redelivered, exchange, routing-key
 abbrev pub deliver_kinds : List Kind
 deliver_kinds = a_short_text ∷ a_long_long ∷ some_bits 1 ∷ a_short_text ∷ a_short_text ∷ []
 
--- of basic.get-ok
+-- the arguments of basic.get-ok: delivery-tag, redelivered, exchange, routing-key, message-count
 abbrev pub get_ok_kinds : List Kind
 get_ok_kinds = a_long_long ∷ some_bits 1 ∷ a_short_text ∷ a_short_text ∷ a_long ∷ []
 
--- a delivery tag and so many bits
+-- a delivery tag and `n` bits: the arguments of basic.ack and basic.reject (1), basic.nack (2)
 abbrev pub tag_kinds : ℕ → List Kind
 tag_kinds n = a_long_long ∷ some_bits n ∷ []
 
--- of each method of the connection class, by its number; close-ok (51) has none
+-- the arguments of each method of the connection class, by its id; close-ok (51) has none
 abbrev pub connection_kinds : ℕ → List Kind
 connection_kinds m =
     if m == 10 then start_kinds
@@ -82,7 +82,7 @@ connection_kinds m =
     else if m == 50 then close_kinds
     else []
 
--- of each method of the channel class; close-ok (41) has none
+-- the arguments of each method of the channel class, by its id; close-ok (41) has none
 abbrev pub channel_kinds : ℕ → List Kind
 channel_kinds m =
     if m == 10 then a_short_text ∷ []
@@ -92,11 +92,11 @@ channel_kinds m =
     else if m == 40 then close_kinds
     else []
 
--- of exchange.declare; declare-ok (11) has none, and those of delete, bind and unbind are not read
+-- the arguments of exchange.declare (10); declare-ok (11) has none, and those of delete, bind and unbind are not read
 abbrev pub exchange_kinds : ℕ → List Kind
 exchange_kinds m = if m == 10 then declare_exchange_kinds else []
 
--- of each method of the queue class; those of bind (20), delete (40) and unbind (50) are not read
+-- the arguments of each method of the queue class, by its id; those of bind (20), delete (40) and unbind (50) are not read
 abbrev pub queue_class_kinds : ℕ → List Kind
 queue_class_kinds m =
     if m == 10 then declare_queue_kinds
@@ -105,7 +105,7 @@ queue_class_kinds m =
     else if m == 31 then a_long ∷ []
     else []
 
--- of each method of the basic class; qos-ok (11) and recover-ok (111) have none
+-- the arguments of each method of the basic class, by its id; qos-ok (11) and recover-ok (111) have none
 abbrev pub basic_kinds : ℕ → List Kind
 basic_kinds m =
     if m == 10 then qos_kinds
@@ -125,11 +125,11 @@ basic_kinds m =
     else if m == 120 then tag_kinds 2
     else []
 
--- of confirm.select; select-ok (11) has none
+-- the arguments of confirm.select (10); select-ok (11) has none
 abbrev pub confirm_kinds : ℕ → List Kind
 confirm_kinds m = if m == 10 then some_bits 1 ∷ [] else []
 
--- the kinds of a method's arguments; of one whose arguments are not read, none
+-- the kinds of a method's arguments by class and method id; none if it has no arguments or they are not read
 abbrev pub kinds_of : ℕ → ℕ → List Kind
 kinds_of c m =
     if c == 10 then connection_kinds m

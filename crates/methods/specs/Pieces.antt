@@ -1,4 +1,4 @@
--- Arguments between the bytes of a payload and a method. Source: AMQP 0-9-1, section 4.2.5, "Data Types".
+-- What `Kind`, `Piece` and `Pieces` mean. Source: AMQP 0-9-1, section 4.2.5, "Data Types".
 use Rattle.std.specs.Prelude.{◌≡◌, List, [], ◌∷◌, map, Option, Some, None}
 use Rattle.model.specs.Grammar.{Argument, Octet, Short, Long, Long_long, Short_text, Long_text, Field_table, Bits}
 use Rattle.field_table.specs.Arguments as arguments
@@ -8,7 +8,7 @@ use Rattle.methods.specs.declared.pieces.Piece.{Piece}
 use Rattle.methods.specs.declared.pieces.Piece.TheVariants as pieces
 use Rattle.methods.specs.declared.pieces.Pieces.{Pieces}
 
--- a kind, as the grammar of arguments has it
+-- the kind as the definitions of arguments in `field_table` name it
 abbrev pub kind : Kind → arguments.Kind
 kind kinds.Octet = arguments.an_octet
 kind kinds.Short = arguments.a_short
@@ -22,7 +22,7 @@ kind kinds.TwoBits = arguments.some_bits 2
 kind kinds.FourBits = arguments.some_bits 4
 kind kinds.FiveBits = arguments.some_bits 5
 
--- the argument, if it is one
+-- the argument that a piece is, if it is one
 abbrev pub piece_seen : Piece → Option Argument
 piece_seen pieces.Nothing = None
 piece_seen (pieces.Octet n) = Some (Octet n)
@@ -37,17 +37,17 @@ piece_seen (pieces.TwoBits a b) = Some (Bits (a ∷ b ∷ []))
 piece_seen (pieces.FourBits a b c d) = Some (Bits (a ∷ b ∷ c ∷ d ∷ []))
 piece_seen (pieces.FiveBits a b c d e) = Some (Bits (a ∷ b ∷ c ∷ d ∷ e ∷ []))
 
--- an argument, if it is one, before others
+-- a list of arguments with one more in front, if there is one
 abbrev pub onto_arguments : Option Argument → List Argument → List Argument
 onto_arguments None others = others
 onto_arguments (Some a) others = a ∷ others
 
--- all of them
+-- the arguments of these pieces, in order
 abbrev pub given : Pieces → List Argument
 given p = onto_arguments (piece_seen p.first) (onto_arguments (piece_seen p.second)
     (onto_arguments (piece_seen p.third) (onto_arguments (piece_seen p.fourth) (onto_arguments (piece_seen p.fifth) []))))
 
--- the kind of a piece, if it is an argument
+-- the kind of the argument that a piece is, if it is one
 abbrev pub kind_in : Piece → Option arguments.Kind
 kind_in pieces.Nothing = None
 kind_in (pieces.Octet n) = Some arguments.an_octet
@@ -62,21 +62,21 @@ kind_in (pieces.TwoBits a b) = Some (arguments.some_bits 2)
 kind_in (pieces.FourBits a b c d) = Some (arguments.some_bits 4)
 kind_in (pieces.FiveBits a b c d e) = Some (arguments.some_bits 5)
 
--- an argument of this kind
+-- the piece is an argument of this kind
 abbrev pub IsOfKind : arguments.Kind → Piece → Type 0
 IsOfKind k p = kind_in p ≡ Some k
 
--- the first kind, if there is one
+-- the first of the kinds, if there is one
 abbrev pub first_kind : List Kind → Option arguments.Kind
 first_kind [] = None
 first_kind (k ∷ ks) = Some (kind k)
 
--- the kinds after it
+-- the kinds after the first
 abbrev pub others_of : List Kind → List Kind
 others_of [] = []
 others_of (k ∷ ks) = ks
 
--- the pieces are of these kinds, of which there are at most five
+-- the five pieces are of the first five of these kinds, in order; a piece without a kind is no argument
 pub record AreOf (ks : List Kind) (p : Pieces) : Type 0 where
   pub first : kind_in p.first ≡ first_kind ks
   pub second : kind_in p.second ≡ first_kind (others_of ks)
@@ -84,6 +84,6 @@ pub record AreOf (ks : List Kind) (p : Pieces) : Type 0 where
   pub fourth : kind_in p.fourth ≡ first_kind (others_of (others_of (others_of ks)))
   pub fifth : kind_in p.fifth ≡ first_kind (others_of (others_of (others_of (others_of ks))))
 
--- the kinds, as the grammar of arguments has them
+-- the kinds as the definitions of arguments in `field_table` name them
 abbrev pub kinds_in : List Kind → List arguments.Kind
 kinds_in ks = map kind ks

@@ -1,4 +1,4 @@
--- What a reading of method payloads tells. Source: AMQP 0-9-1, section 4.2.4, "Method Payloads", and its XML.
+-- What `read_method` must return. Source: AMQP 0-9-1, section 4.2.4, "Method Payloads", and its XML.
 use Rattle.std.specs.Prelude.{◌≡◌, ◌≤◌, ℕ, List, ◌++◌, length, true, false, Option, Some, Result, Ok, Err, ⊤}
 use Rattle.std.specs.Int.{w16, to_be_bytes}
 use Rattle.std.specs.List.{AllByRecursion}
@@ -10,9 +10,9 @@ use Rattle.methods.specs.declared.refusals.BadMethod.{BadMethod}
 use Rattle.methods.specs.declared.refusals.BadMethod.TheVariants.{FrameError, SyntaxError, CommandInvalid, NotImplemented, Memory}
 use Rattle.methods.specs.Kinds.{kinds_of}
 
--- ---- the answer
+-- ---- the result
 
--- the payload is refused for this reason, or memory was
+-- the payload is refused by the reply code of this error; an allocation failure needs no reason
 abbrev pub MethodIsRefused : List ℕ → BadMethod → Type 0
 MethodIsRefused payload FrameError = SaysMethod payload (Err 501)
 MethodIsRefused payload SyntaxError = SaysMethod payload (Err 502)
@@ -20,12 +20,12 @@ MethodIsRefused payload CommandInvalid = SaysMethod payload (Err 503)
 MethodIsRefused payload NotImplemented = SaysMethod payload (Err 540)
 MethodIsRefused payload Memory = ⊤
 
--- the answer is right for this payload
+-- the result is correct for this payload
 abbrev pub TellsMethod : List ℕ → Result Method BadMethod → Type 0
 TellsMethod payload (Ok m) = SaysMethod payload (Ok m)
 TellsMethod payload (Err e) = MethodIsRefused payload e
 
--- the answer is this method, or memory was refused
+-- the result is this method, or an allocation failed
 abbrev pub IsMethodOr : Method → Result Method BadMethod → Type 0
 IsMethodOr m (Ok n) = n ≡ m
 IsMethodOr m (Err Memory) = ⊤
@@ -34,24 +34,24 @@ IsMethodOr m (Err SyntaxError) = ⊥
 IsMethodOr m (Err CommandInvalid) = ⊥
 IsMethodOr m (Err NotImplemented) = ⊥
 
--- ---- the way there
+-- ---- the steps
 
--- class and method, and the arguments behind them
+-- the payload begins with this class id and this method id, and `rest` is after them
 pub record BeginsMethod (payload : List ℕ) (class method : ℕ) (rest : List ℕ) : Type 0 where
   pub long : 4 ≤ length payload
   pub class_is : class_at payload ≡ class
   pub method_is : method_at payload ≡ method
   pub parts : payload ≡ to_be_bytes w16 class ++ to_be_bytes w16 method ++ rest
 
--- the tables among the arguments are tables
+-- each table among the arguments is the pairs of a table
 abbrev pub AreWhole : List Argument → Type 0
 AreWhole given = AllByRecursion IsArgumentWhole given
 
--- there are no arguments, or a table among them is none
+-- no arguments were read, or a table among them isn't one
 abbrev pub LacksArguments : Option (List Argument) → Type 0
 LacksArguments read = (given : List Argument) → read ≡ Some given → AreWhole given → ⊥
 
--- what was read is refused for this reason: arguments lack, a table among them is none, or memory was refused
+-- the error is a syntax error and no arguments were read or a table among them isn't one, or an allocation failed
 abbrev pub WantsArguments : Option (List Argument) → BadMethod → Type 0
 WantsArguments read FrameError = ⊥
 WantsArguments read SyntaxError = LacksArguments read
@@ -59,7 +59,7 @@ WantsArguments read CommandInvalid = ⊥
 WantsArguments read NotImplemented = ⊥
 WantsArguments read Memory = ⊤
 
--- the pairs are no table, or memory was refused
+-- the error is a syntax error and the pairs are no table, or an allocation failed
 abbrev pub NoTable : List ℕ → BadMethod → Type 0
 NoTable pairs FrameError = ⊥
 NoTable pairs SyntaxError = IsTable pairs → ⊥
@@ -67,34 +67,34 @@ NoTable pairs CommandInvalid = ⊥
 NoTable pairs NotImplemented = ⊥
 NoTable pairs Memory = ⊤
 
--- the table of these pairs, if they are pairs
+-- the result is these pairs, which are a table, or a correct error
 abbrev pub MakesTable : List ℕ → Result (List ℕ) BadMethod → Type 0
 MakesTable pairs (Ok t) = (t ≡ pairs) × IsTable pairs
 MakesTable pairs (Err e) = NoTable pairs e
 
--- the same of an argument that is a table
+-- the result is the table of this argument, or a correct error
 abbrev pub IsTableOr : Option Argument → Result (List ℕ) BadMethod → Type 0
 IsTableOr argument (Ok t) = (argument ≡ Some (Field_table t)) × IsTable t
 IsTableOr argument (Err e) = (pairs : List ℕ) × (argument ≡ Some (Field_table pairs)) × NoTable pairs e
 
--- what was read is these arguments
+-- the result has exactly the arguments that were read and its tables are tables, or the error is correct
 abbrev pub GivesArguments : {X : Type 0} → (X → List Argument) → Result X BadMethod → Option (List Argument) → Type 0
 GivesArguments view (Ok x) read = (read ≡ Some (view x)) × AreWhole (view x)
 GivesArguments view (Err e) read = WantsArguments read e
 
--- a method of this class and method with these arguments
+-- `x` is a known method with these ids; its arguments are exactly what was read, unless they are not read
 pub record IsRead (c m : ℕ) (bytes : List ℕ) (x : Method) : Type 0 where
   pub known : is_known c m ≡ true
   pub ids_are : ids_of x ≡ ids c m
   pub given : is_unread c m ≡ false → (arguments_at (kinds_of c m) bytes ≡ Some (arguments x)) × AreWhole (arguments x)
 
--- a known method whose arguments are read, and are not there
+-- the method is known and its arguments are read, but `bytes` are not its arguments
 pub record IsWithout (c m : ℕ) (bytes : List ℕ) : Type 0 where
   pub known : is_known c m ≡ true
   pub read : is_unread c m ≡ false
   pub lacks : LacksArguments (arguments_at (kinds_of c m) bytes)
 
--- behind these ids no method was read: there is none, it is left out, its arguments lack, or memory was refused
+-- the error is correct for these ids and argument bytes: unknown ids, a method not implemented, wrong arguments, or an allocation failure
 abbrev pub FailsToRead : ℕ → ℕ → List ℕ → BadMethod → Type 0
 FailsToRead c m bytes FrameError = ⊥
 FailsToRead c m bytes SyntaxError = IsWithout c m bytes
@@ -102,7 +102,7 @@ FailsToRead c m bytes CommandInvalid = (is_known c m ≡ false) × (is_left_out 
 FailsToRead c m bytes NotImplemented = is_left_out c m ≡ true
 FailsToRead c m bytes Memory = ⊤
 
--- what was read behind these ids: the method, or why there is none
+-- the result is correct for these ids and argument bytes: the method, or an error with its reason
 abbrev pub ReadsArguments : ℕ → ℕ → List ℕ → Result Method BadMethod → Type 0
 ReadsArguments c m bytes (Ok x) = IsRead c m bytes x
 ReadsArguments c m bytes (Err e) = FailsToRead c m bytes e

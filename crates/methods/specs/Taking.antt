@@ -1,4 +1,4 @@
--- Arguments that are taken from the front of bytes. Source: AMQP 0-9-1, section 4.2.5, "Data Types".
+-- What splitting arguments off the front of bytes means. Source: AMQP 0-9-1, section 4.2.5, "Data Types".
 use Rattle.std.specs.Prelude.{◌≡◌, ℕ, List, Option, Some, None, option_map}
 use Rattle.std.specs.Borrow.{Bor}
 use Rattle.model.specs.Grammar.{Argument}
@@ -8,23 +8,23 @@ use Rattle.methods.specs.declared.pieces.Piece.{Piece}
 use Rattle.methods.specs.declared.pieces.Pieces.{Pieces}
 use Rattle.methods.specs.Pieces.{piece_seen, onto_arguments, given, kind_in, first_kind, others_of, AreOf, kinds_in}
 
--- an argument that is there, and the bytes after it
+-- the argument that was found, as one that is present, and the bytes after it
 abbrev pub found : Option (Argument × List ℕ) → Option (Option Argument × List ℕ)
 found None = None
 found (Some x) = Some (Some x.0, x.1)
 
--- a piece was taken off the front: the kinds of the others and the bytes after it are left
+-- `p` is the first argument of these kinds at the front; the other kinds and the bytes after it are left
 pub record IsTaken (ks : List Kind) (bytes : List ℕ) (p : Piece) (others : List Kind) (rest : List ℕ) : Type 0 where
   pub kind_is : kind_in p ≡ first_kind ks
   pub others_are : others ≡ others_of ks
   pub read : arguments_at (kinds_in ks) bytes ≡ option_map (onto_arguments (piece_seen p)) (arguments_at (kinds_in others) rest)
 
--- a piece was taken off the front, or there are no arguments of these kinds
+-- an argument was split off the front, or `bytes` are no arguments of these kinds
 abbrev pub TakesArgument : List Kind → List ℕ → Option (Piece × Bor (List Kind) × Bor (List ℕ)) → Type 0
 TakesArgument ks bytes None = arguments_at (kinds_in ks) bytes ≡ None
 TakesArgument ks bytes (Some x) = IsTaken ks bytes x.0 x.1.now x.2.now
 
--- what was read is these pieces, of these kinds
+-- the pieces have these kinds, and are all of the arguments that were read
 pub record AreRead (ks : List Kind) (p : Pieces) (read : Option (List Argument)) : Type 0 where
   pub kinds : AreOf ks p
   pub all : read ≡ Some (given p)

@@ -1,4 +1,4 @@
-//! The methods of each class are read: which there are, and with which arguments.
+//! Dispatches on the method's number within each class, and reads its arguments.
 
 ghost use Rattle.std.specs.Prelude.{◌≡◌, ◌<◌, ◌≤◌, false};
 ghost use Rattle.model.specs.Grammar.{is_left_out};

@@ -1,4 +1,4 @@
-//! The arguments of each method are read.
+//! Reads the arguments of each method into its struct.
 
 ghost use Rattle.std.specs.Prelude.{◌≡◌, [], ◌∷◌, option_map};
 ghost use Rattle.model.specs.Grammar.{arguments, Long, Long_long, Short_text, Long_text, Bits};
@@ -389,7 +389,7 @@ pub(crate) fn reject_in(bytes: &[u8]) -> Result<Reject, BadMethod>
     })
 }
 
-/// A delivery tag and a bit, where these are all. They come once a message, and go by no table.
+/// Reads a delivery tag and a bit that are all of `bytes`. Acks and rejects come once a message, so this doesn't go through a list of kinds.
 fn tag_and_bit_in(bytes: &[u8]) -> Option<(u64, bool)>
     ensures { option_map (λ x. Long_long x.0 ∷ Bits (x.1 ∷ []) ∷ []) result ≡ arguments_at (tag_kinds 1) bytes.now }
 {

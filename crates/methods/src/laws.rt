@@ -1,8 +1,8 @@
-//! What holds of all payloads of method frames.
+//! A law of method payloads: the contract of a function without a body.
 
 ghost use Rattle.methods.specs.Laws.{OneMethod};
 
-/// A payload says at most one thing: one method, or one reply code.
+/// Proves that a payload means at most one thing: one method or one reply code. Does nothing when called.
 pub fn one_method()
     ensures { OneMethod }
 {}

@@ -1,8 +1,9 @@
-//! Method payloads, read and written.
+//! Reads and writes the payloads of method frames.
 //!
-//! A payload is class (2 bytes), method (2) and the method's arguments, without anything between them. Numbers are
-//! big-endian, a short text has its length in 1 byte before it, and consecutive bits share an octet, lowest bit first.
-//! Source: AMQP 0-9-1, section 4.2.4, "Method Payloads", section 4.2.5, "Data Types", and its XML.
+//! A payload is a class id (2 bytes), a method id (2 bytes) and the method's arguments, without anything between them.
+//! Numbers are big-endian, a short string has its length in 1 byte in front, and consecutive bits share an octet, lowest bit
+//! first. Source: AMQP 0-9-1, section 4.2.4, "Method Payloads", section 4.2.5, "Data Types", and its XML.
+//! Start at [`read_method`] and [`write_method`].
 #![tactic(auto)]
 
 mod classes;

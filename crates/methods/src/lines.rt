@@ -1,4 +1,4 @@
-//! The arguments of each method, as they are written.
+//! Lists the arguments of each method for writing, in wire order.
 
 ghost use Rattle.std.specs.Prelude.{◌≡◌};
 ghost use Rattle.model.specs.Grammar.{arguments};
@@ -12,7 +12,7 @@ use model::{
     QueueDeclared, Reject, Return, Start, StartOk, Tuning,
 };
 
-/// The method's arguments.
+/// Returns the arguments of `method` in wire order.
 pub(crate) fn arguments_of(method: &Method) -> Pieces<'_>
     ensures { given result ≡ arguments method.now }
 {
@@ -54,7 +54,7 @@ pub(crate) fn arguments_of(method: &Method) -> Pieces<'_>
     }
 }
 
-/// One argument alone.
+/// Returns a list of one argument.
 fn one(first: Piece<'_>) -> Pieces<'_>
     ensures { result ≡ record { first = first.entry; second = Nothing; third = Nothing; fourth = Nothing; fifth = Nothing } }
 {

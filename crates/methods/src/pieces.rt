@@ -1,4 +1,4 @@
-//! Arguments, between the bytes of a payload and a method.
+//! A method's arguments as a short list of [`Piece`]s: the step between a payload's bytes and a method's struct.
 
 ghost use Rattle.std.specs.Prelude.{◌≡◌, [], ◌∷◌, Some, IfOk};
 ghost use Rattle.model.specs.Grammar as said;
@@ -7,7 +7,7 @@ ghost use Rattle.field_table.specs.Arguments.{an_octet, a_short, a_long, a_long_
 use model::Text;
 use std::alloc::{AllocError, Global};
 
-/// What an argument is; of bits that share an octet, how many.
+/// The type of an argument. Bits that share an octet are one argument, with their count.
 #[derive(Clone, Copy, Drop)]
 pub enum Kind {
     Octet,
@@ -23,7 +23,7 @@ pub enum Kind {
     FiveBits,
 }
 
-/// An argument, or none. Texts and tables are still someone else's bytes.
+/// An argument, or `Nothing`. Texts and tables borrow the bytes they were read from, or the method they are written from.
 #[derive(Clone, Copy, Drop)]
 pub enum Piece<'a> {
     Nothing,
@@ -40,7 +40,7 @@ pub enum Piece<'a> {
     FiveBits(bool, bool, bool, bool, bool),
 }
 
-/// The arguments of a method, at most five, in the order of the wire.
+/// The arguments of a method in wire order: at most five, the rest are `Nothing`.
 #[derive(Clone, Copy, Drop)]
 pub struct Pieces<'a> {
     pub first: Piece<'a>,
@@ -50,7 +50,7 @@ pub struct Pieces<'a> {
     pub fifth: Piece<'a>,
 }
 
-/// No arguments.
+/// The empty list of arguments.
 pub const NOTHING: Pieces<'static> = Pieces {
     first: Piece::Nothing,
     second: Piece::Nothing,
@@ -122,7 +122,7 @@ impl<'a> Piece<'a> {
         }
     }
 
-    /// The bytes of a table's pairs, which need not be pairs.
+    /// Returns the bytes of a table's pairs. They may be no pairs: see [`field_table::is_table`].
     pub fn pairs(&self) -> &'a [u8]
         requires { IsOfKind a_field_table self.now }
         ensures { piece_seen self.now ≡ Some (said.Field_table result.now) }

@@ -1,4 +1,4 @@
-//! Arguments are measured and put behind bytes.
+//! Computes the encoded length of arguments, and appends them.
 
 ghost use Rattle.std.specs.Prelude.{◌≡◌, ◌+◌, ◌≤◌, ◌<◌, ◌^◌, [], ◌∷◌, ◌++◌, length, vec_len, vec_capacity, MatchOption, IfSome};
 ghost use Rattle.model.specs.Grammar.{octet as octet_of};
@@ -10,7 +10,7 @@ ghost use Rattle.methods.specs.Putting.{pieces_bytes, AreSpelled};
 use crate::pieces::{Piece, Pieces};
 use field_table::{is_table, put_bytes};
 
-/// How many bytes arguments have, if their texts are not too long and their tables are tables.
+/// Returns the encoded length of `pieces` in bytes, or `None` if a text is too long or the pairs of a table aren't pairs.
 pub fn pieces_len(pieces: &Pieces<'_>) -> Option<usize>
     ensures cases { MatchOption result (AreSpelled pieces.now → ⊥) (λ n. AreSpelled pieces.now × (n ≡ length (pieces_bytes pieces.now))) }
     ensures bound { IfSome result (λ n. n < 2 ^ 36) }
@@ -23,7 +23,7 @@ pub fn pieces_len(pieces: &Pieces<'_>) -> Option<usize>
     Some(first + second + third + fourth + fifth)
 }
 
-// How many bytes a piece has, if its text is not too long.
+// Returns the encoded length of `piece` in bytes, or `None` if it can't be encoded.
 fn piece_len(piece: &Piece<'_>) -> Option<usize>
     ensures cases { MatchOption result (IsValue (piece_seen piece.now) → ⊥)
         (λ n. IsValue (piece_seen piece.now) × (n ≡ length (value_of (piece_seen piece.now)))) }
@@ -69,7 +69,7 @@ fn piece_len(piece: &Piece<'_>) -> Option<usize>
     }
 }
 
-/// Appends arguments for which there is room.
+/// Appends the encoding of `pieces` to `out`, which has enough spare capacity. They can be encoded.
 pub fn put_pieces(out: &mut Vec<u8>, pieces: &Pieces<'_>)
     requires fits { AreSpelled pieces.now }
     requires room { vec_len out.old + length (pieces_bytes pieces.now) ≤ vec_capacity out.old }
@@ -130,7 +130,7 @@ fn put_long_text(out: &mut Vec<u8>, text: &[u8])
     put_bytes(out, text);
 }
 
-// The octet of these bits, the first the lowest.
+// Returns the octet of these bits, the first bit lowest.
 fn octet(a: bool, b: bool, c: bool, d: bool, e: bool) -> u8
     ensures { result ≡ octet_of (a ∷ b ∷ c ∷ d ∷ e ∷ []) }
 {

@@ -1,4 +1,4 @@
-//! Methods are read.
+//! Reads a method's ids, and hands its arguments to the reader of its class.
 
 ghost use Rattle.std.specs.Prelude.{◌≡◌, ◌<◌, ℕ, List, false, length, MatchOption};
 ghost use Rattle.model.specs.Grammar;
@@ -11,10 +11,12 @@ use byteorder::{BigEndian, ByteOrder};
 use model::Method;
 use std::alloc::Global;
 
-/// The method that the payload of a method frame spells.
+/// Decodes the payload of a method frame.
+///
+/// Each refusal is a variant of [`BadMethod`] with its reply code. [`BadMethod::Memory`] means that an allocation failed.
 pub fn read_method(alloc: Global, payload: &[u8]) -> Result<Method, BadMethod>
     ensures tells { TellsMethod payload.now result }
-    // A method that is spelled so is read, unless memory was refused.
+    // Promise: a method that `payload` encodes is returned, unless an allocation fails.
     ensures only { (m : Method) → IsMethod m → Spells payload.now m → IsMethodOr m result }
 {
     match ids_at(payload) {
@@ -23,7 +25,7 @@ pub fn read_method(alloc: Global, payload: &[u8]) -> Result<Method, BadMethod>
     }
 }
 
-// Class and method, and the arguments after them.
+// Splits class id and method id off the front of `payload`; `None` if it has fewer than 4 bytes.
 fn ids_at(payload: &[u8]) -> Option<(u16, u16, &[u8])>
     ensures { MatchOption result (length payload.now < 4) (λ x. BeginsMethod payload.now x.0 x.1 x.2.now) }
 {
@@ -45,7 +47,7 @@ fn with_ids(alloc: Global, class: u16, method: u16, arguments: &[u8]) -> Result<
     of_class(alloc, class, method, arguments)
 }
 
-/// The method is one that is never built: class tx, and basic.recover-async.
+/// Returns whether the method is one that is not implemented: class tx, or basic.recover-async.
 fn is_left_out(class: u16, method: u16) -> bool
     ensures { result ≡ Grammar.is_left_out class method }
 {

@@ -1,4 +1,4 @@
-//! Why a payload is refused, and why a method is not written.
+//! The errors of reading and writing a method.
 
 ghost use Rattle.std.specs.Prelude.{◌≡◌};
 ghost use Rattle.methods.specs.declared.refusals.BadMethod.TheVariants.{Memory};
@@ -6,23 +6,22 @@ ghost use Rattle.methods.specs.declared.refusals.BadMethod.TheVariants.{Memory};
 use std::alloc::AllocError;
 use thiserror::Error;
 
-/// Why no method was read.
+/// Why a payload was not read as a method.
 #[derive(Clone, Copy, PartialEq, Eq, Debug, Drop, Error)]
 pub enum BadMethod {
-    /// The payload is too short for class and method. Reply code 501, frame-error.
+    /// The payload is shorter than a class id and a method id. Reply code 501, frame-error.
     #[error("frame-error: a payload too short for a class and a method")]
     FrameError,
-    /// The arguments end early, leave bytes over, set a bit that no argument has, or hold a table that is none. Reply
-    /// code 502, syntax-error.
+    /// The arguments end early, leave bytes over, set an unused bit, or hold a table that isn't one. Reply code 502, syntax-error.
     #[error("syntax-error: arguments that the method does not have")]
     SyntaxError,
-    /// No method has this class and method. Reply code 503, command-invalid.
+    /// No method has this class id and method id. Reply code 503, command-invalid.
     #[error("command-invalid: no method of this class and method")]
     CommandInvalid,
-    /// The method is left out: class tx, or basic.recover-async. Reply code 540, not-implemented.
+    /// The method is not implemented: class tx, or basic.recover-async. Reply code 540, not-implemented.
     #[error("not-implemented: a method that is left out")]
     NotImplemented,
-    /// Memory was refused.
+    /// An allocation failed.
     #[error("out of memory")]
     Memory,
 }
@@ -35,13 +34,13 @@ impl From<AllocError> for BadMethod {
     }
 }
 
-/// Why no method was written.
+/// Why a method was not written.
 #[derive(Clone, Copy, PartialEq, Eq, Debug, Drop, Error)]
 pub enum UnwrittenMethod {
-    /// The method has no spelling: a text is too long, or a table is none. Reply code 502, syntax-error.
+    /// The method can't be encoded: a text is too long, or a table isn't one. Reply code 502, syntax-error.
     #[error("syntax-error: a text that is too long, or a table that is none")]
     SyntaxError,
-    /// Memory was refused.
+    /// An allocation failed.
     #[error("out of memory")]
     Memory,
 }

@@ -1,4 +1,4 @@
-//! Tables among the arguments.
+//! Checks and copies a table among the arguments.
 
 ghost use Rattle.field_table.specs.Arguments.{a_field_table};
 ghost use Rattle.methods.specs.Pieces.{piece_seen, IsOfKind};
@@ -10,7 +10,7 @@ use field_table::is_table;
 use model::{Table, Text};
 use std::alloc::Global;
 
-/// The table of these pairs, if they are pairs.
+/// Copies `pairs` as a table. Returns [`BadMethod::SyntaxError`] if they are not a table's pairs.
 fn table_of(alloc: Global, pairs: &[u8]) -> Result<Table, BadMethod>
     ensures { MakesTable pairs.now result }
 {
@@ -20,7 +20,7 @@ fn table_of(alloc: Global, pairs: &[u8]) -> Result<Table, BadMethod>
     Ok(Table::from_pairs(Text::from_slice(alloc, pairs)?))
 }
 
-/// The table of an argument, if its pairs are pairs.
+/// Copies the table of `piece`. Returns [`BadMethod::SyntaxError`] if its bytes are not a table's pairs.
 pub(crate) fn table_in(alloc: Global, piece: &Piece<'_>) -> Result<Table, BadMethod>
     requires { IsOfKind a_field_table piece.now }
     ensures { IsTableOr (piece_seen piece.now) result }

@@ -1,4 +1,4 @@
-//! Arguments are taken from the front of bytes, by their kinds.
+//! Splits arguments off the front of bytes by their kinds.
 
 ghost use Rattle.std.specs.Prelude.{◌≡◌, ◌≤◌, length, option_map, None, Some, IfSome, MatchOption};
 ghost use Rattle.field_table.specs.Arguments.{argument_at, arguments_at};
@@ -11,7 +11,7 @@ use field_table::{
     pairs_at, short_at, short_text_at, two_bits_at,
 };
 
-/// All of the bytes, as arguments of these kinds, at most five.
+/// Reads all of `bytes` as arguments of these `kinds`, at most five. Returns `None` if they aren't exactly that.
 pub fn pieces_at<'a>(kinds: &[Kind], bytes: &'a [u8]) -> Option<Pieces<'a>>
     requires { length kinds.now ≤ 5 }
     ensures { MatchOption result (arguments_at (kinds_in kinds.now) bytes.now ≡ None) (λ p. AreRead kinds.now p (arguments_at (kinds_in kinds.now) bytes.now)) }
@@ -43,7 +43,7 @@ pub fn pieces_at<'a>(kinds: &[Kind], bytes: &'a [u8]) -> Option<Pieces<'a>>
     })
 }
 
-/// The first argument, the kinds of the others, and the bytes after it.
+/// Splits the first argument off: returns it, the other kinds, and the bytes after it.
 fn take<'k, 'a>(kinds: &'k [Kind], bytes: &'a [u8]) -> Option<(Piece<'a>, &'k [Kind], &'a [u8])>
     ensures { TakesArgument kinds.now bytes.now result }
 {
@@ -56,7 +56,7 @@ fn take<'k, 'a>(kinds: &'k [Kind], bytes: &'a [u8]) -> Option<(Piece<'a>, &'k [K
     }
 }
 
-/// The argument of this kind, and the bytes after it.
+/// Splits an argument of `kind` off the front of `bytes`, and returns it with the rest.
 fn piece_at(kind: Kind, bytes: &[u8]) -> Option<(Piece<'_>, &[u8])>
     ensures read { option_map (λ x. (piece_seen x.0, x.1.now)) result ≡ found (argument_at (as_kind kind) bytes.now) }
     ensures kind { IfSome result (λ x. kind_in x.0 ≡ Some (as_kind kind)) }

@@ -1,4 +1,4 @@
-//! Methods are written.
+//! Encodes a method: measured first, so that the output grows once.
 
 ghost use Rattle.std.specs.Prelude.{◌≡◌, ◌+◌, ◌<◌, ◌≤◌, ◌++◌, length, vec_len, vec_capacity, OnOk, IfErr, Err};
 ghost use Rattle.std.specs.Int.{w16, to_be_bytes};
@@ -12,11 +12,14 @@ use crate::refusals::UnwrittenMethod;
 use field_table::put_bytes;
 use model::Method;
 
-/// Appends the payload of a method frame that spells `m` to `out`. On an error `out` is as it was.
+/// Appends the payload of the method frame for `m` to `out`.
+///
+/// Returns [`UnwrittenMethod::SyntaxError`] if `m` can't be encoded, [`UnwrittenMethod::Memory`] if an allocation fails. The
+/// content of `out` has not changed then.
 pub fn write_method(out: &mut Vec<u8>, m: &Method) -> Result<(), UnwrittenMethod>
     ensures ok { OnOk result (IsMethod m.now × (out.new.items ≡ out.old.items ++ method_bytes m.now)) }
     ensures err { IfErr result (λ e. MethodRefused m.now e × (out.new.items ≡ out.old.items)) }
-    // Memory was really wanted.
+    // On an allocation failure the capacity was too small.
     ensures full { result ≡ Err Memory → vec_capacity out.old < vec_len out.old + length (method_bytes m.now) }
 {
     match spelled_len(m) {
@@ -32,7 +35,7 @@ pub fn write_method(out: &mut Vec<u8>, m: &Method) -> Result<(), UnwrittenMethod
     }
 }
 
-/// How many bytes the spelling of `m` has, if it has one: no text is too long, and each table is one.
+/// Returns the encoded length of `m` in bytes, or `None` if it can't be encoded: a text is too long, or a table isn't one.
 pub fn spelled_len(m: &Method) -> Option<usize>
     ensures { CountsMethod m.now result }
 {
@@ -40,7 +43,7 @@ pub fn spelled_len(m: &Method) -> Option<usize>
     Some(4 + len)
 }
 
-/// Appends the spelling of `m` to `out`, which has room for it. It takes no memory.
+/// Appends the encoding of `m` to `out`, which has enough spare capacity; `m` can be encoded. Never allocates.
 pub fn put_method(out: &mut Vec<u8>, m: &Method)
     requires spelled { IsMethod m.now }
     requires room { vec_len out.old + length (method_bytes m.now) ≤ vec_capacity out.old }
@@ -52,7 +55,7 @@ pub fn put_method(out: &mut Vec<u8>, m: &Method)
     put_pieces(out, &arguments_of(m));
 }
 
-/// Class and method, as they are spelled.
+/// Returns class id and method id, 2 bytes each.
 fn head_of(m: &Method) -> [u8; 4]
     ensures { result ≡ to_be_bytes w16 (ids_of m.now).class ++ to_be_bytes w16 (ids_of m.now).method }
 {

@@ -1,4 +1,4 @@
--- What is outstanding on channels and what is held in queues: two accounts of one thing (own).
+-- Unacknowledged deliveries on channels and held messages in queues: two accounts that agree (own). Start with `IsAgreed`.
 use Rattle.std.specs.Prelude.{◌≡◌, ◌<◌, ◌≤◌, ℕ, [], true, count_by, Some}
 use Rattle.std.specs.List.{AllByRecursion}
 use Rattle.model.specs.Words.{Text}
@@ -12,7 +12,7 @@ use Rattle.model.specs.declared.messages.Entry.{Entry}
 use Rattle.model.specs.declared.messages.Holder.{Holder}
 use Rattle.model.specs.declared.messages.Mark.TheVariants.{Held}
 
--- What this holder was given from this queue is outstanding on its channel, under its tag, and was taken by the same taker.
+-- A delivery from the queue `q` is unacknowledged on the channel of `holder`, under its tag and with its taker.
 pub record IsOutstanding (b : Broker) (q : Text) (holder : Holder) : Type 0 where
   pub channel : Channel
   pub there : b.channel holder.connection holder.channel ≡ Some channel
@@ -22,22 +22,22 @@ pub record IsOutstanding (b : Broker) (q : Text) (holder : Holder) : Type 0 wher
   pub queue : delivery.queue ≡ q
   pub by : delivery.by ≡ holder.by
 
--- What is outstanding on channel h of connection c stands in its queue, and this channel holds it there under its tag.
+-- The message of the unacknowledged delivery `o`, on channel `h` of connection `c`, is in its queue, held by this delivery.
 pub record IsHeld (b : Broker) (c h : ℕ) (o : Outstanding) : Type 0 where
   pub entry : Entry
   pub there : IsIn entry (b.queue o.queue)
   pub mark : entry.mark ≡ Held (holder_of c h o)
 
--- What every broker keeps:
+-- What the broker keeps in every state.
 pub record IsAgreed (b : Broker) : Type 0 where
-  -- each message that is held in a queue is outstanding on the channel that holds it
+  -- Each message that is held in a queue is unacknowledged on the channel that holds it.
   pub held : (q : Text) (e : Entry) (holder : Holder) → IsIn e (b.queue q) → e.mark ≡ Held holder → IsOutstanding b q holder
-  -- each message that is outstanding on a channel is held in its queue by that channel
+  -- The message of each unacknowledged delivery of a channel is held in its queue by that channel.
   pub given : (c h : ℕ) (ch : Channel) (o : Outstanding) → b.channel c h ≡ Some ch → IsIn o ch.outstanding → IsHeld b c h o
-  -- no two messages of a queue are held under one tag of a channel, so that both accounts tell of each message once
+  -- At most one message of a queue is held under one tag of a channel, so both accounts speak of each message once.
   pub apart : (q : Text) (holder : Holder) → count_by (is_held_as holder) (b.queue q) ≤ 1
-  -- on each channel tags rise, and none is as great as the next one
+  -- On each channel the tags of unacknowledged deliveries rise, and each is less than the next tag.
   pub rising : (c h : ℕ) (ch : Channel) → b.channel c h ≡ Some ch → Rises tag_of ch.outstanding
   pub before : (c h : ℕ) (ch : Channel) → b.channel c h ≡ Some ch → AllByRecursion (λ (o : Outstanding). o.tag < ch.next_tag) ch.outstanding
-  -- on a channel that awaits close-ok nothing is outstanding
+  -- A channel that awaits close-ok has no unacknowledged delivery.
   pub closed : (c h : ℕ) (ch : Channel) → b.channel c h ≡ Some ch → ch.is_closing ≡ true → ch.outstanding ≡ []

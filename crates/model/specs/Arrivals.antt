@@ -1,4 +1,5 @@
--- Everything that comes, and all that is done for it (own): pieces of bytes, openings, output taken, deliveries, losses, and reloads.
+-- All that arrives, and all that is done for it (own): pieces of bytes, openings,
+-- output taken, deliveries, losses, and reloads. Start with `Answers` and `Plays`.
 use Rattle.std.specs.Prelude.{
   ◌≡◌,
   ◌≢◌,
@@ -51,96 +52,96 @@ use Rattle.model.specs.declared.events.Arrival.TheVariants as arrival
 use Rattle.model.specs.declared.methods.Method.TheVariants.{BasicPublish}
 use Rattle.model.specs.declared.notes.Note.{Note}
 
--- one connection, as its bytes go
+-- One connection, as the bytes that come from it and go to it.
 pub record Wire : Type 0 where
-  -- a command that was read and could not be performed for want of memory
+  -- A command that was read and is still to be performed.
   pub kept : Option Command
-  -- what its bytes so far have still to say, after that
+  -- What is still to be read of its bytes, after that command.
   pub stream : Stream
-  -- put out and not yet taken
+  -- The bytes put out and not taken.
   pub output : List ℕ
 
--- all that there is: what is in force, the broker's state and the phases, and each connection's bytes
+-- All that there is: the configuration in force, the broker's state and the phases, and each connection's bytes.
 pub record World : Type 0 where
   pub config : Config
   pub state : State
-  -- how many numbers of connections were given
+  -- The number of connections that were opened, and so the number given last.
   pub given : ℕ
   pub wire : ℕ → Wire
 
--- a connection from which nothing came and to which nothing was put out; also one that is lost
+-- The wire of a connection from which nothing came and to which nothing was put out; also of one that is lost.
 abbrev pub new_wire : Wire
 new_wire = record { kept = None; stream = running_stream; output = [] }
 
--- where every run begins: this is in force, and no connection was opened
+-- The world in which a run begins: `f` is in force, and no connection was opened.
 abbrev pub new_world : Config → World
 new_world f = record { config = f; state = empty_state; given = 0; wire = λ c. new_wire }
 
--- ---- where a connection stands
+-- ---- whether a connection is over, paused or gone
 
--- the last phase, in which nothing more is read
+-- Whether the phase is the last, in which nothing more is read.
 abbrev pub is_ended : Phase → Bool
 is_ended phase.Over = true
 is_ended p = false
 
--- its phase is over, or it is lost, or it was never opened
+-- Whether connection `c` is over, is lost, or was never opened.
 abbrev pub is_over : World → ℕ → Bool
 is_over w c = is_ended (w.state.session c).phase
 
--- an output of so many bytes pauses its connection
+-- Whether the output has 1,048,576 bytes or more, which pauses its connection.
 abbrev pub is_past_bound : List ℕ → Bool
 is_past_bound output = nat_le 1048576 (length output)
 
--- it is past that bound: nothing is performed for it until enough of its output is taken
+-- Whether connection `c` is paused: nothing is performed for it until enough of its output is taken.
 abbrev pub is_paused : World → ℕ → Bool
 is_paused w c = is_past_bound (w.wire c).output
 
--- what it asks for is performed: it is neither over nor paused
+-- Whether what connection `c` asks for is performed: it is neither over nor paused.
 abbrev pub is_awake : World → ℕ → Bool
 is_awake w c = not (is_over w c) && not (is_paused w c)
 
--- bytes that were put out for it are not taken yet
+-- Whether output of connection `c` is not taken.
 abbrev pub has_output : World → ℕ → Bool
 has_output w c = nat_lt 0 (length (w.wire c).output)
 
--- over, with no output left; a number that was never given is gone by itself
+-- Whether connection `c` is over, with no output left; a number that was never given is gone, too.
 abbrev pub is_gone : World → ℕ → Bool
 is_gone w c = is_over w c && not (has_output w c)
 
--- how many of the connections 1 to n are not gone
+-- How many of the connections 1 to `n` are not gone.
 abbrev pub standing : World → ℕ → ℕ
 standing w zero = 0
 standing w (suc n) = if is_gone w (suc n) then standing w n else standing w n + 1
 
 -- ---- what is read
 
--- a command of connection c as an event; a publish goes with its content, where that is not too large
+-- The event of a command of connection `c`. A publish goes with its content, unless that is too large.
 abbrev pub event_of : ℕ → Command → Event
 event_of c (Head bytes) = event.First c bytes
 event_of c (Plain h m) = event.Command c h m None
 event_of c (Full h p content) = event.Command c h (BasicPublish p) (Some content)
 event_of c (TooLarge h) = event.TooLarge c h
 
--- The next event of a connection, and what its stream says after it.
+-- The next event of a connection, from the command that is kept, if one is, or from its stream; and the stream after it.
 pub data Reads : ℕ → Option Command → Stream → Event → Stream → Type 0 where
   again : {c : ℕ} {m : Command} {s : Stream} → Reads c (Some m) s (event_of c m) s
   fresh : {c : ℕ} {m : Command} {s next : Stream} → Yields s m next → Reads c None s (event_of c m) next
   fault : {c code : ℕ} {s : Stream} → Ends s (Some code) → Reads c None s (event.Fault c code) s
 
--- What is still to come is the same: frames that end no command were put together, or the next command was read and is kept.
+-- The same is still to come: frames that complete no command were put together, or the next command was read and is kept.
 pub data SameToCome : Option Command → Stream → Option Command → Stream → Type 0 where
   still : {m : Command} {s : Stream} → SameToCome (Some m) s (Some m) s
   waits : {s new : Stream} → GoesOn s new → SameToCome None s None new
   kept : {m : Command} {s next : Stream} → Yields s m next → SameToCome None s (Some m) next
 
--- a command of a connection is a method that has a spelling, and its content is not too large
+-- If the event is a command, its method has a spelling, and its content is not too large.
 abbrev pub IsSaid : Event → Type 0
 IsSaid (event.Command c h m content) = IsMethod m × HasWithin content
 IsSaid e = Unit {0}
 
 -- ---- events
 
--- This event, under what is in force, is what happened between these two states, and it is one step.
+-- `h` is the event `e` under the configuration `f`, between the states `old` and `new`, and it is one step.
 pub record Happens (f : Config) (old : State) (e : Event) (h : Happening) (new : State) : Type 0 where
   pub under : h.config ≡ f
   pub event : h.event ≡ e
@@ -148,13 +149,13 @@ pub record Happens (f : Config) (old : State) (e : Event) (h : Happening) (new :
   pub after : h.after ≡ new
   pub stepped : Step f old e h.sends h.notes new
 
--- an output that passes the bound pauses its connection, and one that falls below it resumes it
+-- An output that reaches the bound pauses its connection, and one that falls below it resumes it; otherwise nothing happens.
 abbrev pub Pauses : Config → State → ℕ → Bool → Bool → List Happening → State → Type 0
 Pauses f mid c false true hs new = (h : Happening) × (hs ≡ h ∷ []) × Happens f mid (event.Pause c) h new
 Pauses f mid c true false hs new = (h : Happening) × (hs ≡ h ∷ []) × Happens f mid (event.Resume c) h new
 Pauses f mid c was is hs new = (hs ≡ []) × (new ≡ mid)
 
--- An event whose sends go to c and are put out, and the pause that it brings.
+-- An event whose sends all go to connection `c` and are put out, followed by the pause that it brings, if any.
 pub record Puts (old : World) (e : Event) (c : ℕ) (hs : List Happening) (new : World) : Type 0 where
   pub h : Happening
   pub rest : List Happening
@@ -171,16 +172,16 @@ pub record Puts (old : World) (e : Event) (c : ℕ) (hs : List Happening) (new :
   pub others : (d : ℕ) → d ≢ c → new.wire d ≡ old.wire d
   pub rests : (d : ℕ) → d ≢ c → new.state.session d ≡ old.state.session d
 
--- the same bytes under this session: frames are as large as it allows, and contents are kept if it runs
+-- The stream under the session `s`: its frames are as large as this allows, and contents are kept if it runs.
 abbrev pub under_session : Session → Stream → Stream
 under_session s next = keeping (is_running s.phase) (with_max s.frame_max next)
 
--- after a turn nothing is kept, and what is still to come is under the session; of one that is over nothing more is read
+-- The wire after a turn: nothing is kept, and the stream is under the session `s`; if that is over, nothing more is read.
 abbrev pub wire_after : Session → Stream → List ℕ → Wire
 wire_after s next output = if is_ended s.phase then record new_wire { output = output }
     else record { kept = None; stream = under_session s next; output = output }
 
--- One command, or the fault of its stream, is performed for c.
+-- One command of connection `c`, or the fault of its stream, is performed.
 pub record Turns (old : World) (c : ℕ) (hs : List Happening) (new : World) : Type 0 where
   pub awake : is_awake old c ≡ true
   pub event : Event
@@ -191,7 +192,7 @@ pub record Turns (old : World) (c : ℕ) (hs : List Happening) (new : World) : T
   pub given : new.given ≡ old.given
   pub wire : new.wire c ≡ wire_after (new.state.session c) next (new.wire c).output
 
--- Nothing was performed, and of c the same is still to come.
+-- Nothing is performed, and what is still to come from connection `c` is the same.
 pub record Waits (old : World) (c : ℕ) (new : World) : Type 0 where
   pub config : new.config ≡ old.config
   pub state : new.state ≡ old.state
@@ -200,28 +201,28 @@ pub record Waits (old : World) (c : ℕ) (new : World) : Type 0 where
   pub output : (new.wire c).output ≡ (old.wire c).output
   pub coming : SameToCome (old.wire c).kept (old.wire c).stream (new.wire c).kept (new.wire c).stream
 
--- nothing is different between the two worlds
+-- Nothing is different between the two worlds.
 pub record Same (old new : World) : Type 0 where
   pub config : new.config ≡ old.config
   pub state : new.state ≡ old.state
   pub given : new.given ≡ old.given
   pub wires : (d : ℕ) → new.wire d ≡ old.wire d
 
--- no whole command and no fault is left
+-- Connection `c` has no whole command and no fault left.
 pub record IsIdle (w : World) (c : ℕ) : Type 0 where
   pub none_kept : (w.wire c).kept ≡ None
   pub ends : Ends (w.wire c).stream None
 
--- nothing is left to perform for c
+-- Nothing is left to perform for connection `c`: it is over, paused or idle.
 abbrev pub Rests : World → ℕ → Type 0
 Rests w c = (is_awake w c ≡ false) ⊎ IsIdle w c
 
--- Turns of c, one after another.
+-- Turns of connection `c`, none or more, one after another.
 pub data Works (c : ℕ) : World → List Happening → World → Type 0 where
   none_more : {w : World} → Works c w [] w
   one_more : {old mid new : World} {first rest hs : List Happening} → Turns old c first mid → Works c mid rest new → hs ≡ first ++ rest → Works c old hs new
 
--- All that c's bytes spell is performed, up to a pause or its end.
+-- All that the bytes of connection `c` say is performed, up to a pause or its end.
 pub record WorksOff (old : World) (c : ℕ) (hs : List Happening) (new : World) : Type 0 where
   pub mid : World
   pub works : Works c old hs mid
@@ -230,22 +231,22 @@ pub record WorksOff (old : World) (c : ℕ) (hs : List Happening) (new : World) 
 
 -- ---- arrivals
 
--- these bytes have come for c: they stand behind what its stream has still to say
+-- The world with `bytes` appended to the unread bytes of connection `c`.
 abbrev pub with_heard : World → ℕ → List ℕ → World
 with_heard w c bytes = record w { wire = with_one w.wire c (record (w.wire c) { stream = heard (w.wire c).stream bytes }) }
 
--- n more bytes of c's output are taken; it may be resumed by that
+-- The first `n` bytes of the output of connection `c` are taken, or all if there are fewer, which may resume it.
 pub record Takes_off (old : World) (c n : ℕ) (hs : List Happening) (new : World) : Type 0 where
   pub config : new.config ≡ old.config
   pub given : new.given ≡ old.given
   pub wires : (d : ℕ) → new.wire d ≡ with_one old.wire c (record (old.wire c) { output = drop n (old.wire c).output }) d
   pub pauses : Pauses old.config old.state c (is_paused old c) (is_paused new c) hs new.state
 
--- at most 1,024 connections that are not gone; a number is given once
+-- Whether a connection can be opened: fewer than 1,024 are not gone, and a number is left, as each is given once.
 abbrev pub can_open : World → Bool
 can_open w = nat_lt (standing w w.given) 1024 && nat_lt w.given 18446744073709551615
 
--- A connection is opened by this event under the next number, with this stream; nothing is sent.
+-- The event `e` opens a connection under the next number, with the stream `s`; nothing is sent.
 pub record Opens (old : World) (e : Event) (s : Stream) (hs : List Happening) (new : World) : Type 0 where
   pub h : Happening
   pub all : hs ≡ h ∷ []
@@ -255,7 +256,7 @@ pub record Opens (old : World) (e : Event) (s : Stream) (hs : List Happening) (n
   pub given : new.given ≡ old.given + 1
   pub wires : (d : ℕ) → new.wire d ≡ with_one old.wire (old.given + 1) (record new_wire { stream = s }) d
 
--- The connection is lost: what it held is requeued, and what it had still to say or to take is gone.
+-- Connection `c` is lost: what it held is requeued, and its unread bytes and its output are gone.
 pub record Loses (old : World) (c : ℕ) (hs : List Happening) (new : World) : Type 0 where
   pub h : Happening
   pub all : hs ≡ h ∷ []
@@ -265,7 +266,7 @@ pub record Loses (old : World) (c : ℕ) (hs : List Happening) (new : World) : T
   pub given : new.given ≡ old.given
   pub wires : (d : ℕ) → new.wire d ≡ with_one old.wire c new_wire d
 
--- Output is taken, then what waited is performed.
+-- `n` bytes of output are taken, and then what waited is performed.
 pub record TakesAndWorks (old : World) (c n : ℕ) (hs : List Happening) (new : World) : Type 0 where
   pub first : List Happening
   pub rest : List Happening
@@ -274,26 +275,26 @@ pub record TakesAndWorks (old : World) (c n : ℕ) (hs : List Happening) (new : 
   pub takes : Takes_off old c n first mid
   pub works : WorksOff mid c rest new
 
--- no event, and the world stays as it is
+-- There is no event, and the world is as before.
 abbrev pub Nothing_happens : World → List Happening → World → Type 0
 Nothing_happens old hs new = (hs ≡ []) × Same old new
 
--- A message is delivered to a consumer of connection c, and put out; the connection may be paused by that.
+-- A message is delivered to a consumer of connection `c` and put out, which may pause the connection.
 pub record Delivers (old : World) (c : ℕ) (hs : List Happening) (new : World) : Type 0 where
   pub puts : Puts old (event.Deliver c) c hs new
   pub given : new.given ≡ old.given
   pub wire : new.wire c ≡ record (old.wire c) { output = (new.wire c).output }
 
--- no delivery can be made, to whatever connection
+-- No delivery can be made, to any connection.
 abbrev pub NoneCanDeliver : World → Type 0
 NoneCanDeliver w = (c : ℕ) → CanDeliver w.state.broker c → ⊥
 
--- One delivery is made where any can be, and nothing is done where none can.
+-- One delivery is made if any can be, and otherwise nothing happens.
 pub data Pumps : World → List Happening → World → Type 0 where
   delivers : {old new : World} {c : ℕ} {hs : List Happening} → Delivers old c hs new → Pumps old hs new
   idles : {old new : World} {hs : List Happening} → NoneCanDeliver old → Nothing_happens old hs new → Pumps old hs new
 
--- What is offered is put in force, or refused for the first thing that stands against it; connections stay, with all that they have still to say and to take.
+-- The configuration `offered` is put in force, or refused for the first obstacle. Connections keep their unread bytes and their output.
 pub record Reloads (old : World) (offered : Config) (os : List Occurrence) (new : World) : Type 0 where
   pub r : Reload
   pub all : os ≡ Of_reload r ∷ []
@@ -306,11 +307,12 @@ pub record Reloads (old : World) (offered : Config) (os : List Occurrence) (new 
   pub given : new.given ≡ old.given
   pub wires : (c : ℕ) → new.wire c ≡ old.wire c
 
--- events alone happened, of which this holds
+-- The occurrences are events alone, for which `Holds` is true.
 abbrev pub ByEvents : List Occurrence → (List Happening → Type 0) → Type 0
 ByEvents os Holds = (hs : List Happening) × (os ≡ map Of_event hs) × Holds hs
 
--- What one arrival brings: one for a connection that is gone does nothing, nor do bytes for one that is over. A reload offers a configuration.
+-- What one arrival brings about. One for a connection that is gone does nothing, nor do bytes for one
+-- that is over, nor does an opening if no connection can be opened. A reload offers a configuration.
 abbrev pub Answers : World → Arrival Config → List Occurrence → World → Type 0
 Answers old arrival.Open os new =
     ByEvents os (λ hs. MatchBool (can_open old) (Opens old (event.Open (old.given + 1)) opened_stream hs new) (Nothing_happens old hs new))
@@ -323,13 +325,13 @@ Answers old arrival.Pump os new = ByEvents os (λ hs. Pumps old hs new)
 Answers old (arrival.Lose c) os new = ByEvents os (λ hs. MatchBool (is_gone old c) (Nothing_happens old hs new) (Loses old c hs new))
 Answers old (arrival.Reload offered) os new = Reloads old offered os new
 
--- A whole list of arrivals.
+-- What a list of arrivals brings about, one after another.
 abbrev pub Plays : World → List (Arrival Config) → List Occurrence → World → Type 0
 Plays old [] os new = (os ≡ []) × Same old new
 Plays old (a ∷ as') os new = (mid : World) × (first : List Occurrence) × (rest : List Occurrence) × (os ≡ first ++ rest) × Answers old a first mid
     × Plays mid as' rest new
 
--- the arrival as it is where its setup stands for this
+-- The arrival, with the setup of a reload replaced by what `f` makes of it.
 abbrev pub told : {S T : Type 0} → (S → T) → Arrival S → Arrival T
 told f arrival.Open = arrival.Open
 told f (arrival.Ready k) = arrival.Ready k
@@ -341,21 +343,21 @@ told f (arrival.Reload s) = arrival.Reload (f s)
 
 -- ---- what a run is seen by
 
--- of one connection: all bytes put out for it, and whether it is over or lost
+-- What is seen of one connection: all bytes put out for it, and whether it is over or lost.
 pub record Shown : Type 0 where
   pub output : List ℕ
   pub is_over : Bool
 
--- the connections in the order of their numbers, and the notes
+-- What is seen of a run: the connections in the order of their numbers, and the notes.
 pub record Seen : Type 0 where
   pub connections : List Shown
   pub notes : List Note
 
--- what is seen of connection c: all that was put out for it, taken or not, and whether it is over
+-- What is seen of connection `c` after the events `hs`: all that was put out for it, taken or not, and whether it is over.
 abbrev pub shown : List Happening → World → ℕ → Shown
 shown hs w c = record { output = put_out c hs; is_over = is_over w c }
 
--- The notes are those of what happened and of what was reloaded, and each output is the spelling of what was sent to its connection.
+-- `seen` is what the occurrences `os` show: their notes, and for each connection the spelling of what was sent to it, and whether it is over in `w`.
 pub record Shows (os : List Occurrence) (w : World) (seen : Seen) : Type 0 where
   pub noted : seen.notes ≡ notes_over os
   pub counted : length seen.connections ≡ w.given

@@ -1,4 +1,4 @@
--- The broker's state, as if it were kept by hand: lists in arrival order, and records by name and number.
+-- The broker's state in plain terms: queues as lists of entries in arrival order, connections and channels by number.
 use Rattle.std.specs.Prelude.{
   ℕ,
   ◌+◌,
@@ -30,54 +30,54 @@ use Rattle.model.specs.declared.messages.Entry.{Entry}
 use Rattle.model.specs.declared.messages.Mark.TheVariants.{Ready, Held}
 use Rattle.model.specs.declared.messages.Taker.{Taker}
 
--- one who takes a queue's messages (AMQP 0-9-1, basic.consume)
+-- A consumer, which takes a queue's messages (AMQP 0-9-1, basic.consume).
 pub record Consumer : Type 0 where
-  -- consumers of a channel are numbered as they are made
+  -- The consumers of a channel are numbered in the order in which they are made.
   pub number : ℕ
   pub tag : Text
   pub queue : Text
   pub no_ack : Bool
-  -- how many messages it may hold; 0 is no limit
+  -- The most unacknowledged messages that it may have; 0 is no limit.
   pub limit : ℕ
 
--- a message that was given out on a channel and is not settled
+-- A delivery on a channel that is not settled: its message is unacknowledged.
 pub record Outstanding : Type 0 where
   pub tag : ℕ
   pub queue : Text
   pub by : Taker
 
--- an open channel (AMQP 0-9-1, section 2.2.5, "The Channel Class")
+-- An open channel (AMQP 0-9-1, section 2.2.5, "The Channel Class").
 pub record Channel : Type 0 where
-  -- the last confirm number, where publishes are confirmed (RabbitMQ, "Publisher Confirms")
+  -- The last confirm number, if the channel is in confirm mode (RabbitMQ, "Publisher Confirms").
   pub confirm : Option ℕ
   pub next_tag : ℕ
-  -- the number of the next consumer: none is used again
+  -- The number of the next consumer. No number is used twice.
   pub next_number : ℕ
-  -- the number of the next consumer tag that the server makes
+  -- The least number that the server may give the next consumer tag that it makes.
   pub next_name : ℕ
-  -- a close was sent, and close-ok is awaited
+  -- A close was sent, and close-ok is awaited.
   pub is_closing : Bool
   pub consumers : List Consumer
-  -- the limit of consumers made later, and that of all of them together; 0 is none (RabbitMQ, "Consumer Prefetch")
+  -- The prefetch of each consumer that is made later, and that of all consumers together; 0 is no limit (RabbitMQ, "Consumer Prefetch").
   pub each_limit : ℕ
   pub limit : ℕ
-  -- in the order of their tags
+  -- In the order of their tags.
   pub outstanding : List Outstanding
 
--- a connection that runs
+-- A running connection.
 pub record Connection : Type 0 where
   pub channel_max : ℕ
   pub is_paused : Bool
 
--- Each queue is a list of entries in arrival order; each running connection has its open channels.
+-- The broker: each queue is a list of entries in arrival order, and each running connection has its open channels.
 pub record Broker : Type 0 where
-  -- how many publishes there were
+  -- The number of publishes so far.
   pub published : ℕ
   pub queue : Text → List Entry
   pub connection : ℕ → Option Connection
   pub channel : ℕ → ℕ → Option Channel
 
--- a channel with nothing on it
+-- A channel that was just opened.
 abbrev pub new_channel : Channel
 new_channel = record {
   confirm = None;
@@ -91,11 +91,11 @@ new_channel = record {
   outstanding = [];
 }
 
--- the message can be given out
+-- Whether the entry is ready: its message can be given out.
 abbrev pub is_ready : Entry → Bool
 is_ready e = elim e.mark [ Ready ↦ true | Held h ↦ false ]
 
--- the entries of the queue of this name, where lists stand in the order of these names
+-- The entries of the queue `q`, if `names` are the names of queues and `lists` their entries in the same order; no entries if `q` is not among them.
 abbrev pub listed : List Text → List (List Entry) → Text → List Entry
 listed [] lists q = []
 listed (name ∷ names) [] q = []
@@ -103,57 +103,57 @@ listed (name ∷ names) (entries ∷ lists) q = if bytes_eq name q then entries 
 
 -- ---- full queues
 
--- a limit is reached
+-- Whether `n` has reached the limit; without a limit, never.
 abbrev pub is_at : Option ℕ → ℕ → Bool
 is_at None n = false
 is_at (Some limit) n = nat_le limit n
 
--- a limit is passed
+-- Whether `n` exceeds the limit; without a limit, never.
 abbrev pub is_past : Option ℕ → ℕ → Bool
 is_past None n = false
 is_past (Some limit) n = nat_lt limit n
 
--- the queue of this name, as the topology declares it
+-- The queue called `name`, as it is declared, if there is one.
 abbrev pub queue_named : List DeclaredQueue → Text → Option DeclaredQueue
 queue_named qs name = find (λ (q : DeclaredQueue). bytes_eq q.name name) qs
 
--- how many ready messages the queue may have; none where it has no limit
+-- The most ready messages that the queue may have; `None` if it has no such limit.
 abbrev pub limit_of : Option DeclaredQueue → Option ℕ
 limit_of None = None
 limit_of (Some q) = q.limit
 
--- how many bytes the bodies of its ready messages may have together; none where it has no such limit
+-- The most bytes that the bodies of its ready messages may have together; `None` if it has no such limit.
 abbrev pub byte_limit_of : Option DeclaredQueue → Option ℕ
 byte_limit_of None = None
 byte_limit_of (Some q) = q.byte_limit
 
--- how many bytes the body of the message has
+-- The length of the message's body, in bytes.
 abbrev pub body_bytes : Entry → ℕ
 body_bytes e = length e.message.content.body
 
--- how many bytes the bodies of the ready messages have together
+-- The bytes that the bodies of the ready messages have together.
 abbrev pub ready_bytes : List Entry → ℕ
 ready_bytes entries = sum_by body_bytes (filter is_ready entries)
 
--- A queue with so many ready messages, whose bodies have so many bytes, refuses a message with a body of this size: its count has come to
--- the limit, or with that body its bytes would pass theirs (RabbitMQ, "Queue Length Limit", reject-publish).
+-- Whether a queue with `count` ready messages, whose bodies have `bytes` bytes, refuses a message with a body of `size` bytes: the
+-- count has reached its limit, or with that body the bytes would exceed theirs (RabbitMQ, "Queue Length Limit", reject-publish).
 abbrev pub refuses : Option DeclaredQueue → (count bytes size : ℕ) → Bool
 refuses q count bytes size = is_at (limit_of q) count || is_past (byte_limit_of q) (bytes + size)
 
--- the queue of this name refuses a message with a body of this size
+-- Whether the queue `q`, with these entries, refuses a message with a body of `size` bytes.
 abbrev pub is_full : Topology → (Text → List Entry) → Text → ℕ → Bool
 is_full t entries q size = refuses (queue_named t.queues q) (length (filter is_ready (entries q))) (ready_bytes (entries q)) size
 
 -- ---- one value changed
 
--- a function with one value changed
+-- The function `f` with its value at `n` replaced by `a`.
 abbrev pub with_one : {A : Type 0} → (ℕ → A) → ℕ → A → ℕ → A
 with_one f n a m = if m == n then a else f m
 
--- a function of two numbers with one value changed
+-- The function `f` with its value at `n` and `k` replaced by `a`.
 abbrev pub with_pair : {A : Type 0} → (ℕ → ℕ → A) → ℕ → ℕ → A → ℕ → ℕ → A
 with_pair f n k a m l = if m == n && l == k then a else f m l
 
--- and with all values of one row changed
+-- The function `f` with all of its values in the row `n` replaced by those of `row`.
 abbrev pub with_row : {A : Type 0} → (ℕ → ℕ → A) → ℕ → (ℕ → A) → ℕ → ℕ → A
 with_row f n row m l = if m == n then row l else f m l

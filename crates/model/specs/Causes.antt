@@ -1,4 +1,4 @@
--- Why a message left a queue, and from where one came that entered (own, from the commands of AMQP 0-9-1 that it names).
+-- Why a message left a queue, and where one that entered came from (own, from the commands of AMQP 0-9-1 that it names).
 use Rattle.std.specs.Prelude.{◌≡◌, ℕ, Bool, true, false, Some}
 use Rattle.std.specs.List.{AllByRecursion}
 use Rattle.model.specs.Words.{Text}
@@ -24,7 +24,8 @@ use Rattle.model.specs.Allowed.{IsNoted}
 
 -- ---- causes
 
--- A message of this number was given out on channel h of connection c, is outstanding there under a tag that this one settles, and stands in this queue.
+-- A message of number `n` in the queue `q` is held by an unacknowledged delivery of
+-- channel `h` of connection `c` that `tag`, with or without `multiple`, settles.
 pub record WasGiven (b : Broker) (c h tag : ℕ) (multiple : Bool) (n : ℕ) (q : Text) : Type 0 where
   pub channel : Channel
   pub there : b.channel c h ≡ Some channel
@@ -37,86 +38,86 @@ pub record WasGiven (b : Broker) (c h tag : ℕ) (multiple : Bool) (n : ℕ) (q 
   pub held : is_held_as (holder_of c h delivery) entry ≡ true
   pub number : entry.message.number ≡ n
 
--- A message of this number can be given out of this queue.
+-- A message of number `n` is ready in the queue `q`.
 pub record IsReadyIn (b : Broker) (n : ℕ) (q : Text) : Type 0 where
   pub entry : Entry
   pub stands : IsIn entry (b.queue q)
   pub ready : is_ready entry ≡ true
   pub number : entry.message.number ≡ n
 
--- A message of this number is the first that can be given out of this queue.
+-- The first ready message of the queue `q` has number `n`.
 pub record IsFirstIn (b : Broker) (n : ℕ) (q : Text) : Type 0 where
   pub entry : Entry
   pub first : first_ready (b.queue q) ≡ Some entry
   pub number : entry.message.number ≡ n
 
--- an acknowledgement takes out what it settles (AMQP 0-9-1, basic.ack)
+-- The method is an acknowledgement, which takes out what it settles (AMQP 0-9-1, basic.ack).
 abbrev pub ByAck : Broker → ℕ → ℕ → Method → ℕ → Text → Type 0
 ByAck b c h (BasicAck m) n q = WasGiven b c h m.delivery_tag m.multiple n q
 ByAck b c h m n q = ⊥
 
--- a rejection that does not requeue takes out what it settles (AMQP 0-9-1, basic.reject; RabbitMQ, basic.nack)
+-- The method is a rejection that does not requeue, which takes out what it settles (AMQP 0-9-1, basic.reject; RabbitMQ, basic.nack).
 abbrev pub ByRejection : Broker → ℕ → ℕ → Method → ℕ → Text → Type 0
 ByRejection b c h (BasicReject m) n q = (m.requeue ≡ false) × WasGiven b c h m.delivery_tag false n q
 ByRejection b c h (BasicNack m) n q = (m.requeue ≡ false) × WasGiven b c h m.delivery_tag m.multiple n q
 ByRejection b c h m n q = ⊥
 
--- a get without acknowledgement takes out the first ready message of its queue (AMQP 0-9-1, basic.get, no-ack)
+-- The method is a get without acknowledgement, which takes out the first ready message of its queue (AMQP 0-9-1, basic.get, no-ack).
 abbrev pub ByGiving : Broker → Method → ℕ → Text → Type 0
 ByGiving b (BasicGet m) n q = (m.no_ack ≡ true) × (m.queue ≡ q) × IsFirstIn b n q
 ByGiving b m n q = ⊥
 
--- a purge takes out the ready messages of its queue (AMQP 0-9-1, queue.purge)
+-- The method is a purge, which takes out the ready messages of its queue (AMQP 0-9-1, queue.purge).
 abbrev pub ByPurge : Broker → Method → ℕ → Text → Type 0
 ByPurge b (QueuePurge m) n q = (m.queue ≡ q) × IsReadyIn b n q
 ByPurge b m n q = ⊥
 
--- By this command, in this state, a message of this number may leave this queue for this cause.
+-- In this state, the method on channel `h` of connection `c` may take a message of number `n` out of the queue `q` for this cause.
 abbrev pub IsCauseIn : Broker → ℕ → ℕ → Method → ℕ → Text → Cause → Type 0
 IsCauseIn b c h m n q Acknowledged = ByAck b c h m n q
 IsCauseIn b c h m n q Auto = ByGiving b m n q
 IsCauseIn b c h m n q Rejected = ByRejection b c h m n q
 IsCauseIn b c h m n q Purged = ByPurge b m n q
 
--- A delivery that can be made to connection c takes out a message of this number from this queue: the first ready one, for a consumer that
--- needs no acknowledgement (AMQP 0-9-1, basic.consume, no-ack).
+-- A delivery that can be made to connection `c` takes a message of number `n` out of the queue `q`: the
+-- first ready one, for a consumer that needs no acknowledgement (AMQP 0-9-1, basic.consume, no-ack).
 pub record ByDelivery (b : Broker) (c n : ℕ) (q : Text) : Type 0 where
   pub made : CanDeliver b c
   pub no_ack : made.consumer.no_ack ≡ true
   pub queue : made.consumer.queue ≡ q
   pub number : made.entry.message.number ≡ n
 
--- a delivery takes messages out for no other cause
+-- A delivery to connection `c` may take a message of number `n` out of the queue `q` for this cause, which is `Auto`.
 abbrev pub IsCauseOfDelivery : Broker → ℕ → ℕ → Text → Cause → Type 0
 IsCauseOfDelivery b c n q Auto = ByDelivery b c n q
 IsCauseOfDelivery b c n q cause = ⊥
 
--- By this event, in this state: no event but a command or a delivery takes a message out.
+-- In this state, the event may take a message of number `n` out of the queue `q` for `cause`: only a command or a delivery may.
 abbrev pub IsCauseAt : Broker → Event → ℕ → Text → Cause → Type 0
 IsCauseAt b (Command c h m content) n q cause = IsCauseIn b c h m n q cause
 IsCauseAt b (Deliver c) n q cause = IsCauseOfDelivery b c n q cause
 IsCauseAt b e n q cause = ⊥
 
--- By this event a message of this number may leave this queue for this cause, as the state before it says.
+-- The event `h` may take a message of number `n` out of the queue `q` for `cause`, by the state before it.
 abbrev pub IsCause : Happening → ℕ → Text → Cause → Type 0
 IsCause h n q cause = IsCauseAt h.before.broker h.event n q cause
 
--- where the note says that a message left a queue, it left by this event for the cause that is noted
+-- If the note says that a message left a queue, the event may take it out for the cause that is noted.
 abbrev pub HasCause : Happening → Note → Type 0
 HasCause h (Left n q cause) = IsCause h n q cause
 HasCause h note = Unit {0}
 
--- so does each message of which the event notes that it left
+-- Each message of which the event notes that it left a queue has a cause.
 abbrev pub HaveCauses : Happening → Type 0
 HaveCauses h = AllByRecursion (HasCause h) h.notes
 
 -- ---- origins
 
--- the event notes the publish of this number
+-- The event notes publish `n`.
 abbrev pub IsPublishedAt : Happening → ℕ → Type 0
 IsPublishedAt h n = (x : Text) × (key : Text) × IsNoted h.notes n x key
 
--- A message of this number stood in a queue before the event, and the event notes that it left this queue by a rejection.
+-- A message of number `n` was in a queue before the event, and the event notes that one of this number left this queue by a rejection.
 pub record DiesAt (h : Happening) (n : ℕ) : Type 0 where
   pub queue : Text
   pub entry : Entry
@@ -124,12 +125,12 @@ pub record DiesAt (h : Happening) (n : ℕ) : Type 0 where
   pub number : entry.message.number ≡ n
   pub left : IsIn (Left n queue Rejected) h.notes
 
--- where the note says that a message entered a queue, it came by its publish, or as a dead letter by its death, at this event
+-- If the note says that a message entered a queue, it came at this event: by its publish, or, as a dead letter, by its death.
 abbrev pub HasOrigin : Happening → Note → Type 0
 HasOrigin h (Entered n q way.Publish) = IsPublishedAt h n
 HasOrigin h (Entered n q way.Dead) = DiesAt h n
 HasOrigin h note = Unit {0}
 
--- so did each message of which the event notes that it entered
+-- Each message of which the event notes that it entered a queue has an origin.
 abbrev pub HaveOrigins : Happening → Type 0
 HaveOrigins h = AllByRecursion (HasOrigin h) h.notes

@@ -2,7 +2,7 @@
 use Rattle.std.specs.Prelude.{ℕ, ◌==◌, if◌then◌else◌, codes}
 use Rattle.model.specs.Words.{Text}
 
--- the text that is sent with a reply code; of 541, and of any code that is not listed, it is internal-error
+-- The text that is sent with a reply code; internal-error for 541 and for any code that is not listed.
 abbrev pub code_text : ℕ → Text
 code_text code =
     if code == 311 then codes "content-too-large"

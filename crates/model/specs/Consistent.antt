@@ -1,4 +1,4 @@
--- What every world keeps that a run from a broker with no connection reaches.
+-- What every world keeps that a run reaches from a broker with no connection.
 use Rattle.std.specs.Prelude.{◌≡◌, ℕ, Some, is_some}
 use Rattle.model.specs.Broker.{Connection}
 use Rattle.model.specs.Phases.{is_running}
@@ -8,19 +8,19 @@ use Rattle.model.specs.Sending.{AreCarried}
 use Rattle.model.specs.Tracing.{AreKept}
 use Rattle.model.specs.Headline.{IsSound}
 
--- What stands in two places is the same in both, and what stands in a queue can be sent:
+-- The broker, the phases and the wires of the world agree, and what is in a queue can be sent.
 pub record IsConsistent (w : World) : Type 0 where
-  -- a message in a queue is of a publish that was counted
+  -- No message in a queue has a greater number than that of publishes counted.
   pub counted : AreCounted w.state.broker
-  -- and can be given out
+  -- Each message in a queue can be given out.
   pub carried : AreCarried w.state.broker
-  -- and may stand there
+  -- Each message may be in its queue, under what is in force.
   pub kept : AreKept w.config w.state.broker
-  -- what is in force is sound
+  -- The configuration in force is sound.
   pub sound : IsSound w.config
-  -- a connection is one of the broker's exactly while its phase is Running
+  -- The broker has a connection exactly while its phase is Running.
   pub running : (c : ℕ) → is_some (w.state.broker.connection c) ≡ is_running (w.state.session c).phase
-  -- and the broker knows it as paused exactly where its output is past the bound
+  -- The broker has a connection as paused exactly while its output has 1,048,576 bytes or more.
   pub paused : (c : ℕ) (conn : Connection) → w.state.broker.connection c ≡ Some conn → conn.is_paused ≡ is_paused w c
-  -- and under the channel-max that was agreed on for it
+  -- The broker has the channel-max that was agreed on for the connection.
   pub limits : (c : ℕ) (conn : Connection) → w.state.broker.connection c ≡ Some conn → conn.channel_max ≡ (w.state.session c).channel_max

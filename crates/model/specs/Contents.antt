@@ -1,5 +1,5 @@
--- What is given out: each content is that of a publish, but for headers that tell of deaths (AMQP 0-9-1, section 4.2.6, "Content Framing";
--- RabbitMQ, "Dead Letter Exchanges").
+-- What is given out: each content is that of a publish, except for headers that tell of
+-- deaths (AMQP 0-9-1, section 4.2.6, "Content Framing"; RabbitMQ, "Dead Letter Exchanges").
 use Rattle.std.specs.Prelude.{◌≡◌, ℕ, List, [], ◌∷◌, ◌++◌, filter_map, Option, None}
 use Rattle.std.specs.List.{AllByRecursion}
 use Rattle.model.specs.Words.{Text}
@@ -18,18 +18,19 @@ use Rattle.model.specs.declared.events.Event.TheVariants.{Command}
 use Rattle.model.specs.Allowed.{IsNoted}
 use Rattle.model.specs.Order.{GivesOut}
 
--- headers after any number of deaths, each of which tells of itself where none before it did (RabbitMQ, "Dead Letter Exchanges")
+-- The headers, as published, become the second ones by any number of deaths. Each death adds its fields unless an earlier one did (RabbitMQ, "Dead Letter
+-- Exchanges").
 pub data AreHeadersAfter : Option Text → Option Text → Type 0 where
   as_published : {headers : Option Text} → AreHeadersAfter headers headers
   after_death : {first before after : Option Text} (queue exchange : Text) → AreHeadersAfter first before → AreMarked queue exchange before after
       → AreHeadersAfter first after
 
--- This is what has become of a content since it was published: its body and its properties are the same, but for headers that tell of deaths.
+-- The content `now` is what became of `published`: its body and its properties are the same, except for headers that tell of deaths.
 pub record IsContentOf (published now : Content) : Type 0 where
   pub same : now ≡ with_headers published now.properties.headers
   pub headers : AreHeadersAfter published.properties.headers now.properties.headers
 
--- At one of these events the publish of this number came, with this content, for this exchange under this key.
+-- At one of the events `hs`, publish `n` came with the content `came`, for the exchange `x` under the key `k`.
 pub record WasPublished (hs : List Happening) (n : ℕ) (x k : Text) (came : Content) : Type 0 where
   pub happening : Happening
   pub among : IsIn happening hs
@@ -43,31 +44,32 @@ pub record WasPublished (hs : List Happening) (n : ℕ) (x k : Text) (came : Con
   pub content : content_or_none given ≡ came
   pub noted : IsNoted happening.notes n x k
 
--- the message is of a publish among these events: of its number, first sent where it says, and with what has become of its content
+-- The message is of a publish at one of the events `hs`: it has that publish's number, exchange and key, and what became of its content.
 pub record IsOfPublish (hs : List Happening) (m : Message) : Type 0 where
   pub published : Content
   pub was : WasPublished hs m.number m.first_exchange m.first_key published
   pub content : IsContentOf published m.content
 
--- the content of what is sent, if it has one
+-- The content of a send, if it has one.
 abbrev pub content_in : Send → Option Content
 content_in (send.Greeting c) = None
 content_in (send.Command c h m content) = content
 
--- A content that is sent at an event is that of a message, or of what goes back.
+-- The source of a content that is sent at the event `h`.
 pub data HasSource (before : List Happening) (h : Happening) (content : Content) : Type 0 where
-  -- the message that the event gives out, to the get that asked for it or to a consumer of its queue, which is of a publish among these
+  -- It is that of the message that the event gives out, to the get that asked for it or
+  -- to a consumer of its queue, and this is of a publish at one of the events `before`.
   given_out : (queue : Text) (entry : Entry) → GivesOut h queue entry → content ≡ entry.message.content → IsOfPublish before entry.message
       → HasSource before h content
-  -- the event's own publish
+  -- It is that of the event's own publish.
   sent_back : (c k : ℕ) (publish : Publish) (given : Option Content) → h.event ≡ Command c k (BasicPublish publish) given
       → content ≡ content_or_none given → HasSource before h content
 
--- so is each that is sent at the event, of publishes at events before it
+-- Each content that is sent at the event `h` has a source; `before` are the events before it.
 abbrev pub HaveSources : List Happening → Happening → Type 0
 HaveSources before h = AllByRecursion (HasSource before h) (filter_map content_in h.sends)
 
--- and at each of these events, of publishes at those first ones and at those between
+-- Each content that is sent at one of the events has a source; `before` are those before the first of them.
 abbrev pub AreSourced : List Happening → List Happening → Type 0
 AreSourced before [] = Unit {0}
 AreSourced before (h ∷ hs) = HaveSources before h × AreSourced (before ++ h ∷ []) hs

@@ -1,5 +1,5 @@
--- Dead letters: what becomes of a message that is rejected and not requeued.
--- Source: RabbitMQ, "Dead Letter Exchanges"; that a dead letter is made in the event of its rejection, and which headers it gets, is own.
+-- Dead letters: what becomes of a message that is rejected and not requeued. Source: RabbitMQ, "Dead Letter
+-- Exchanges"; that a dead letter is made in the event of its rejection, and which headers it gets, is own.
 use Rattle.std.specs.Prelude.{◌≡◌, List, [], ◌∷◌, ◌++◌, length, codes, false, ◌⊎◌, Option, Some, None}
 use Rattle.model.specs.Words.{Text}
 use Rattle.model.specs.Tables.{Pairs, no_pairs, pair, Long_string, pairs_bytes, HavePairsSpelling}
@@ -18,43 +18,43 @@ use Rattle.model.specs.declared.notes.Way.TheVariants as way
 
 -- ---- the headers of the first death
 
--- the field that names the queue of the first death
+-- The field that names the queue of the first death.
 abbrev pub death_queue : Text
 death_queue = codes "x-first-death-queue"
 
--- the field that says why, which is by a rejection
+-- The field that gives the reason of the first death, which is a rejection.
 abbrev pub death_reason : Text
 death_reason = codes "x-first-death-reason"
 
--- the field that names the exchange to which it was sent before
+-- The field that names the exchange to which the message was sent before its first death.
 abbrev pub death_exchange : Text
 death_exchange = codes "x-first-death-exchange"
 
--- the three fields of a first death in this queue, of a message that was last sent to this exchange, as the bytes of their pairs
+-- The three fields of a first death in `queue`, of a message that was last sent to `exchange`, as the bytes of their pairs.
 abbrev pub first_death : Text → Text → Text
 first_death queue exchange =
     pairs_bytes (pair death_queue (Long_string queue)
     (pair death_reason (Long_string (codes "rejected")) (pair death_exchange (Long_string exchange) no_pairs)))
 
--- a field of this name stands in the table
+-- The table has a field called `name`.
 abbrev pub IsFieldOf : Pairs → Text → Type 0
 IsFieldOf no_pairs name = ⊥
 IsFieldOf (pair other v ps) name = (other ≡ name) ⊎ IsFieldOf ps name
 
--- These headers tell of a first death: they are the pairs of a table in which the field of its queue stands.
+-- The headers tell of a first death: they are the pairs of a table with the field of its queue.
 pub record TellsOfDeath (headers : Text) : Type 0 where
   pub pairs : Pairs
   pub fits : HavePairsSpelling pairs
   pub spelled : headers ≡ pairs_bytes pairs
   pub field : IsFieldOf pairs death_queue
 
--- no first death is told of, without headers or by them
+-- There are no headers, or they tell of no first death.
 abbrev pub IsUnmarked : Option Text → Type 0
 IsUnmarked None = Unit {0}
 IsUnmarked (Some headers) = TellsOfDeath headers → ⊥
 
--- The headers of a message that dies in this queue, last sent to this exchange: the three fields stand behind the others, or those of an
--- earlier death stay as they are.
+-- The second headers are those of a message that dies in `queue`, last sent to `exchange`, if it had the first:
+-- the three fields of this death are appended, or, if the headers tell of an earlier death, nothing changes.
 pub data AreMarked (queue exchange : Text) : Option Text → Option Text → Type 0 where
   alone : AreMarked queue exchange None (Some (first_death queue exchange))
   added : {headers : Text} → IsUnmarked (Some headers) → AreMarked queue exchange (Some headers) (Some (headers ++ first_death queue exchange))
@@ -62,16 +62,16 @@ pub data AreMarked (queue exchange : Text) : Option Text → Option Text → Typ
 
 -- ---- the dead letter
 
--- the content with other headers
+-- The content with other headers.
 abbrev pub with_headers : Content → Option Text → Content
 with_headers content headers = record content { properties = record content.properties { headers = headers } }
 
--- the message as it is sent on with this content: its number, its first exchange and its first key stay with it, and it counts as not delivered
+-- The message as it is sent to `exchange` under `key` with this content: it keeps its number and its first exchange and key, and counts as not delivered.
 abbrev pub dead_letter : Message → Text → Text → Content → Message
 dead_letter m exchange key content = record m { exchange = exchange; key = key; content = content; redelivered = false; stood = false }
 
--- A death of the message in the queue p, by which it goes to this exchange: under the queue's dead-letter key, or else its own key, to each
--- routed queue in file order. It is not confirmed, nor returned where it is routed nowhere.
+-- The message `m` dies in the queue `p`, and its dead letter goes to `exchange`: under the queue's dead-letter key, or else its
+-- own key, into each routed queue that is not full, in file order. It is not confirmed, nor returned if it is routed nowhere.
 pub record IsDeath (t : Topology) (p : DeclaredQueue) (exchange : Text) (queues : Text → List Entry) (m : Message) (notes : List Note)
     (new : Text → List Entry) : Type 0 where
   pub headers : Option Text
@@ -82,22 +82,23 @@ pub record IsDeath (t : Topology) (p : DeclaredQueue) (exchange : Text) (queues 
   pub left : (q : Text) → new q ≡ queues q ++ comes_to t queues
       (dead_letter m exchange (key_after p.dead_letter_key m.key) (with_headers m.content headers)) q targets
 
--- nothing is noted, and the queues stay
+-- Nothing is noted, and the queues stay as they are.
 abbrev pub NothingComes : (Text → List Entry) → List Note → (Text → List Entry) → Type 0
 NothingComes queues notes new = (notes ≡ []) × ((q : Text) → new q ≡ queues q)
 
--- it is gone where the queue has no dead-letter exchange, and else it dies there
+-- What becomes of a rejected message that has left the queue `p`: its dead letter is
+-- sent to the queue's dead-letter exchange, or the message is gone if there is none.
 abbrev pub DiesBy : Topology → DeclaredQueue → (Text → List Entry) → Message → List Note → (Text → List Entry) → Option Text → Type 0
 DiesBy t p queues m notes new None = NothingComes queues notes new
 DiesBy t p queues m notes new (Some exchange) = IsDeath t p exchange queues m notes new
 
--- .. of the queue as the topology declares it
+-- What becomes of a rejected message that has left a queue, by the queue's declaration: as `DiesBy` says, or it is gone if the queue is not declared.
 abbrev pub DiesIn : Topology → (Text → List Entry) → Message → List Note → (Text → List Entry) → Option DeclaredQueue → Type 0
 DiesIn t queues m notes new None = NothingComes queues notes new
 DiesIn t queues m notes new (Some p) = DiesBy t p queues m notes new p.dead_letter_exchange
 
--- The message that was found in the queue of this name is not in these queues any more: it is noted that it left by a rejection, and then
--- what is noted of its dead letter.
+-- What becomes of a message that is rejected in the queue `name`, if one was found; `queues` are without it. It is
+-- noted that it left by a rejection, and then what is noted of its dead letter. Nothing happens if none was found.
 abbrev pub MayDie : Topology → Text → (Text → List Entry) → List Note → (Text → List Entry) → Option Entry → Type 0
 MayDie t name queues notes new None = NothingComes queues notes new
 MayDie t name queues notes new (Some e) =

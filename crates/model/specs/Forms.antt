@@ -1,4 +1,4 @@
--- In which form properties are handed on (own).
+-- The form in which properties are handed on (own).
 use Rattle.std.specs.Prelude.{◌≡◌}
 use Rattle.model.specs.Headers.{AreProperties}
 use Rattle.model.specs.Properties.{properties_bytes}
@@ -6,7 +6,7 @@ use Rattle.model.specs.declared.contents.Fields.{Fields as Properties}
 use Rattle.model.specs.declared.contents.Form.{Form}
 use Rattle.model.specs.declared.contents.Form.TheVariants.{Spelled, Apart}
 
--- these properties, in this form: as flags and values that spell them, or one by one
+-- The form is of the properties `p`: flags and values that spell them, or the fields one by one.
 abbrev pub IsFormOf : Properties → Form → Type 0
 IsFormOf p (Spelled bytes) = AreProperties p × (bytes.now ≡ properties_bytes p)
 IsFormOf p (Apart fields) = fields.now ≡ p

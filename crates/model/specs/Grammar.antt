@@ -1,4 +1,5 @@
--- How methods are spelled. Source: AMQP 0-9-1, section 4.2.4, "Method Payloads", section 4.2.5, "Data Types", and its XML.
+-- How methods are spelled. Start with `method_bytes` and `SaysMethod`. Source: AMQP
+-- 0-9-1, section 4.2.4, "Method Payloads", section 4.2.5, "Data Types", and its XML.
 use Rattle.std.specs.Prelude.{
   ◌≡◌,
   ◌<◌,
@@ -83,7 +84,7 @@ use Rattle.model.specs.declared.methods.Method.TheVariants.{
 
 -- ---- arguments
 
--- an argument; consecutive bits share an octet
+-- An argument of a method. Consecutive bits share a byte.
 pub data Argument : Type 0 where
   Octet : (n : ℕ) → Argument
   Short : (n : ℕ) → Argument
@@ -94,12 +95,12 @@ pub data Argument : Type 0 where
   Field_table : (pairs : List ℕ) → Argument
   Bits : (bs : List Bool) → Argument
 
--- the octet of some bits: the first bit is the lowest, bits that are not used are 0
+-- The byte of some bits: the first bit is the lowest, and unused bits are 0.
 abbrev pub octet : List Bool → ℕ
 octet [] = 0
 octet (b ∷ bs) = cond b 1 0 + 2 * octet bs
 
--- how an argument is spelled: numbers are big-endian, texts and tables have their length before them
+-- The bytes of an argument: numbers are big-endian, and the length of a text or table is before it.
 abbrev pub argument : Argument → List ℕ
 argument (Octet n) = n ∷ []
 argument (Short n) = to_be_bytes w16 n
@@ -110,7 +111,7 @@ argument (Long_text t) = to_be_bytes w32 (length t) ++ t
 argument (Field_table pairs) = to_be_bytes w32 (length pairs) ++ pairs
 argument (Bits bs) = octet bs ∷ []
 
--- what has a spelling
+-- The argument has a spelling.
 abbrev pub IsArgument : Argument → Type 0
 IsArgument (Octet n) = n < 2 ^ 8
 IsArgument (Short n) = n < 2 ^ 16
@@ -123,16 +124,16 @@ IsArgument (Bits bs) = length bs ≤ 8
 
 -- ---- the table of methods
 
--- the two numbers by which a payload names its method
+-- The two numbers by which a payload names its method.
 pub record Ids : Type 0 where
   pub class : ℕ
   pub method : ℕ
 
--- this class, and this method of it
+-- The ids of a method: that of its class, and its own.
 abbrev pub ids : ℕ → ℕ → Ids
 ids class method = record { class = class; method = method }
 
--- the class and method that a method is known by
+-- The class and the method number of a method.
 abbrev pub ids_of : Method → Ids
 ids_of (ConnectionStart m) = ids 10 10
 ids_of (ConnectionStartOk m) = ids 10 11
@@ -180,7 +181,7 @@ ids_of (BasicNack m) = ids 60 120
 ids_of (ConfirmSelect no_wait) = ids 85 10
 ids_of ConfirmSelectOk = ids 85 11
 
--- the arguments in the order of the wire; of those that a client may not declare or bind by, none are read
+-- The arguments in the order of the wire. Those of the methods that bind, unbind or delete for a client are not read, so there are none.
 abbrev pub arguments : Method → List Argument
 arguments (ConnectionStart m) = Octet m.version_major ∷ Octet m.version_minor ∷ Field_table m.server_properties ∷ Long_text m.mechanisms
     ∷ Long_text m.locales ∷ []
@@ -233,25 +234,25 @@ arguments (BasicNack m) = Long_long m.delivery_tag ∷ Bits (m.multiple ∷ m.re
 arguments (ConfirmSelect no_wait) = Bits (no_wait ∷ []) ∷ []
 arguments ConfirmSelectOk = []
 
--- a method's payload: class, method, arguments
+-- The payload of a method: class, method, arguments.
 abbrev pub method_bytes : Method → List ℕ
 method_bytes m = to_be_bytes w16 (ids_of m).class ++ to_be_bytes w16 (ids_of m).method ++ flat_map argument (arguments m)
 
--- what has a spelling
+-- The method has a spelling: each of its arguments has one.
 abbrev pub IsMethod : Method → Type 0
 IsMethod m = AllByRecursion IsArgument (arguments m)
 
 -- ---- what a payload says
 
--- the class that a payload begins with, in its first two bytes
+-- The class that a payload begins with, in its first two bytes.
 abbrev pub class_at : List ℕ → ℕ
 class_at bytes = from_be_bytes w16 (take 2 bytes)
 
--- the method behind the class, in the next two bytes
+-- The method number, in the two bytes after the class.
 abbrev pub method_at : List ℕ → ℕ
 method_at bytes = from_be_bytes w16 (take 2 (drop 2 bytes))
 
--- the table of methods has these ids
+-- Whether the table of methods has these ids.
 abbrev pub is_known : ℕ → ℕ → Bool
 is_known c m =
     if c == 10 then list_any (λ n. m == n) (10 ∷ 11 ∷ 30 ∷ 31 ∷ 40 ∷ 41 ∷ 50 ∷ 51 ∷ [])
@@ -262,23 +263,25 @@ is_known c m =
     else if c == 85 then list_any (λ n. m == n) (10 ∷ 11 ∷ [])
     else false
 
--- what is left out by name: the tx class, and basic.recover-async
+-- Whether a method with these ids is left out by name: the tx class, and basic.recover-async.
 abbrev pub is_left_out : ℕ → ℕ → Bool
 is_left_out c m = (c == 90) || ((c == 60) && (m == 100))
 
--- the methods that declare, bind and delete for a client, which are refused: they are known by their ids, and their arguments are not read (own)
+-- Whether a method with these ids binds, unbinds or deletes for a client. Such methods
+-- are refused, so they are known by their ids and their arguments are not read (own).
 abbrev pub is_unread : ℕ → ℕ → Bool
 is_unread c m =
     if c == 40 then list_any (λ n. m == n) (20 ∷ 30 ∷ 40 ∷ [])
     else if c == 50 then list_any (λ n. m == n) (20 ∷ 40 ∷ 50 ∷ [])
     else false
 
--- the payload spells the method; where arguments are not read, any bytes stand in their place
+-- The payload spells the method `m`. If its arguments are not read, any bytes may be in their place.
 pub data Spells (payload : List ℕ) (m : Method) : Type 0 where
   exact : payload ≡ method_bytes m → Spells payload m
   any_rest : (rest : List ℕ) → is_unread (ids_of m).class (ids_of m).method ≡ true → payload ≡ method_bytes m ++ rest → Spells payload m
 
--- The payload of a method frame is this method, or refused by this reply code: 501 frame-error, 503 command-invalid, 540 not-implemented, 502 syntax-error.
+-- The payload of a method frame is this method, or is refused with this reply code:
+-- 501 frame-error, 503 command-invalid, 540 not-implemented, 502 syntax-error.
 pub data SaysMethod (payload : List ℕ) : Result Method ℕ → Type 0 where
   said : {m : Method} → IsMethod m → Spells payload m → SaysMethod payload (Ok m)
   too_short : length payload < 4 → SaysMethod payload (Err 501)
@@ -288,7 +291,7 @@ pub data SaysMethod (payload : List ℕ) : Result Method ℕ → Type 0 where
   bad_arguments : 4 ≤ length payload → is_known (class_at payload) (method_at payload) ≡ true
       → ((m : Method) → IsMethod m → Spells payload m → ⊥) → SaysMethod payload (Err 502)
 
--- a publish's arguments, or the method where it is another
+-- The arguments of a publish, or the method if it is another.
 abbrev pub split : Method → Result Publish Method
 split (BasicPublish publish) = Ok publish
 split method = Err method

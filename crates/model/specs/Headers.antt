@@ -1,4 +1,5 @@
--- How content headers are spelled. Source: AMQP 0-9-1, section 4.2.6.1, "The Content Header", and the basic class of its XML.
+-- How content headers are spelled. Start with `header_bytes` and `SaysHeader`. Source:
+-- AMQP 0-9-1, section 4.2.6.1, "The Content Header", and the basic class of its XML.
 use Rattle.std.specs.Prelude.{
   ◌≡◌,
   ◌≢◌,
@@ -32,7 +33,7 @@ use Rattle.model.specs.Words.{Text}
 use Rattle.model.specs.Grammar.{Argument, Octet, Long_long, Short_text, Field_table, argument, IsArgument, class_at}
 use Rattle.model.specs.declared.contents.Fields.{Fields as Properties}
 
--- a content that has none of the fourteen properties
+-- The properties of a content that has none of the fourteen.
 abbrev pub no_properties : Properties
 no_properties = record {
   content_type = None;
@@ -51,89 +52,89 @@ no_properties = record {
   reserved = None;
 }
 
--- a property that is present, as an argument
+-- A short text as an argument, if the property is present.
 abbrev pub text_of : Option Text → Option Argument
 text_of None = None
 text_of (Some t) = Some (Short_text t)
 
--- the same of an octet: delivery-mode, priority
+-- A byte as an argument, if the property is present: delivery-mode, priority.
 abbrev pub octet_of : Option ℕ → Option Argument
 octet_of None = None
 octet_of (Some n) = Some (Octet n)
 
--- of a time: timestamp
+-- A time as an argument, if the property is present: timestamp.
 abbrev pub time_of : Option ℕ → Option Argument
 time_of None = None
 time_of (Some n) = Some (Long_long n)
 
--- of a field table, by the bytes of its pairs: headers
+-- A field table as an argument, by the bytes of its pairs, if the property is present: headers.
 abbrev pub table_of : Option (List ℕ) → Option Argument
 table_of None = None
 table_of (Some t) = Some (Field_table t)
 
--- the fourteen properties in the order of their flags, from bit 15 down to bit 2
+-- The fourteen properties in the order of their flags, from bit 15 down to bit 2.
 abbrev pub properties_of : Properties → List (Option Argument)
 properties_of p =
     text_of p.content_type ∷ text_of p.content_encoding ∷ table_of p.headers ∷ octet_of p.delivery_mode ∷ octet_of p.priority
     ∷ text_of p.correlation_id ∷ text_of p.reply_to ∷ text_of p.expiration ∷ text_of p.message_id ∷ time_of p.timestamp
     ∷ text_of p.kind ∷ text_of p.user_id ∷ text_of p.app_id ∷ text_of p.reserved ∷ []
 
--- the number whose highest bit tells of the first property, and whose lowest two bits are 0
+-- The property flags as a number: the first property has the highest bit, the last has bit 2, and bits 1 and 0 are 0.
 abbrev pub flags : List (Option Argument) → ℕ
 flags [] = 0
 flags (p ∷ ps) = cond (is_some p) 1 0 * 2 ^ (length ps + 2) + flags ps
 
--- the values that are present, one after another
+-- The bytes of a property's value; none if it is absent.
 abbrev pub value_of : Option Argument → List ℕ
 value_of None = []
 value_of (Some a) = argument a
 
--- a property that is absent, or that has a spelling
+-- The property is absent, or its value has a spelling.
 abbrev pub IsValue : Option Argument → Type 0
 IsValue None = Unit {0}
 IsValue (Some a) = IsArgument a
 
--- what has a spelling
+-- The properties have a spelling: each that is present has one.
 abbrev pub AreProperties : Properties → Type 0
 AreProperties p = AllByRecursion IsValue (properties_of p)
 
--- class 60, weight 0, body size, flags, values
+-- The payload of a content header: class 60, weight 0, body size, flags, values.
 abbrev pub header_bytes : ℕ → Properties → List ℕ
 header_bytes size p = to_be_bytes w16 60 ++ to_be_bytes w16 0 ++ to_be_bytes w64 size ++ to_be_bytes w16 (flags (properties_of p))
     ++ flat_map value_of (properties_of p)
 
 -- ---- what a payload says
 
--- what a content header says of its content
+-- What a content header says.
 pub record Header : Type 0 where
-  -- of the body, in bytes
+  -- The size of the body, in bytes.
   pub size : ℕ
   pub properties : Properties
 
--- the weight behind the class, which is not used and has to be 0
+-- The weight, in the two bytes after the class; it is not used and has to be 0.
 abbrev pub weight_at : List ℕ → ℕ
 weight_at bytes = from_be_bytes w16 (take 2 (drop 2 bytes))
 
--- the size of the body, in the eight bytes behind the weight
+-- The size of the body, in the eight bytes after the weight.
 abbrev pub size_at : List ℕ → ℕ
 size_at bytes = from_be_bytes w64 (take 8 (drop 4 bytes))
 
--- the property flags, in the two bytes behind the size
+-- The property flags, in the two bytes after the size.
 abbrev pub flags_at : List ℕ → ℕ
 flags_at bytes = from_be_bytes w16 (take 2 (drop 12 bytes))
 
--- it is no header of a content of the basic class: 501 frame-error
+-- The payload is no content header of the basic class: 501 frame-error.
 abbrev pub IsNoHeader : List ℕ → Type 0
 IsNoHeader payload = (length payload < 14) ⊎ (class_at payload ≢ 60) ⊎ (weight_at payload ≢ 0)
 
--- The payload declares a body of so many bytes, or is refused by this reply code.
+-- The payload declares a body of this size in bytes, or is refused with this reply code.
 pub data SaysSize (payload : List ℕ) : Result ℕ ℕ → Type 0 where
   size : 14 ≤ length payload → class_at payload ≡ 60 → weight_at payload ≡ 0 → SaysSize payload (Ok (size_at payload))
   no_header : IsNoHeader payload → SaysSize payload (Err 501)
 
--- The payload of a header frame is this header, or refused by this reply code: 501 frame-error, or 502 syntax-error where it has the fixed
--- fields of a header and spells none.
--- That is so where flag bits 1 or 0 are set, and where the properties end early, hold a table that is none, or leave bytes over (own).
+-- The payload of a header frame is this header, or is refused with this reply code: 501 frame-error; or 502
+-- syntax-error if it has the fixed fields of a header and is not the spelling of any. That is so if flag bits
+-- 1 or 0 are set, or if the properties end early, hold bytes that are no table, or leave bytes over (own).
 pub data SaysHeader (payload : List ℕ) : Result Header ℕ → Type 0 where
   said : {h : Header} → h.size < 2 ^ 64 → AreProperties h.properties → payload ≡ header_bytes h.size h.properties → SaysHeader payload (Ok h)
   no_header : IsNoHeader payload → SaysHeader payload (Err 501)

@@ -1,5 +1,6 @@
--- Certified delivery: what is promised of a whole run, in the words of a client and of the topology's owner (own). Each promise is a
--- definition of its own: Acks, Nacks, Routed, Allowed, Causes, Letters, Order, Fresh, Contents, Unrefused, Noted, Settled, Alone, LoggedIn.
+-- Certified delivery: what is promised of a whole run, in the words of a client and of the topology's owner
+-- (own). Start with `CertifiedDelivery`, near the end. Each promise is a definition of its own: Acks, Nacks,
+-- Routed, Allowed, Causes, Letters, Order, Fresh, Contents, Unrefused, Noted, Settled, Alone, LoggedIn.
 use Rattle.std.specs.Prelude.{◌≡◌, ◌+◌, ℕ, List, [], filter_map, Some, slice_get}
 use Rattle.std.specs.List.{AllByRecursion}
 use Rattle.model.specs.Topology.{IsWellFormed}
@@ -28,86 +29,90 @@ use Rattle.model.specs.Tracing.{AreKept, AreSafe}
 use Rattle.model.specs.declared.notes.Note.{Note}
 use Rattle.model.specs.declared.events.Arrival.{Arrival}
 
--- Of these events, where all of these notes were made, and so many publishes were counted before them and after them:
+-- The promises kept at each of the events `hs`. `all` are all notes that were made,
+-- and `from` and `to` the numbers of publishes counted before and after the events.
 pub record KeepsEach (all : List Note) (from : ℕ) (hs : List Happening) (to : ℕ) : Type 0 where
-  -- each publish that was confirmed by ack entered each queue that was promised at it exactly once
+  -- Each publish confirmed by ack entered every queue that a `Reaches` guarantee
+  -- in force at it promises for its exchange and key, exactly once, as a publish.
   pub entered : (c : ℕ) → AllByRecursion (EnteredOnce all) (acked c hs)
-  -- each publish entered each queue to which it was routed, once, but where that queue was full, and was acked only where none was
+  -- Each publish entered each queue to which it is routed, once, unless that queue was full. It was acked only if none of them was full.
   pub routed : AllByRecursion EnterAsRouted hs
-  -- publishes are numbered one after another, so that no two have one number
+  -- Publishes are numbered one after another, from `from` + 1 to `to`, so no two have the same number.
   pub numbered : CountUp from (filter_map number_in all) to
-  -- no message, as a publish or a dead letter, entered a queue that was forbidden to it then, as each event by itself tells
+  -- No message, as a publish or a dead letter, entered a queue that a `Never` guarantee in
+  -- force forbids it, as the event itself tells: by its notes and by the queues before it.
   pub never : AllByRecursion AreAllowed hs
-  -- nor one that was forbidden to a publish noted at any of these events
+  -- Nor did a message enter a queue that a `Never` guarantee in force forbids for an exchange and key under which `all` notes its publish.
   pub never_in_all : AllByRecursion (AreAllowedIn all) hs
-  -- and it left by acknowledgement, rejection or purge
+  -- A message that left a queue left it for the cause that is noted: an acknowledgement,
+  -- a rejection, a purge, or that it was given out without acknowledgement.
   pub causes : AllByRecursion HaveCauses hs
-  -- each message that entered a queue came by its own publish, noted at this event, or, as a dead letter, from a queue where it stood
-  -- before the event and which it left there
+  -- A message that entered a queue came by its own publish, noted at this event, or is the
+  -- dead letter of a message that was in a queue before the event and left it by a rejection.
   pub come : AllByRecursion HaveOrigins hs
-  -- what entered a queue stands at its end after the event, in the order of the notes, and is not marked as redelivered
+  -- What entered a queue is at its end after the event, in the order of the notes, ready and not marked as redelivered.
   pub fresh : AllByRecursion EnterFresh hs
-  -- and nothing else comes to be marked so but what was given out of its queue before the event
+  -- A message marked as redelivered after the event was in that queue before it, and had been given out since it entered.
   pub marked : AllByRecursion MarksWhatWasGiven hs
-  -- each message that was rejected came, as its dead letter, to each queue to which it goes on from there, but where that queue was full;
-  -- and no other dead letter came
+  -- The dead letter of each rejected message entered each queue to which it goes on, unless that queue was full; no other dead letter entered a queue.
   pub letters : AllByRecursion DieAsRouted hs
-  -- so that of the messages of a number no more dead letters came to a queue than were rejected
+  -- So at each event, for each number, at most as many dead letters entered a queue as messages of that number were rejected.
   pub once : AllByRecursion DieOnce hs
-  -- no event of one connection changed a channel of another
+  -- No event of one connection changed a channel of another.
   pub alone : AllByRecursion ChangesOwnAlone hs
 
--- Of the events that happened between these two states of the broker:
+-- What the events `hs` keep, which happened between the states `old` and `new` of the broker.
 pub record KeepsEvents (old : Broker) (hs : List Happening) (new : Broker) : Type 0 where
   pub each : KeepsEach (notes_of hs) old.published hs new.published
-  -- at each event, what stood in a queue or entered it left it or stands there, and so it is found by the next event
+  -- At each event, what was in a queue or entered it left it or is still there, and the next event begins with the state that this one left.
   pub stays : Stays old hs new
 
--- Of the events that happened between them, and of the reloads in between:
+-- What the occurrences `os` keep, events and the reloads between them, from the state `old` of the broker to `new`.
 pub record KeepsOccurrences (old : Broker) (os : List Occurrence) (new : Broker) : Type 0 where
   pub each : KeepsEach (notes_over os) old.published (events_of os) new.published
-  -- what stood in a queue or entered it left it by an event or stands there, through each reload too
+  -- What was in a queue or entered it left it by an event or is still there, through each reload too.
   pub stays : StaysOver old os new
 
--- Of all that happened from the empty broker to this one, with this in force at first, and of the outputs of the connections:
+-- What is promised of all occurrences `os` from the empty broker to `last`, with `f` in force at first, and of the outputs of the `connections`.
 pub record KeepsPromises (f : Config) (os : List Occurrence) (last : Broker) (connections : List Shown) : Type 0 where
   pub events : KeepsOccurrences empty_broker os last
-  -- each reload was done where nothing stood against it, or refused for the first thing that did, and then changed nothing
+  -- Each reload was done because there was no obstacle, or was refused for the first obstacle and changed nothing.
   pub reloads : AllByRecursion IsDecided (reloads_of os)
-  -- where no reload was done, no guarantee forbids a message the queue where it stands at the end, nor one to which it may come from there by deaths
+  -- If no reload was done, no guarantee forbids a message the queue where it is at the end, nor a queue to which it may come from there by deaths.
   pub safe : NoneDone os → AreSafe f.topology f.guarantees last
-  -- whatever was reloaded, no guarantee then in force forbids a message a queue to which it may come by deaths from where it stands at the end, nor,
-  -- unless it stood when the last reload was done, the queue where it stands; and that queue is one of the topology in force
+  -- Whatever was reloaded, at the end each message is in a queue of the topology in force. No guarantee in force forbids it a queue
+  -- to which it may come from there by deaths, nor, unless it was in a queue when the last reload was done, the queue where it is.
   pub kept : AreKept (in_force_after f os) last
-  -- after each event and each reload each message that is held is outstanding under its tag on the channel that holds it, and each that is
-  -- outstanding there is held: so none is held by a channel that is not open
+  -- After each event and each reload, each held message is unacknowledged, under its tag, on the channel that holds
+  -- it, and the message of each unacknowledged delivery is held. So no message is held by a channel that is not open.
   pub agreed : AllByRecursion (λ (o : Occurrence). IsAgreed (state_after o).broker) os
-  -- and a channel is open only on a connection that runs
+  -- The broker has a connection exactly while it runs, and a channel is open only on such a connection.
   pub present : AllByRecursion (λ (o : Occurrence). ArePresent (state_after o)) os
-  -- which came past its login by one, as one of the users in force, but for those that are opened to run at once
+  -- A connection passes its login only by an event that logs it in as a user in force, unless it is opened to run at once.
   pub logged_in : AllByRecursion EntersByLogin (events_of os)
-  -- what an acknowledgement, a rejection or a recovery settled left its queue, or could be given out there again, as the client asked; and nothing else did
+  -- An acknowledgement, a rejection or a recovery that is not refused settles the deliveries that its tag takes: each message
+  -- left its queue or is ready there again, as the client asked. Each other delivery of the channel is still unacknowledged.
   pub settled : AllByRecursion SettlesAsAsked (events_of os)
-  -- what was outstanding before an event was so after it, or left its queue, or could be given out there again: in its place
+  -- Each delivery that was unacknowledged before an event is so after it, or its message left its queue, or is ready there again, at the same index.
   pub accounted : AllByRecursion NoneIsForgotten (events_of os)
-  -- a get was answered by the first message of its queue that could be given out, or told that there was none
+  -- A get that is not refused gives out the first ready message of its queue, or is answered by get-empty if there is none.
   pub gets : AllByRecursion GetsAreAnswered (events_of os)
-  -- a purge left none that could be given out
+  -- A purge that is not refused leaves no ready message in its queue.
   pub purges : AllByRecursion PurgesLeaveNone (events_of os)
-  -- a publish against which nothing stood was noted, and in confirm mode confirmed under the next number of its channel
+  -- A publish that is not refused is noted, and in confirm mode confirmed under the next confirm number of its channel.
   pub taken : AllByRecursion PublishesAreTaken (events_of os)
-  -- each message was given out to one that asked for messages of its queue, with the body and the properties with which it was published,
-  -- but for headers that tell of its deaths
+  -- Each content that was sent is that of the event's own publish, which goes back, or of a message given out to a get or a consumer
+  -- of its queue. The message has the body and the properties of an earlier publish, except for headers that tell of its deaths.
   pub contents : AreSourced [] (events_of os)
-  -- messages were given out in order, and nothing came to be held in another way
+  -- Messages were given out in order, and came to be held in no other way.
   pub order : GivesInOrder (events_of os)
-  -- the acks in a connection's output are those of its publishes confirmed by ack, one by one
+  -- The acks in the output of connection `i` + 1 are those of its publishes confirmed by ack, one for one.
   pub acks : (i : ℕ) (seen : Shown) → slice_get connections i ≡ Some seen → HasAcksOf (acked (i + 1) (events_of os)) seen.output
-  -- and the nacks are those of its publishes confirmed by nack
+  -- The nacks in the output of connection `i` + 1 are those of its publishes confirmed by nack, one for one.
   pub nacks : (i : ℕ) (seen : Shown) → slice_get connections i ≡ Some seen → HasNacks (nacks_of (i + 1) (events_of os)) seen.output
 
--- The headline. These arrivals came, one by one, to a broker with no connection under this topology and these guarantees, and reloads among
--- them; of all that happened by them this was seen, outputs and notes; and the promises are kept, each by what was in force at its event.
+-- The headline. The `arrivals` came, one by one, to a broker with no connection under the configuration `f`. `occurrences` are all events and reloads
+-- that they brought about, and `seen` is what these showed, outputs and notes. The promises are kept, each by what was in force at its event.
 pub record CertifiedDelivery (f : Config) (arrivals : List (Arrival Config)) (seen : Seen) : Type 0 where
   pub occurrences : List Occurrence
   pub last : World
@@ -115,7 +120,7 @@ pub record CertifiedDelivery (f : Config) (arrivals : List (Arrival Config)) (se
   pub shows : Shows occurrences last seen
   pub promises : KeepsPromises f occurrences last.state.broker seen.connections
 
--- what an accepted topology and its guarantees keep
+-- What an accepted configuration keeps: its topology is well-formed, and all of its guarantees hold.
 pub record IsSound (f : Config) : Type 0 where
   pub wf : IsWellFormed f.topology
   pub hold : AllHold f.topology f.guarantees

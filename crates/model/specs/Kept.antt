@@ -1,4 +1,4 @@
--- Where properties stand (own).
+-- The forms in which a content's properties are kept (own).
 use Rattle.std.specs.Prelude.{ℕ, List, take}
 use Rattle.model.specs.Headers.{no_properties}
 use Rattle.model.specs.Properties.{spelled_by, IsSpelling}
@@ -6,7 +6,7 @@ use Rattle.model.specs.declared.contents.Fields.{Fields}
 use Rattle.model.specs.declared.contents.Kept.{Kept}
 use Rattle.model.specs.declared.contents.Kept.TheVariants.{Empty, Small, Larger, Spelled, Apart}
 
--- the fourteen that they are
+-- The fourteen properties that are kept.
 abbrev pub view_of : Kept → Fields
 view_of Empty = no_properties
 view_of (Small len block) = spelled_by (take len block.value)
@@ -14,7 +14,7 @@ view_of (Larger len block) = spelled_by (take len block.value)
 view_of (Spelled block) = spelled_by block.value.items
 view_of (Apart block) = block.value
 
--- what is kept as it was spelled is a spelling
+-- Properties that are kept as bytes are kept as a spelling.
 abbrev pub IsKeptText : Kept → Type 0
 IsKeptText Empty = Unit {0}
 IsKeptText (Small len block) = IsSpelling (take len block.value)

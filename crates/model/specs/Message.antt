@@ -1,11 +1,11 @@
--- A message as it is seen, wherever its bytes stand. Source: AMQP 0-9-1, section 3.1.1, "Messages and Content".
+-- A message as contracts see it, however its bytes are kept. Source: AMQP 0-9-1, section 3.1.1, "Messages and Content".
 use Rattle.std.specs.Prelude.{ℕ, Bool}
 use Rattle.model.specs.Words.{Text}
 use Rattle.model.specs.declared.contents.Content.{Content}
 
--- a publish, wherever it stands now; dead lettering changes the current exchange and key, and keeps the first
+-- A publish, in whichever queue it is. Dead-lettering changes its exchange and key, and keeps the first ones.
 pub record Message : Type 0 where
-  -- publishes count from 1 over the whole broker
+  -- Its publish number: publishes are numbered from 1 over the whole broker.
   pub number : ℕ
   pub first_exchange : Text
   pub first_key : Text
@@ -13,5 +13,5 @@ pub record Message : Type 0 where
   pub key : Text
   pub content : Content
   pub redelivered : Bool
-  -- it stood in a queue when the last reload was done
+  -- It was in a queue when the last reload was done.
   pub stood : Bool

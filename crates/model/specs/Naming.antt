@@ -1,5 +1,4 @@
--- The consumers of each channel, by their tags and numbers.
--- Source: AMQP 0-9-1, basic.consume, "consumer-tag"; numbers and limits are own.
+-- The consumers of each channel, by their tags and numbers. Source: AMQP 0-9-1, basic.consume, "consumer-tag"; numbers and limits are own.
 use Rattle.std.specs.Prelude.{◌≡◌, ◌<◌, ◌≤◌, ℕ, length, true, false, Some, is_some}
 use Rattle.std.specs.Str.{bytes_eq}
 use Rattle.std.specs.List.{AllByRecursion, AllPairs}
@@ -8,26 +7,26 @@ use Rattle.model.specs.Broker.{Consumer, Outstanding, Channel, Broker, queue_nam
 use Rattle.model.specs.declared.messages.Taker.{Taker}
 use Rattle.model.specs.declared.messages.Taker.TheVariants as taker
 
--- it was given to a get, or to a consumer of a number below this one
+-- The taker is a get, or a consumer with a number below `next`.
 abbrev pub IsGivenBelow : ℕ → Taker → Type 0
 IsGivenBelow next taker.Get = Unit {0}
 IsGivenBelow next (taker.Consumer number) = number < next
 
--- What the consumers of every channel keep:
+-- What the consumers of a channel keep.
 pub record AreNamedOn (t : Topology) (ch : Channel) : Type 0 where
-  -- each takes from a queue of the topology
+  -- Each takes from a queue of the topology.
   pub queues : AllByRecursion (λ (k : Consumer). is_some (queue_named t.queues k.queue) ≡ true) ch.consumers
-  -- the tag of each has a spelling, and no two have one tag
+  -- The tag of each has a spelling, and no two have the same tag.
   pub spelled : AllByRecursion (λ (k : Consumer). length k.tag < 256) ch.consumers
   pub apart : AllPairs (λ (a b : Consumer). bytes_eq a.tag b.tag ≡ false) ch.consumers
-  -- their numbers rise, and none is as great as the next one
+  -- Their numbers rise, and each is less than the next number.
   pub rising : AllPairs (λ (a b : Consumer). a.number < b.number) ch.consumers
   pub before : AllByRecursion (λ (k : Consumer). k.number < ch.next_number) ch.consumers
-  -- what is outstanding was given to gets and to consumers that were made, so that the next one begins with nothing
+  -- Unacknowledged messages were given to gets and to consumers that were made before, so the next consumer begins with none.
   pub given : AllByRecursion (λ (o : Outstanding). IsGivenBelow ch.next_number o.by) ch.outstanding
-  -- there are at most 256
+  -- There are at most 256.
   pub few : length ch.consumers ≤ 256
 
--- So it is on each channel of the broker, under this topology.
+-- The consumers of every channel of the broker are named so, under this topology.
 abbrev pub AreNamed : Topology → Broker → Type 0
 AreNamed t b = (c h : ℕ) (ch : Channel) → b.channel c h ≡ Some ch → AreNamedOn t ch

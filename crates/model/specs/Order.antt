@@ -1,5 +1,5 @@
--- What an event gives out of a queue, and the order in which the messages of each queue are given out, to gets and to consumers (AMQP
--- 0-9-1, section 4.7, "Content Ordering Guarantee").
+-- What an event gives out of a queue, and the order in which the messages of each queue are
+-- given out, to gets and to consumers (AMQP 0-9-1, section 4.7, "Content Ordering Guarantee").
 use Rattle.std.specs.Prelude.{◌≡◌, ℕ, List, [], ◌∷◌, ◌++◌, Bool, false, not, ◌&&◌, if◌then◌else◌, Option, Some}
 use Rattle.std.specs.Str.{bytes_eq}
 use Rattle.std.specs.List.{AllByRecursion}
@@ -24,19 +24,19 @@ use Rattle.model.specs.declared.notes.Note.TheVariants.{Entered}
 
 -- ---- what is given out
 
--- By this event, between these states, the message of this entry was given out of this queue, and nothing else was sent: to the get that
--- asked for it, or to a consumer of the queue that may take it, under the next delivery tag of its channel.
+-- Between these states, the event gives the entry's message out of this queue, and sends nothing else: to the get
+-- that asked for it, or to a consumer of the queue that may take it, under the next delivery tag of its channel.
 pub data Gives (old : Broker) (event : Event) (sends : List Send) (notes : List Note) (new : Broker) : Text → Entry → Type 0 where
   to_get : {c k : ℕ} {m : Get} {content : Option Content} {e : Entry} (ch : Channel) → event ≡ Command c k (BasicGet m) content
       → old.channel c k ≡ Some ch → first_ready (old.queue m.queue) ≡ Some e
       → Gets old c k ch m (Some e) sends notes new → Gives old event sends notes new m.queue e
   to_consumer : {c : ℕ} → event ≡ Deliver c → (d : IsDelivery old c sends notes new) → Gives old event sends notes new d.made.consumer.queue d.made.entry
 
--- by this event of a run
+-- The event `h` gives the message of the entry `e` out of the queue `q`.
 abbrev pub GivesOut : Happening → Text → Entry → Type 0
 GivesOut h q e = Gives h.before.broker h.event h.sends h.notes h.after.broker q e
 
--- By these events messages of these numbers were given out of this queue, one after another, none of which had been given out since it entered.
+-- The events gave messages of these numbers out of the queue `q`, in this order, among others, and none of these had been given out since it entered.
 pub data FirstGiven (q : Text) : List Happening → List ℕ → Type 0 where
   ended : FirstGiven q [] []
   given : {h : Happening} {hs : List Happening} {e : Entry} {ns : List ℕ} → GivesOut h q e → e.message.redelivered ≡ false → FirstGiven q hs ns
@@ -45,58 +45,58 @@ pub data FirstGiven (q : Text) : List Happening → List ℕ → Type 0 where
 
 -- ---- order
 
--- the first list's numbers stand in the second, in the same order
+-- The first list is a subsequence of the second.
 pub data IsPart : List ℕ → List ℕ → Type 0 where
   empty : IsPart [] []
   skips : {x : ℕ} {xs ys : List ℕ} → IsPart xs ys → IsPart xs (x ∷ ys)
   takes : {x : ℕ} {xs ys : List ℕ} → IsPart xs ys → IsPart (x ∷ xs) (x ∷ ys)
 
--- a message that was not given out since it entered
+-- Whether the message is ready and not marked as redelivered, so that it was not given out since it entered.
 abbrev pub is_fresh : Entry → Bool
 is_fresh e = is_ready e && not e.message.redelivered
 
--- the numbers of those that stand in a queue, in order
+-- The numbers of the messages in a queue that were not given out since they entered, in order.
 abbrev pub waiting : List Entry → List ℕ
 waiting [] = []
 waiting (e ∷ es) = if is_fresh e then e.message.number ∷ waiting es else waiting es
 
--- the number of the message that entered the queue by this note, if one did
+-- The number of the message that the note says entered the queue `q`, if it says so.
 abbrev pub entered_by : Text → Note → List ℕ
 entered_by q (Entered n r w) = if bytes_eq r q then n ∷ [] else []
 entered_by q note = []
 
--- the numbers of the messages that entered the queue, in order
+-- The numbers of the messages that entered the queue `q`, in the order of the notes.
 abbrev pub entered : Text → List Note → List ℕ
 entered q [] = []
 entered q (note ∷ notes) = entered_by q note ++ entered q notes
 
--- The entries with one of them told apart: none of those ahead of it can be given out.
+-- The entry `e` is among `es`, and no entry ahead of it is ready.
 pub record IsNext (es : List Entry) (e : Entry) : Type 0 where
   pub ahead : List Entry
   pub behind : List Entry
   pub all : es ≡ ahead ++ e ∷ behind
   pub given : AllByRecursion (λ (x : Entry). is_ready x ≡ false) ahead
 
--- whatever the event gives out of a queue, none of what stands ahead of it there can be given out any more
+-- Whatever the event gives out of a queue, no entry ahead of it there is ready before the event.
 abbrev pub IsAfterThoseAhead : Happening → Type 0
 IsAfterThoseAhead h = (q : Text) (e : Entry) → GivesOut h q e → IsNext (h.before.broker.queue q) e
 
--- ---- no other way
+-- ---- how messages come to be held
 
--- A message that is held after the event was held so before it, or was given out by it.
+-- Before the event an entry of the queue `q` was held by `holder`, or the event gave the entry `x` out to it.
 pub data IsHeldSince (h : Happening) (q : Text) (x : Entry) (holder : Holder) : Type 0 where
   before : (y : Entry) → IsIn y (h.before.broker.queue q) → y.mark ≡ Held holder → IsHeldSince h q x holder
   by_it : {e : Entry} → GivesOut h q e → x ≡ held_as holder e → IsHeldSince h q x holder
 
--- what is held after the event was held so before it, or was given out by it
+-- What is held after the event was held by the same holder before it, or was given out by it.
 abbrev pub HoldsWhatWasGiven : Happening → Type 0
 HoldsWhatWasGiven h = (q : Text) (x : Entry) (holder : Holder) → IsIn x (h.after.broker.queue q) → x.mark ≡ Held holder → IsHeldSince h q x holder
 
--- Of all that happened from the empty broker on:
+-- How the events `hs`, all that happened from the empty broker on, give messages out.
 pub record GivesInOrder (hs : List Happening) : Type 0 where
-  -- the messages that were given out of a queue for the first time came in the order in which they entered it
+  -- Messages given out of a queue for the first time came out in the order in which they entered it.
   pub in_order : (q : Text) (ns : List ℕ) → FirstGiven q hs ns → IsPart ns (entered q (notes_of hs))
-  -- each was given out only after all that stood ahead of it
+  -- Each message was given out only when no message ahead of it was ready.
   pub ahead : AllByRecursion IsAfterThoseAhead hs
-  -- and nothing comes to be held in another way
+  -- A message comes to be held in no other way.
   pub held : AllByRecursion HoldsWhatWasGiven hs

@@ -1,4 +1,4 @@
--- Deliveries as channels and queues keep them: by the places of queues in the file of definitions.
+-- Deliveries as channels and queues keep them: queues are given by their index in the definitions file.
 use Rattle.std.specs.Prelude.{◌<◌, ◌==◌, ℕ, List, [], length, filter, not, Bool, All, slice_index_or}
 use Rattle.model.specs.Words.{Text}
 use Rattle.model.specs.Topology.{Topology}
@@ -7,26 +7,26 @@ use Rattle.model.specs.Settling.{Rises}
 use Rattle.model.specs.declared.deliveries.Delivery.{Delivery}
 use Rattle.model.specs.declared.messages.Holder.{Holder}
 
--- it waits to be settled: what is settled has tag 0, which is never given out (AMQP 0-9-1, basic.ack, "delivery-tag")
+-- Whether the delivery is unacknowledged. A settled one has tag 0, which is never given out (AMQP 0-9-1, basic.ack, "delivery-tag").
 abbrev pub is_waiting : Delivery → Bool
 is_waiting d = not (d.tag == 0)
 
--- those of these that wait to be settled
+-- The unacknowledged ones of these deliveries.
 abbrev pub waiting : List Delivery → List Delivery
 waiting ds = filter is_waiting ds
 
--- who holds what was given out so on channel h of connection c
+-- The holder of the delivery `d` on channel `h` of connection `c`.
 abbrev pub holder_of_delivery : ℕ → ℕ → Delivery → Holder
 holder_of_delivery c h d = record { connection = c; channel = h; tag = d.tag; by = d.by }
 
--- the same delivery by the name of its queue, where queues have these names in the order of their places
+-- The same delivery with the name of its queue; `names` are the names of the queues in the order of the file.
 abbrev pub outstanding_in : List Text → Delivery → Outstanding
 outstanding_in names d = record { tag = d.tag; queue = slice_index_or names d.queue []; by = d.by }
 
--- each of these was given out from a queue at a place of the file
+-- Each of the deliveries is from a queue at an index of the file.
 abbrev pub AreWithin : Topology → List Delivery → Type 0
 AreWithin t ds = All (λ (d : Delivery). d.queue < length t.queues) ds
 
--- they are in the order of their tags
+-- The deliveries are in the order of their tags.
 abbrev pub AreByTag : List Delivery → Type 0
 AreByTag ds = Rises (λ (d : Delivery). d.tag) ds

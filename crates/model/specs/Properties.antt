@@ -1,4 +1,5 @@
--- Properties as the bytes of a header spell them, and what such bytes tell. Source: AMQP 0-9-1, section 4.2.6.1, "The Content Header".
+-- Properties as the bytes of a header spell them, and what such bytes say. Start with
+-- `properties_bytes` and `spelled_by`. Source: AMQP 0-9-1, section 4.2.6.1, "The Content Header".
 use Rattle.std.specs.Prelude.{
   ◌≡◌,
   ◌+◌,
@@ -28,70 +29,70 @@ use Rattle.model.specs.Grammar.{Argument, Octet, Long_long, Short_text, Field_ta
 use Rattle.model.specs.Headers.{no_properties, properties_of, flags, value_of, AreProperties}
 use Rattle.model.specs.declared.contents.Fields.{Fields as Properties}
 
--- flags and values, as they stand in a header behind the size of the body
+-- Flags and values, as they are in a header after the size of the body.
 abbrev pub properties_bytes : Properties → List ℕ
 properties_bytes p = to_be_bytes w16 (flags (properties_of p)) ++ flat_map value_of (properties_of p)
 
 -- ---- what bytes tell
 
--- the value with which bytes begin, by its sort
+-- Reads the value with which bytes begin, by its type.
 abbrev pub First : Type 0
 First = List ℕ → Argument
 
--- a text behind its length
+-- Reads a short text: a length in one byte, and that many bytes.
 abbrev pub first_text : First
 first_text bytes = Short_text (take (slice_index bytes 0) (drop 1 bytes))
 
--- an octet
+-- Reads one byte.
 abbrev pub first_octet : First
 first_octet bytes = Octet (slice_index bytes 0)
 
--- a time, in eight bytes
+-- Reads a time, in eight bytes.
 abbrev pub first_time : First
 first_time bytes = Long_long (from_be_bytes w64 (take 8 bytes))
 
--- the pairs of a table behind their length
+-- Reads the pairs of a table: a length in four bytes, and that many bytes.
 abbrev pub first_table : First
 first_table bytes = Field_table (take (from_be_bytes w32 (take 4 bytes)) (drop 4 bytes))
 
--- the sorts of the fourteen properties, in the order of their flags
+-- The types of the fourteen properties, in the order of their flags.
 abbrev pub sorts : List First
 sorts =
     first_text ∷ first_text ∷ first_table ∷ first_octet ∷ first_octet ∷ first_text ∷ first_text ∷ first_text ∷ first_text ∷ first_time ∷ first_text ∷ first_text
     ∷ first_text ∷ first_text ∷ []
 
--- the flags have this bit
+-- Whether the flags have this bit.
 abbrev pub is_flagged : ℕ → ℕ → Bool
 is_flagged flags bit = flags / 2 ^ bit % 2 == 1
 
--- a value for each property that is flagged, the first by the highest bit, the last by bit 2
+-- The values of the properties that are flagged: the first property has the highest bit, the last has bit 2.
 unfoldable pub values_told : ℕ → List First → List ℕ → List (Option Argument)
 values_told flags [] bytes = []
 values_told flags (first ∷ others) bytes =
     if is_flagged flags (length others + 2) then (Some (first bytes) ∷ values_told flags others (drop (length (argument (first bytes))) bytes))
     else (None ∷ values_told flags others bytes)
 
--- the text of a value
+-- The text, if the value is one.
 abbrev pub text_told : Option Argument → Option Text
 text_told (Some (Short_text t)) = Some t
 text_told _ = None
 
--- its octet
+-- The byte, if the value is one.
 abbrev pub octet_told : Option Argument → Option ℕ
 octet_told (Some (Octet n)) = Some n
 octet_told _ = None
 
--- its time
+-- The time, if the value is one.
 abbrev pub time_told : Option Argument → Option ℕ
 time_told (Some (Long_long n)) = Some n
 time_told _ = None
 
--- the pairs of its table
+-- The pairs, if the value is a table.
 abbrev pub table_told : Option Argument → Option (List ℕ)
 table_told (Some (Field_table t)) = Some t
 table_told _ = None
 
--- the properties of fourteen values
+-- The properties of fourteen values.
 unfoldable pub properties_told : List (Option Argument) → Properties
 properties_told (a ∷ b ∷ c ∷ d ∷ e ∷ f ∷ g ∷ h ∷ i ∷ j ∷ k ∷ l ∷ m ∷ n ∷ []) = record {
   content_type = text_told a;
@@ -111,7 +112,7 @@ properties_told (a ∷ b ∷ c ∷ d ∷ e ∷ f ∷ g ∷ h ∷ i ∷ j ∷ k �
 }
 properties_told _ = no_properties
 
--- the properties that bytes spell, if they spell any
+-- The properties that the bytes spell, if they spell any.
 unfoldable pub spelled_by : List ℕ → Properties
 spelled_by bytes = properties_told (values_told (from_be_bytes w16 (take 2 bytes)) sorts (drop 2 bytes))
 

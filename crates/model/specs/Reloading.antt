@@ -1,4 +1,4 @@
--- A reload, by which another configuration is in force: what stands against it, and what it leaves (own).
+-- A reload, which puts another configuration in force: its obstacles, and what it leaves (own). Start with `IsObstacle` and `with_all_stood`.
 use Rattle.std.specs.Prelude.{◌≡◌, ◌<◌, ◌+◌, ℕ, map, Some, ◌⊎◌, true, Contains, slice_get}
 use Rattle.model.specs.Words.{Text}
 use Rattle.model.specs.Topology.{Topology, IsIn, queue_names}
@@ -14,50 +14,51 @@ use Rattle.model.specs.declared.obstacles.Obstacle.TheVariants.{InUse, Breaks}
 
 -- ---- queues in use that are gone
 
--- a message stands in the queue, ready or held, or a consumer takes from it
+-- The queue `q` is in use: it has a message, ready or held, or a consumer takes from it.
 pub data IsInUse (b : Broker) (q : Text) : Type 0 where
   by_entry : (e : Entry) → IsIn e (b.queue q) → IsInUse b q
   by_consumer : (c h : ℕ) (ch : Channel) (k : Consumer) → b.channel c h ≡ Some ch → IsIn k ch.consumers → k.queue ≡ q → IsInUse b q
 
--- a queue in use that the new topology lacks
-pub record IsStranded (old new : Topology) (b : Broker) (q : Text) : Type 0 where
+-- The queue `q` of the old topology is in use, and the new topology lacks it.
+pub record IsOrphaned (old new : Topology) (b : Broker) (q : Text) : Type 0 where
   pub was : IsIn q (queue_names old.queues)
   pub gone : IsIn q (queue_names new.queues) → ⊥
   pub in_use : IsInUse b q
 
--- the first of them, in the order of the old file
-pub record IsFirstStranded (old new : Topology) (b : Broker) (q : Text) : Type 0 where
+-- The queue `q` is the first such queue, in the order of the old file.
+pub record IsFirstOrphaned (old new : Topology) (b : Broker) (q : Text) : Type 0 where
   pub place : ℕ
   pub named : slice_get (queue_names old.queues) place ≡ Some q
-  pub stranded : IsStranded old new b q
-  pub none_before : (i : ℕ) (r : Text) → i < place → slice_get (queue_names old.queues) i ≡ Some r → IsStranded old new b r → ⊥
+  pub orphaned : IsOrphaned old new b q
+  pub none_before : (i : ℕ) (r : Text) → i < place → slice_get (queue_names old.queues) i ≡ Some r → IsOrphaned old new b r → ⊥
 
--- ---- messages that could come where they are forbidden
+-- ---- messages that could come to a queue that is forbidden to them
 
--- From this queue the message may come by deaths to one that the guarantee forbids to its publish. That it stands in that one is no fault.
+-- From the queue `q` the message may come by deaths to a queue that the guarantee forbids to its publish. That it is in that queue already is no obstacle.
 pub record Endangers (t : Topology) (g : Guarantee) (q : Text) (m : Message) : Type 0 where
   pub never : g.mode ≡ Never
   pub covers : Covers g m.first_exchange m.first_key
   pub later : Later t q m.key g.queue
 
--- the place of a guarantee, that of a queue of the old topology, and that of an entry in it
+-- An entry by indices: of a guarantee, of a queue of the old topology, and of the entry in the queue.
 pub record Spot : Type 0 where
   pub guarantee : ℕ
   pub queue : ℕ
   pub entry : ℕ
 
--- guarantee by guarantee, queue by queue, and entry by entry as they arrived
+-- The order in which entries are looked at: by guarantee, then by queue, then as they arrived.
 abbrev pub IsBefore : Spot → Spot → Type 0
 IsBefore r s = (r.guarantee < s.guarantee) ⊎ ((r.guarantee ≡ s.guarantee) × ((r.queue < s.queue) ⊎ ((r.queue ≡ s.queue) × (r.entry < s.entry))))
 
--- there the entry, ready or held, is endangered by the guarantee, under the new topology
+-- At the spot `s` is the entry `e` of the queue `q`, ready or held. Under the new
+-- topology its message may come by deaths to a queue that the guarantee `g` forbids it.
 pub record IsDanger (old : Topology) (new : Config) (b : Broker) (s : Spot) (g : Guarantee) (q : Text) (e : Entry) : Type 0 where
   pub guarantee : slice_get new.guarantees s.guarantee ≡ Some g
   pub queue : slice_get (queue_names old.queues) s.queue ≡ Some q
   pub entry : slice_get (b.queue q) s.entry ≡ Some e
   pub endangers : Endangers new.topology g q e.message
 
--- The first of them: what stands in this queue, and was first sent under this key, is endangered by the guarantee of this number, counted from 1.
+-- The first such spot: there is a message in the queue `q` that was first sent under `key`, and `number`, counted from 1, is that of the guarantee.
 pub record IsFirstDanger (old : Topology) (new : Config) (b : Broker) (q key : Text) (number : ℕ) : Type 0 where
   pub spot : Spot
   pub guarantee : Guarantee
@@ -67,29 +68,29 @@ pub record IsFirstDanger (old : Topology) (new : Config) (b : Broker) (q key : T
   pub key_is : key ≡ entry.message.first_key
   pub number_is : number ≡ spot.guarantee + 1
 
--- ---- what stands against a reload
+-- ---- obstacles to a reload
 
--- no queue in use is gone
-abbrev pub NoneIsStranded : Topology → Topology → Broker → Type 0
-NoneIsStranded old new b = (q : Text) → IsStranded old new b q → ⊥
+-- No queue in use is gone.
+abbrev pub NoneIsOrphaned : Topology → Topology → Broker → Type 0
+NoneIsOrphaned old new b = (q : Text) → IsOrphaned old new b q → ⊥
 
--- The first thing that stands against it: queues are looked at first.
+-- The first obstacle to a reload: queues are looked at before guarantees.
 abbrev pub IsObstacle : Topology → Config → Broker → Obstacle → Type 0
-IsObstacle old new b (InUse q) = IsFirstStranded old new.topology b q
-IsObstacle old new b (Breaks q key number) = NoneIsStranded old new.topology b × IsFirstDanger old new b q key number
+IsObstacle old new b (InUse q) = IsFirstOrphaned old new.topology b q
+IsObstacle old new b (Breaks q key number) = NoneIsOrphaned old new.topology b × IsFirstDanger old new b q key number
 
--- nothing does
+-- There is no obstacle to a reload.
 pub record NothingStands (old : Topology) (new : Config) (b : Broker) : Type 0 where
-  pub none_stranded : NoneIsStranded old new.topology b
+  pub none_stranded : NoneIsOrphaned old new.topology b
   pub none_endangered : (g : Guarantee) (q : Text) (e : Entry) → Contains new.guarantees g → IsIn q (queue_names old.queues) → IsIn e (b.queue q)
       → Endangers new.topology g q e.message → ⊥
 
 -- ---- what a reload leaves
 
--- the entry, which stood when a reload was done
+-- The entry, marked as one that was in a queue when a reload was done.
 abbrev pub stood_now : Entry → Entry
 stood_now e = record e { message = record e.message { stood = true } }
 
--- the broker after it: each entry stood then, and all else is as it was
+-- The broker after a reload: each entry is marked as one that was in a queue then, and all else is as it was.
 abbrev pub with_all_stood : Broker → Broker
 with_all_stood b = record b { queue = λ q. map stood_now (b.queue q) }

@@ -1,4 +1,4 @@
--- What a publish enters: each queue to which it is routed, but where that queue is full (AMQP 0-9-1, section 3.1.3; RabbitMQ, "Queue Length Limit").
+-- What a publish enters: each queue to which it is routed, unless that queue is full (AMQP 0-9-1, section 3.1.3; RabbitMQ, "Queue Length Limit").
 use Rattle.std.specs.Prelude.{◌≡◌, ◌+◌, ℕ, List, [], ◌∷◌, ◌++◌, length, map, filter, count_by, Bool, true, false, Option, Some, None, ◌&&◌, if◌then◌else◌}
 use Rattle.std.specs.List.{AllByRecursion, sum_by}
 use Rattle.std.specs.Str.{bytes_eq}
@@ -21,46 +21,46 @@ use Rattle.model.specs.declared.notes.Answer.TheVariants as answer
 use Rattle.model.specs.declared.notes.Way.{Way}
 use Rattle.model.specs.declared.notes.Way.TheVariants as way
 
--- the note says that a message entered this queue
+-- Whether the note says that a message entered the queue `q`.
 abbrev pub is_entry_into : Text → Note → Bool
 is_entry_into q (Entered n r w) = bytes_eq r q
 is_entry_into q note = false
 
--- a note, beside the size of the body of the message that it speaks of
+-- A note, with the length in bytes of the body of the message that it is about.
 pub record Said : Type 0 where
   pub note : Note
   pub size : ℕ
 
--- the note beside this size
+-- The note with this size.
 abbrev pub with_size : ℕ → Note → Said
 with_size size note = record { note = note; size = size }
 
--- notes of one message, whose body has this size
+-- The notes of one message, each with the size of its body.
 abbrev pub with_sizes : ℕ → List Note → List Said
 with_sizes size notes = map (with_size size) notes
 
--- it is said that a message entered this queue
+-- Whether it is said that a message entered the queue `q`.
 abbrev pub is_said_into : Text → Said → Bool
 is_said_into q s = is_entry_into q s.note
 
--- how many bytes the bodies have that entered this queue
+-- The bytes that the bodies have together of the messages that entered the queue `q`.
 abbrev pub bytes_into : Text → List Said → ℕ
 bytes_into q said = sum_by (λ (s : Said). s.size) (filter (is_said_into q) said)
 
--- Behind these notes the queue refuses a message with a body of this size: its limits count what could be given out before the event and
--- what has entered since (RabbitMQ, "Queue Length Limit", reject-publish).
+-- Whether after the notes `said` the queue `q` refuses a message with a body of `size` bytes. Its limits count the
+-- messages that were ready before the event and those that entered since (RabbitMQ, "Queue Length Limit", reject-publish).
 abbrev pub is_full_after : Topology → (Text → List Entry) → List Said → Text → ℕ → Bool
 is_full_after t queues said q size = refuses (queue_named t.queues q) (ready_in (queues q) + count_by (is_said_into q) said)
     (ready_bytes (queues q) + bytes_into q said) size
 
--- it is noted of a message with a body of this size, and of a queue to which it goes, that it entered there in this way, or that the queue
--- was full and refused it
+-- What is noted of a message with a body of `size` bytes and of a queue `q` to which it
+-- goes: that it entered `q` in the way `w`, or that the queue was full and refused it.
 abbrev pub note_at : Topology → (Text → List Entry) → List Said → ℕ → ℕ → Way → Text → Note
 note_at t queues said size n w q = if is_full_after t queues said q size then Refused n q else Entered n q w
 
--- What an event notes of the publish of this number, which it is: that it came, then of each queue to which it is routed, in the order of
--- the file, that it entered it or that the queue was full, then that it went back, where it is mandatory and routed nowhere, and where it
--- has a confirm number the one answer to it: ack where no queue was full, and else nack.
+-- What the event notes of publish `n`, which it is: the publish; then, of each queue to which it is routed, in the
+-- order of the file, that it entered it or that the queue was full; then that it went back, if it is mandatory and
+-- routed nowhere; and then, if it has a confirm number, one answer: ack if no queue was full, and nack otherwise.
 pub record EntersAsRouted (h : Happening) (n c k : ℕ) (x key : Text) (confirm : Option ℕ) : Type 0 where
   pub publish : Publish
   pub given : Option Content
@@ -80,16 +80,16 @@ pub record EntersAsRouted (h : Happening) (n c k : ℕ) (x key : Text) (confirm 
   pub nacked : reply ≡ answer.Nack → (q : Text) × IsIn q targets
       × (is_full_after h.config.topology h.before.broker.queue [] q (length (content_or_none given).body) ≡ true)
 
--- each publish that the event notes entered queues so
+-- Each publish that the event notes entered queues as `EntersAsRouted` says.
 abbrev pub EnterAsRouted : Happening → Type 0
 EnterAsRouted h = (n c k : ℕ) (x key : Text) (confirm : Option ℕ) → IsIn (Published n c k x key confirm) h.notes → EntersAsRouted h n c k x key confirm
 
--- the number of the publish that the note says came
+-- The number of the publish that the note says came, if it says so.
 abbrev pub number_in : Note → Option ℕ
 number_in (Published n c k x key confirm) = Some n
 number_in note = None
 
--- These are the numbers behind the first, one after another, up to the last.
+-- The numbers count up by one, from `first` + 1 to `last`.
 abbrev pub CountUp : ℕ → List ℕ → ℕ → Type 0
 CountUp first [] last = last ≡ first
 CountUp first (n ∷ ns) last = (n ≡ first + 1) × CountUp n ns last

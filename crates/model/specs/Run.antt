@@ -1,4 +1,4 @@
--- Whole runs: what happened, one event after another.
+-- Whole runs: events that happen one after another, with what they note and send. Start with `Happening` and `Run`.
 use Rattle.std.specs.Prelude.{◌≡◌, ◌<◌, ◌+◌, ℕ, List, [], ◌∷◌, Bool, false, ◌==◌, ◌&&◌, None, count_by, flat_map}
 use Rattle.std.specs.Str.{bytes_eq}
 use Rattle.model.specs.Words.{Text}
@@ -12,68 +12,69 @@ use Rattle.model.specs.declared.notes.Note.{Note}
 use Rattle.model.specs.declared.notes.Note.TheVariants.{Entered, Left}
 use Rattle.model.specs.declared.events.Event.{Event}
 
--- the broker before any event: no connection, no message, and no publish counted
+-- The broker before any event: no connection, no message, and no publish counted.
 abbrev pub empty_broker : Broker
 empty_broker = record { published = 0; queue = λ q. []; connection = λ c. None; channel = λ c h. None }
 
--- the state before any event, in which no connection was opened
+-- The state before any event: no connection was opened.
 abbrev pub empty_state : State
 empty_state = record { broker = empty_broker; session = λ c. no_session }
 
--- one event, with what was in force at it, the states before and after it, and what was sent and noted
+-- One event, with the configuration in force at it, the states before and after it, and its sends and notes.
 pub record Happening : Type 0 where
   pub config : Config
   pub event : Event
   pub before : State
   pub sends : List Send
   pub notes : List Note
-  -- the greatest frame, in bytes, of the connection that the sends are for
+  -- The largest frame, in bytes, of the connection that the sends are for.
   pub frame_max : ℕ
   pub after : State
 
--- From old these may happen, one after another, and leave new.
+-- From the state `old` the events may happen one after another, and leave the state `new`.
 abbrev pub Run : State → List Happening → State → Type 0
 Run old [] new = new ≡ old
 Run old (h ∷ hs) new = (h.before ≡ old) × Step h.config h.before h.event h.sends h.notes h.after × Run h.after hs new
 
--- all that is noted by these events, in order
+-- The notes of all events `hs`, in order.
 abbrev pub notes_of : List Happening → List Note
 notes_of hs = flat_map (λ (h : Happening). h.notes) hs
 
--- all that is sent by them, in order
+-- The sends of all events `hs`, in order.
 abbrev pub sends_of : List Happening → List Send
 sends_of hs = flat_map (λ (h : Happening). h.sends) hs
 
--- all bytes put out for a connection, taken ones too
+-- All bytes that the events `hs` put out for connection `c`, whether they were taken or not.
 abbrev pub put_out : ℕ → List Happening → List ℕ
 put_out c hs = flat_map (λ (h : Happening). spelling h.frame_max (sends_to c h.sends)) hs
 
 -- ---- what the notes say of a queue
 
--- the note says that the message of publish n entered the queue q, as a publish or a dead letter
+-- Whether the note says that a message of publish `n` entered the queue `q`, as a publish or a dead letter.
 abbrev pub is_entered : ℕ → Text → Note → Bool
 is_entered n q (Entered m r w) = (m == n) && bytes_eq r q
 is_entered n q _ = false
 
--- the note says that the message of publish n left the queue q, for whatever cause
+-- Whether the note says that a message of publish `n` left the queue `q`, for any cause.
 abbrev pub is_left : ℕ → Text → Note → Bool
 is_left n q (Left m r cause) = (m == n) && bytes_eq r q
 is_left n q _ = false
 
--- the entry's message is of publish n
+-- Whether the entry's message is of publish `n`.
 abbrev pub has_number : ℕ → Entry → Bool
 has_number n e = e.message.number == n
 
--- The balance of every queue: what stood there and what entered is what left and what stands there.
+-- Every queue balances, for each publish number: the messages before the event and those that the notes say entered are as many as those that the notes say
+-- left and those after the event.
 abbrev pub Balances : Broker → List Note → Broker → Type 0
 Balances old notes new = (n : ℕ) (q : Text) →
     count_by (has_number n) (old.queue q) + count_by (is_entered n q) notes ≡ count_by (is_left n q) notes + count_by (has_number n) (new.queue q)
 
--- From old to new, event by event: each begins where the one before it ended, and every queue balances by its own notes.
+-- From `old` to `new`, each event begins where the one before it ended, and at each event every queue balances by the event's own notes.
 abbrev pub Stays : Broker → List Happening → Broker → Type 0
 Stays old [] new = new ≡ old
 Stays old (h ∷ hs) new = (h.before.broker ≡ old) × Balances h.before.broker h.notes h.after.broker × Stays h.after.broker hs new
 
--- each message that stands in a queue is of a publish that was counted
+-- No message in a queue has a greater number than that of publishes counted.
 abbrev pub AreCounted : Broker → Type 0
 AreCounted b = (n : ℕ) (q : Text) → b.published < n → count_by (has_number n) (b.queue q) ≡ 0

@@ -1,5 +1,5 @@
--- What becomes of deliveries that are outstanding: of those that a command settles, and of all others (AMQP 0-9-1, basic.ack, basic.reject
--- and basic.recover; RabbitMQ, basic.nack).
+-- What becomes of unacknowledged deliveries: of those that a command settles, and of all
+-- others (AMQP 0-9-1, basic.ack, basic.reject and basic.recover; RabbitMQ, basic.nack).
 use Rattle.std.specs.Prelude.{◌≡◌, ℕ, List, Bool, true, false, Option, Some, None, slice_get}
 use Rattle.model.specs.Topology.{IsIn}
 use Rattle.model.specs.Broker.{Outstanding, Channel, Broker}
@@ -19,14 +19,15 @@ use Rattle.model.specs.declared.notes.Note.TheVariants.{Left}
 
 -- ---- what becomes of one delivery
 
--- The message of this delivery of channel k of connection c was held in its queue before an event with these notes, and left it for this cause.
+-- The message of the delivery `o` of channel `k` of connection `c` was held in its queue before
+-- an event, and the event's notes say that a message of its number left that queue for `cause`.
 pub record HasLeft (old : Broker) (notes : List Note) (c k : ℕ) (o : Outstanding) (cause : Cause) : Type 0 where
   pub entry : Entry
   pub stood : IsIn entry (old.queue o.queue)
   pub held : is_held_as (holder_of c k o) entry ≡ true
   pub left : IsIn (Left entry.message.number o.queue cause) notes
 
--- The message of this delivery was held in its queue, and can be given out there again: in its place, and marked as redelivered.
+-- The message of the delivery `o` was held in its queue, and is ready at the same index of it, marked as redelivered.
 pub record IsReadyAgain (old new : Broker) (c k : ℕ) (o : Outstanding) : Type 0 where
   pub entry : Entry
   pub place : ℕ
@@ -34,7 +35,7 @@ pub record IsReadyAgain (old new : Broker) (c k : ℕ) (o : Outstanding) : Type 
   pub held : is_held_as (holder_of c k o) entry ≡ true
   pub stands : slice_get (new.queue o.queue) place ≡ Some (freed_now entry)
 
--- The delivery is outstanding on its channel.
+-- The delivery `o` is unacknowledged on its channel.
 pub record IsOutstandingOn (b : Broker) (c k : ℕ) (o : Outstanding) : Type 0 where
   pub channel : Channel
   pub there : b.channel c k ≡ Some channel
@@ -42,13 +43,13 @@ pub record IsOutstandingOn (b : Broker) (c k : ℕ) (o : Outstanding) : Type 0 w
 
 -- ---- what a command settles
 
--- the deliveries of its channel that a command settles are those that this tag takes, and this becomes of them
+-- Which deliveries of its channel a command settles, by tag, and how.
 pub record Settling : Type 0 where
   pub tag : ℕ
   pub multiple : Bool
   pub how : Settlement
 
--- what an acknowledgement, a rejection and a recovery settle
+-- What an acknowledgement, a rejection and a recovery settle; no other method settles any.
 abbrev pub settling_of : Method → Option Settling
 settling_of (BasicAck m) = Some (record { tag = m.delivery_tag; multiple = m.multiple; how = Leaves Acked })
 settling_of (BasicReject m) = Some (record { tag = m.delivery_tag; multiple = false; how = of_rejected m.requeue })
@@ -56,31 +57,31 @@ settling_of (BasicNack m) = Some (record { tag = m.delivery_tag; multiple = m.mu
 settling_of (BasicRecover requeue) = Some (record { tag = 0; multiple = true; how = Returns })
 settling_of m = None
 
--- what becomes of a delivery that is settled so
+-- The delivery `o` is settled as the `Settlement` says.
 abbrev pub IsSettledSo : Broker → List Note → Broker → ℕ → ℕ → Settlement → Outstanding → Type 0
 IsSettledSo old notes new c k (Leaves cause) o = HasLeft old notes c k o cause
 IsSettledSo old notes new c k Rejects o = HasLeft old notes c k o Rejected
 IsSettledSo old notes new c k Returns o = IsReadyAgain old new c k o
 
--- Each delivery of this channel that the tag takes is settled so, and outstanding no more; each other is outstanding still.
+-- Each delivery of the channel that the tag takes is settled so and no longer unacknowledged; each other is still unacknowledged.
 pub record AreSettledSo (old : Broker) (notes : List Note) (new : Broker) (c k : ℕ) (channel : Channel) (s : Settling) : Type 0 where
   pub taken : (o : Outstanding) → IsIn o channel.outstanding → takes tag_of s.tag s.multiple o ≡ true
       → IsSettledSo old notes new c k s.how o × (IsOutstandingOn new c k o → ⊥)
   pub others : (o : Outstanding) → IsIn o channel.outstanding → takes tag_of s.tag s.multiple o ≡ false → IsOutstandingOn new c k o
 
--- Where the event is a command that settles, and nothing stands against it, all that it settles is settled as it asks.
+-- If the event is a command that settles and is not refused, all that it settles is settled as it asks.
 abbrev pub SettlesAsAsked : Happening → Type 0
 SettlesAsAsked h = (c k : ℕ) (m : Method) (s : Settling) (ch : Channel) → IsUnrefused h c k m → settling_of m ≡ Some s
     → h.before.broker.channel c k ≡ Some ch → AreSettledSo h.before.broker h.notes h.after.broker c k ch s
 
--- ---- of all others
+-- ---- all other deliveries
 
--- A delivery that was outstanding is so still, or its message left its queue, or can be given out there again.
+-- A delivery that was unacknowledged still is, or its message left its queue, or is ready there again.
 pub data IsAccountedFor (old : Broker) (notes : List Note) (new : Broker) (c k : ℕ) (o : Outstanding) : Type 0 where
   outstanding_still : IsOutstandingOn new c k o → IsAccountedFor old notes new c k o
   has_left : (cause : Cause) → HasLeft old notes c k o cause → IsAccountedFor old notes new c k o
   ready_again : IsReadyAgain old new c k o → IsAccountedFor old notes new c k o
 
--- Whatever the event is, each delivery that was outstanding before it is accounted for.
+-- Whatever the event is, each delivery that was unacknowledged before it is accounted for.
 abbrev pub NoneIsForgotten : Happening → Type 0
 NoneIsForgotten h = (c k : ℕ) (o : Outstanding) → IsOutstandingOn h.before.broker c k o → IsAccountedFor h.before.broker h.notes h.after.broker c k o

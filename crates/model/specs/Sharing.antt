@@ -1,4 +1,4 @@
--- A message, as what its copies share shows it (own).
+-- The message that a copy is, by the block that all of its copies share (own).
 use Rattle.std.specs.Prelude.{Bool}
 use Rattle.model.specs.Message.{Message}
 use Rattle.model.specs.declared.messages.Sent.{Sent}
@@ -6,17 +6,17 @@ use Rattle.model.specs.declared.messages.Sending.{Sending}
 use Rattle.model.specs.declared.messages.Sending.TheVariants.{Once, Again}
 use Rattle.model.specs.declared.messages.Shared.{Shared}
 
--- the exchange and the key of its publish, which a dead letter keeps
+-- The exchange and the key of its publish, which a dead letter keeps.
 abbrev pub first_sent : Sending → Sent
 first_sent (Once sent) = sent
 first_sent (Again resent) = resent.value.first
 
--- those under which it came
+-- The exchange and the key with which it was sent last.
 abbrev pub last_sent : Sending → Sent
 last_sent (Once sent) = sent
 last_sent (Again resent) = resent.value.last
 
--- one copy, which may have been given out before
+-- The message of one copy, with the copy's own marks.
 abbrev pub message_of : Shared → Bool → Bool → Message
 message_of s redelivered stood =
     let first : Sent = first_sent s.sending in

@@ -1,4 +1,4 @@
--- What the broker does at one event of a connection that runs. Each case names all that changes: what it doesn't name stays.
+-- What the broker does at one event. Each case names all that changes: what it doesn't name is as before. Start with `Acts`, at the end.
 -- Source: AMQP 0-9-1, its XML's rules of the channel and basic classes; RabbitMQ, "Consumer Acknowledgements and Publisher Confirms".
 use Rattle.std.specs.Prelude.{
   ◌≡◌,
@@ -126,131 +126,131 @@ use Rattle.model.specs.declared.events.Event.TheVariants.{Open, First, Running, 
 
 -- ---- refusals, in the order in which they are looked for
 
--- what a command that is refused does
+-- What a refused command does.
 pub data Refusal : Type 0 where
-  -- nothing is done
+  -- Nothing.
   Ignored : Refusal
-  -- the channel is closed with this reply code
+  -- It closes its channel with this reply code.
   Of_channel : (code : ℕ) → Refusal
-  -- the connection is closed with this reply code
+  -- It closes its connection with this reply code.
   Of_connection : (code : ℕ) → Refusal
 
--- the exchange of this name, as the topology declares it
+-- The exchange called `name`, as the topology declares it, if there is one.
 abbrev pub exchange_named : List Exchange → Text → Option Exchange
 exchange_named xs name = find (λ (x : Exchange). bytes_eq x.name name) xs
 
--- clients may not publish to an internal exchange, nor to one that is not there
+-- Refuses a publish to an exchange that is not there, 404, or that is internal, 403.
 abbrev pub refusal_at : Option Exchange → Option Refusal
 refusal_at None = Some (Of_channel 404)
 refusal_at (Some x) = if x.internal then Some (Of_channel 403) else None
 
--- the default exchange is always there
+-- Refuses a publish to the exchange of this name; the default exchange is always there.
 abbrev pub refusal_to : Topology → Text → Option Refusal
 refusal_to t [] = None
 refusal_to t (b ∷ bs) = refusal_at (exchange_named t.exchanges (b ∷ bs))
 
--- the greatest 64-bit number
+-- The greatest 64-bit number.
 abbrev pub greatest : ℕ
 greatest = 18446744073709551615
 
--- the channel's last confirm number is the greatest, so that none is left; outside confirm mode none is needed
+-- Whether the channel has no confirm number left, as its last one is the greatest. Outside confirm mode none is needed.
 abbrev pub is_spent : Option ℕ → Bool
 is_spent None = false
 is_spent (Some n) = n == greatest
 
--- a counter that the publish needs is spent
+-- Refuses a publish with 541 if no publish number or no confirm number is left for it.
 abbrev pub refusal_of_count : Broker → Channel → Option Refusal
 refusal_of_count b ch = if (b.published == greatest) || is_spent ch.confirm then Some (Of_connection 541) else None
 
--- the first refusal, if there is one
+-- The first refusal, or the second if there is no first.
 abbrev pub or_else : Option Refusal → Option Refusal → Option Refusal
 or_else None other = other
 or_else (Some r) other = Some r
 
--- a publish: immediate is not implemented, then the exchange is looked for, then the counters
+-- Refuses a publish: first for its immediate bit, which is not implemented, 540, then for its exchange, then for the counters.
 abbrev pub refusal_of_publish : Topology → Broker → Channel → Publish → Option Refusal
 refusal_of_publish t b ch p =
     if p.immediate then Some (Of_connection 540) else or_else (refusal_to t p.exchange) (refusal_of_count b ch)
 
 -- ---- refusals of commands on queues and deliveries
 
--- the tag of a delivery
+-- The tag of a delivery.
 abbrev pub tag_of : Outstanding → ℕ
 tag_of o = o.tag
 
--- the queue of this name must be there (AMQP 0-9-1, not-found)
+-- Refuses a queue that is not there, 404 (AMQP 0-9-1, not-found).
 abbrev pub refusal_in : Topology → Text → Option Refusal
 refusal_in t name = if is_some (queue_named t.queues name) then None else Some (Of_channel 404)
 
--- a delivery tag must be left where a message is given out
+-- Refuses to give a message out if the channel has no delivery tag left, 541.
 abbrev pub refusal_of_tags : Channel → Option Entry → Option Refusal
 refusal_of_tags ch None = None
 refusal_of_tags ch (Some e) = if has_tag_left ch.next_tag then None else Some (Of_connection 541)
 
--- a get: the queue must be there, and a tag left for its message
+-- Refuses a get: its queue has to be there, and a delivery tag left for its message.
 abbrev pub refusal_of_get : Topology → Broker → Channel → Get → Option Refusal
 refusal_of_get t b ch m = or_else (refusal_in t m.queue) (refusal_of_tags ch (first_ready (b.queue m.queue)))
 
--- a tag that is not outstanding is refused (AMQP 0-9-1, precondition-failed)
+-- Refuses to settle a tag that is not unacknowledged on the channel, 406 (AMQP 0-9-1, precondition-failed).
 abbrev pub refusal_of_settling : Channel → ℕ → Bool → Option Refusal
 refusal_of_settling ch tag multiple = if is_refused tag_of tag multiple ch.outstanding then Some (Of_channel 406) else None
 
--- what a consume asks for that is not implemented: to be the only one, not to get messages of its own connection, or any argument
+-- Refuses a consume that asks for what is not implemented, 540: to be the only consumer, not to get messages of its own connection, or any argument.
 abbrev pub refusal_of_asking : Consume → Option Refusal
 refusal_of_asking m = if m.exclusive || m.no_local || not (bytes_eq m.arguments []) then Some (Of_connection 540) else None
 
--- a tag that is in use on the channel is refused (AMQP 0-9-1, basic.consume, not-allowed)
+-- Refuses a consumer tag that is in use on the channel, 530 (AMQP 0-9-1, basic.consume, not-allowed).
 abbrev pub refusal_of_tag : Channel → Text → Option Refusal
 refusal_of_tag ch tag = if is_tag_taken ch tag then Some (Of_connection 530) else None
 
--- a channel has at most 256 consumers (own)
+-- Refuses a consumer on a channel that has 256, 506 (own).
 abbrev pub refusal_of_many : Channel → Option Refusal
 refusal_of_many ch = if nat_le 256 (length ch.consumers) then Some (Of_connection 506) else None
 
--- a number must be left for the consumer, and a tag where it was given none
+-- Refuses a consumer if the channel has no consumer number left, or if the client gives no tag and the server has none left, 541.
 abbrev pub refusal_of_numbers : Channel → Text → Option Refusal
 refusal_of_numbers ch tag = if (ch.next_number == greatest) || is_tag_wanting ch tag then Some (Of_connection 541) else None
 
--- what stands against one consumer more on the channel: its tag, how many there are, and the counters
-abbrev pub refusal_of_seat : Channel → Consume → Option Refusal
-refusal_of_seat ch m = or_else (refusal_of_tag ch m.consumer_tag) (or_else (refusal_of_many ch) (refusal_of_numbers ch m.consumer_tag))
+-- Refuses one more consumer on the channel: first for its tag, then for how many there are, then for the counters.
+abbrev pub refusal_of_consumer : Channel → Consume → Option Refusal
+refusal_of_consumer ch m = or_else (refusal_of_tag ch m.consumer_tag) (or_else (refusal_of_many ch) (refusal_of_numbers ch m.consumer_tag))
 
--- a consume: the queue is looked for, then what it asks for, and then what stands against one consumer more
+-- Refuses a consume: first for its queue, then for what it asks for, and then for one more consumer.
 abbrev pub refusal_of_consume : Topology → Channel → Consume → Option Refusal
-refusal_of_consume t ch m = or_else (refusal_in t m.queue) (or_else (refusal_of_asking m) (refusal_of_seat ch m))
+refusal_of_consume t ch m = or_else (refusal_in t m.queue) (or_else (refusal_of_asking m) (refusal_of_consumer ch m))
 
--- a limit by the size of messages is not implemented
+-- Refuses a limit by the size of messages, which is not implemented, 540.
 abbrev pub refusal_of_qos : Qos → Option Refusal
 refusal_of_qos m = if m.prefetch_size == 0 then None else Some (Of_connection 540)
 
--- nor is a recovery without requeueing
+-- Refuses a recovery without requeueing, which is not implemented, 540.
 abbrev pub refusal_of_recover : Bool → Option Refusal
 refusal_of_recover requeue = if requeue then None else Some (Of_connection 540)
 
--- a flow that stops is not implemented
+-- Refuses a flow that stops, which is not implemented, 540.
 abbrev pub refusal_of_flow : Bool → Option Refusal
 refusal_of_flow active = if active then None else Some (Of_connection 540)
 
--- the default exchange is always there (own), and any other is where the topology declares it (AMQP 0-9-1, not-found)
+-- Refuses an exchange that the topology doesn't declare, 404 (AMQP 0-9-1, not-found); the default exchange is always there (own).
 abbrev pub refusal_of_exchange : Topology → Text → Option Refusal
 refusal_of_exchange t [] = None
 refusal_of_exchange t (b ∷ bs) = if is_some (exchange_named t.exchanges (b ∷ bs)) then None else Some (Of_channel 404)
 
--- clients declare nothing (own): a declare may only ask whether the exchange is there, by its name alone
+-- Refuses exchange.declare with 403, as clients declare nothing (own), unless it is passive: then it asks whether the exchange is there, by its name alone.
 abbrev pub refusal_of_exchange_declare : Topology → DeclaresExchange → Option Refusal
 refusal_of_exchange_declare t m = if m.passive then refusal_of_exchange t m.exchange else Some (Of_channel 403)
 
--- or whether the queue is
+-- Refuses queue.declare with 403, unless it is passive: then it asks whether the queue is there.
 abbrev pub refusal_of_queue_declare : Topology → DeclaresQueue → Option Refusal
 refusal_of_queue_declare t m = if m.passive then refusal_in t m.queue else Some (Of_channel 403)
 
--- the connection class
+-- Whether the method is of the connection class.
 abbrev pub is_of_connection : Method → Bool
 is_of_connection m = (ids_of m).class == 10
 
--- a method on an open channel, which is not opened again: one that declares or binds for a client has no access (AMQP 0-9-1, section 1.1,
--- access-refused; own); one that only a server sends, or that answers what the server never asks for, is invalid (command-invalid); one
--- that is not built yet is not implemented
+-- Refuses a method on an open channel. One that declares, binds or deletes for a client has no access, 403 (AMQP 0-9-1, section
+-- 1.1, access-refused; own). One that only a server sends, or that answers what the server never asks for, is invalid, 503
+-- (command-invalid). channel.open is refused, as the channel is open, 504. Any method that is not listed is not implemented, 540.
 abbrev pub refusal_of : Topology → Broker → Channel → Method → Option Refusal
 refusal_of t b ch (ConfirmSelect no_wait) = None
 refusal_of t b ch (BasicPublish p) = refusal_of_publish t b ch p
@@ -291,29 +291,29 @@ refusal_of t b ch BasicRecoverOk = Some (Of_connection 503)
 refusal_of t b ch ConfirmSelectOk = Some (Of_connection 503)
 refusal_of t b ch _ = Some (Of_connection 540)
 
--- a channel that is not open takes channel.open alone
+-- Refuses a method on a channel: one that is not open takes channel.open alone, and refuses all else with 504.
 abbrev pub refusal_on : Topology → Broker → Option Channel → Method → Option Refusal
 refusal_on t b None (ChannelOpen reserved) = None
 refusal_on t b None m = Some (Of_connection 504)
 refusal_on t b (Some ch) m = refusal_of t b ch m
 
--- on channel 0 connection.close is taken; any other method is invalid there
+-- Refuses a method on channel 0: connection.close is taken there, and all else is invalid, 503.
 abbrev pub refusal_on_zero : Method → Option Refusal
 refusal_on_zero (ConnectionClose m) = None
 refusal_on_zero _ = Some (Of_connection 503)
 
--- on a channel that awaits close-ok everything but a close and close-ok is ignored
+-- Refuses a method on a channel that awaits close-ok: all but channel.close and channel.close-ok is ignored.
 abbrev pub refusal_while_closing : Method → Option Refusal
 refusal_while_closing (ChannelClose m) = None
 refusal_while_closing ChannelCloseOk = None
 refusal_while_closing _ = Some Ignored
 
--- the channel was closed from here, and close-ok has not come
+-- Whether the channel awaits close-ok, as the server closed it.
 abbrev pub is_awaiting : Option Channel → Bool
 is_awaiting None = false
 is_awaiting (Some ch) = ch.is_closing
 
--- a command of a running connection, on a channel of its own
+-- Refuses the method `m` on channel `h` of the running connection `conn`, or returns `None`.
 abbrev pub refusal : Topology → Broker → Connection → ℕ → Method → Option Channel → Option Refusal
 refusal t b conn h m ch =
     if is_awaiting ch then refusal_while_closing m
@@ -324,27 +324,27 @@ refusal t b conn h m ch =
 
 -- ---- changes
 
--- the channel h of connection c is this now, or is not open
+-- The broker with `ch` as channel `h` of connection `c`; `None` is a channel that is not open.
 abbrev pub with_channel : Broker → ℕ → ℕ → Option Channel → Broker
 with_channel b c h ch = record b { channel = with_pair b.channel c h ch }
 
--- the connection c and its channels are not there any more; entries that they held are still held
+-- The broker without connection `c` and its channels; entries that they held are still held.
 abbrev pub without_connection : Broker → ℕ → Broker
 without_connection b c = record b { connection = with_one b.connection c None; channel = with_row b.channel c (λ h. None) }
 
--- every entry that these held is ready again, in its place in its queue
+-- The broker with every entry that a holder in `mine` held ready again, in its place in its queue and marked as redelivered.
 abbrev pub with_freed : Broker → (Holder → Bool) → Broker
 with_freed b mine = record b { queue = λ q. map (freed mine) (b.queue q) }
 
--- what a closed channel held is requeued, and nothing is left on it but that close-ok is awaited
+-- The broker after it closed channel `h` of connection `c`: what the channel held is requeued, and all that is left of it is that close-ok is awaited.
 abbrev pub with_closing : Broker → ℕ → ℕ → Broker
 with_closing b c h = with_freed (with_channel b c h (Some (record new_channel { is_closing = true }))) (by_channel c h)
 
--- what a connection held is requeued, and it is gone with its channels and their consumers
+-- The broker without connection `c`, its channels and their consumers; what they held is requeued.
 abbrev pub with_gone : Broker → ℕ → Broker
 with_gone b c = with_freed (without_connection b c) (by_connection c)
 
--- the new state is this one
+-- The broker `new` is the same as `made`.
 pub record Is (made new : Broker) : Type 0 where
   pub counted : new.published ≡ made.published
   pub queues : (q : Text) → new.queue q ≡ made.queue q
@@ -353,23 +353,23 @@ pub record Is (made new : Broker) : Type 0 where
 
 -- ---- sends
 
--- a method without a content, sent to connection c on channel h
+-- Sends `m`, without a content, to connection `c` on channel `h`.
 abbrev pub reply : ℕ → ℕ → Method → Send
 reply c h m = send.Command c h m None
 
--- channel.close with this code, its text, and the ids of the method that caused it
+-- Sends channel.close with this code, its text, and the ids of the method that caused it.
 abbrev pub channel_close : ℕ → ℕ → ℕ → Ids → Send
 channel_close c h code cause =
     reply c h (ChannelClose (record { reply_code = code; reply_text = code_text code; class_id = cause.class; method_id = cause.method }))
 
--- connection.close with this code, its text, and the ids of the method that caused it; 0 and 0 where none did
+-- Sends connection.close with this code, its text, and the ids of the method that caused it, or 0 and 0 if none did.
 abbrev pub connection_close : ℕ → ℕ → Ids → Send
 connection_close c code cause =
     reply c 0 (ConnectionClose (record { reply_code = code; reply_text = code_text code; class_id = cause.class; method_id = cause.method }))
 
 -- ---- a publish
 
--- the message of publish n: the exchange and key that it was first sent to stay with it when it is dead-lettered
+-- The message of publish `n`. It keeps its first exchange and key when it is dead-lettered.
 abbrev pub message : ℕ → Publish → Content → Message
 message n p content = record {
   number = n;
@@ -382,49 +382,49 @@ message n p content = record {
   stood = false;
 }
 
--- the publish is routed to no queue
+-- Whether there is no queue: the publish is routed nowhere.
 abbrev pub is_none : List Text → Bool
 is_none [] = true
 is_none (q ∷ qs) = false
 
--- an unroutable mandatory publish is sent back (AMQP 0-9-1, basic.return)
+-- The note that publish `n` is sent back, if it is (AMQP 0-9-1, basic.return).
 abbrev pub returned_notes : ℕ → Bool → List Note
 returned_notes n is_returned = if is_returned then Returned n ∷ [] else []
 
--- it goes back with its content to the channel that it came from, with the code 312 no-route
+-- Sends the publish back with its content to its channel, with the code 312 no-route.
 abbrev pub return_of : ℕ → ℕ → Publish → Content → Send
 return_of c h p content =
     send.Command c h (BasicReturn (record { reply_code = 312; reply_text = code_text 312; exchange = p.exchange; routing_key = p.routing_key })) (Some content)
 
--- what is sent where it goes back
+-- What is sent of a publish that is sent back, or nothing if it isn't.
 abbrev pub returned_sends : ℕ → ℕ → Publish → Content → Bool → List Send
 returned_sends c h p content is_returned = if is_returned then return_of c h p content ∷ [] else []
 
--- nack where some routed queue was full, else ack, also where it was routed nowhere
+-- The answer to a publish: nack if some routed queue was full, and otherwise ack, also if it was routed nowhere.
 abbrev pub answer_of : Bool → Answer
 answer_of some_full = if some_full then answer.Nack else answer.Ack
 
--- ack or nack as a method, of number n alone and not of those before it
+-- The answer as a method, for confirm number `n` alone and not for those before it.
 abbrev pub confirm_method : Answer → ℕ → Method
 confirm_method answer.Ack n = BasicAck (record { delivery_tag = n; multiple = false })
 confirm_method answer.Nack n = BasicNack (record { delivery_tag = n; multiple = false; requeue = false })
 
--- the confirm number that a publish gets, which counts up by one; none outside confirm mode
+-- The confirm number of the next publish, one more than the last; none outside confirm mode.
 abbrev pub next_of : Option ℕ → Option ℕ
 next_of None = None
 next_of (Some n) = Some (n + 1)
 
--- in confirm mode the answer to publish n is noted
+-- The note of the answer to publish `n`, in confirm mode.
 abbrev pub confirm_notes : ℕ → Option ℕ → Answer → List Note
 confirm_notes n None a = []
 confirm_notes n (Some m) a = Confirmed n a ∷ []
 
--- in confirm mode the answer is sent, with the confirm number
+-- Sends the answer with the confirm number, in confirm mode.
 abbrev pub confirm_sends : ℕ → ℕ → Option ℕ → Answer → List Send
 confirm_sends c h None a = []
 confirm_sends c h (Some m) a = reply c h (confirm_method a m) ∷ []
 
--- the publish is counted, its message is last in each routed queue that was not full, and its confirm number is used
+-- The broker after a publish: it is counted, its message is last in each of the `targets` that was not full, and its confirm number is used.
 abbrev pub after_publish : Topology → Broker → ℕ → ℕ → Channel → Publish → Content → List Text → Broker
 after_publish t b c h ch p content targets = record b {
   published = b.published + 1;
@@ -432,11 +432,12 @@ after_publish t b c h ch p content targets = record b {
   channel = with_pair b.channel c h (Some (record ch { confirm = next_of ch.confirm }));
 }
 
--- a routed queue is full for this body
+-- Whether a body of this content makes one of the `targets` refuse it as full.
 abbrev pub is_some_full : Topology → (Text → List Entry) → Content → List Text → Bool
 is_some_full t entries content targets = list_any (λ q. is_full t entries q (length content.body)) targets
 
--- What a publish does, on a channel of this record: it goes to each routed queue in file order, and is confirmed in confirm mode.
+-- What a publish does on the open channel `ch`: it enters each routed queue that is not full, in
+-- file order, is sent back if it is mandatory and routed nowhere, and is confirmed in confirm mode.
 pub record IsPublish (t : Topology) (old : Broker) (c h : ℕ) (ch : Channel) (p : Publish) (content : Content) (sends : List Send)
     (notes : List Note) (new : Broker) : Type 0 where
   pub targets : List Text
@@ -451,34 +452,34 @@ pub record IsPublish (t : Topology) (old : Broker) (c h : ℕ) (ch : Channel) (p
 
 -- ---- the other commands
 
--- a step that notes nothing, with its sends and the state that it leaves
+-- A step that sends `wanted_sends`, notes nothing, and leaves the broker `made`.
 pub record Does (sends : List Send) (notes : List Note) (new : Broker) (wanted_sends : List Send) (made : Broker) : Type 0 where
   pub sent : sends ≡ wanted_sends
   pub noted : notes ≡ []
   pub left : Is made new
 
--- confirm numbers count from 1 after the first confirm.select; a second one changes nothing
+-- The last confirm number after confirm.select: 0, before the first publish, or as it was if the channel was in confirm mode.
 abbrev pub started : Option ℕ → Option ℕ
 started None = Some 0
 started (Some n) = Some n
 
--- confirm.select is answered, unless its no-wait bit says not to
+-- Answers confirm.select, unless its no-wait bit is set.
 abbrev pub select_sends : ℕ → ℕ → Bool → List Send
 select_sends c h no_wait = if no_wait then [] else reply c h ConfirmSelectOk ∷ []
 
--- a close of the client: what the channel held is requeued; on one that awaits close-ok nothing changes but that it is answered
+-- The broker after a client's channel.close: what the channel held is requeued, and it is no longer open. One that awaits close-ok is unchanged.
 abbrev pub after_close : Broker → ℕ → ℕ → Channel → Broker
 after_close b c h ch = if ch.is_closing then b else with_freed (with_channel b c h None) (by_channel c h)
 
 -- ---- messages that are given out and settled
 
--- A step with these sends and notes, and the state that it leaves.
+-- A step that sends `wanted_sends`, notes `wanted_notes`, and leaves the broker `made`.
 pub record Makes (sends : List Send) (notes : List Note) (new : Broker) (wanted_sends : List Send) (wanted_notes : List Note) (made : Broker) : Type 0 where
   pub sent : sends ≡ wanted_sends
   pub noted : notes ≡ wanted_notes
   pub left : Is made new
 
--- a message as the answer to a get, with its content and the number of ready messages that remain (AMQP 0-9-1, basic.get-ok)
+-- Answers a get with the message of the entry `e`, its content, and the number of ready messages that remain (AMQP 0-9-1, basic.get-ok).
 abbrev pub get_ok : ℕ → ℕ → ℕ → Entry → ℕ → Send
 get_ok c h tag e remaining =
     send.Command c h
@@ -491,7 +492,7 @@ get_ok c h tag e remaining =
       message_count = written_count remaining;
     })) (Some e.message.content)
 
--- What a get does: the first ready message of the queue is given out, or there is none (AMQP 0-9-1, basic.get).
+-- What a get does: it gives out the first ready message of the queue, or is answered by get-empty if there is none (AMQP 0-9-1, basic.get).
 abbrev pub Gets : Broker → ℕ → ℕ → Channel → Get → Option Entry → List Send → List Note → Broker → Type 0
 Gets old c h ch m None sends notes new = Makes sends notes new (reply c h (BasicGetEmpty []) ∷ []) [] old
 Gets old c h ch m (Some e) sends notes new =
@@ -500,7 +501,8 @@ Gets old c h ch m (Some e) sends notes new =
     (delivery_notes m.no_ack e.message.number m.queue)
     (after_delivery old c h ch m.no_ack m.queue taker.Get)
 
--- What an acknowledgement or a rejection does on a channel of this record: what its tag settles is taken out or requeued, in the order of tags.
+-- What a command that settles does on the channel `ch`: each delivery that its tag takes
+-- is settled as `how` says, in the order of tags, and is no longer unacknowledged.
 pub record Settles (t : Topology) (how : Settlement) (old : Broker) (c h : ℕ) (ch : Channel) (tag : ℕ) (multiple : Bool) (wanted_sends : List Send)
     (sends : List Send) (notes : List Note) (new : Broker) : Type 0 where
   pub gone : List Outstanding
@@ -511,29 +513,30 @@ pub record Settles (t : Topology) (how : Settlement) (old : Broker) (c h : ℕ) 
   pub connections : (d : ℕ) → new.connection d ≡ old.connection d
   pub channels : (d k : ℕ) → new.channel d k ≡ with_pair old.channel c h (Some (record ch { outstanding = kept tag_of tag multiple ch.outstanding })) d k
 
--- a purge is answered by the number of messages that it took out, unless its no-wait bit says not to (AMQP 0-9-1, queue.purge-ok)
+-- Answers a purge with the number of messages removed, unless its no-wait bit is set (AMQP 0-9-1, queue.purge-ok).
 abbrev pub purge_sends : ℕ → ℕ → Bool → ℕ → List Send
 purge_sends c h no_wait count = if no_wait then [] else reply c h (QueuePurgeOk (written_count count)) ∷ []
 
--- What a purge does.
+-- What a purge does: it removes the ready messages from its queue, notes that each left, and is answered.
 abbrev pub Purges : Broker → ℕ → ℕ → Purge → List Send → List Note → Broker → Type 0
 Purges old c h m sends notes new =
     Makes sends notes new (purge_sends c h m.no_wait (ready_in (old.queue m.queue))) (purge_notes m.queue (filter is_ready (old.queue m.queue)))
     (after_purge old m.queue)
 
--- the channel with the limit that a qos sets: of all its consumers together, or of each that is made later (RabbitMQ, "Consumer Prefetch", global)
+-- The channel with the prefetch that a qos sets: that of all its consumers together if it is
+-- global, and otherwise that of each consumer made later (RabbitMQ, "Consumer Prefetch", global).
 abbrev pub limited : Channel → Qos → Channel
 limited ch m = if m.global then record ch { limit = m.prefetch_count } else record ch { each_limit = m.prefetch_count }
 
--- a declare is answered so, unless its no-wait bit says not to
+-- Answers a declare, unless its no-wait bit is set.
 abbrev pub declare_sends : ℕ → ℕ → Bool → Method → List Send
 declare_sends c h no_wait answer = if no_wait then [] else reply c h answer ∷ []
 
--- a queue that is there, with the numbers of its ready messages and of its consumers (AMQP 0-9-1, queue.declare-ok)
+-- The answer to a declare of a queue that is there: the numbers of its ready messages and of its consumers (AMQP 0-9-1, queue.declare-ok).
 abbrev pub queue_declared : Text → ℕ → ℕ → Method
 queue_declared queue ready consumers = QueueDeclareOk (record { queue = queue; message_count = written_count ready; consumer_count = written_count consumers })
 
--- What a declare does that only asks whether a queue is there.
+-- What a passive declare of a queue does: it is answered, and nothing changes.
 pub record Finds (old : Broker) (c h : ℕ) (m : DeclaresQueue) (sends : List Send) (notes : List Note) (new : Broker) : Type 0 where
   pub consumers : ℕ
   pub has : HasConsumers old m.queue consumers
@@ -541,25 +544,25 @@ pub record Finds (old : Broker) (c h : ℕ) (m : DeclaresQueue) (sends : List Se
 
 -- ---- consumers
 
--- a consume is answered by the tag of its consumer, unless its no-wait bit says not to (AMQP 0-9-1, basic.consume-ok)
+-- Answers a consume with the tag of its consumer, unless its no-wait bit is set (AMQP 0-9-1, basic.consume-ok).
 abbrev pub consume_sends : ℕ → ℕ → Bool → Text → List Send
 consume_sends c h no_wait tag = if no_wait then [] else reply c h (BasicConsumeOk tag) ∷ []
 
--- What a consume does: a consumer more on its channel.
+-- What a consume does: it adds a consumer to its channel.
 abbrev pub Consumes : Broker → ℕ → ℕ → Channel → Consume → List Send → List Note → Broker → Type 0
 Consumes old c h ch m sends notes new =
     Does sends notes new (consume_sends c h m.no_wait (tag_for ch m.consumer_tag)) (with_channel old c h (Some (with_consumer ch m)))
 
--- a cancel is answered by the tag that it names, which no consumer need have, unless its no-wait bit says not to (AMQP 0-9-1, basic.cancel-ok)
+-- Answers a cancel with the tag that it names, whether or not a consumer has it, unless its no-wait bit is set (AMQP 0-9-1, basic.cancel-ok).
 abbrev pub cancel_sends : ℕ → ℕ → Bool → Text → List Send
 cancel_sends c h no_wait tag = if no_wait then [] else reply c h (BasicCancelOk tag) ∷ []
 
--- What a cancel does: the consumer of its tag is the channel's no more.
+-- What a cancel does: it removes the consumer with its tag from its channel, if there is one.
 abbrev pub Cancels : Broker → ℕ → ℕ → Channel → Cancel → List Send → List Note → Broker → Type 0
 Cancels old c h ch m sends notes new =
     Does sends notes new (cancel_sends c h m.no_wait m.consumer_tag) (with_channel old c h (Some (without_consumer ch m.consumer_tag)))
 
--- a message as it goes to a consumer, with its content (AMQP 0-9-1, basic.deliver)
+-- Sends the message of the entry `e`, with its content, to a consumer (AMQP 0-9-1, basic.deliver).
 abbrev pub deliver : ℕ → ℕ → ℕ → Text → Entry → Send
 deliver c h tag consumer_tag e =
     send.Command c h
@@ -572,7 +575,7 @@ deliver c h tag consumer_tag e =
       routing_key = e.message.key;
     })) (Some e.message.content)
 
--- What a delivery to connection c does: of those that can be made, one is made.
+-- What a delivery to connection `c` does: one of those that can be made is made.
 pub record IsDelivery (old : Broker) (c : ℕ) (sends : List Send) (notes : List Note) (new : Broker) : Type 0 where
   pub made : CanDeliver old c
   pub makes : Makes sends notes new
@@ -580,12 +583,12 @@ pub record IsDelivery (old : Broker) (c : ℕ) (sends : List Send) (notes : List
       (delivery_notes made.consumer.no_ack made.entry.message.number made.consumer.queue)
       (after_delivery old c made.number made.channel made.consumer.no_ack made.consumer.queue (taker.Consumer made.consumer.number))
 
--- a publish without a content counts as one with none of it
+-- The content of a publish; if it came with none, one with no properties and an empty body.
 abbrev pub content_or_none : Option Content → Content
 content_or_none (Some content) = content
 content_or_none None = record { properties = no_properties; body = [] }
 
--- what a command does that is not refused
+-- What a command does that is not refused.
 abbrev pub Performs : Topology → Broker → ℕ → ℕ → Channel → Method → Option Content → List Send → List Note → Broker → Type 0
 Performs t old c h ch (ConfirmSelect no_wait) content sends notes new =
     Does sends notes new (select_sends c h no_wait) (with_channel old c h (Some (record ch { confirm = started ch.confirm })))
@@ -625,39 +628,40 @@ Performs t old c h ch (QueuePurge m) content sends notes new =
     Purges old c h m sends notes new
 Performs t old c h ch _ content sends notes new = ⊥
 
--- What a refused command does: the close of its code names the method that caused it, and what was held is ready again.
+-- What a refused command does: nothing if it is ignored. Otherwise its channel or connection is
+-- closed with the code of the refusal and the ids of the method, and what was held is requeued.
 abbrev pub Refuses : Broker → ℕ → ℕ → Ids → Refusal → List Send → List Note → Broker → Type 0
 Refuses old c h cause Ignored sends notes new = Does sends notes new [] old
 Refuses old c h cause (Of_channel code) sends notes new = Does sends notes new (channel_close c h code cause ∷ []) (with_closing old c h)
 Refuses old c h cause (Of_connection code) sends notes new = Does sends notes new (connection_close c code cause ∷ []) (with_gone old c)
 
--- the channel; where it is not open, as for what closes the connection, one with nothing on it
+-- The channel, or a new one if it is not open, as for channel.open and for connection.close.
 abbrev pub channel_or_new : Option Channel → Channel
 channel_or_new None = new_channel
 channel_or_new (Some ch) = ch
 
--- a command does what it asks for where nothing stands against it, and else what its refusal says
+-- What a command does: what it asks for if nothing refuses it, and otherwise what its refusal says.
 abbrev pub Decides : Topology → Broker → ℕ → ℕ → Method → Option Content → Option Refusal → List Send → List Note → Broker → Type 0
 Decides t old c h m content None sends notes new = Performs t old c h (channel_or_new (old.channel c h)) m content sends notes new
 Decides t old c h m content (Some r) sends notes new = Refuses old c h (ids_of m) r sends notes new
 
--- a command of a connection that doesn't run does nothing
+-- What a command does on its connection; if the connection doesn't run, nothing.
 abbrev pub OnConnection : Topology → Broker → ℕ → ℕ → Method → Option Content → List Send → List Note → Broker → Option Connection → Type 0
 OnConnection t old c h m content sends notes new None = Does sends notes new [] old
 OnConnection t old c h m content sends notes new (Some conn) = Decides t old c h m content (refusal t old conn h m (old.channel c h)) sends notes new
 
 -- ---- a content that is too large
 
--- a publish with empty texts, which stands for one whose content is too large
+-- A publish with empty texts, which represents one whose content is too large.
 abbrev pub empty_publish : Method
 empty_publish = BasicPublish no_publish
 
--- on a channel that is open it is a refusal of the channel: 311 content-too-large (own)
+-- Refuses a content that is too large: with 311 content-too-large on an open channel (own), and otherwise with 504.
 abbrev pub refusal_of_large_on : Option Channel → Refusal
 refusal_of_large_on None = Of_connection 504
 refusal_of_large_on (Some ch) = Of_channel 311
 
--- a publish whose content is too large, on a channel of a running connection: decided in the order of any other command
+-- Refuses a publish whose content is too large, on channel `h` of a running connection, in the order in which any other command is refused.
 abbrev pub refusal_of_large : Connection → ℕ → Option Channel → Refusal
 refusal_of_large conn h ch =
     if is_awaiting ch then Ignored
@@ -665,18 +669,18 @@ refusal_of_large conn h ch =
     else if nat_lt conn.channel_max h then Of_connection 504
     else refusal_of_large_on ch
 
--- it is refused, and the close names basic.publish; of a connection that doesn't run it does nothing
+-- What a publish does whose content is too large: it is refused, and the close names basic.publish. If its connection doesn't run, it does nothing.
 abbrev pub OnLarge : Broker → ℕ → ℕ → List Send → List Note → Broker → Option Connection → Type 0
 OnLarge old c h sends notes new None = Does sends notes new [] old
 OnLarge old c h sends notes new (Some conn) = Refuses old c h (ids_of empty_publish) (refusal_of_large conn h (old.channel c h)) sends notes new
 
 -- ---- openings, pauses
 
--- channels 1 to k are open
+-- The channels of a connection on which 1 to `k` are open.
 abbrev pub channels_up_to : ℕ → ℕ → Option Channel
 channels_up_to k h = if nat_le 1 h && nat_le h k then Some new_channel else None
 
--- connection c runs, with this channel-max, and its channels 1 to k are open and new; what one of its number held is ready again
+-- The broker with connection `c` running: `max` is its channel-max, its channels 1 to `k` are open and new, and what was held under its number is requeued.
 abbrev pub opened : Broker → ℕ → ℕ → ℕ → Broker
 opened b c max k =
     with_freed
@@ -685,16 +689,16 @@ opened b c max k =
       channel = with_row b.channel c (channels_up_to k);
     }) (by_connection c)
 
--- the connection is paused, or is not; without one there is nothing to change
+-- The connection, paused or not as `is` says; there is nothing to change without one.
 abbrev pub paused : Bool → Option Connection → Option Connection
 paused is None = None
 paused is (Some conn) = Some (record conn { is_paused = is })
 
--- of a connection that doesn't run nothing is kept here
+-- The broker with connection `c` paused or not as `is` says; unchanged if it has no such connection.
 abbrev pub with_paused : Broker → ℕ → Bool → Broker
 with_paused b c is = record b { connection = with_one b.connection c (paused is (b.connection c)) }
 
--- One event of the broker: what is sent and noted, and the state after it.
+-- One event of the broker: from `old` it sends `sends`, notes `notes`, and leaves `new`.
 abbrev pub Acts : Topology → Broker → Event → List Send → List Note → Broker → Type 0
 Acts t old (Open c) sends notes new = Does sends notes new [] old
 Acts t old (First c bytes) sends notes new = Does sends notes new [] old

@@ -1,10 +1,11 @@
--- Field tables, and how they are spelled. Source: AMQP 0-9-1, section 4.2.5.5, "Field Tables"; the type letters are RabbitMQ's (own profile).
+-- Field tables, and how they are spelled. Start with `pairs_bytes` and `IsTable`. Source:
+-- AMQP 0-9-1, section 4.2.5.5, "Field Tables"; the type letters are RabbitMQ's (own profile).
 use Rattle.std.specs.Prelude.{◌≡◌, ◌<◌, ◌≤◌, ◌-◌, ◌^◌, ℕ, List, [], ◌∷◌, ◌++◌, length, Bool, cond}
 use Rattle.std.specs.Int.{w16, w32, w64, to_be_bytes}
 use Rattle.model.specs.Words.{Text}
 
 mutual
-  -- a value of a table or an array; numbers are as their bytes say, whether a client means them signed or not, and floats are not read
+  -- A value in a table or an array. Numbers are as their bytes say, whether a client means them as signed or not, and floats are not interpreted.
   pub data Value : Type 0 where
     Truth : (b : Bool) → Value
     Byte : (n : ℕ) → Value
@@ -21,17 +22,17 @@ mutual
     Byte_array : (t : Text) → Value
     Void : Value
 
-  -- the values of an array, in order
+  -- The values of an array, in order.
   pub data Values : Type 0 where
     no_values : Values
     value : (v : Value) → (vs : Values) → Values
 
-  -- the names and values of a table, in order; a name may stand there twice
+  -- The names and values of a table, in order; a name may occur twice.
   pub data Pairs : Type 0 where
     no_pairs : Pairs
     pair : (name : Text) → (v : Value) → (ps : Pairs) → Pairs
 
--- the letter that tells the type: t b s I l f d D S A T F x V
+-- The letter of the value's type: t b s I l f d D S A T F x V.
 abbrev pub letter : Value → ℕ
 letter (Truth b) = 116
 letter (Byte n) = 98
@@ -48,12 +49,12 @@ letter (Inner_table ps) = 70
 letter (Byte_array t) = 120
 letter Void = 86
 
--- bytes behind their length
+-- The bytes with their length before them, in four bytes.
 abbrev pub with_length : List ℕ → List ℕ
 with_length body = to_be_bytes w32 (length body) ++ body
 
 abbrev mutual
-  -- what stands behind the letter: numbers are big-endian
+  -- The bytes after the letter: numbers are big-endian.
   pub content : Value → List ℕ
   content (Truth b) = cond b 1 0 ∷ []
   content (Byte n) = n ∷ []
@@ -70,18 +71,18 @@ abbrev mutual
   content (Byte_array t) = with_length t
   content Void = []
 
-  -- letter and content of each
+  -- The bytes of the values: letter and content of each.
   pub values_bytes : Values → List ℕ
   values_bytes no_values = []
   values_bytes (value v vs) = letter v ∷ content v ++ values_bytes vs
 
-  -- name, letter and content of each; a name has its length in one byte before it
+  -- The bytes of the pairs: name, letter and content of each; the length of a name is before it, in one byte.
   pub pairs_bytes : Pairs → List ℕ
   pairs_bytes no_pairs = []
   pairs_bytes (pair name v ps) = (length name ∷ name) ++ (letter v ∷ content v ++ pairs_bytes ps)
 
 abbrev mutual
-  -- what has a spelling, where arrays and tables may stand inside one another so many levels deep
+  -- The value has a spelling, and arrays and tables in it, itself included, are nested at most `depth` levels deep.
   pub IsValue : ℕ → Value → Type 0
   IsValue depth (Truth b) = Unit {0}
   IsValue depth (Byte n) = n < 2 ^ 8
@@ -98,26 +99,26 @@ abbrev mutual
   IsValue depth (Byte_array t) = length t < 2 ^ 32
   IsValue depth Void = Unit {0}
 
-  -- the same of each value of an array
+  -- Each value of an array has a spelling, nested at most `depth` levels deep.
   pub AreValues : ℕ → Values → Type 0
   AreValues depth no_values = Unit {0}
   AreValues depth (value v vs) = IsValue depth v × AreValues depth vs
 
-  -- and of each value of a table, whose names have their length in one byte
+  -- Each value of a table has a spelling, nested at most `depth` levels deep, and the length of each name fits one byte.
   pub ArePairs : ℕ → Pairs → Type 0
   ArePairs depth no_pairs = Unit {0}
   ArePairs depth (pair name v ps) = (length name < 256) × IsValue depth v × ArePairs depth ps
 
--- a table is spelled as its length and its pairs
+-- The bytes of a table: its length and its pairs.
 abbrev pub table_bytes : Pairs → List ℕ
 table_bytes ps = with_length (pairs_bytes ps)
 
--- a table that has a spelling: 4 bytes hold its length, and tables and arrays stand inside one another at most 16 levels deep, the outermost counted (own)
+-- The table has a spelling: its length fits four bytes, and tables and arrays are nested at most 16 levels deep, the outermost included (own).
 pub record HavePairsSpelling (ps : Pairs) : Type 0 where
   pub size : length (pairs_bytes ps) < 2 ^ 32
   pub fits : ArePairs 15 ps
 
--- the bytes are the pairs of a table that has a spelling
+-- The bytes are the pairs of a table that has a spelling.
 pub record IsTable (bytes : List ℕ) : Type 0 where
   pub pairs : Pairs
   pub fits : HavePairsSpelling pairs

@@ -7,39 +7,39 @@ use Rattle.model.specs.declared.topologies.Binding.{Binding}
 use Rattle.model.specs.declared.topologies.Place.{Place}
 use Rattle.model.specs.declared.topologies.Place.TheVariants as place
 
--- exchanges, queues and bindings, each in the order of the file
+-- Exchanges, queues and bindings, each in the order of the file.
 pub record Topology : Type 0 where
   pub exchanges : List Exchange
   pub queues : List DeclaredQueue
   pub bindings : List Binding
 
--- the names of the queues, in the order of the file
+-- The names of the queues, in order.
 abbrev pub queue_names : List DeclaredQueue → List Text
 queue_names queues = map (λ (q : DeclaredQueue). q.name) queues
 
--- the names of the exchanges, in the order of the file
+-- The names of the exchanges, in order.
 abbrev pub exchange_names : List Exchange → List Text
 exchange_names exchanges = map (λ (x : Exchange). x.name) exchanges
 
 -- ---- what a topology keeps
 
--- one of the list
+-- `x` is one of the list.
 abbrev pub IsIn : {A : Type 0} → A → List A → Type 0
 IsIn x [] = ⊥
 IsIn x (y ∷ ys) = (x ≡ y) ⊎ IsIn x ys
 
--- no two are the same
+-- No two of the names are the same.
 abbrev pub AreApart : List Text → Type 0
 AreApart [] = Unit {0}
 AreApart (x ∷ xs) = (IsIn x xs → ⊥) × AreApart xs
 
--- the place is one of the topology
+-- The exchange or queue is one of the topology.
 abbrev pub IsThere : Topology → Place → Type 0
 IsThere t (place.Exchange name) = IsIn name (exchange_names t.exchanges)
 IsThere t (place.Queue name) = IsIn name (queue_names t.queues)
 
--- What every topology keeps: names apart, the default exchange `""` not among them, whatever is named is there, and what queues and dead
--- letters go by has at most 255 bytes.
+-- What every topology keeps: queue names are apart, exchange names are apart and the default exchange `""` is not among
+-- them, whatever is named is there, and queue names, dead-letter exchanges and dead-letter keys have at most 255 bytes.
 pub record IsWellFormed (t : Topology) : Type 0 where
   pub queues_apart : AreApart (queue_names t.queues)
   pub exchanges_apart : AreApart (exchange_names t.exchanges)
@@ -47,10 +47,10 @@ pub record IsWellFormed (t : Topology) : Type 0 where
   pub sources : (b : Binding) → Contains t.bindings b → IsIn b.source (exchange_names t.exchanges)
   pub ends : (b : Binding) → Contains t.bindings b → IsThere t b.to
   pub alternates : (x : Exchange) (other : Text) → Contains t.exchanges x → x.alternate ≡ Some other → IsIn other (exchange_names t.exchanges)
-  -- a queue may dead-letter to the default exchange
+  -- A queue may also dead-letter to the default exchange.
   pub dead_letters : (q : DeclaredQueue) (exchange : Text) → Contains t.queues q → q.dead_letter_exchange ≡ Some exchange
       → (exchange ≡ []) ⊎ IsIn exchange (exchange_names t.exchanges)
-  -- what a dead letter is sent by and told of can be spelled
+  -- So the names that a dead letter is sent with and those in its headers can be spelled.
   pub short_queues : (q : DeclaredQueue) → Contains t.queues q → length q.name ≤ 255
   pub short_exchanges : (q : DeclaredQueue) (exchange : Text) → Contains t.queues q → q.dead_letter_exchange ≡ Some exchange → length exchange ≤ 255
   pub short_keys : (q : DeclaredQueue) (key : Text) → Contains t.queues q → q.dead_letter_key ≡ Some key → length key ≤ 255

@@ -1,4 +1,4 @@
--- Commands against which nothing stands: what is done for a get and for a purge (AMQP 0-9-1, basic.get and queue.purge).
+-- Commands that are not refused: what is done for a get and for a purge (AMQP 0-9-1, basic.get and queue.purge).
 use Rattle.std.specs.Prelude.{◌≡◌, ℕ, [], ◌∷◌, Option, Some, None}
 use Rattle.model.specs.Broker.{Connection}
 use Rattle.model.specs.Deliveries.{first_ready}
@@ -14,7 +14,7 @@ use Rattle.model.specs.declared.methods.Purge.{Purge}
 use Rattle.model.specs.declared.events.Event.TheVariants.{Command}
 use Rattle.model.specs.declared.events.Phase.TheVariants as phase
 
--- The event is this method, on channel k of connection c, which runs, and nothing stands against it.
+-- The event is the method `m` on channel `k` of connection `c`, which runs, and nothing refuses it.
 pub record IsUnrefused (h : Happening) (c k : ℕ) (m : Method) : Type 0 where
   pub content : Option Content
   pub event : h.event ≡ Command c k m content
@@ -23,15 +23,15 @@ pub record IsUnrefused (h : Happening) (c k : ℕ) (m : Method) : Type 0 where
   pub there : h.before.broker.connection c ≡ Some connection
   pub accepted : refusal h.config.topology h.before.broker connection k m (h.before.broker.channel c k) ≡ None
 
--- a get is answered by the first message of its queue that can be given out, or, where there is none, by get-empty
+-- A get is answered by the first ready message of its queue, or by get-empty if there is none.
 abbrev pub GivesOrTells : Happening → ℕ → ℕ → Get → Option Entry → Type 0
 GivesOrTells h c k m (Some e) = GivesOut h m.queue e
 GivesOrTells h c k m None = h.sends ≡ reply c k (BasicGetEmpty []) ∷ []
 
--- so is each against which nothing stands
+-- Each get that is not refused is answered so.
 abbrev pub GetsAreAnswered : Happening → Type 0
 GetsAreAnswered h = (c k : ℕ) (m : Get) → IsUnrefused h c k (BasicGet m) → GivesOrTells h c k m (first_ready (h.before.broker.queue m.queue))
 
--- a purge against which nothing stands leaves nothing in its queue that can be given out
+-- A purge that is not refused leaves no ready message in its queue.
 abbrev pub PurgesLeaveNone : Happening → Type 0
 PurgesLeaveNone h = (c k : ℕ) (m : Purge) → IsUnrefused h c k (QueuePurge m) → first_ready (h.after.broker.queue m.queue) ≡ None

@@ -1,4 +1,4 @@
-//! Bodies of contents: a short one stands in its own place, and a longer one is shared bytes.
+//! The body of a content: a short one is kept in place, a longer one as shared bytes.
 
 ghost use Rattle.std.specs.Prelude.{◌≡◌, ◌≤◌, [], length, take, IsOk, IfOk, IfErr};
 
@@ -7,19 +7,19 @@ use bytes::{Bytes, BytesMut};
 use std::alloc::{AllocError, AllocFailed, Global};
 use std::marker::Model;
 
-/// How many bytes a body has at most that stands in its own 48.
+/// The most bytes that a body keeps in place.
 const MOST_SHORT: usize = 46;
 
-/// Where the bytes of a body stand.
+/// Where the bytes of a body are kept.
 #[derive(Drop)]
 enum Stored {
-    /// In the body itself: the first so many of these.
+    /// In the body itself: the length, and an array whose first bytes these are.
     Short(u8, [u8; 46]),
     /// In a block that all clones share.
     Long(Bytes),
 }
 
-/// These bytes, in place.
+/// Returns a body that keeps `bytes` in place.
 fn short(bytes: &[u8]) -> Body
     requires { length bytes.now ≤ 46 }
     ensures { result ≡ bytes.now }
@@ -29,7 +29,7 @@ fn short(bytes: &[u8]) -> Body
     }
 }
 
-/// The body of a content: any bytes, in 48 bytes of its own. Where there are more than 46, clones share them.
+/// The body of a content: any bytes, in a value of 48 bytes. Clones share the bytes if there are more than 46.
 pub struct Body {
     kept: Stored,
 }
@@ -53,7 +53,7 @@ impl Model for Body {
 }
 
 impl Body {
-    /// The body of no bytes. It takes no memory.
+    /// Returns a body of no bytes. Never allocates.
     pub fn empty() -> Body
         ensures { result ≡ [] }
     {
@@ -62,7 +62,7 @@ impl Body {
         }
     }
 
-    /// A copy of these bytes. At most 46 take no memory.
+    /// Copies `bytes`. Up to 46 bytes this never fails; otherwise it fails only if an allocation fails.
     pub fn from_slice(alloc: Global, bytes: &[u8]) -> Result<Body, AllocError>
         ensures ok { IfOk result (λ b. b ≡ bytes.now) }
         ensures short { length bytes.now ≤ 46 → IsOk result }
@@ -75,8 +75,8 @@ impl Body {
         })
     }
 
-    /// The bytes that were gathered here. At most 46 take no memory, and more are not copied. Where memory is refused they come
-    /// back.
+    /// Converts `gathered` into a body without copying more than 46 bytes. Up to 46
+    /// bytes this never fails. If an allocation fails, the error holds `gathered`.
     pub fn from_gathered(gathered: BytesMut) -> Result<Body, AllocFailed<BytesMut>>
         ensures ok { IfOk result (λ b. b ≡ gathered.items) }
         ensures short { length gathered.items ≤ 46 → IsOk result }
@@ -93,7 +93,7 @@ impl Body {
         }
     }
 
-    /// The same body, sharing its bytes if there are more than 46. Up to 46 take no memory.
+    /// Returns the same body, sharing its bytes if there are more than 46. Up to 46 bytes this never fails.
     pub fn clone(&self) -> Result<Body, AllocError>
         ensures ok { IfOk result (λ b. b ≡ self.now) }
         ensures short { length self.now ≤ 46 → IsOk result }
@@ -117,7 +117,7 @@ impl Body {
         }
     }
 
-    /// How many bytes there are.
+    /// Returns the length in bytes.
     pub fn len(&self) -> usize
         ensures { result ≡ length self.now }
     {

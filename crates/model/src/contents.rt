@@ -1,4 +1,4 @@
-//! Contents: what a publish carries beside its method.
+//! The content of a publish: its properties and its body.
 
 ghost use Rattle.std.specs.Prelude.{◌≡◌, IfOk};
 ghost use Rattle.model.specs.Headers.{no_properties};
@@ -13,7 +13,7 @@ use std::alloc::{AllocError, Global};
 use std::marker::Model;
 use std::sync::Arc;
 
-/// The fourteen properties of a content, one by one. The broker passes all of them on, and changes only `headers`.
+/// The fourteen properties of a content, as separate fields. The broker passes all of them on, and changes only `headers`.
 ///
 /// Source: AMQP 0-9-1, section 4.2.6.1, "The Content Header", and the `basic` class of its XML.
 pub struct Fields {
@@ -56,7 +56,7 @@ impl Drop for Fields {
 }
 
 impl Fields {
-    /// No property at all.
+    /// Returns fields with no property set.
     pub fn none() -> Fields
         ensures { result ≡ no_properties }
     {
@@ -78,7 +78,7 @@ impl Fields {
         }
     }
 
-    /// The same fields, sharing their bytes.
+    /// Returns the same fields, sharing their bytes.
     pub fn clone(&self) -> Result<Fields, AllocError>
         ensures { IfOk result (λ fields. fields ≡ self.now) }
     {
@@ -101,7 +101,7 @@ impl Fields {
     }
 }
 
-/// The same text, where there is one, sharing its bytes.
+/// Returns the same text, if there is one, sharing its bytes.
 fn shared(text: &Option<Text>) -> Result<Option<Text>, AllocError>
     ensures { IfOk result (λ same. same ≡ text.now) }
 {
@@ -111,7 +111,7 @@ fn shared(text: &Option<Text>) -> Result<Option<Text>, AllocError>
     }
 }
 
-/// The same table, where there is one, sharing its bytes.
+/// Returns the same table, if there is one, sharing its bytes.
 fn shared_table(table: &Option<Table>) -> Result<Option<Table>, AllocError>
     ensures { IfOk result (λ same. same ≡ table.now) }
 {
@@ -121,31 +121,31 @@ fn shared_table(table: &Option<Table>) -> Result<Option<Table>, AllocError>
     }
 }
 
-/// Flags and values of no property at all.
+/// Flags and values if no property is set.
 const NONE: &[u8] = &[0, 0];
 
-/// How many bytes of flags and values a small block takes at most.
+/// The most bytes of flags and values that a small block holds.
 const MOST_SMALL: usize = 48;
 
-/// How many a larger one takes.
+/// The most bytes of flags and values that a larger block holds.
 const MOST_LARGER: usize = 80;
 
-/// Where properties stand. Flags and values are as a header has them behind the size of the body.
+/// How properties are kept. Flags and values are as a header has them after the size of the body.
 #[derive(Drop)]
 enum Kept {
-    /// There is none at all.
+    /// No property is set.
     Empty,
-    /// Flags and values: the first so many bytes of a block.
+    /// Flags and values: their length, and a block whose first bytes they are.
     Small(u8, Arc<[u8; 48]>),
     /// The same in a larger block.
     Larger(u8, Arc<[u8; 80]>),
-    /// Flags and values, if they are longer.
+    /// Flags and values that are longer than a larger block.
     Spelled(Arc<Vec<u8>>),
-    /// One by one.
+    /// Separate fields.
     Apart(Arc<Fields>),
 }
 
-/// A block of its own, behind a pointer.
+/// Moves `value` into a block of its own. Fails only if the allocation fails.
 fn in_block<T: Drop>(alloc: Global, value: T) -> Result<Arc<T>, AllocError>
     ensures { IfOk result (λ block. block.value ≡ value) }
 {
@@ -155,7 +155,7 @@ fn in_block<T: Drop>(alloc: Global, value: T) -> Result<Arc<T>, AllocError>
     }
 }
 
-/// A copy of these flags and values, in the smallest block that takes them.
+/// Copies flags and values into the smallest block that holds them. Fails only if an allocation fails.
 fn keep(alloc: Global, bytes: &[u8]) -> Result<Kept, AllocError>
     requires { IsSpelling bytes.now }
     ensures { IfOk result (λ kept. IsKeptText kept × (view_of kept ≡ spelled_by bytes.now)) }
@@ -170,18 +170,18 @@ fn keep(alloc: Global, bytes: &[u8]) -> Result<Kept, AllocError>
     Ok(Kept::Spelled(in_block(alloc, Vec::from_slice(alloc, bytes)?)?))
 }
 
-/// Properties in the form in which they are kept.
+/// Properties, in the form in which they are kept.
 #[derive(Clone, Copy, Drop)]
 pub enum Form<'a> {
-    /// Flags and values, as a header has them behind the size of the body.
+    /// Flags and values, as a header has them after the size of the body.
     Spelled(&'a [u8]),
-    /// One by one.
+    /// Separate fields.
     Apart(&'a Fields),
 }
 
-/// The properties of a content, in 16 bytes of their own. Clones share them, and where there are none there is no block.
+/// The properties of a content, in a value of 16 bytes. Clones share them, and there is no block if none is set.
 ///
-/// Those that were read stay as they were spelled, so they take the room of those that are there.
+/// Properties that were read are kept as they were spelled, so they take no memory for those that are not set.
 pub struct Properties {
     kept: Kept,
 }
@@ -211,14 +211,14 @@ impl Properties {
     ghost use Rattle.model.specs.Properties.{properties_bytes, IsSpelling};
     ghost use Rattle.model.specs.Forms.{IsFormOf};
 
-    /// No property at all. It takes no memory.
+    /// Returns properties with none set. Never allocates.
     pub fn none() -> Properties
         ensures { result ≡ no_properties }
     {
         Properties { kept: Kept::Empty }
     }
 
-    /// These properties.
+    /// Returns the properties `fields`. Fails only if an allocation fails.
     pub fn new(alloc: Global, fields: Fields) -> Result<Properties, AllocError>
         ensures { IfOk result (λ p. p ≡ fields) }
     {
@@ -230,7 +230,7 @@ impl Properties {
         }
     }
 
-    /// The properties that these flags and values spell, as a copy of them.
+    /// Returns the properties that `bytes`, flags and values, spell, and copies these. Fails only if an allocation fails.
     pub fn spelled(alloc: Global, bytes: &[u8]) -> Result<Properties, AllocError>
         requires { IsSpelling bytes.now }
         ensures { IfOk result (λ p. AreProperties p × (bytes.now ≡ properties_bytes p)) }
@@ -240,7 +240,7 @@ impl Properties {
         })
     }
 
-    /// The properties, in the form in which they are kept.
+    /// Returns the properties in the form in which they are kept: flags and values, or separate fields.
     pub fn form(&self) -> Form<'_>
         ensures { IsFormOf self.now result }
     {
@@ -253,7 +253,7 @@ impl Properties {
         }
     }
 
-    /// The same properties, sharing their bytes.
+    /// Returns the same properties, sharing their bytes.
     pub fn clone(&self) -> Result<Properties, AllocError>
         ensures { IfOk result (λ p. p ≡ self.now) }
     {
@@ -292,7 +292,7 @@ impl Drop for Content {
 }
 
 impl Content {
-    /// The same content, sharing its bytes.
+    /// Returns the same content, sharing its bytes.
     pub fn clone(&self) -> Result<Content, AllocError>
         ensures { IfOk result (λ c. c ≡ self.now) }
     {

@@ -1,40 +1,41 @@
-//! What was given out, as channels and queues keep it: by the places of queues in the file of definitions.
+//! Deliveries as channels and queues keep them: a queue is given by its index in the definitions file.
 
 ghost use Rattle.std.specs.Prelude.{◌≡◌};
 ghost use Rattle.model.specs.Placed.{is_waiting, holder_of_delivery};
 
 use crate::messages::{Holder, Taker};
 
-/// Which channel of which connection.
+/// A channel, by its connection and its number there.
 #[derive(Clone, Copy, PartialEq, Eq, Debug, Drop)]
 pub struct ChannelId {
     pub connection: u64,
     pub number: u16,
 }
 
-/// A message that was given out on a channel: it waits to be settled, or it was settled before others that wait.
+/// A delivery on a channel: unacknowledged, or settled before others that are not.
+///
 /// Source: AMQP 0-9-1, section 3.1.8, "Acknowledgements".
 #[derive(Clone, Copy, PartialEq, Eq, Debug, Drop)]
 pub struct Delivery {
-    /// The delivery tag; 0 once it is settled.
+    /// The delivery tag; 0 once the delivery is settled.
     pub tag: u64,
-    /// The queue's place in the file of definitions.
+    /// The queue's index in the definitions file.
     pub queue: usize,
-    /// The queue's own number of the message's arrival there; once it is settled, the delivery tag that it had.
+    /// The number of the message's arrival in its queue; once the delivery is settled, its delivery tag.
     pub arrival: u64,
-    /// To whom it was given.
+    /// Who was given the message.
     pub by: Taker,
 }
 
 impl Delivery {
-    /// Whether it waits to be settled.
+    /// Returns whether the delivery is unacknowledged.
     pub fn is_waiting(&self) -> bool
         ensures { result ≡ is_waiting self.now }
     {
         self.tag != 0
     }
 
-    /// Who holds it, if it was given out on this channel.
+    /// Returns the holder of the message, if it was given out on `channel`.
     pub fn holder(&self, channel: ChannelId) -> Holder
         ensures { result ≡ holder_of_delivery channel.connection channel.number self.now }
     {

@@ -1,13 +1,13 @@
-//! What comes to the broker, and what it sends.
+//! What comes to the broker, and what it sends. Start with [`Event`] and [`Send`].
 
 use crate::contents::Content;
 use crate::methods::{Method, Publish};
 use crate::texts::Text;
 
-/// A whole command of one connection.
+/// A complete command of one connection.
 #[derive(Drop)]
 pub enum Command {
-    /// The first eight bytes of a connection, which stand before all frames.
+    /// The first eight bytes of a connection, before all frames.
     Head {
         bytes: [u8; 8],
     },
@@ -22,7 +22,7 @@ pub enum Command {
         publish: Publish,
         content: Content,
     },
-    /// A publish whose content is too large, once all of its body has come and was dropped.
+    /// A publish whose content is too large, once all of its body was read and dropped.
     TooLarge {
         channel: u16,
     },
@@ -30,7 +30,7 @@ pub enum Command {
 
 /// What is sent to one connection.
 pub enum Send {
-    /// The eight bytes of the protocol header, which answer any other eight.
+    /// The eight bytes of the protocol header, which answer any other first eight bytes.
     Greeting {
         connection: u64,
     },
@@ -64,18 +64,18 @@ pub enum Event {
     Open {
         connection: u64,
     },
-    /// Its first eight bytes.
+    /// The first eight bytes of the connection.
     First {
         connection: u64,
         bytes: [u8; 8],
     },
-    /// The connection runs from now on, with channels 1 to `channels` open.
+    /// The connection is opened as running, with channels 1 to `channels` open.
     Running {
         connection: u64,
         channel_max: u16,
         channels: u16,
     },
-    /// A whole command.
+    /// A complete command.
     Command {
         connection: u64,
         channel: u16,
@@ -87,7 +87,7 @@ pub enum Event {
         connection: u64,
         channel: u16,
     },
-    /// The connection's bytes broke the wire's rules.
+    /// The connection's bytes broke the protocol; `code` is the reply code.
     Fault {
         connection: u64,
         code: u16,
@@ -96,11 +96,11 @@ pub enum Event {
     Lose {
         connection: u64,
     },
-    /// The connection's output holds 1,048,576 bytes or more.
+    /// The connection's output has reached 1,048,576 bytes.
     Pause {
         connection: u64,
     },
-    /// It holds fewer again.
+    /// The connection's output has fallen below 1,048,576 bytes.
     Resume {
         connection: u64,
     },
@@ -146,41 +146,41 @@ impl Drop for Event {
     }
 }
 
-/// What a run is given, one after another. Connections are numbered from 1 in the order of their openings. `S` is what a
-/// machine is set up by.
+/// One input of a run. Connections are numbered from 1 in the order in which they are opened. `S` is the setup that a reload
+/// offers.
 #[derive(Drop)]
 pub enum Arrival<S> {
-    /// A connection whose first eight bytes are awaited.
+    /// A connection is opened, and its first eight bytes are awaited.
     Open,
-    /// A connection that runs at once, with channels 1 to this one open.
+    /// A connection is opened as running, with channels 1 to this number open.
     Ready(u8),
-    /// A piece of bytes from a connection.
+    /// Bytes arrive from this connection.
     In(u64, Text),
-    /// So many bytes of a connection's output are taken, at most what is there.
+    /// This many bytes of this connection's output are taken, or all if there are fewer.
     Sent(u64, u64),
     /// One delivery is made, if any can be.
     Pump,
-    /// A connection is lost.
+    /// This connection is lost.
     Lose(u64),
-    /// This is to be in force from now on.
+    /// A reload offers this setup, which is put in force if there is no obstacle.
     Reload(S),
 }
 
-/// Where a connection stands in its life. Source: AMQP 0-9-1, section 2.2.4, "The Connection Class".
+/// The phase of a connection's life. Source: AMQP 0-9-1, section 2.2.4, "The Connection Class".
 #[derive(Clone, Copy, PartialEq, Eq, Debug, Drop)]
 pub enum Phase {
-    /// The eight bytes are awaited.
+    /// Awaits the first eight bytes.
     Header,
-    /// start-ok is awaited.
+    /// Awaits start-ok.
     Start,
-    /// tune-ok is awaited.
+    /// Awaits tune-ok.
     Tune,
-    /// connection.open is awaited.
+    /// Awaits connection.open.
     Open,
-    /// Commands are performed.
+    /// Performs commands.
     Running,
-    /// close-ok is awaited.
+    /// Awaits close-ok.
     Closing,
-    /// Nothing more is read.
+    /// Reads nothing more.
     Over,
 }

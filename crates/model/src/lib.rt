@@ -1,7 +1,7 @@
-//! The words that all of warren speaks: plain data, and the definitions of what holds of it.
+//! The words of all of warren: plain data, and the definitions of what holds of it.
 //!
-//! The data here has no behaviour of its own. The definitions stand in `specs/`, one topic a file, and every contract
-//! of the crates above is stated in their words: `docs/inside/MODEL.md` gives them in reading order.
+//! The data has no behaviour of its own. The definitions are in `specs/`, one topic a file, and every contract of
+//! the crates above is stated with them: start with `docs/inside/MODEL.md`, which lists them in reading order.
 #![tactic(auto)]
 
 mod bodies;

@@ -1,4 +1,4 @@
-//! Messages, and how they stand in a queue.
+//! Messages, and the entries of queues that hold them. Start with [`Message`] and [`Entry`].
 
 ghost use Rattle.std.specs.Prelude.{◌≡◌, IfOk};
 ghost use Rattle.model.specs.Sharing;
@@ -10,7 +10,7 @@ use std::alloc::{AllocError, Global};
 use std::marker::Model;
 use std::sync::Arc;
 
-/// Where a message was sent, and under which key.
+/// The exchange and the key that a message was sent with.
 #[derive(Drop)]
 struct Sent {
     exchange: Text,
@@ -18,7 +18,7 @@ struct Sent {
 }
 
 impl Sent {
-    /// The same names, sharing their bytes.
+    /// Returns the same names, sharing their bytes.
     fn clone(&self) -> Result<Sent, AllocError>
         ensures { IfOk result (λ sent. sent ≡ self.now) }
     {
@@ -29,23 +29,23 @@ impl Sent {
     }
 }
 
-/// Where a dead letter was sent, and its publish before.
+/// What a dead letter was sent with last, and its publish first.
 #[derive(Drop)]
 struct Resent {
     first: Sent,
     last: Sent,
 }
 
-/// Where what all copies share was sent.
+/// What the copies of a message were sent with.
 #[derive(Drop)]
 enum Sending {
-    /// A publish, to its own exchange.
+    /// A publish, or a copy of it.
     Once(Sent),
-    /// A dead letter. It has a block for its names, so that a publish takes less room.
+    /// A dead letter. Its names have a block of their own, so that a publish takes less memory.
     Again(Arc<Resent>),
 }
 
-/// Where it was first sent: a publish or a dead letter, there where it was published.
+/// Returns what the publish was sent with, also for a dead letter.
 fn first_sent(sending: &Sending) -> &Sent
     ensures { result.now ≡ Sharing.first_sent sending.now }
 {
@@ -55,7 +55,7 @@ fn first_sent(sending: &Sending) -> &Sent
     }
 }
 
-/// Where it was sent last.
+/// Returns what the message was sent with last.
 fn last_sent(sending: &Sending) -> &Sent
     ensures { result.now ≡ Sharing.last_sent sending.now }
 {
@@ -83,11 +83,11 @@ impl Drop for Shared {
     }
 }
 
-/// A publish in a queue, in 16 bytes of its own: its number, names, properties and body stand once for all of its copies.
+/// A publish in a queue, in a value of 16 bytes. All of its copies share its number, names, properties and body.
 pub struct Message {
     shared: Arc<Shared>,
     redelivered: bool,
-    /// It stood in a queue when the last reload was done.
+    /// It was in a queue when the last reload was done.
     stood: bool,
 }
 
@@ -116,7 +116,7 @@ impl Message {
     ghost use Rattle.model.specs.Deaths.{dead_letter};
     ghost use Rattle.model.specs.Step.{message};
 
-    /// The message of a publish under this publish number. It shares the bytes of the publish and of its content.
+    /// Makes the message of a publish with the publish number `number`. It shares the bytes of `publish` and `content`. Fails only if an allocation fails.
     pub fn of_publish(
         alloc: Global,
         number: u64,
@@ -143,8 +143,8 @@ impl Message {
         }
     }
 
-    /// The dead letter of this message, which is sent to this exchange under this key, with this content. It keeps the number
-    /// and where the message was first sent, and counts as not delivered. It shares the bytes of all that it is made of.
+    /// Makes the dead letter of this message, sent to `exchange` under `key` with `content`. It keeps the number and the first
+    /// exchange and key, counts as not delivered, and shares the bytes of all that it is made of. Fails only if an allocation fails.
     pub fn dead_letter(
         &self,
         alloc: Global,
@@ -169,7 +169,7 @@ impl Message {
         }
     }
 
-    /// Where its dead letter is sent, beside where it was first sent.
+    /// Returns what its dead letter is sent with, last and first.
     fn resent(&self, alloc: Global, exchange: &Text, key: &Text) -> Result<Sending, AllocError>
         ensures first { IfOk result (λ sending. Sharing.first_sent sending ≡ record { exchange = self.now.first_exchange; key = self.now.first_key }) }
         ensures last { IfOk result (λ sending. Sharing.last_sent sending ≡ record { exchange = exchange.now; key = key.now }) }
@@ -187,7 +187,7 @@ impl Message {
         }
     }
 
-    /// The same message, sharing its bytes.
+    /// Returns the same message, sharing its bytes.
     pub fn clone(&self) -> Result<Message, AllocError>
         ensures { IfOk result (λ m. m ≡ self.now) }
     {
@@ -198,63 +198,63 @@ impl Message {
         })
     }
 
-    /// Its publish number: publishes count from 1 over the whole broker.
+    /// Returns the publish number: publishes are numbered from 1 over the whole broker.
     pub fn number(&self) -> u64
         ensures { result ≡ self.now.number }
     {
         self.shared.number
     }
 
-    /// The exchange that it was published to, or as a dead letter was sent to.
+    /// Returns the exchange that it was sent to last, by its publish or as a dead letter.
     pub fn exchange(&self) -> &Text
         ensures { result.now ≡ self.now.exchange }
     {
         &last_sent(&self.shared.sending).exchange
     }
 
-    /// The key under which it came.
+    /// Returns the key with which it was sent last.
     pub fn key(&self) -> &Text
         ensures { result.now ≡ self.now.key }
     {
         &last_sent(&self.shared.sending).key
     }
 
-    /// The exchange to which its publish was sent.
+    /// Returns the exchange that its publish was sent to.
     pub fn first_exchange(&self) -> &Text
         ensures { result.now ≡ self.now.first_exchange }
     {
         &first_sent(&self.shared.sending).exchange
     }
 
-    /// The key under which its publish came.
+    /// Returns the key of its publish.
     pub fn first_key(&self) -> &Text
         ensures { result.now ≡ self.now.first_key }
     {
         &first_sent(&self.shared.sending).key
     }
 
-    /// Its properties and body.
+    /// Returns its properties and body.
     pub fn content(&self) -> &Content
         ensures { result.now ≡ self.now.content }
     {
         &self.shared.content
     }
 
-    /// Whether it was given out before.
+    /// Returns whether it is marked as redelivered.
     pub fn is_redelivered(&self) -> bool
         ensures { result ≡ self.now.redelivered }
     {
         self.redelivered
     }
 
-    /// It was given out before from now on.
+    /// Marks it as redelivered.
     pub fn redeliver(&mut self)
         ensures { self.new ≡ record self.old { redelivered = true } }
     {
         self.redelivered = true;
     }
 
-    /// Marks it as one that stood in a queue when a reload was done.
+    /// Marks it as one that was in a queue when a reload was done.
     pub fn stand(&mut self)
         ensures { self.new ≡ record self.old { stood = true } }
     {
@@ -267,11 +267,11 @@ impl Message {
 pub enum Taker {
     /// A basic.get.
     Get,
-    /// The consumer of this number: consumers of a channel are numbered as they are made.
+    /// The consumer of this number; the consumers of a channel are numbered in the order in which they are made.
     Consumer(u64),
 }
 
-/// Where a message was given out, and under which delivery tag.
+/// The channel on which a message was given out, with its delivery tag and its taker.
 #[derive(Clone, Copy, PartialEq, Eq, Debug, Drop)]
 pub struct Holder {
     pub connection: u64,
@@ -280,7 +280,7 @@ pub struct Holder {
     pub by: Taker,
 }
 
-/// Whether a message can be given out.
+/// Whether an entry is ready or held.
 #[derive(Clone, Copy, PartialEq, Eq, Debug, Drop)]
 pub enum Mark {
     Ready,
@@ -288,7 +288,7 @@ pub enum Mark {
     Held(Holder),
 }
 
-/// A message in a queue, in 64 bytes of its own.
+/// A message in a queue, in a value of at most 64 bytes.
 pub struct Entry {
     pub message: Message,
     pub mark: Mark,
@@ -304,7 +304,7 @@ impl Drop for Entry {
     }
 }
 
-/// One who may log in: the name, and four bytes of salt with the SHA-256 of salt and password behind them.
+/// A user who may log in: the name, and four bytes of salt followed by the SHA-256 of salt and password.
 #[derive(Drop)]
 pub struct User {
     pub name: Text,

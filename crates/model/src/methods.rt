@@ -24,7 +24,7 @@ pub struct StartOk {
     pub locale: Text,
 }
 
-/// connection.tune and tune-ok: limits, where 0 is none of one's own, and seconds between heartbeats.
+/// connection.tune and connection.tune-ok: the limits, 0 for no limit of one's own, and the seconds between heartbeats.
 #[derive(Clone, Copy, Drop)]
 pub struct Tuning {
     pub channel_max: u16,
@@ -40,7 +40,7 @@ pub struct Open {
     pub reserved_bit: bool,
 }
 
-/// connection.close and channel.close: why, and the ids of the method that caused it, or 0 and 0.
+/// connection.close and channel.close: the reason, and the ids of the method that caused it, or 0 and 0.
 #[derive(Drop)]
 pub struct Close {
     pub reply_code: u16,
@@ -120,7 +120,7 @@ pub struct Cancel {
     pub no_wait: bool,
 }
 
-/// basic.publish. It carries a content.
+/// basic.publish, which carries a content.
 #[derive(Drop)]
 pub struct Publish {
     pub reserved: u16,
@@ -130,7 +130,7 @@ pub struct Publish {
     pub immediate: bool,
 }
 
-/// basic.return. It carries a content.
+/// basic.return, which carries a content.
 #[derive(Drop)]
 pub struct Return {
     pub reply_code: u16,
@@ -139,7 +139,7 @@ pub struct Return {
     pub routing_key: Text,
 }
 
-/// basic.deliver. It carries a content.
+/// basic.deliver, which carries a content.
 #[derive(Drop)]
 pub struct Deliver {
     pub consumer_tag: Text,
@@ -157,18 +157,18 @@ pub struct Get {
     pub no_ack: bool,
 }
 
-/// basic.get-ok. It carries a content.
+/// basic.get-ok, which carries a content.
 #[derive(Drop)]
 pub struct GetOk {
     pub delivery_tag: u64,
     pub redelivered: bool,
     pub exchange: Text,
     pub routing_key: Text,
-    /// How many ready messages remain.
+    /// The number of ready messages that remain.
     pub message_count: u32,
 }
 
-/// basic.ack: of a delivery, or of a publish.
+/// basic.ack, of a delivery or of a publish.
 #[derive(Clone, Copy, Drop)]
 pub struct Ack {
     pub delivery_tag: u64,
@@ -182,7 +182,7 @@ pub struct Reject {
     pub requeue: bool,
 }
 
-/// basic.nack: of a delivery, or of a publish.
+/// basic.nack, of a delivery or of a publish.
 #[derive(Clone, Copy, Drop)]
 pub struct Nack {
     pub delivery_tag: u64,
@@ -190,7 +190,7 @@ pub struct Nack {
     pub requeue: bool,
 }
 
-/// A method with its arguments. The arguments of those that declare and bind for a client, which are refused, are not read.
+/// A method with its arguments. Methods that bind, unbind or delete for a client are refused, and their arguments are not read.
 pub enum Method {
     ConnectionStart(Start),
     ConnectionStartOk(StartOk),
@@ -296,7 +296,7 @@ impl Method {
     ghost use Rattle.std.specs.Prelude.{◌≡◌};
     ghost use Rattle.model.specs.Grammar.{split};
 
-    /// The arguments of a publish, or the method as it was where it is another.
+    /// Returns the arguments of a publish, or the method itself if it is another.
     pub fn into_publish(self) -> Result<Publish, Method>
         ensures { result ≡ split self }
     {

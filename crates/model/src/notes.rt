@@ -1,4 +1,4 @@
-//! Notes: what the broker tells of each step, for audit and for the theorems.
+//! Notes: what the broker records of each step, for audit and for the theorems. Start with [`Note`].
 
 use crate::obstacles::Obstacle;
 use crate::texts::Text;
@@ -10,7 +10,7 @@ pub enum Answer {
     Nack,
 }
 
-/// How a message came to a queue.
+/// How a message entered a queue.
 #[derive(Clone, Copy, PartialEq, Eq, Debug, Drop)]
 pub enum Way {
     /// By its publish.
@@ -24,7 +24,7 @@ pub enum Way {
 pub enum Cause {
     /// It was acknowledged.
     Acked,
-    /// It was taken without acknowledgement.
+    /// It was given out without acknowledgement.
     Auto,
     /// It was rejected and not requeued.
     Rejected,
@@ -32,10 +32,9 @@ pub enum Cause {
     Purged,
 }
 
-/// One thing that happened to a message, or a reload. `number` is the publish number of the message: publishes count from 1 over the
-/// whole broker.
+/// One thing that happened to a message, or a reload. `number` is the publish number of the message: publishes are numbered from 1 over the whole broker.
 pub enum Note {
-    /// A publish was taken; `confirm` is its confirm number on its channel, in confirm mode.
+    /// A publish was taken. In confirm mode, `confirm` is its confirm number on its channel.
     Published {
         number: u64,
         connection: u64,
@@ -44,13 +43,13 @@ pub enum Note {
         key: Text,
         confirm: Option<u64>,
     },
-    /// The message stands at the end of the queue.
+    /// The message entered the queue, at its end.
     Entered {
         number: u64,
         queue: Text,
         way: Way,
     },
-    /// The queue was full.
+    /// The queue was full and refused the message.
     Refused {
         number: u64,
         queue: Text,
@@ -64,7 +63,7 @@ pub enum Note {
         number: u64,
         answer: Answer,
     },
-    /// The message is gone from the queue.
+    /// The message left the queue.
     Left {
         number: u64,
         queue: Text,
@@ -72,7 +71,7 @@ pub enum Note {
     },
     /// A reload was done: what it offered is in force.
     Reloaded,
-    /// A reload was refused, as this stands against it: nothing changed.
+    /// A reload was refused for this obstacle, and changed nothing.
     ReloadRefused(Obstacle),
 }
 

@@ -1,4 +1,4 @@
-//! The numbers of AMQP: by which class and method a method is known, and the texts of reply codes.
+//! The numbers of AMQP: the class and method ids of methods, and the texts of reply codes.
 
 ghost use Rattle.std.specs.Prelude.{◌≡◌, ◌<◌, length};
 ghost use Rattle.model.specs.Codes.{code_text};
@@ -6,7 +6,7 @@ ghost use Rattle.model.specs.Codes.{code_text};
 use crate::methods::Method;
 use crate::texts::Text;
 
-/// The class and the method by which a method is known.
+/// The class and the method id of a method.
 #[derive(Clone, Copy, PartialEq, Eq, Debug, Drop)]
 pub struct Ids {
     pub class: u16,
@@ -16,7 +16,7 @@ pub struct Ids {
 impl Method {
     ghost use Rattle.model.specs.Grammar.{ids, ids_of};
 
-    /// The class and the method. Source: AMQP 0-9-1, its XML.
+    /// Returns the class and the method id. Source: AMQP 0-9-1, its XML.
     pub fn ids(&self) -> Ids
         ensures { ids result.class result.method ≡ ids_of self.now }
     {
@@ -71,7 +71,7 @@ impl Method {
     }
 }
 
-/// The text that goes with a reply code: its name. Source: AMQP 0-9-1, section 1.1, "reply-code".
+/// Returns the name of the reply code `code`, or `internal-error` for 541 and any code without a name here. Source: AMQP 0-9-1, section 1.1, "reply-code".
 pub fn reply_text(code: u16) -> Text
     ensures text { result ≡ code_text code }
     ensures short { length result < 256 }

@@ -1,13 +1,13 @@
-//! What can stand against a reload.
+//! What can prevent a reload.
 
 use crate::texts::Text;
 
 /// Why a configuration can't be put in force while messages wait.
 pub enum Obstacle {
-    /// A message stands in this queue, or a consumer takes from it, and the new topology lacks it.
+    /// This queue has a message, or a consumer takes from it, and the new topology lacks it.
     InUse(Text),
-    /// A message stands in this queue that was first sent under this key, and by deaths it could come to a queue that the
-    /// guarantee of this number, counted from 1, forbids it.
+    /// In `queue` is a message that was first sent under `key`, and it could come by
+    /// deaths to a queue that the guarantee with this number, counted from 1, forbids it.
     Breaks {
         queue: Text,
         key: Text,

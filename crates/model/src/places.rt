@@ -1,8 +1,8 @@
-//! Short bytes that stand in a place of a fixed length.
+//! Short bytes in an array of a fixed length.
 
 ghost use Rattle.std.specs.Prelude.{◌≡◌, ◌≤◌, length, take};
 
-/// These bytes, with zeros behind them.
+/// Returns an array that begins with `bytes`, followed by zeros.
 pub(crate) fn padded<const N: usize>(bytes: &[u8]) -> [u8; N]
     requires { length bytes.now ≤ N }
     ensures { take (length bytes.now) result ≡ bytes.now }
@@ -12,7 +12,7 @@ pub(crate) fn padded<const N: usize>(bytes: &[u8]) -> [u8; N]
     place
 }
 
-/// The first `len` of these bytes, or all if there are fewer.
+/// Returns the first `len` bytes, or all if there are fewer.
 pub(crate) fn first_of(bytes: &[u8], len: u8) -> &[u8]
     ensures { result.now ≡ take len bytes.now }
 {

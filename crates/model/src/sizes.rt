@@ -1,6 +1,6 @@
-//! How many bytes a value has that is passed about or kept in great numbers.
+//! The sizes in bytes of values that are passed about or kept in great numbers, proved.
 //!
-//! What is large stands once, behind a pointer that all share; what is passed by value is copied at each call.
+//! Whatever is large is kept once, behind a shared pointer: what is passed by value is copied at each call.
 
 use crate::bodies::Body;
 use crate::contents::{Content, Properties};

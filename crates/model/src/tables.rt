@@ -6,7 +6,7 @@ use crate::texts::Text;
 use std::alloc::AllocError;
 use std::marker::Model;
 
-/// A field table, seen as the bytes of its pairs: name, type letter and value of each, without the length before them.
+/// A field table, as contracts see it the bytes of its pairs: name, type letter and value of each, without the length before them.
 ///
 /// Source: AMQP 0-9-1, section 4.2.5.5, "Field Tables".
 #[derive(Drop)]
@@ -23,7 +23,7 @@ impl Model for Table {
 }
 
 impl Table {
-    /// The table of no pairs.
+    /// Returns a table of no pairs.
     pub fn empty() -> Table
         ensures { result ≡ [] }
     {
@@ -32,28 +32,28 @@ impl Table {
         }
     }
 
-    /// The table of these pairs, which may be any bytes: what spells no pairs is no table on the wire.
+    /// Returns the table with these pairs. They may be any bytes; what spells no pairs is no table on the wire.
     pub fn from_pairs(pairs: Text) -> Table
         ensures { result ≡ pairs }
     {
         Table { pairs }
     }
 
-    /// The bytes of the pairs.
+    /// Returns the bytes of the pairs.
     pub fn as_bytes(&self) -> &[u8]
         ensures { result.now ≡ self.now }
     {
         self.pairs.as_bytes()
     }
 
-    /// How many bytes the pairs have.
+    /// Returns the length of the pairs in bytes.
     pub fn len(&self) -> usize
         ensures { result ≡ length self.now }
     {
         self.pairs.len()
     }
 
-    /// The same table, sharing its bytes.
+    /// Returns the same table, sharing its bytes.
     pub fn clone(&self) -> Result<Table, AllocError>
         ensures { IfOk result (λ t. t ≡ self.now) }
     {

@@ -1,4 +1,4 @@
-//! Byte strings that are shared, or so short that a copy costs less, and the words of topic patterns.
+//! Names and keys as byte strings that are shared, or so short that a copy costs less; and the words of topic patterns.
 
 ghost use Rattle.std.specs.Prelude.{◌≡◌, ◌≤◌, [], length, take, IfOk, IfErr};
 
@@ -7,19 +7,19 @@ use std::alloc::{AllocError, AllocFailed, Global};
 use std::marker::Model;
 use std::sync::Arc;
 
-/// How many bytes a text has at most that stands in its own 24.
+/// The most bytes that a text keeps in place.
 const MOST_SHORT: usize = 22;
 
-/// Where the bytes of a text stand.
+/// Where the bytes of a text are kept.
 #[derive(Drop)]
 enum Kept {
     /// In a block that all clones share.
     Shared(Arc<Vec<u8>>),
-    /// In the text itself: the first so many of these.
+    /// In the text itself: the length, and an array whose first bytes these are.
     Short(u8, [u8; 22]),
 }
 
-/// A name or a key: any bytes, in 24 bytes of its own. Where there are more than 22, clones share them.
+/// A name or a key: any bytes, in a value of 24 bytes. Clones share the bytes if there are more than 22.
 pub struct Text {
     kept: Kept,
 }
@@ -41,14 +41,14 @@ impl Model for Text {
 }
 
 impl Text {
-    /// The text of no bytes.
+    /// Returns a text of no bytes. Never allocates.
     pub fn empty() -> Text
         ensures { result ≡ [] }
     {
         Text::short(&[])
     }
 
-    /// These bytes, at most 22, in the text itself. It takes no memory.
+    /// Returns a text that keeps `bytes`, at most 22, in place. Never allocates.
     pub fn short(bytes: &[u8]) -> Text
         requires { length bytes.now ≤ 22 }
         ensures { result ≡ bytes.now }
@@ -58,7 +58,7 @@ impl Text {
         }
     }
 
-    /// These bytes, as they are. Where memory is refused they come back.
+    /// Converts `bytes` into a text without copying more than 22 bytes. If an allocation fails, the error holds `bytes`.
     pub fn from_vec(bytes: Vec<u8>) -> Result<Text, AllocFailed<Vec<u8>>>
         ensures ok { IfOk result (λ t. t ≡ bytes.items) }
         ensures err { IfErr result (λ e. e.value ≡ bytes) }
@@ -75,7 +75,7 @@ impl Text {
         }
     }
 
-    /// A copy of these bytes. It takes no memory where there are at most 22.
+    /// Copies `bytes`. Allocates only for more than 22 bytes, and fails only if an allocation fails.
     pub fn from_slice(alloc: Global, bytes: &[u8]) -> Result<Text, AllocError>
         ensures { IfOk result (λ t. t ≡ bytes.now) }
     {
@@ -88,7 +88,7 @@ impl Text {
         }
     }
 
-    /// The same text, sharing its bytes where it doesn't have them itself.
+    /// Returns the same text, sharing its bytes if there are more than 22.
     pub fn clone(&self) -> Result<Text, AllocError>
         ensures { IfOk result (λ t. t ≡ self.now) }
     {
@@ -111,7 +111,7 @@ impl Text {
         }
     }
 
-    /// How many bytes there are.
+    /// Returns the length in bytes.
     pub fn len(&self) -> usize
         ensures { result ≡ length self.now }
     {
@@ -122,10 +122,10 @@ impl Text {
 /// A word of a topic pattern. Source: AMQP 0-9-1, section 3.1.3.3, "The Topic Exchange Type".
 #[derive(Drop)]
 pub enum Token {
-    /// This word alone.
+    /// Matches this word alone.
     Word(Text),
-    /// `*`: exactly one word.
+    /// `*`: matches exactly one word.
     One,
-    /// `#`: any number of words, none among them.
+    /// `#`: matches any number of words, none included.
     Any,
 }

@@ -2,14 +2,14 @@
 
 use crate::texts::Text;
 
-/// How an exchange decides whether a binding lets a key pass. Source: AMQP 0-9-1, section 3.1.3, "Exchange Types".
+/// The type of an exchange, which decides whether a binding lets a key pass. Source: AMQP 0-9-1, section 3.1.3, "Exchange Types".
 #[derive(Clone, Copy, PartialEq, Eq, Debug, Drop)]
 pub enum ExchangeKind {
-    /// The key is the binding key.
+    /// If the key is the binding key.
     Direct,
     /// Always.
     Fanout,
-    /// The key matches the binding key as a topic pattern.
+    /// If the key matches the binding key as a topic pattern.
     Topic,
 }
 
@@ -20,30 +20,32 @@ pub enum Place {
     Queue(Text),
 }
 
+/// An exchange, as the definitions file declares it.
 #[derive(Drop)]
 pub struct Exchange {
     pub name: Text,
     pub kind: ExchangeKind,
     /// Clients may not publish to it.
     pub internal: bool,
-    /// Where a message goes that no binding lets pass. Source: RabbitMQ, "Alternate Exchanges".
+    /// The exchange to which a message goes that no binding lets pass. Source: RabbitMQ, "Alternate Exchanges".
     pub alternate: Option<Text>,
 }
 
-/// A queue, as the file declares it.
+/// A queue, as the definitions file declares it.
 #[derive(Drop)]
 pub struct DeclaredQueue {
     pub name: Text,
-    /// How many ready messages it takes before it refuses more.
+    /// The most ready messages it may have; it refuses more.
     pub limit: Option<u32>,
-    /// How many bytes the bodies of its ready messages may have together.
+    /// The most bytes that the bodies of its ready messages may have together.
     pub byte_limit: Option<u32>,
-    /// Where rejected messages go. Source: RabbitMQ, "Dead Letter Exchanges".
+    /// The exchange to which rejected messages go. Source: RabbitMQ, "Dead Letter Exchanges".
     pub dead_letter_exchange: Option<Text>,
-    /// The key they go under, or else their own.
+    /// The key of its dead letters; without one they keep their own.
     pub dead_letter_key: Option<Text>,
 }
 
+/// A binding from the exchange `source`, with the binding key `key`.
 #[derive(Drop)]
 pub struct Binding {
     pub source: Text,
@@ -54,7 +56,7 @@ pub struct Binding {
 /// What a guarantee promises of its queue.
 #[derive(Clone, Copy, PartialEq, Eq, Debug, Drop)]
 pub enum Mode {
-    /// Every covered key leads to it.
+    /// Every covered key is routed to it.
     Reaches,
     /// No covered key ever comes to it, dead letters included.
     Never,

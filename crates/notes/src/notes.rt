@@ -1,7 +1,9 @@
 //! The notes of a step.
 
-ghost use Rattle.std.specs.Prelude.{◌≡◌, ◌+◌, ◌<◌, ◌≤◌, ◌++◌, ◌∷◌, [], set, take, eqb, slice_get, Some, OnOk, OnErr, IfSome, vec_len, vec_capacity};
+ghost use Rattle.std.specs.Prelude.{◌≡◌, ◌+◌, ◌<◌, ◌≤◌, ◌++◌, ◌∷◌, [], set, take, eqb, slice_get, vec_len, vec_capacity};
+ghost use Rattle.std.specs.Prelude.{true, false, is_some, Some, OnOk, OnErr, IfSome};
 ghost use Rattle.notes.specs.Numbered.{numbered};
+ghost use Rattle.notes.specs.Kept.{are_kept};
 
 use crate::untold::Untold;
 use model::Note;
@@ -15,21 +17,20 @@ pub enum Held {
     Told(Vec<Untold>),
 }
 
-/// The notes of a step, in their order. Contracts see the vector of the notes, even if nobody keeps them.
+/// The notes of a step, in their order. Contracts see the vector of the notes even if nobody keeps them, and whether they are kept.
 #[derive(Drop)]
 pub struct Notes {
     held: Held,
 }
 
 impl Model for Notes {
-    ghost use Rattle.std.specs.Prelude.{Vec};
-    ghost use Rattle.std.specs.declared.alloc.Global.{Global};
-    ghost use Rattle.model.specs.declared.notes.Note.{Note};
+    ghost use Rattle.std.specs.Prelude.{true, false};
+    ghost use Rattle.notes.specs.Kept.{Noted, noted};
     ghost use Rattle.notes.specs.declared.notes.Held.TheVariants.{Kept, Told};
 
-    ghost Value = { Vec Note Global };
+    ghost Value = { Noted };
 
-    ghost view = { λ n. elim n.held [ Kept v ↦ v | Told v ↦ v ] };
+    ghost view = { λ n. elim n.held [ Kept v ↦ noted v true | Told v ↦ noted v false ] };
 }
 
 /// Sets the number of a note that a message left its queue. Any other note stays as it is.
@@ -44,7 +45,8 @@ fn set_number(note: &mut Note, number: u64)
 impl Notes {
     /// Returns an empty list that keeps what is appended. Never allocates.
     pub fn new(alloc: Global) -> Notes
-        ensures { result.items ≡ [] }
+        ensures items { result.items ≡ [] }
+        ensures kept { are_kept result ≡ true }
     {
         Notes {
             held: Held::Kept(Vec::new(alloc)),
@@ -53,7 +55,8 @@ impl Notes {
 
     /// Returns an empty list that keeps no note. Never allocates.
     pub fn untold(alloc: Global) -> Notes
-        ensures { result.items ≡ [] }
+        ensures items { result.items ≡ [] }
+        ensures kept { are_kept result ≡ false }
     {
         Notes {
             held: Held::Told(Vec::new(alloc)),
@@ -68,6 +71,7 @@ impl Notes {
         ensures ok { OnOk result (vec_len self.new + additional ≤ vec_capacity self.new) }
         ensures capacity { vec_capacity self.old ≤ vec_capacity self.new }
         ensures full { OnErr result (vec_capacity self.old < vec_len self.old + additional) }
+        ensures kept { are_kept self.new ≡ are_kept self.old }
     {
         match &mut self.held {
             Held::Kept(notes) => notes.reserve_exact(additional),
@@ -81,6 +85,7 @@ impl Notes {
         ensures items { self.new.items ≡ self.old.items ++ note ∷ [] }
         ensures len { vec_len self.new ≡ vec_len self.old + 1 }
         ensures capacity { vec_capacity self.new ≡ vec_capacity self.old }
+        ensures kept { are_kept self.new ≡ are_kept self.old }
     {
         match &mut self.held {
             Held::Kept(notes) => notes.push_reserved(note),
@@ -108,6 +113,7 @@ impl Notes {
     /// Removes all notes behind the first `len`.
     pub fn truncate(&mut self, len: usize)
         ensures items { self.new.items ≡ take len self.old.items }
+        ensures kept { are_kept self.new ≡ are_kept self.old }
     {
         match &mut self.held {
             Held::Kept(notes) => notes.truncate(len),
@@ -115,22 +121,24 @@ impl Notes {
         }
     }
 
-    /// Sets the number of the note at index `place`, and that of `note`. The note there equals `note` with number 0.
-    pub fn set_number(&mut self, place: usize, note: &mut Note, number: u64)
-        requires { slice_get self.old.items place ≡ Some (numbered 0 note.old) }
-        ensures items { self.new.items ≡ set self.old.items place (numbered number note.old) }
+    /// Sets the number of the note at `index`, and that of `note`. The note there equals `note` with number 0.
+    pub fn set_number(&mut self, index: usize, note: &mut Note, number: u64)
+        requires { slice_get self.old.items index ≡ Some (numbered 0 note.old) }
+        ensures items { self.new.items ≡ set self.old.items index (numbered number note.old) }
         ensures note { note.new ≡ numbered number note.old }
+        ensures kept { are_kept self.new ≡ are_kept self.old }
     {
         set_number(note, number);
         match &mut self.held {
-            Held::Kept(notes) => set_number(&mut notes[place], number),
-            Held::Told(notes) => notes[place] = Untold::of(note),
+            Held::Kept(notes) => set_number(&mut notes[index], number),
+            Held::Told(notes) => notes[index] = Untold::of(note),
         }
     }
 
     /// Returns the notes, or `None` if nobody keeps them.
     pub fn into_vec(self) -> Option<Vec<Note>>
-        ensures { IfSome result (λ notes. notes.items ≡ self.items) }
+        ensures items { IfSome result (λ notes. notes.items ≡ self.items) }
+        ensures kept { is_some result ≡ are_kept self }
     {
         let Notes { held } = self;
         match held {

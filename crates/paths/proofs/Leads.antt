@@ -1,13 +1,12 @@
 -- What leads to a queue is what chains of links lead to from it.
 use Rattle.paths.proofs.Names.{◌≡◌, ℕ, zero, suc, ◌+◌, ◌<◌, ◌≤◌, List, [], ◌∷◌, ◌++◌, Bool, true, refl, sym, ap, ◌∙◌, subst, length, take, get_or, inl, inr, Option, Some, None, arith, Decides, slice_get, false≢true, take_all, take_more, Text, Topology, IsIn, of_key, Comes, Place, comes_fixed, IsSet, Hop, Stand, Visit, AreReached, Chain, LinksAreWithin, still, along, fixed_of, spot_place, IsRefixed, Refixes, AreExplored, Onto, there, comes, AddsFront, AddsLink, AreLeading, AreLinked, ComesAfter, IsFront, IsLeading, IsSource, LinkHolds, LinksAll, SomeLeads, links_from, in_get}
 use Rattle.std.proofs.Common.{false}
-use Rattle.std.specs.Prelude.{◌⊎◌}
 use Rattle.model.specs.declared.topologies.Place.TheVariants as place
 use Rattle.laws.proofs.Counts.{in_front, in_back, in-append}
 use Rattle.paths.specs.Leading.{Leads as Stands}
 use Rattle.paths.proofs.Traced.{below_or, in_at}
 use Rattle.paths.proofs.Chains.{chain_on}
-use Rattle.paths.proofs.Explored.{Trail, refixed_key, refixed_once, refixed_within, trail_comes, trail_of, walk}
+use Rattle.paths.proofs.Explorations.{Trail, refixed_key, refixed_once, refixed_within, trail_comes, trail_of, walk}
 
 -- ---- what a stand adds
 

@@ -4,7 +4,8 @@ pub mod Stepped
 pub mod Visited
 pub mod Traced
 pub mod Chains
-pub mod Explored
+pub mod Explorations
+pub mod Fronts
 pub mod Leads
 pub mod Walks
 pub mod Among

@@ -12,7 +12,8 @@ pub use Rattle.model.specs.Topology.{IsIn, IsWellFormed, Topology, exchange_name
 pub use Rattle.model.specs.Words.{Text}
 pub use Rattle.model.specs.declared.topologies.DeclaredQueue.{DeclaredQueue}
 pub use Rattle.model.specs.declared.topologies.Place.{Place}
-pub use Rattle.paths.specs.Exploring.{AreExplored, Exploring, GoesOn, IsLeft, KeptOrFixed, Onto, after, comes, there}
+pub use Rattle.paths.specs.Deaths.{AreDeaths, AreFronts, IsDeathOf, IsFrontAt}
+pub use Rattle.paths.specs.Exploring.{AreExplored, Exploring, GoesOn, IsExploration, IsLeft, KeptOrFixed, Onto, after, comes, there}
 pub use Rattle.paths.specs.Found.{ExpandsVisit}
 pub use Rattle.paths.specs.Keyed.{Adds, AddsAll, AreOneOn, LeadsDead, NextStand, SomeGoesOn, WalksOn, into, is_queue}
 pub use Rattle.paths.specs.Leading.{AddsFront, AddsLink, AreLeading, AreLinked, ComesAfter, IsFront, IsLeading, IsSource, LinkHolds, LinksAll, SomeLeads, links_from}

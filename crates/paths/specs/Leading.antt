@@ -1,4 +1,4 @@
--- Which queues with a key of their own have dead letters that come to one queue (RabbitMQ, "Dead Letter Exchanges").
+-- Which queues with a key of their own have dead letters that reach one queue (RabbitMQ, "Dead Letter Exchanges").
 use Rattle.std.specs.Prelude.{◌≡◌, ◌⊎◌, ◌<◌, ◌+◌, ℕ, List, [], ◌∷◌, ◌++◌, Bool, Option, Some, None, length}
 use Rattle.model.specs.Words.{Text}
 use Rattle.model.specs.Topology.{Topology, IsIn}
@@ -12,14 +12,14 @@ use Rattle.paths.specs.Stands.{spot_place}
 use Rattle.paths.specs.Onward.{Refixes}
 use Rattle.paths.specs.Exploring.{AreExplored}
 
--- dead letters of the queue at this place, which has a key of its own, come to the queue q
+-- dead letters of the queue at this index, which has a key of its own, reach the queue q
 pub record ComesAfter (t : Topology) (q : Text) (at : ℕ) : Type 0 where
   pub exchange : Text
   pub key : Text
   pub fixes : Refixes t at exchange key
   pub comes : Comes t (of_key key) None exchange q
 
--- so do those of this queue, or it is the number behind all queues, which is of the queue q itself
+-- so do those of this queue, or this is the number of all queues, the index of the queue q itself
 abbrev pub IsLeading : Topology → Text → ℕ → Type 0
 IsLeading t q n = (n ≡ length t.queues) ⊎ ComesAfter t q n
 
@@ -29,29 +29,29 @@ pub record AreLeading (t : Topology) (q : Text) (marks : List Bool) : Type 0 whe
   pub sound : (n : ℕ) → IsSet marks n → IsLeading t q n
   pub all : (n : ℕ) → IsLeading t q n → IsSet marks n
 
--- what a stand adds: the queue that fixed its key, or the number behind all queues where it is the queue q
+-- the source of a stand: the queue that set its key, or the number of all queues if it is in the queue q
 abbrev pub IsSource : Topology → Text → Stand → Option ℕ → Type 0
 IsSource t q s None = (s.fixed ≡ None) × (spot_place t s.spot ≡ place.Queue q → ⊥)
 IsSource t q s (Some n) = (s.fixed ≡ Some n) ⊎ ((s.fixed ≡ None) × (n ≡ length t.queues) × (spot_place t s.spot ≡ place.Queue q))
 
--- a stand adds what is marked
+-- the source of a stand is marked
 abbrev pub Leads : Topology → Text → Stand → List Bool → Type 0
 Leads t q s marks = (n : ℕ) × IsSource t q s (Some n) × IsSet marks n
 
--- one of the visits adds what is marked
+-- the source of one of the visits is marked
 abbrev pub SomeLeads : Topology → Text → List Visit → List Bool → Type 0
 SomeLeads t q visits marks = (v : Visit) × IsIn v visits × Leads t q v.stand marks
 
--- a link from what was added, if anything was
+-- a link from the source, if there is one
 abbrev pub links_from : Option ℕ → ℕ → List Hop
 links_from None to = []
 links_from (Some from) to = record { from = from; to = to } ∷ []
 
--- what a stand adds has a link more
+-- a link from the source of the stand was added
 abbrev pub AddsLink : Topology → Text → Stand → ℕ → List Hop → List Hop → Type 0
 AddsLink t q s to old new = (from : Option ℕ) × IsSource t q s from × (new ≡ old ++ links_from from to)
 
--- What each of the visits adds has a link to this queue, and there are no other links more.
+-- The source of each of the visits has a link to this queue, and no other links were added.
 pub record LinksAll (t : Topology) (q : Text) (visits : List Visit) (to : ℕ) (old new : List Hop) : Type 0 where
   pub kept : (l : Hop) → IsIn l old → IsIn l new
   pub only : (l : Hop) → IsIn l new → IsIn l old ⊎ ((v : Visit) × IsIn v visits × (l.to ≡ to) × IsSource t q v.stand (Some l.from))
@@ -63,13 +63,13 @@ pub record LinkHolds (t : Topology) (q : Text) (l : Hop) : Type 0 where
   pub to : l.to < length t.queues + 1
   pub leads : IsLeading t q l.from → IsLeading t q l.to
 
--- All that dead letters of the queue at this place come to under its key was looked at, and what it adds has its links.
+-- What dead letters of the queue at this index reach under its key was explored, and the sources have their links.
 pub record IsFront (t : Topology) (q : Text) (at : ℕ) (exchange key : Text) (links : List Hop) : Type 0 where
   pub visits : List Visit
   pub explored : AreExplored t exchange key visits
   pub linked : (v : Visit) (n : ℕ) → IsIn v visits → IsSource t q v.stand (Some n) → IsIn (record { from = n; to = at }) links
 
--- The links to the queue at this place were added.
+-- The links to the queue at this index were added.
 pub record AddsFront (t : Topology) (q : Text) (at : ℕ) (old new : List Hop) : Type 0 where
   pub kept : (l : Hop) → IsIn l old → IsIn l new
   pub only : (l : Hop) → IsIn l new → IsIn l old ⊎ LinkHolds t q l

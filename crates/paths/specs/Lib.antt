@@ -5,5 +5,6 @@ pub mod Visits
 pub mod Found
 pub mod Reach
 pub mod Exploring
+pub mod Deaths
 pub mod Leading
 pub mod Keyed

@@ -1,19 +1,19 @@
--- Places that links lead to.
+-- Indices that links lead to (own).
 use Rattle.std.specs.Prelude.{◌≡◌, ◌<◌, ℕ, List, Bool, false, Option, Some, None, length, slice_index_or}
 use Rattle.model.specs.Topology.{IsIn}
 use Rattle.exchange_graph.specs.Marks.{IsSet}
 use Rattle.paths.specs.declared.reach.Hop.{Hop}
 
--- a chain of links leads from one place to the other
+-- a chain of links leads from one index to the other
 pub data Chain (links : List Hop) : ℕ → ℕ → Type 0 where
   still : {a : ℕ} → Chain links a a
   along : {a b c : ℕ} (l : Hop) → IsIn l links → l.from ≡ a → l.to ≡ b → Chain links b c → Chain links a c
 
--- each link is between places below n
+-- each link is between indices below n
 abbrev pub LinksAreWithin : ℕ → List Hop → Type 0
 LinksAreWithin n links = (l : Hop) → IsIn l links → (l.from < n) × (l.to < n)
 
--- a place that a marked one leads to and that is not marked, or there is none
+-- an index that a marked one leads to and that is not marked, or there is none
 abbrev pub IsLinkPending : List Hop → List Bool → Option ℕ → Type 0
 IsLinkPending links marks None = (l : Hop) → IsIn l links → IsSet marks l.from → IsSet marks l.to
 IsLinkPending links marks (Some place) = (l : Hop) × IsIn l links × (l.to ≡ place) × IsSet marks l.from × (slice_index_or marks place false ≡ false)
@@ -23,7 +23,7 @@ pub record MarksBegin (links : List Hop) (start : ℕ) (marks : List Bool) : Typ
   pub begun : IsSet marks start
   pub sound : (i : ℕ) → IsSet marks i → Chain links start i
 
--- exactly the places that chains lead to are marked
+-- exactly the indices that chains lead to are marked
 pub record AreReached (links : List Hop) (count start : ℕ) (marks : List Bool) : Type 0 where
   pub size : length marks ≡ count
   pub sound : (i : ℕ) → IsSet marks i → Chain links start i

@@ -1,4 +1,4 @@
-//! Which queues with a key of their own have dead letters that come to one queue.
+//! Finds the queues with a key of their own whose dead letters reach one queue.
 
 ghost use Rattle.std.specs.Prelude.{◌≡◌, ◌<◌, ◌+◌, Decides, IfOk, None, OnOk, length};
 ghost use Rattle.model.specs.Words.{Text};
@@ -6,10 +6,12 @@ ghost use Rattle.model.specs.Topology.{IsIn, Topology as Seen};
 ghost use Rattle.model.specs.Routing.{Comes, of_key};
 ghost use Rattle.paths.specs.Stands.{IsStandThere};
 ghost use Rattle.paths.specs.Onward.{Refixes};
-ghost use Rattle.paths.specs.Exploring.{AreExplored};
+ghost use Rattle.paths.specs.Exploring.{AreExplored, IsExploration};
+ghost use Rattle.paths.specs.Deaths.{AreDeaths};
 ghost use Rattle.paths.specs.Leading.{AddsFront, AddsLink, AreLeading, AreLinked, IsSource, Leads, LinksAll, SomeLeads};
 
-use crate::exploring::explore;
+use crate::deaths::Deaths;
+use crate::explored::Explored;
 use crate::reach::{Hop, reached};
 use crate::stands::{Stand, is_queue};
 use crate::visits::Visit;
@@ -17,8 +19,8 @@ use exchange_graph::Topology;
 use std::alloc::{AllocError, Global};
 use std::marker::Model;
 
-/// What leads to one queue: for each queue with a dead-letter exchange and a key of its own, whether its dead letters ever come
-/// there.
+/// What leads to one queue: for each queue with a dead-letter exchange and a key of its own, whether its dead letters ever reach that
+/// queue.
 #[derive(Drop)]
 pub struct Leading {
     marks: Vec<bool>,
@@ -32,7 +34,7 @@ impl Model for Leading {
     ghost view = { λ l. l.marks.items };
 }
 
-/// What this stand adds: the queue that fixed its key; or, if it is the queue that is asked for, the number behind all queues.
+/// Returns the index of the queue that set the key of `stand`; or, if `stand` is in `queue`, the number of all queues.
 fn source_of(topology: &Topology, queue: &[u8], stand: Stand) -> Option<usize>
     requires { IsStandThere topology.now stand }
     ensures { IsSource topology.now queue.now stand result }
@@ -46,7 +48,7 @@ fn source_of(topology: &Topology, queue: &[u8], stand: Stand) -> Option<usize>
     None
 }
 
-/// Adds the link from what a stand adds to this queue.
+/// Adds the link from the source of `stand`, if it has one, to index `to`.
 fn link(
     links: &mut Vec<Hop>,
     topology: &Topology,
@@ -63,7 +65,7 @@ fn link(
     Ok(())
 }
 
-/// Adds the links from what these visits add to this queue.
+/// Adds the links from the sources of `visits` to index `to`.
 fn link_all(
     links: &mut Vec<Hop>,
     topology: &Topology,
@@ -80,67 +82,43 @@ fn link_all(
     Ok(())
 }
 
-/// Adds the links from what dead letters of the queue at this place come to under this key.
-fn link_front(
-    alloc: Global,
-    links: &mut Vec<Hop>,
-    topology: &Topology,
-    queue: &[u8],
-    at: usize,
-    exchange: &[u8],
-    key: &[u8],
-) -> Result<(), AllocError>
-    requires { Refixes topology.now at exchange.now key.now }
-    ensures { OnOk result (AddsFront topology.now queue.now at links.old.items links.new.items) }
-{
-    let visits = explore(alloc, topology, exchange, key)?;
-    link_all(links, topology, queue, visits.as_slice(), at)
-}
-
-/// Adds the links to the queue at this place, if its dead letters go somewhere under a key of its own.
+/// Adds the links to the queue at index `at`, if it has a dead-letter exchange and a key of its own.
 fn link_queue(
-    alloc: Global,
     links: &mut Vec<Hop>,
     topology: &Topology,
+    deaths: &Deaths,
     queue: &[u8],
     at: usize,
 ) -> Result<(), AllocError>
-    requires { at < length topology.now.queues }
+    requires at { at < length topology.now.queues }
+    requires deaths { AreDeaths topology.now deaths.now }
     ensures { OnOk result (AddsFront topology.now queue.now at links.old.items links.new.items) }
 {
-    let last = topology.queue(at);
-    match &last.dead_letter_exchange {
+    match deaths.front(at) {
         None => Ok(()),
-        Some(exchange) => match &last.dead_letter_key {
-            None => Ok(()),
-            Some(key) => {
-                link_front(
-                    alloc,
-                    links,
-                    topology,
-                    queue,
-                    at,
-                    exchange.as_bytes(),
-                    key.as_bytes(),
-                )
-            }
-        },
+        Some(explored) => link_all(links, topology, queue, explored.visits(), at),
     }
 }
 
-/// The links between queues with keys of their own, each from one to another whose dead letters come to it. The number behind
-/// all queues is the queue that is asked for.
-fn all_links(alloc: Global, topology: &Topology, queue: &[u8]) -> Result<Vec<Hop>, AllocError>
+/// Returns the links between queues with keys of their own, each from one to another whose dead letters reach it. The number of all queues
+/// is the index of `queue`, which is asked for.
+fn all_links(
+    alloc: Global,
+    topology: &Topology,
+    deaths: &Deaths,
+    queue: &[u8],
+) -> Result<Vec<Hop>, AllocError>
+    requires { AreDeaths topology.now deaths.now }
     ensures { IfOk result (λ links. AreLinked topology.now queue.now links.items (length topology.now.queues)) }
 {
     let mut links = Vec::new(alloc);
     for at in 0..topology.queues().len() {
-        link_queue(alloc, &mut links, topology, queue, at)?;
+        link_queue(&mut links, topology, deaths, queue, at)?;
     }
     Ok(links)
 }
 
-/// Whether this stand adds what is marked.
+/// Returns whether the source of `stand` is marked.
 fn leads(topology: &Topology, queue: &[u8], stand: Stand, marks: &[bool]) -> bool
     requires there { IsStandThere topology.now stand }
     requires size { length marks.now ≡ length topology.now.queues + 1 }
@@ -152,7 +130,7 @@ fn leads(topology: &Topology, queue: &[u8], stand: Stand, marks: &[bool]) -> boo
     }
 }
 
-/// Whether one of these visits adds what is marked.
+/// Returns whether the source of one of `visits` is marked.
 fn some_leads(topology: &Topology, queue: &[u8], visits: &[Visit], marks: &[bool]) -> bool
     requires there { (v : Visit) → IsIn v visits.now → IsStandThere topology.now v.stand }
     requires size { length marks.now ≡ length topology.now.queues + 1 }
@@ -167,27 +145,50 @@ fn some_leads(topology: &Topology, queue: &[u8], visits: &[Visit], marks: &[bool
 }
 
 impl Leading {
-    /// What leads to the queue of this name. All that comes of a key is looked at once, by whatever queue it was fixed.
+    /// Finds what leads to `queue`. Each key that a queue sets is explored once. Fails only if an allocation fails.
     pub fn to(alloc: Global, topology: &Topology, queue: &[u8]) -> Result<Leading, AllocError>
         ensures { IfOk result (AreLeading topology.now queue.now) }
     {
+        let deaths = Deaths::of(alloc, topology)?;
+        Leading::by(alloc, topology, &deaths, queue)
+    }
+
+    /// Finds what leads to `queue` from what dead letters reach. Fails only if an allocation fails.
+    pub fn by(
+        alloc: Global,
+        topology: &Topology,
+        deaths: &Deaths,
+        queue: &[u8],
+    ) -> Result<Leading, AllocError>
+        requires { AreDeaths topology.now deaths.now }
+        ensures { IfOk result (AreLeading topology.now queue.now) }
+    {
         let count = topology.queues().len();
-        let links = all_links(alloc, topology, queue)?;
+        let links = all_links(alloc, topology, deaths, queue)?;
         let marks = reached(alloc, links.as_slice(), count + 1, count)?;
         Ok(Leading { marks })
     }
 
-    /// Whether dead letters of the queue at this place, which go to this exchange under this key of its own, ever come there.
-    pub fn has(&self, place: usize) -> bool
-        ensures { (t : Seen) (q x k : Text) → AreLeading t q self.now → Refixes t place x k → Decides result (Comes t (of_key k) None x q) }
+    /// Returns whether dead letters of the queue at `index`, which has a key of its own, ever reach the queue.
+    pub fn has(&self, index: usize) -> bool
+        ensures { (t : Seen) (q x k : Text) → AreLeading t q self.now → Refixes t index x k → Decides result (Comes t (of_key k) None x q) }
     {
-        match self.marks.get(place) {
+        match self.marks.get(index) {
             Some(mark) => *mark,
             None => false,
         }
     }
 
-    /// Whether what is sent to this exchange under this key ever comes there.
+    /// Returns whether a message that reaches what was explored ever reaches `queue`, for which this was found.
+    pub fn leads(&self, topology: &Topology, explored: &Explored, queue: &[u8]) -> bool
+        requires leading { AreLeading topology.now queue.now self.now }
+        requires explored { IsExploration topology.now explored.now }
+        ensures { (x key : Text) → AreExplored topology.now x key explored.now → Decides result (Comes topology.now (of_key key) None x queue.now) }
+    {
+        some_leads(topology, queue, explored.visits(), self.marks.as_slice())
+    }
+
+    /// Returns whether what is sent to `exchange` under `key` ever reaches `queue`, for which this was found. Fails only if an allocation fails.
     pub fn comes(
         &self,
         alloc: Global,
@@ -199,7 +200,7 @@ impl Leading {
         requires { AreLeading topology.now queue.now self.now }
         ensures { IfOk result (λ yes. Decides yes (Comes topology.now (of_key key.now) None exchange.now queue.now)) }
     {
-        let visits = explore(alloc, topology, exchange, key)?;
-        Ok(some_leads(topology, queue, visits.as_slice(), self.marks.as_slice()))
+        let explored = Explored::of(alloc, topology, exchange, key)?;
+        Ok(self.leads(topology, &explored, queue))
     }
 }

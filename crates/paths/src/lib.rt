@@ -1,10 +1,11 @@
-//! Paths of names by which a message comes to a queue, its dead letters included: found, checked, and what leads to a queue.
+//! Paths of names by which a message reaches a queue, its dead letters included, and what leads to a queue. Start with [`find_path`] and [`Leading`].
 //!
-//! A message stands at an exchange or in a queue, under the key that it was sent with or one that a queue fixed. For a path all
-//! this is followed from where it begins, nearest first and each only once, up to the queue that is asked for. For what leads to
-//! a queue each key that a queue fixes is looked at once.
+//! A message is at an exchange or in a queue, under the key that it was sent with or one that a queue set. A path is searched breadth first
+//! from the exchange up to the queue that is asked for. For what leads to a queue each key that a queue sets is explored once ([`Deaths`]).
 #![tactic(auto)]
 
+mod deaths;
+mod explored;
 mod exploring;
 mod keyed;
 mod leading;
@@ -16,6 +17,8 @@ mod stands;
 mod visits;
 mod walking;
 
+pub use deaths::Deaths;
+pub use explored::Explored;
 pub use leading::Leading;
 pub use reach::{Hop, reached, unmarked};
 pub use searching::find_path;

@@ -1,4 +1,4 @@
-//! Whether a path leads a message from name to name.
+//! Checks whether a path leads a message from name to name.
 
 ghost use Rattle.std.specs.Prelude.{Decides, IfOk, OnOk, ◌≡◌};
 ghost use Rattle.std.specs.List.{list_any};
@@ -11,7 +11,7 @@ use exchange_graph::Topology;
 use model::{DeclaredQueue, Text};
 use std::alloc::{AllocError, Global};
 
-/// Adds how a message stands one edge behind the exchange of this name.
+/// Adds where a message is one edge after exchange `name`, if that is at `next`.
 fn go_on(
     topology: &Topology,
     alloc: Global,
@@ -28,7 +28,7 @@ fn go_on(
     add_if(stands, into, KeyedPlace::Queue(key.clone()?))
 }
 
-/// Whether this is the queue's dead-letter exchange.
+/// Returns whether `next` is the queue's dead-letter exchange.
 fn leads_dead(queue: &DeclaredQueue, next: &[u8]) -> bool
     ensures { Decides result (LeadsDead queue.now next.now) }
 {
@@ -38,7 +38,7 @@ fn leads_dead(queue: &DeclaredQueue, next: &[u8]) -> bool
     }
 }
 
-/// The key under which a message dies in this queue.
+/// Returns the key that a message with key `key` has once it dies in `queue`.
 fn dead_key(queue: &DeclaredQueue, key: &Text) -> Result<Text, AllocError>
     ensures { IfOk result (λ k. k ≡ key_after queue.now.dead_letter_key key.now) }
 {
@@ -48,7 +48,7 @@ fn dead_key(queue: &DeclaredQueue, key: &Text) -> Result<Text, AllocError>
     }
 }
 
-/// Adds how a message stands that dies in the queue of this name.
+/// Adds where a message is once it dies in queue `name`, if that is at `next`.
 fn die(
     topology: &Topology,
     name: &[u8],
@@ -58,7 +58,7 @@ fn die(
 ) -> Result<(), AllocError>
     ensures { OnOk result (AddsAll (NextStand topology.now name.now next.now (Queue key.now)) stands.old.items stands.new.items) }
 {
-    topology.is_well_formed();
+    topology.ghost_is_well_formed();
     let Some(place) = topology.queue_at(name) else {
         return Ok(());
     };
@@ -70,7 +70,7 @@ fn die(
     )
 }
 
-/// Adds how a message stands one step on.
+/// Adds where a message is one step after `stand`, if that is at `next`.
 fn step(
     topology: &Topology,
     alloc: Global,
@@ -87,7 +87,7 @@ fn step(
     }
 }
 
-/// How a message may stand at the next name.
+/// Returns where a message may be at name `next`, one step after one of `stands`.
 fn advance(
     topology: &Topology,
     alloc: Global,
@@ -104,7 +104,7 @@ fn advance(
     Ok(found)
 }
 
-/// Whether a message stands in a queue.
+/// Returns whether one of `stands` is in a queue.
 fn is_queued(stands: &[KeyedPlace]) -> bool
     ensures { result ≡ list_any is_queue stands.now }
 {
@@ -114,7 +114,7 @@ fn is_queued(stands: &[KeyedPlace]) -> bool
     })
 }
 
-/// Whether a message that stands at the exchange of this name comes along the rest of the path into the queue.
+/// Returns whether a message at `exchange` reaches `queue` along the names `rest`.
 fn goes_on(
     topology: &Topology,
     alloc: Global,
@@ -135,8 +135,8 @@ fn goes_on(
     Ok(name == queue && is_queued(stands.as_slice()))
 }
 
-/// Whether this is a path of a message with this key into the queue: it begins with the exchange, ends with the queue, and
-/// each name is one edge after the one before, or is the dead-letter exchange of the queue before, which may fix the key.
+/// Returns whether `path` leads a message with this key into `queue`: it begins with `exchange`, ends with the queue, and each name is
+/// one edge after the one before, or is the dead-letter exchange of the queue before, which may set the key. Fails only if an allocation fails.
 pub fn is_path(
     topology: &Topology,
     alloc: Global,

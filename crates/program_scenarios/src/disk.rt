@@ -1,4 +1,4 @@
-//! The files of these scenarios.
+//! The files of the scenarios over streams.
 
 use model::limits;
 use scenario_parts::DEFINITIONS;

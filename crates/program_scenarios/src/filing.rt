@@ -1,4 +1,4 @@
-//! Certificates that are written to a file, and what is reported of that file.
+//! Writes certificates to a file, and checks what is reported of that file.
 
 use certificate::{Certificate, Draft, Form, Unwritten};
 use model::{Text, limits};
@@ -56,7 +56,7 @@ impl Files for OpenDisk {
     }
 }
 
-/// Expects that these words print this and no complaint, with status 0.
+/// Checks that these words print `printed` and no complaint, with status 0.
 fn expect_printed(
     alloc: Global,
     disk: &mut OpenDisk,
@@ -71,7 +71,7 @@ fn expect_printed(
     expect_bytes("the output", out.as_slice(), printed)
 }
 
-/// `check --out` writes the certificates of all guarantees, and `verify` accepts what was written.
+/// Checks that `check --out` writes the certificates of all guarantees, and that `verify` accepts what was written.
 pub(crate) fn certificates_that_are_written_are_accepted(alloc: Global) -> Result<(), Unmet> {
     let mut disk = OpenDisk {
         written: None,
@@ -101,7 +101,7 @@ pub(crate) fn certificates_that_are_written_are_accepted(alloc: Global) -> Resul
 /// The number of states of the large certificate.
 const STATES: u32 = 8_192;
 
-/// Its bytes in a file: 82 before its states, 2 behind them, and between these 321 for each, with a comma between two.
+/// Its length in a file, in bytes: 82 before its states, 2 after them, and in between 321 for each, with a comma between two.
 const LARGE: u64 = 2_637_907;
 
 /// Returns a certificate of 8,192 states with 64 numbers of four digits.
@@ -129,7 +129,7 @@ fn file_of(alloc: Global, certificate: &Certificate, count: u8) -> Result<Vec<u8
     draft.finished()
 }
 
-/// A file of certificates that would be too long to be read back is not made.
+/// Checks that no certificates file is made that would be too long to be read back.
 pub(crate) fn a_file_past_the_limit_is_given_up(alloc: Global) -> Result<(), Unmet> {
     let certificate = value_of("the certificate", large(alloc))?;
     let six = value_of("the file of six", file_of(alloc, &certificate, 6))?;

@@ -1,6 +1,7 @@
-//! Scenarios of the program: over streams and files that no command line names; `serve` over sockets of the system; `serve --reload`,
-//! whose files are replaced while they are looked at; and over the files and the sockets of the machine. `cases` runs them, in its
-//! folder of data: start at [`tell_all`].
+//! The scenarios of the program. Start with [`tell_all`], which `cases` calls in its folder of data.
+//!
+//! They are about streams and files that no command line names; `serve` over sockets of the system; `serve --reload`, whose files are
+//! replaced between looks; and the files and the sockets of the machine.
 #![tactic(auto)]
 
 mod disk;

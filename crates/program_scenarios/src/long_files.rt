@@ -1,4 +1,4 @@
-//! Files of the machine that have more bytes than the system gives at once.
+//! A file of the machine that has more bytes than the system returns at once.
 
 use reload_loop::Disk;
 use scenario_parts::{Unmet, expect_bytes, value_of};
@@ -6,13 +6,13 @@ use server::Files as _;
 use std::alloc::{AllocError, Global};
 use std::fs;
 
-/// The file that is written.
+/// The name of the file that is written.
 const WRITTEN: &str = "a_long_file_that_was_written";
 
-/// The number of its bytes.
+/// Its length in bytes.
 const LENGTH: usize = 100_000;
 
-/// Returns the bytes, which repeat after 251, a prime: so no two parts that begin at powers of two are equal.
+/// Returns its bytes, which repeat after 251, a prime: so no two parts that begin at powers of two are equal.
 fn long_text(alloc: Global) -> Result<Vec<u8>, AllocError> {
     let mut bytes = vec![in alloc; 0u8; LENGTH]?;
     for (place, byte) in bytes.iter_mut().enumerate() {
@@ -21,7 +21,7 @@ fn long_text(alloc: Global) -> Result<Vec<u8>, AllocError> {
     Ok(bytes)
 }
 
-/// A file of 100,000 bytes is written whole, and each of its bytes is read.
+/// Checks that a file of 100,000 bytes is written whole, and that each of its bytes is read.
 pub(crate) fn a_long_file_is_read_to_its_end(rt: &HostRuntime) -> Result<(), Unmet> {
     let alloc = rt.alloc();
     let mut disk = Disk { rt };

@@ -1,4 +1,4 @@
-//! `serve --reload`, over a client in memory and files that are replaced between looks.
+//! `serve --reload`, with a client in memory and files that are replaced between looks.
 
 ghost use Rattle.std.specs.Prelude.{⊤};
 
@@ -12,16 +12,16 @@ use server::{Files, Listener, Listening, NotWritten, Unread};
 use std::alloc::{AllocError, Global};
 use std::io::Write;
 
-/// The front of a definitions file: the user bob, whose password is `wonder`, and the exchange `orders`, up to the first queue. The
-/// hash is by another implementation of SHA-256.
+/// The front of a definitions file: the user bob, whose password is `wonder`, and the exchange `orders`, up to the first queue.
+/// The hash comes from another implementation of SHA-256.
 const FRONT: &[u8] =
     b"{\"vhosts\":[{\"name\":\"/\"}],\"users\":[{\"name\":\"bob\",\"password_hash\":\"AP8QIP1+hc366UvtXAK3UQ+rq8L0LES3C50CEYORrkee+cR/\",\"hashing_algorithm\":\"rabbit_password_hashing_sha256\"}],\"permissions\":[{\"user\":\"bob\",\"vhost\":\"/\",\"configure\":\"^$\",\"write\":\".*\",\"read\":\".*\"}],\"exchanges\":[{\"name\":\"orders\",\"vhost\":\"/\",\"type\":\"direct\",\"durable\":true,\"auto_delete\":false,\"internal\":false,\"arguments\":{}}],\"queues\":[";
 
-/// The queue `audit`, with another behind it.
+/// The queue `audit`, with another after it.
 const AUDIT: &[u8] =
     b"{\"name\":\"audit\",\"vhost\":\"/\",\"durable\":true,\"auto_delete\":false,\"arguments\":{}},";
 
-/// The queue `stock`, which is the last.
+/// The queue `stock`, the last one.
 const STOCK: &[u8] =
     b"{\"name\":\"stock\",\"vhost\":\"/\",\"durable\":true,\"auto_delete\":false,\"arguments\":{}}";
 
@@ -33,33 +33,35 @@ const TO_AUDIT: &[u8] =
 const TO_STOCK: &[u8] =
     b"],\"bindings\":[{\"source\":\"orders\",\"vhost\":\"/\",\"destination\":\"stock\",\"destination_type\":\"queue\",\"routing_key\":\"new\",\"arguments\":{}}]}";
 
-/// The queue `audit`, with another behind it. What is rejected in it is dead-lettered to `stock`.
+/// The queue `audit`, with another after it. Messages rejected in it are dead-lettered to `stock`.
 const DYING_AUDIT: &[u8] =
     b"{\"name\":\"audit\",\"vhost\":\"/\",\"durable\":true,\"auto_delete\":false,\"arguments\":{\"x-dead-letter-exchange\":\"\",\"x-dead-letter-routing-key\":\"stock\"}},";
 
-/// The end of a definitions file: `orders` routes nothing.
+/// The end of a definitions file: there are no bindings.
 const TO_NOTHING: &[u8] = b"],\"bindings\":[]}";
 
-/// No guarantee.
+/// A guarantees file without guarantees.
 const NO_GUARANTEES: &[u8] = b"{\"guarantees\":[]}";
 
-/// No certificate.
+/// A certificates file without certificates.
 const NO_CERTIFICATES: &[u8] = b"[]";
 
-/// What is published to `orders` with the key `new` reaches `stock`.
+/// The guarantee that a message published to `orders` with the key `new` reaches `stock`.
 const GUARANTEES: &[u8] =
     b"{\"guarantees\":[{\"mode\":\"reaches\",\"exchange\":\"orders\",\"pattern\":\"new\",\"queue\":\"stock\"}]}";
 
-/// The certificate of `GUARANTEES`. Two patterns are tracked, the guarantee's and the key, which are alike: no word so far, `new`, and
+/// The certificate of [`GUARANTEES`].
+/// Two patterns are tracked, the guarantee's and the binding key, which are alike. Its states are those of no word so far, of `new`, and of
 /// all else.
 const CERTIFICATES: &[u8] =
     b"[{\"exchange\":\"orders\",\"form\":1,\"mode\":\"reaches\",\"pattern\":\"new\",\"queue\":\"stock\",\"states\":[[0,0],[1,1],[2,2]]}]";
 
-/// What is published to `orders` with the key `new` never reaches `stock`.
+/// The guarantee that a message published to `orders` with the key `new` never reaches `stock`.
 const FORBIDDEN: &[u8] =
     b"{\"guarantees\":[{\"mode\":\"never\",\"exchange\":\"orders\",\"pattern\":\"new\",\"queue\":\"stock\"}]}";
 
-/// The certificate of `FORBIDDEN`. One pattern is tracked, the guarantee's: all else, no word so far, and `new`.
+/// The certificate of [`FORBIDDEN`].
+/// One pattern is tracked, the guarantee's. Its states are those of all else, of no word so far, and of `new`.
 const FORBIDDEN_CERTIFICATES: &[u8] =
     b"[{\"exchange\":\"orders\",\"form\":1,\"mode\":\"never\",\"pattern\":\"new\",\"queue\":\"stock\",\"states\":[[0],[1],[2]]}]";
 
@@ -72,21 +74,21 @@ struct Version {
     certificates: &'static [u8],
 }
 
-/// `orders` leads to `audit`.
+/// `orders` routes to `audit`.
 const STARTED: Version = Version {
     definitions: &[FRONT, AUDIT, STOCK, TO_AUDIT],
     guarantees: NO_GUARANTEES,
     certificates: NO_CERTIFICATES,
 };
 
-/// Definitions that break off.
+/// Definitions that end too early.
 const BROKEN_OFF: Version = Version {
     definitions: &[FRONT, AUDIT],
     guarantees: NO_GUARANTEES,
     certificates: NO_CERTIFICATES,
 };
 
-/// `orders` leads to `stock`, as is guaranteed, without a certificate.
+/// `orders` routes to `stock`, as is guaranteed, but there is no certificate.
 const UNCERTIFIED: Version = Version {
     definitions: &[FRONT, AUDIT, STOCK, TO_STOCK],
     guarantees: GUARANTEES,
@@ -100,14 +102,14 @@ const WITHOUT_AUDIT: Version = Version {
     certificates: CERTIFICATES,
 };
 
-/// The same with that queue.
+/// The same with the queue `audit`.
 const REPLACED: Version = Version {
     definitions: &[FRONT, AUDIT, STOCK, TO_STOCK],
     guarantees: GUARANTEES,
     certificates: CERTIFICATES,
 };
 
-/// `orders` leads nowhere. So what is published to it never reaches `stock`, but a message that is in `audit` could.
+/// `orders` routes nowhere. So a message published to it never reaches `stock`, but one that is in `audit` could.
 const FORBIDDING: Version = Version {
     definitions: &[FRONT, DYING_AUDIT, STOCK, TO_NOTHING],
     guarantees: FORBIDDEN,
@@ -117,14 +119,14 @@ const FORBIDDING: Version = Version {
 /// Files that are replaced between looks.
 #[derive(Drop)]
 struct Replaced {
-    /// The files at each read of the definitions, in order. At all later reads they are `REPLACED`.
+    /// The files at each read of the definitions, in order. All later reads get [`REPLACED`].
     versions: &'static [Version],
-    /// The number of times that the definitions were read, or compared.
+    /// The number of times that the definitions were read or compared.
     reads: usize,
 }
 
 impl Replaced {
-    /// Returns the files as they are now.
+    /// Returns the files of the current read.
     fn version(&self) -> Version {
         match self.versions.get(self.reads.saturating_sub(1)) {
             Some(version) => *version,
@@ -192,7 +194,7 @@ impl Listener for InMemory {
     }
 }
 
-/// The words that ask to serve fourteen rounds, with a look at the files after each second one but the last.
+/// The words that ask to serve fourteen rounds, with a look at the files after every second one but the last.
 const WORDS: [&str; 11] = [
     "warren",
     "serve",
@@ -207,29 +209,29 @@ const WORDS: [&str; 11] = [
     "2",
 ];
 
-/// How often the definitions are read if the first of six looks finds others: at the start, and at each look to compare them with
-/// those in force; and one more time if they differ.
+/// The number of reads of the definitions if the first of six looks finds other files: one at the start, one at each look to compare them
+/// with those in force, and one more if they differ.
 const READS_OF_OTHERS: u64 = 8;
 
-/// How often the client publishes: in the second round and in each after it.
+/// The number of publishes: one in the second round and in each after it.
 const PUBLISHES: u64 = 13;
 
-/// basic.get of `audit` on channel 1, and one of `stock`, to be acknowledged.
+/// basic.get of `audit` on channel 1, and one of `stock`, with acknowledgements.
 const GETS: &[u8] =
     b"\x01\x00\x01\x00\x00\x00\x0d\x00\x3c\x00\x46\x00\x00\x05audit\x00\xce\x01\x00\x01\x00\x00\x00\x0d\x00\x3c\x00\x46\x00\x00\x05stock\x00\xce";
 
-/// get-ok of a message of `MESSAGE`, up to its delivery tag.
+/// get-ok of the message of [`MESSAGE`], up to its delivery tag.
 const GOT: &[u8] = b"\x01\x00\x01\x00\x00\x00\x1c\x00\x3c\x00\x47";
 
-/// What follows the delivery tag: the message is given out for the first time, and is the last that is ready. Then its content.
+/// The rest after the delivery tag: the message is not redelivered, and the last ready one. Then its content.
 const BEHIND_TAG: &[u8] =
     b"\x00\x06orders\x03new\x00\x00\x00\x00\xce\x02\x00\x01\x00\x00\x00\x0e\x00\x3c\x00\x00\x00\x00\x00\x00\x00\x00\x00\x02\x00\x00\xce\x03\x00\x01\x00\x00\x00\x02hi\xce";
 
 /// get-empty.
 const EMPTY: &[u8] = b"\x01\x00\x01\x00\x00\x00\x05\x00\x3c\x00\x48\x00\xce";
 
-/// Returns a client that opens in the first round, and publishes and gets from both queues in each later one: what it writes in a round has
-/// as many bytes as an opening, so a read gets as much.
+/// Returns a client that opens in the first round, and publishes and gets from both queues in each later one.
+/// It writes as many bytes in each round as an opening has, so that one read returns those of one round.
 fn client(alloc: Global) -> Result<Client, Unmet> {
     let turn = joined(alloc, MESSAGE, GETS)?;
     expect_number(
@@ -259,7 +261,7 @@ fn wire(alloc: Global) -> Result<MemoryWire, Unmet> {
     Ok(MemoryWire::new(alloc, clients))
 }
 
-/// Appends the answers to the gets of a round, of which one finds the message with this delivery tag, and the other nothing.
+/// Appends the replies to the gets of a round: one gets the message with delivery tag `tag`, the other nothing.
 fn add_gets(answer: &mut Vec<u8>, tag: u64, is_old: bool) -> Result<(), AllocError> {
     if !is_old {
         answer.extend_from_slice(EMPTY)?;
@@ -273,7 +275,7 @@ fn add_gets(answer: &mut Vec<u8>, tag: u64, is_old: bool) -> Result<(), AllocErr
     Ok(())
 }
 
-/// Returns what the client is answered if its first `old` publishes reach `audit`, and those after them `stock`.
+/// Returns the replies to the client if its first `old` publishes reach `audit`, and those after them `stock`.
 fn answer(alloc: Global, old: u64) -> Result<Vec<u8>, AllocError> {
     let mut answer = Vec::from_slice(alloc, OPENED)?;
     for tag in 1..=PUBLISHES {
@@ -282,8 +284,8 @@ fn answer(alloc: Global, old: u64) -> Result<Vec<u8>, AllocError> {
     Ok(answer)
 }
 
-/// Serves the client over these files, with this stream as standard error, and returns the status. Expects how often the definitions were read,
-/// and that the given number of publishes reached `audit`, and those after them `stock`.
+/// Serves the client over these files, with this stream as standard error, and returns the status.
+/// Checks the number of reads of the definitions, and that the first `old` publishes reached `audit`, and those after them `stock`.
 fn serve_over<E: Write>(
     alloc: Global,
     versions: &'static [Version],
@@ -315,7 +317,7 @@ fn serve_over<E: Write>(
     Ok(status)
 }
 
-/// What fits is put in force at the first look, and looks that find it again do nothing.
+/// Checks that valid files are put in force at the first look, and that looks that find the same files do nothing.
 pub(crate) fn files_that_are_replaced_are_put_in_force(alloc: Global) -> Result<(), Unmet> {
     let mut err: Vec<u8> = Vec::new(alloc);
     let status = serve_over(alloc, &[STARTED], READS_OF_OTHERS, 1, &mut err)?;
@@ -323,8 +325,8 @@ pub(crate) fn files_that_are_replaced_are_put_in_force(alloc: Global) -> Result<
     expect("nothing is told", err.is_empty())
 }
 
-/// Files that do not fit at five looks, and fit at the sixth. A look compares the definitions with those that were refused, if there are
-/// any, then with those in force, and reads them if they differ from both.
+/// Files that are refused at five looks, and valid at the sixth.
+/// A look compares the definitions with those that were refused, if any, then with those in force, and reads them if they differ from both.
 const FITTING_IN_THE_END: &[Version] = &[
     STARTED,
     // the first look compares them once, and reads them
@@ -343,13 +345,13 @@ const FITTING_IN_THE_END: &[Version] = &[
     WITHOUT_AUDIT,
 ];
 
-/// How often the definitions are read then: as above, and three times at the sixth look, which compares them with what was admitted, too.
+/// The number of reads of the definitions then: as above, and three at the sixth look, which also compares them with what was admitted.
 const READS_IN_THE_END: u64 = 14;
 
-/// How many publishes come before the sixth look, which is after the twelfth round.
+/// The number of publishes before the sixth look, which is after the twelfth round.
 const BEFORE_THE_SIXTH: u64 = 11;
 
-/// Each look at files that do not fit reports that in one line, and the client is served by what was in force before.
+/// Checks that each look at files that are refused reports that in one line, and that the client is served by what was in force before.
 pub(crate) fn files_that_do_not_fit_are_told_at_each_look(alloc: Global) -> Result<(), Unmet> {
     let mut err: Vec<u8> = Vec::new(alloc);
     let status = serve_over(
@@ -367,7 +369,7 @@ pub(crate) fn files_that_do_not_fit_are_told_at_each_look(alloc: Global) -> Resu
     )
 }
 
-/// If such a line is not taken the client is served all the same, and the status is 4.
+/// Checks that the client is served also if these lines can't be written, and that the status is 4 then.
 pub(crate) fn looks_whose_lines_are_not_taken_have_status_four(alloc: Global) -> Result<(), Unmet> {
     let status = serve_over(
         alloc,
@@ -379,18 +381,18 @@ pub(crate) fn looks_whose_lines_are_not_taken_have_status_four(alloc: Global) ->
     expect_number("the status", u64::from(status), 4)
 }
 
-/// Files that fit at the second look. The first compares them once, and reads them.
+/// Files that are put in force at the second look. The first compares them once, and reads them.
 const FITTING_AT_THE_SECOND: &[Version] = &[STARTED, FORBIDDING, FORBIDDING];
 
-/// How often the definitions are read then: as above; three times at the second look, which compares them with what was admitted at the
-/// first, too; and once at each of the four after it.
+/// The number of reads of the definitions then: as above; three at the second look, which also compares them with what was admitted at the
+/// first; and one at each of the four after it.
 const READS_FROM_THE_SECOND: u64 = 10;
 
-/// How many publishes come before the second look, which is after the fourth round.
+/// The number of publishes before the second look, which is after the fourth round.
 const BEFORE_THE_SECOND: u64 = 3;
 
-/// Files under which a message in a queue could reach a queue that they forbid it by dead-lettering stay out of force until they are replaced. The
-/// line names the queue, the key with which the message was published, in hex digits, and the guarantee.
+/// Checks that files stay out of force while a message in a queue could reach, as a dead letter, a queue that they forbid it.
+/// The line names the queue, the routing key in hex digits, and the number of the guarantee.
 pub(crate) fn a_message_that_could_come_where_it_is_forbidden_is_told(
     alloc: Global,
 ) -> Result<(), Unmet> {

@@ -1,5 +1,4 @@
-//! The program over the files and the sockets of the machine: files are in the folder of the run, and sockets are those of
-//! 127.0.0.1.
+//! Runs the program over the files and the sockets of the machine: files in the folder of the run, and sockets of 127.0.0.1.
 
 use reload_loop::{Disk, System, program_with_sockets};
 use scenario_parts::{Unmet, expect, expect_bytes, expect_number, value_of};
@@ -8,7 +7,7 @@ use std::alloc::Global;
 use std::fs;
 use std::net::TcpListener;
 
-/// How a call of the program ended.
+/// The outcome of running the program.
 #[derive(Drop)]
 struct Outcome {
     status: u8,
@@ -16,7 +15,7 @@ struct Outcome {
     err: Vec<u8>,
 }
 
-/// Calls the program with these words, over the files and the sockets of the machine.
+/// Runs the program with these words, over the files and the sockets of the machine.
 fn run(rt: &HostRuntime, words: &[&str]) -> Outcome {
     let alloc = rt.alloc();
     let mut out: Vec<u8> = Vec::new(alloc);
@@ -31,7 +30,7 @@ fn run(rt: &HostRuntime, words: &[&str]) -> Outcome {
     }
 }
 
-/// Expects that these words end with this status, output and complaint.
+/// Checks that these words lead to this status, output and complaint.
 fn expect_run(
     rt: &HostRuntime,
     words: &[&str],
@@ -45,43 +44,43 @@ fn expect_run(
     expect_bytes("the complaint", run.err.as_slice(), err)
 }
 
-/// A topic exchange, from which `orders` and `orders.*.#` lead to the queue `audit`.
+/// Definitions with a topic exchange, which routes `orders` and `orders.*.#` to the queue `audit`.
 const TWO_KEYS: &str = "definitions/two_keys.json";
 
-/// The same without the key `orders`.
+/// The same without the binding key `orders`.
 const ONE_KEY: &str = "definitions/one_key.json";
 
-/// Each key that `orders.#` matches reaches `audit`.
+/// The guarantee that each key that `orders.#` matches reaches `audit`.
 const ORDERS: &str = "guarantees/orders_to_audit.json";
 
 /// A file that doesn't exist.
 const NO_FILE: &str = "definitions/nowhere.json";
 
-/// The file that is written.
+/// The name of the file that is written.
 const WRITTEN: &str = "certificates_that_were_written.json";
 
-/// What is written to it: the certificate with the five states that docs/FORMATS.md derives.
+/// The bytes that are written to it: the certificate with the five states that docs/FORMATS.md derives.
 const CERTIFICATES: &[u8] =
     b"[{\"exchange\":\"X\",\"form\":1,\"mode\":\"reaches\",\"pattern\":\"orders.#\",\"queue\":\"audit\",\"states\":[[0,0,0],[1,1,1],[4,0,8],[4,0,12],[6,2,2]]}]";
 
-/// Writes the certificates, by the program.
+/// Writes the certificates by the program.
 fn write(rt: &HostRuntime) -> Result<(), Unmet> {
     let words = ["warren", "check", TWO_KEYS, ORDERS, "--out", WRITTEN];
     expect_run(rt, words.as_slice(), 0, b"1 yes states 5\n", b"")
 }
 
-/// Removes the file that was written.
+/// Removes the written file.
 fn remove(rt: &HostRuntime) -> Result<(), Unmet> {
     value_of("remove_file", fs::remove_file(rt, WRITTEN))
 }
 
-/// Expects that the file that was written has exactly these bytes, or hasn't, as `is` says.
+/// Checks that comparing the written file with `bytes` returns `is`.
 fn expect_found(disk: &mut Disk<'_>, alloc: Global, bytes: &[u8], is: bool) -> Result<(), Unmet> {
     let found = value_of("has_bytes", disk.has_bytes(alloc, WRITTEN, bytes))?;
     expect("the file is compared rightly", found == is)
 }
 
-/// Certificates that the program wrote are read back, accepted, and compared in parts.
+/// Checks that certificates that the program wrote are read back, accepted, and compared in parts.
 pub(crate) fn a_file_that_is_written_is_read_back(rt: &HostRuntime) -> Result<(), Unmet> {
     let alloc = rt.alloc();
     write(rt)?;
@@ -99,7 +98,7 @@ pub(crate) fn a_file_that_is_written_is_read_back(rt: &HostRuntime) -> Result<()
     remove(rt)
 }
 
-/// A file that is longer than a part is compared to its end, also if only the last byte differs.
+/// Checks that a file longer than a part is compared to its end, also if only the last byte differs.
 pub(crate) fn a_long_file_is_compared_to_its_end(rt: &HostRuntime) -> Result<(), Unmet> {
     let alloc = rt.alloc();
     let mut disk = Disk { rt };
@@ -115,7 +114,7 @@ pub(crate) fn a_long_file_is_compared_to_its_end(rt: &HostRuntime) -> Result<(),
     remove(rt)
 }
 
-/// A file that doesn't exist is neither read nor compared.
+/// Checks that a file that doesn't exist is neither read nor compared.
 pub(crate) fn a_file_that_is_not_there_is_unread(rt: &HostRuntime) -> Result<(), Unmet> {
     let alloc = rt.alloc();
     let mut disk = Disk { rt };
@@ -125,7 +124,7 @@ pub(crate) fn a_file_that_is_not_there_is_unread(rt: &HostRuntime) -> Result<(),
     expect("it cannot be compared", compared)
 }
 
-/// Files of the machine lead to each status, as docs/OPERATIONS.md has them.
+/// Checks that files of the machine lead to each status, as docs/OPERATIONS.md lists them.
 pub(crate) fn each_status_comes_of_files_of_the_machine(rt: &HostRuntime) -> Result<(), Unmet> {
     write(rt)?;
     remove(rt)?;
@@ -153,7 +152,7 @@ fn words_to_serve(address: &str) -> [&str; 11] {
     ]
 }
 
-/// The program serves at a port of this machine, and looks at its files, which are unchanged.
+/// Checks that the program serves at a free port of this machine, and looks at its files, which are unchanged.
 pub(crate) fn it_serves_at_a_port_that_is_free(rt: &HostRuntime) -> Result<(), Unmet> {
     write(rt)?;
     let run = run(rt, words_to_serve("127.0.0.1:0").as_slice());
@@ -167,7 +166,7 @@ pub(crate) fn it_serves_at_a_port_that_is_free(rt: &HostRuntime) -> Result<(), U
     )
 }
 
-/// At a port at which another program listens no client can connect.
+/// Checks that the program doesn't listen at a port at which another program listens.
 pub(crate) fn it_does_not_listen_at_a_port_that_is_used(rt: &HostRuntime) -> Result<(), Unmet> {
     let alloc = rt.alloc();
     let other = value_of("TcpListener::bind", TcpListener::bind(rt, "127.0.0.1:0"))?;

@@ -1,4 +1,4 @@
-//! `serve`, over sockets of the system.
+//! `serve` over sockets of the system.
 
 ghost use Rattle.std.specs.Prelude.{⊤};
 
@@ -20,11 +20,11 @@ use std::net::{Net, SocketAddr, TcpStream};
 struct Visited<N: Net> {
     net: N,
     client: Option<N::Stream>,
-    /// The number of times that sockets were asked for.
+    /// The number of times that sockets were requested.
     asked: u64,
 }
 
-/// Connects a client to these sockets, which has written all it will.
+/// Connects a client to these sockets, which writes everything at once.
 fn visit<N: Net>(net: &N, alloc: Global, sockets: &Sockets) -> Result<N::Stream, Unmet> {
     let address = value_of("Sockets::local_addr", sockets.local_addr())?;
     let mut client = value_of("TcpStream::connect", TcpStream::connect(net, address))?;
@@ -113,7 +113,7 @@ fn serve<'a, N: Net, O: Write>(
     })
 }
 
-/// Expects that no client was served, with this status, and how often sockets were asked for.
+/// Checks that no client was served, with this status, and that sockets were requested `asked` times.
 fn expect_unserved<N: Net>(served: &ServeOutcome<N>, status: u64, asked: u64) -> Result<(), Unmet> {
     expect_number("the status", u64::from(served.ended.status), status)?;
     expect("no client was served", served.ended.service.is_none())?;
@@ -124,7 +124,7 @@ fn expect_unserved<N: Net>(served: &ServeOutcome<N>, status: u64, asked: u64) ->
     )
 }
 
-/// A client of `serve` is answered: the address is reported, and as many rounds are served as were asked for.
+/// Checks that a client of `serve` is served: the address is reported, and as many rounds are served as were requested.
 pub(crate) fn serve_tells_where_it_listens_and_ends_after_its_turns<N: Net>(
     net: &N,
     alloc: Global,
@@ -153,7 +153,7 @@ pub(crate) fn serve_tells_where_it_listens_and_ends_after_its_turns<N: Net>(
     expect_opened_and_acked(alloc, answer.as_slice())
 }
 
-/// If a file is refused no socket is opened.
+/// Checks that no socket is opened if a file is refused.
 pub(crate) fn serve_judges_its_files_before_it_listens<N: Net>(
     net: &N,
     alloc: Global,
@@ -169,7 +169,7 @@ pub(crate) fn serve_judges_its_files_before_it_listens<N: Net>(
     )
 }
 
-/// No client can connect at what is no address.
+/// Checks that an invalid address is reported, and no client served.
 pub(crate) fn serve_tells_that_it_cannot_listen<N: Net>(
     net: &N,
     alloc: Global,
@@ -185,7 +185,7 @@ pub(crate) fn serve_tells_that_it_cannot_listen<N: Net>(
     )
 }
 
-/// If the address can't be reported no client is served.
+/// Checks that no client is served if the address can't be reported.
 pub(crate) fn serve_ends_where_its_address_is_not_taken<N: Net>(
     net: &N,
     alloc: Global,

@@ -1,4 +1,4 @@
-//! Streams that take no byte.
+//! The program over streams that take no byte.
 
 use crate::disk::ScenarioDisk;
 use scenario_parts::{Closed, Unmet, expect, expect_number};
@@ -8,7 +8,7 @@ use std::alloc::Global;
 /// The words that ask for a replay of the script.
 const REPLAY: [&str; 3] = ["warren", "replay", "script"];
 
-/// An output that takes no byte of what a script prints leads to status 4.
+/// Checks that an output that takes no byte of what a script prints leads to status 4.
 pub(crate) fn output_that_is_not_taken_has_status_four(alloc: Global) -> Result<(), Unmet> {
     let mut disk = ScenarioDisk { script: b"ready 1" };
     let mut err: Vec<u8> = Vec::new(alloc);
@@ -17,7 +17,7 @@ pub(crate) fn output_that_is_not_taken_has_status_four(alloc: Global) -> Result<
     expect("there is no complaint", err.is_empty())
 }
 
-/// An error stream that takes no byte of why a script is refused leads to status 4.
+/// Checks that an error stream that takes no byte of why a script is refused leads to status 4.
 pub(crate) fn a_complaint_that_is_not_taken_has_status_four(alloc: Global) -> Result<(), Unmet> {
     let mut disk = ScenarioDisk { script: b"begin" };
     let mut out: Vec<u8> = Vec::new(alloc);

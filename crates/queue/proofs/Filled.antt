@@ -1,5 +1,5 @@
 -- Blocks that need the slots they keep.
-use Rattle.queue.proofs.Names.{◌≡◌, ℕ, zero, suc, ◌+◌, ◌-◌, ◌*◌, ◌<◌, ◌≤◌, List, [], ◌∷◌, ◌++◌, length, get_or, map, filter, refl, sym, ap, ◌∙◌, subst, arith, Bool, true, false, cond, inl, inr, nat_lt, ◌||◌, ◌⊎◌, ltb-false, eqb_tells, leb_tells, get_or-set_same, get_or-set_other, length-set, length-append, stood_now, Stretch, parts, joined, is_in_use, stood_block, no_stretch, block_at, slots_of, AreFilled, AreFilledBut, IsFilled, IsHeld, IsBounded, NeedBoth, NeedBothAt, IsSpent, IsNotSpent, AreNeeded, AreJoined}
+use Rattle.queue.proofs.Names.{◌≡◌, ℕ, zero, suc, ◌+◌, ◌-◌, ◌*◌, ◌<◌, ◌≤◌, List, [], ◌∷◌, ◌++◌, length, get_or, map, filter, refl, sym, ap, ◌∙◌, subst, arith, Bool, true, false, cond, inl, inr, nat_lt, ◌||◌, ◌⊎◌, ltb-false, eqb_tells, leb_tells, get_or-set_same, get_or-set_other, length-set, length-append, stood_now, Stretch, parts, joined, is_in_use, stood_block, no_stretch, block_at, slots_of, AreFilled, AreFilledBut, IsFilled, IsHeld, IsBounded, NeedBoth, NeedBothAt, IsSpent, IsNotSpent, AreNeeded, AreJoined, AreWhole, HasRoom, LastIsShort, last_room}
 use Rattle.std.proofs.Math.ListN.{set}
 use Rattle.queue.proofs.Signed.{at_default}
 use Rattle.queue.proofs.Stood.{length-mapped}
@@ -77,6 +77,25 @@ alike_set bs i d b lt at same many = record {
 
 pub filled_kept : (most : ℕ) (bs : List Stretch) (i : ℕ) (d b : Stretch) → i < length bs → d ≡ get_or bs i d → b.slots ≡ d.slots → length b.entries ≡ length d.entries → AreFilled most bs → AreFilled most (set bs i b)
 filled_kept most bs i d b lt at same many f = filled_alike most bs (set bs i b) (alike_set bs i d b lt at same many) f
+
+-- the last one is short where it was
+pub short_alike : (bs cs : List Stretch) → AreAlike bs cs → LastIsShort bs → LastIsShort cs
+short_alike bs cs a s i last none =
+    let n = a.len in
+    let e = a.slots i in
+    let v = a.live i in
+    let h = s i (omega (arith, n, last)) (omega (arith, v, none)) in
+    omega (arith, e, h)
+
+pub short_kept : (bs : List Stretch) (i : ℕ) (d b : Stretch) → i < length bs → d ≡ get_or bs i d → b.slots ≡ d.slots → length b.entries ≡ length d.entries → LastIsShort bs → LastIsShort (set bs i b)
+short_kept bs i d b lt at same many s = short_alike bs (set bs i b) (alike_set bs i d b lt at same many) s
+
+-- a last one that holds a message needs none of it
+pub short_held : (bs : List Stretch) (i : ℕ) (b : Stretch) → i + 1 ≡ length bs → IsHeld b → LastIsShort (set bs i b)
+short_held bs i b last held j e none =
+    let n = length-set bs i b in
+    let here = live_at _ _ (there bs i j b (omega (arith, last)) (omega (arith, last, n, e))) in
+    absurd (omega (arith, here, held, none))
 
 -- the last one is changed
 pub filled_last : (most : ℕ) (bs : List Stretch) (i : ℕ) (d b : Stretch) → i + 1 ≡ length bs → d ≡ get_or bs i d → (d.slots ≤ most → b.slots ≤ most) → AreFilled most bs → AreFilled most (set bs i b)
@@ -401,15 +420,12 @@ stood_at [] i = refl
 stood_at (b ∷ bs) zero = refl
 stood_at (b ∷ bs) (suc i) = stood_at bs i
 
-pub filled_stood : (most : ℕ) (bs : List Stretch) → AreFilled most bs → AreFilled most (map stood_block bs)
-filled_stood most bs f = filled_alike most bs (map stood_block bs) (record {
+pub stood_alike : (bs : List Stretch) → AreAlike bs (map stood_block bs)
+stood_alike bs = record {
   len = length-mapped stood_block bs;
   slots = λ i. slots_at _ _ (stood_at bs i);
   live = λ i. live_at _ _ (stood_at bs i) ∙ length-mapped stood_now (block_at bs i).entries;
-}) f
-
-pub filled_most : (most most' : ℕ) (bs : List Stretch) → most ≤ most' → AreFilled most bs → AreFilled most' bs
-filled_most most most' bs le f = record { narrow = λ i. let n = f.narrow i in omega (arith, n, le); filled = f.filled; needed = f.needed }
+}
 
 -- ---- all of them
 
@@ -439,5 +455,17 @@ few : (most : ℕ) (bs : List Stretch) → AreFilled most bs → slots_of bs ≤
 few most [] f = omega arith
 few most (b ∷ bs) f = let r = slots-few most b bs f in omega (arith, r)
 
-pub bounded : (most : ℕ) (bs : List Stretch) → 1024 ≤ most → AreFilled most bs → IsBounded most bs
-bounded most bs u f = record { usual = u; filled = f; few = few most bs f }
+-- spare blocks have all their slots
+slots-spare : (bs : List Stretch) → AreWhole bs → slots_of bs ≡ length bs * 1024
+slots-spare [] w = refl
+slots-spare (b ∷ bs) w = let s = (w 0 b (omega arith)).slots in let r = slots-spare bs (λ i d lt. w (suc i) d (omega (arith, lt))) in omega (arith, s, r)
+
+pub bounded : (room live count : ℕ) (bs spares : List Stretch) → count ≡ length spares → AreFilled 1024 bs → (room ≡ 0 → LastIsShort bs) → AreWhole spares → HasRoom room (last_room bs) count live → IsBounded room bs spares
+bounded room live count bs spares len f short w has = record {
+  filled = f;
+  short = short;
+  few = (let n = few 1024 bs f in let s = slots-spare spares w in elim (leb_tells 1 count) [
+    | inl p ↦ let q = p.1 in let h = has.needed (omega (arith, q)) in omega (arith, n, s, h, len)
+    | inr p ↦ let z = p.1 in omega (arith, n, s, z, len)
+  ]);
+}

@@ -12,3 +12,4 @@ pub mod Signed
 pub mod Calls
 pub mod Filled
 pub mod Removed
+pub mod Room

@@ -7,7 +7,7 @@ pub use Rattle.model.specs.Reloading.{stood_now}
 pub use Rattle.model.specs.declared.messages.Entry.{Entry}
 pub use Rattle.model.specs.declared.messages.Holder.{Holder}
 pub use Rattle.model.specs.declared.messages.Mark.TheVariants.{Held, Ready}
-pub use Rattle.queue.specs.Blocks.{AreApart, AreBlocksSigned, AreFilled, AreFilledBut, AreJoined, AreNeeded, IsBounded, IsCounted, IsFilled, IsHeld, IsNotSpent, IsPair, IsSpent, NeedBoth, NeedBothAt, Stretch, block_at, is_in_use, is_long, joined, last_room, no_stretch, parts, ready_size, room_after, size_of, slots_of, some_pass, stood_block, total}
+pub use Rattle.queue.specs.Blocks.{AreApart, AreBlocksSigned, AreFilled, AreFilledBut, AreJoined, AreNeeded, AreSpare, AreWhole, HasRoom, IsBounded, IsCounted, IsFilled, IsHeld, IsNotSpent, IsPair, IsSpent, IsWhole, LastIsShort, NeedBoth, NeedBothAt, Stretch, block_at, is_in_use, is_long, joined, last_room, no_stretch, parts, ready_size, room_after, size_of, slots_of, some_pass, stood_block, total}
 pub use Rattle.queue.specs.Line.{Line, ready_count, requeued}
 pub use Rattle.queue.specs.Slots.{AreSigned, BitTurned, BitsShow, HasPlaces, SlotBits, SlotsAreMarked, changed, contents, num, slot_has, somes, tally}
 pub use Rattle.queue.specs.declared.slots.Slot.{Slot}
@@ -17,5 +17,5 @@ pub use Rattle.std.proofs.lemmas.Bool.Decides.{eqb_tells, leb_tells}
 pub use Rattle.std.proofs.lemmas.Fn.{filter_same}
 pub use Rattle.std.proofs.lemmas.List.{drop_all, drop_more, get_or-set_other, get_or-set_same, length-append, length-map, length-set, map-set, take_at}
 pub use Rattle.std.specs.List.{position_from, remove, sum_by}
-pub use Rattle.std.specs.Prelude.{IfNone, IfOk, IfSome, OnErr, nat_lt, option_map, ◌&&◌, ◌==◌, ◌||◌, ◌⊎◌}
+pub use Rattle.std.specs.Prelude.{All, IfNone, IfOk, IfSome, OnErr, max, nat_lt, option_map, ◌&&◌, ◌==◌, ◌||◌, ◌⊎◌}
 pub use Rattle.std.specs.Vec.Iter.{into_iter_items, into_iter_len}

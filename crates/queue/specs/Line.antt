@@ -10,10 +10,10 @@ pub record Line : Type 0 where
   pub entries : List Entry
   pub room : ℕ
 
--- how many of these entries are ready
+-- the number of ready entries
 abbrev pub ready_count : List Entry → ℕ
 ready_count entries = length (filter is_ready entries)
 
--- the entries with all that these held ready again in its place (AMQP 0-9-1, channel.close; own: exactly its place)
+-- the entries, with each that a holder in `mine` held ready again in its place (AMQP 0-9-1, channel.close; own: exactly its place)
 abbrev pub requeued : (Holder → Bool) → List Entry → List Entry
 requeued mine entries = map (freed mine) entries

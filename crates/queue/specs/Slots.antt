@@ -8,31 +8,31 @@ use Rattle.marks.specs.Places.{bit_of, Differs}
 use Rattle.model.specs.Entries.{is_held_as}
 use Rattle.queue.specs.declared.slots.Slot.{Slot}
 
--- what stands in each slot
+-- the entry of each slot, if it has one
 abbrev pub contents : List Slot → List (Option Entry)
 contents slots = map (λ (s : Slot). s.entry) slots
 
--- what stands in slots that are not empty, in order
+-- the elements of a list of optional elements, in order
 abbrev pub somes : {X : Type 0} → List (Option X) → List X
 somes [] = []
 somes (None ∷ xs) = somes xs
 somes (Some x ∷ xs) = x ∷ somes xs
 
--- something stands in the slot, and passes
+-- the slot has an element, and `p` is true of it
 abbrev pub slot_has : {X : Type 0} → (X → Bool) → Option X → Bool
 slot_has p None = false
 slot_has p (Some x) = p x
 
--- what stands in the slot, changed
+-- the element of the slot, if any, changed by `f`
 abbrev pub changed : {X : Type 0} → (X → X) → Option X → Option X
 changed f None = None
 changed f (Some x) = Some (f x)
 
--- what stands in the slot at this place
+-- the entry of the slot at index `place`, if any
 abbrev pub slot_at : List Slot → ℕ → Option Entry
 slot_at slots place = get_or (contents slots) place None
 
--- what stands in each slot, where this was done to what stands in the slot at this place
+-- the entry of each slot, with `f` applied to that of the slot at index `place`
 abbrev pub slot_changed : (Entry → Entry) → List Slot → ℕ → List (Option Entry)
 slot_changed f slots place = slice_set (contents slots) place (changed f (slot_at slots place))
 
@@ -40,12 +40,12 @@ slot_changed f slots place = slice_set (contents slots) place (changed f (slot_a
 abbrev pub num : Bool → ℕ
 num b = cond b 1 0
 
--- how many pass
+-- the number of elements for which `p` is true
 abbrev pub tally : {X : Type 0} → (X → Bool) → List X → ℕ
 tally p [] = 0
 tally p (x ∷ xs) = num (p x) + tally p xs
 
--- the words of the set of ready places, and how many places it has room for
+-- the words of the set of ready slots, and the number of slots that have a bit
 pub record SlotBits : Type 0 where
   pub ready : List ℕ
   pub places : ℕ
@@ -54,34 +54,34 @@ pub record SlotBits : Type 0 where
 abbrev pub SameBits : SlotBits → SlotBits → Type 0
 SameBits old new = (k : ℕ) → bit_of new.ready k ≡ bit_of old.ready k
 
--- Only this place's bit differs: it is this.
+-- Only the bit of index `place` differs: it is `bit` now.
 pub record BitTurned (old new : SlotBits) (place bit : ℕ) : Type 0 where
   pub turned : Differs (bit_of old.ready) (bit_of new.ready) place bit
   pub places : new.places ≡ old.places
 
--- the bit of each slot says whether an entry stands in it that passes
+-- the bit of each slot says whether it has an entry for which `p` is true
 abbrev pub SlotsAreMarked : (Entry → Bool) → List (Option Entry) → (ℕ → ℕ) → Type 0
 SlotsAreMarked p slots bit = (i : ℕ) → bit i ≡ num (slot_has p (get_or slots i None))
 
--- The bits say of each slot whether a ready message stands in it.
+-- The bit of each slot says whether it has a ready message.
 abbrev pub AreSigned : List (Option Entry) → SlotBits → Type 0
 AreSigned slots bits = SlotsAreMarked is_ready slots (bit_of bits.ready)
 
--- What is kept beside the slots is true of them, and no two messages are held under one tag.
+-- The bits and the count kept beside the slots are right, and no two messages are held by the same holder.
 pub record BitsShow (slots : List (Option Entry)) (bits : SlotBits) (live : ℕ) : Type 0 where
   pub signed : AreSigned slots bits
   pub live_count : live ≡ length (somes slots)
   pub apart : (holder : Holder) → tally (is_held_as holder) (somes slots) ≤ 1
 
--- There is room for so many slots, each with its bit.
+-- Each of `slots` slots has a bit, and there are no more bits than the vector has capacity.
 pub record HasPlaces (slots capacity places : ℕ) : Type 0 where
   pub used : slots ≤ places
   pub kept : places ≤ capacity
 
--- so it is with what is kept in this vector
+-- the same for the elements of this vector
 abbrev pub HavePlaces : {X : Type 0} → Vec X → SlotBits → Type 0
 HavePlaces slots bits = HasPlaces (vec_len slots) (vec_capacity slots) bits.places
 
--- What a block keeps beside its slots is true of them, and each slot that it can have has its bit.
+-- The bits and the count of a block are right for its slots, and each slot up to the capacity has a bit.
 abbrev pub IsBlock : Vec Slot → SlotBits → ℕ → Type 0
 IsBlock slots bits live = BitsShow (contents slots.items) bits live × (vec_capacity slots ≤ bits.places)

@@ -1,24 +1,24 @@
-//! A block: messages in slots by arrival, of which the ready ones are marked.
+//! A block: slots in the order of arrival, with a mark for each that has a ready message. Start with [`Block`].
 
 ghost use Rattle.std.specs.Prelude.{◌≡◌, ◌+◌, ◌<◌, ◌≤◌, ℕ, IfSome, IfNone, OnOk, vec_len, vec_capacity};
 ghost use Rattle.queue.specs.Slots.{SameBits};
 
 use crate::signs::Signs;
 use crate::slots::{
-    Slot, append, close_many_gaps, entry_at, free_at, hold_at, move_in, place_held,
-    place_of_arrival, stand_in, take_at,
+    Slot, append, close_many_gaps, entry_at, free_at, hold_at, index_held, index_of_arrival,
+    mark_reloaded_in, move_in, take_at,
 };
 use model::{Entry, Holder, Mark, Message};
 use std::alloc::{AllocError, Global};
 use std::marker::Model;
 
-/// A block has no more slots than this, unless more are asked for at once.
+/// The most slots of a block.
 pub(crate) const BLOCK_SLOTS: usize = 1024;
 
-/// A short queue begins with so many slots.
-pub(crate) const FIRST_SLOTS: usize = 4;
+/// The slots that the first block of a queue begins with.
+const FIRST_SLOTS: usize = 4;
 
-/// Twice as many slots, up to the usual size of a block.
+/// Returns twice `slots`, at most 1,024.
 fn twice(slots: usize) -> usize
     ensures { result ≤ 1024 }
 {
@@ -31,22 +31,18 @@ fn twice(slots: usize) -> usize
     }
 }
 
-/// How many slots are made for so many messages more, behind so many slots of these: so many, or what doubles them. None are
-/// if they don't fit in what there is, and that leaves no block of the usual size.
+/// Returns how many slots to add for `more` messages after `slots` slots: `more`, or as many as double them. Returns `None` if
+/// they fit neither into the capacity nor into 1,024 slots.
 fn growth(slots: usize, capacity: usize, more: usize) -> Option<usize>
     requires { slots ≤ capacity }
     ensures enough { IfSome result (λ grown. more ≤ grown) }
-    ensures few { IfSome result (λ grown. (most : ℕ) → 1024 ≤ most → more ≤ most → capacity ≤ most → slots + grown ≤ most) }
+    ensures few { IfSome result (λ grown. capacity ≤ 1024 → slots + grown ≤ 1024) }
     ensures same { IfSome result (λ grown. slots + more ≤ capacity → grown ≡ more) }
-    ensures some { IfNone result (0 < slots) }
     ensures past { IfNone result (1024 < slots + more) }
     ensures wide { IfNone result (capacity < slots + more) }
 {
     if more <= capacity - slots {
         return Some(more);
-    }
-    if slots == 0 {
-        return Some(more.max(twice(capacity)));
     }
     if slots > BLOCK_SLOTS || more > BLOCK_SLOTS - slots {
         return None;
@@ -54,7 +50,7 @@ fn growth(slots: usize, capacity: usize, more: usize) -> Option<usize>
     Some(more.max(twice(capacity).saturating_sub(slots)))
 }
 
-/// Makes so many slots more behind those in use, each with its bit, unless there are as many.
+/// Reserves capacity for `more` further slots, each with its bit, unless there is enough.
 fn grow(slots: &mut Vec<Slot>, signs: &mut Signs, more: usize) -> Result<(), AllocError>
     requires { vec_capacity slots.old ≤ signs.old.places }
     ensures items { slots.new.items ≡ slots.old.items }
@@ -76,17 +72,17 @@ fn grow(slots: &mut Vec<Slot>, signs: &mut Signs, more: usize) -> Result<(), All
     slots.reserve_exact(more)
 }
 
-/// Messages that came one after another, ready or held.
+/// A run of messages in the order of arrival, ready or held.
 ///
-/// Each stands in a slot, which stays empty once it is gone; `reserve` closes the gaps. A mark for each slot says whether it
-/// is ready, so that the first ready message is found without a scan.
+/// Each is in a slot, which stays empty after the message is removed; `reserve` closes such gaps. A mark for each slot says
+/// whether it is ready, so that the first ready message is found without a scan.
 #[derive(Drop)]
 pub(crate) struct Block {
     slots: Vec<Slot>,
     signs: Signs,
-    /// How many messages stand here.
+    /// The number of messages.
     live: usize,
-    /// The arrivals here have this number or later ones.
+    /// The number of the earliest arrival that may be in this block.
     first: u64,
 }
 
@@ -113,7 +109,8 @@ impl Block {
     ghost use Rattle.queue.specs.Line.{requeued};
     ghost use Rattle.queue.specs.Slots.{contents, somes, tally};
 
-    /// A block with no message and so many slots, for arrivals with this number or later ones.
+    /// Returns an empty block with `places` slots, for arrivals with the number `first` or later ones. Fails only if an
+    /// allocation fails.
     pub(crate) fn new(alloc: Global, first: u64, places: usize) -> Result<Block, AllocError>
         ensures entries { IfOk result (λ block. block.entries ≡ []) }
         ensures room { IfOk result (λ block. block.room ≡ places) }
@@ -130,26 +127,33 @@ impl Block {
         })
     }
 
-    /// The arrivals here have this number or later ones.
+    /// The number of the earliest arrival that may be in this block.
     pub(crate) fn first(&self) -> u64 {
         self.first
     }
 
-    /// How many pushes need no memory.
+    /// Sets the number of the earliest arrival that may be in this block.
+    pub(crate) fn begin(&mut self, first: u64)
+        ensures { self.new ≡ self.old }
+    {
+        self.first = first;
+    }
+
+    /// Returns how many pushes need no allocation.
     pub(crate) fn room(&self) -> usize
         ensures { result ≡ self.now.room }
     {
         self.slots.capacity() - self.slots.len()
     }
 
-    /// How many messages stand here.
+    /// The number of messages.
     pub(crate) fn live(&self) -> usize
         ensures { result ≡ length self.now.entries }
     {
         self.live
     }
 
-    /// Whether the slots here are enough for what stands here and in the other.
+    /// Returns whether the slots suffice for the messages of this block and of `other`.
     pub(crate) fn fits(&self, other: &Block) -> bool
         ensures yes { result ≡ true → length self.now.entries + length other.now.entries ≤ self.now.slots }
         ensures no { result ≡ false → NeedBoth self.now other.now }
@@ -157,8 +161,8 @@ impl Block {
         other.live() <= self.slots.capacity() - self.live
     }
 
-    /// Makes room for so many messages more, if they fit in the slots there are or that leaves this a block of the usual size, and
-    /// tells whether it does. Closes gaps if more than half of the slots are empty, and grows if that is not enough.
+    /// Makes room for `more` messages if they fit into the slots that the block has or may have, and returns whether they do.
+    /// Closes gaps if more than half of the slots are empty, and grows if that is not enough. Fails only if an allocation fails.
     pub(crate) fn reserve(&mut self, more: usize) -> Result<bool, AllocError>
         ensures entries { self.new.entries ≡ self.old.entries }
         ensures kept { self.old.room ≤ self.new.room }
@@ -166,7 +170,7 @@ impl Block {
         ensures fits { IfOk result (λ fits. fits ≡ false → IsTooMuch more self.old) }
         ensures full { OnErr result (self.old.room < more) }
         ensures same { HasSlots more self.old → self.new.slots ≡ self.old.slots }
-        ensures slots { (most : ℕ) → 1024 ≤ most → more ≤ most → self.old.slots ≤ most → self.new.slots ≤ most }
+        ensures slots { self.old.slots ≤ 1024 → self.new.slots ≤ 1024 }
     {
         if more <= self.slots.capacity() - self.slots.len() {
             return Ok(true);
@@ -181,7 +185,7 @@ impl Block {
         }
     }
 
-    /// The message comes to the end, with this number of its arrival, and is ready. There is room for it.
+    /// Appends `message`, the arrival number `arrival`, as ready. There is room for it.
     pub(crate) fn push(&mut self, arrival: u64, message: Message)
         requires { 0 < self.old.room }
         ensures entries { self.new.entries ≡ self.old.entries ++ record { message = message; mark = Ready } ∷ [] }
@@ -200,7 +204,7 @@ impl Block {
         self.live += 1;
     }
 
-    /// What stands in the other slots comes behind what stands here. There are slots for it.
+    /// Appends the entries of `others`. There are slots for them.
     pub(crate) fn take_in(&mut self, others: Vec<Slot>)
         requires fits { length self.old.entries + length (somes (contents others.items)) ≤ self.old.slots }
         requires apart { (holder : Tag) → tally (is_held_as holder) (self.old.entries ++ somes (contents others.items)) ≤ 1 }
@@ -210,28 +214,28 @@ impl Block {
         self.live += move_in(&mut self.slots, &mut self.signs, others);
     }
 
-    /// The slots alone, in the order of arrival.
+    /// Returns the slots, in the order of arrival.
     pub(crate) fn into_slots(self) -> Vec<Slot>
         ensures { somes (contents result.items) ≡ self.entries }
     {
         self.slots
     }
 
-    /// Whether messages stand here, or there is room for some.
+    /// Returns whether the block has messages, or room for some.
     pub(crate) fn is_in_use(&self) -> bool
         ensures { result ≡ is_in_use self.now }
     {
         self.live > 0 || self.room() > 0
     }
 
-    /// Whether this block has all the slots that a block has.
+    /// Returns whether the block has all 1,024 slots.
     pub(crate) fn is_whole(&self) -> bool
         ensures { result ≡ false → IsShort self.now }
     {
         self.slots.capacity() >= BLOCK_SLOTS
     }
 
-    /// Gives the memory back, if no message stands here. The slots go last: the system takes memory back when a large piece is freed.
+    /// Frees the slots if the block has no message. The slots go last: the system takes memory back when a large piece is freed.
     pub(crate) fn give_back(&mut self, alloc: Global)
         ensures entries { self.new.entries ≡ self.old.entries }
         ensures slots { self.new.slots ≤ self.old.slots }
@@ -243,7 +247,7 @@ impl Block {
         }
     }
 
-    /// Whether a message can be given out.
+    /// Returns whether a message is ready.
     pub(crate) fn has_ready(&self) -> bool
         ensures { result ≡ is_some (find is_ready self.now.entries) }
     {
@@ -253,7 +257,7 @@ impl Block {
         }
     }
 
-    /// The first message that can be given out.
+    /// Returns the first ready message.
     pub(crate) fn first_ready(&self) -> Option<&Entry>
         ensures { option_map (λ e. e.now) result ≡ find is_ready self.now.entries }
     {
@@ -263,8 +267,7 @@ impl Block {
         }
     }
 
-    /// Gives the first ready message out, if there is one: it is held from now on. Tells the number of its arrival. Nothing is
-    /// held under this tag yet.
+    /// Marks the first ready message, if any, as held by `holder`, which holds no message yet. Returns the number of its arrival.
     pub(crate) fn hold(&mut self, holder: Holder) -> Option<u64>
         requires { find (is_held_as holder) self.old.entries ≡ None }
         ensures told { is_some result ≡ is_some (find is_ready self.old.entries) }
@@ -281,7 +284,7 @@ impl Block {
         }
     }
 
-    /// Takes the first ready message out, if there is one.
+    /// Removes and returns the first ready message, if any.
     pub(crate) fn take_first(&mut self) -> Option<Entry>
         ensures taken { result ≡ find is_ready self.old.entries }
         ensures entries { self.new.entries ≡ without_first is_ready self.old.entries }
@@ -298,33 +301,31 @@ impl Block {
         }
     }
 
-    /// The slot of the message that is held under this tag, whatever number stands beside it. It is found at once if that is the
-    /// number of its arrival.
+    /// Returns the slot of the message held by `holder`. Takes constant time if `arrival` is the number of its arrival.
     pub(crate) fn slot_held(&self, holder: &Holder, arrival: u64) -> Option<usize>
         ensures { is_some result ≡ is_some (find (is_held_as holder.now) self.now.entries) }
     {
-        place_held(&self.slots, holder, place_of_arrival(&self.slots, arrival))
+        index_held(&self.slots, holder, index_of_arrival(&self.slots, arrival))
     }
 
-    /// The message that is held under this tag. It is found at once if it stands in the slot `near`, and so it is below.
+    /// Returns the message held by `holder`. Takes constant time if it is in the slot `near`, here and below.
     pub(crate) fn held(&self, holder: &Holder, near: usize) -> Option<&Entry>
         ensures { option_map (λ e. e.now) result ≡ find (is_held_as holder.now) self.now.entries }
     {
-        match place_held(&self.slots, holder, near) {
+        match index_held(&self.slots, holder, near) {
             Some(place) => entry_at(&self.slots, place),
             None => None,
         }
     }
 
-    /// The message that is held under this tag is ready again, in its place and marked redelivered. Tells whether there is
-    /// one.
+    /// Makes the message held by `holder` ready again, in its place and marked as redelivered. Returns whether there is one.
     pub(crate) fn release(&mut self, holder: &Holder, near: usize) -> bool
         ensures told { result ≡ is_some (find (is_held_as holder.now) self.old.entries) }
         ensures entries { self.new.entries ≡ requeued (is_under holder.now) self.old.entries }
         ensures room { self.new.room ≡ self.old.room }
         ensures slots { self.new.slots ≡ self.old.slots }
     {
-        match place_held(&self.slots, holder, near) {
+        match index_held(&self.slots, holder, near) {
             None => false,
             Some(place) => {
                 free_at(&mut self.slots, place);
@@ -334,14 +335,14 @@ impl Block {
         }
     }
 
-    /// Takes the message out that is held under this tag, if there is one.
+    /// Removes and returns the message held by `holder`, if any.
     pub(crate) fn remove(&mut self, holder: &Holder, near: usize) -> Option<Entry>
         ensures taken { result ≡ find (is_held_as holder.now) self.old.entries }
         ensures entries { self.new.entries ≡ filter (λ e. not (is_held_as holder.now e)) self.old.entries }
         ensures room { self.new.room ≡ self.old.room }
         ensures slots { self.new.slots ≡ self.old.slots }
     {
-        match place_held(&self.slots, holder, near) {
+        match index_held(&self.slots, holder, near) {
             None => None,
             Some(place) => {
                 self.signs.clear(place);
@@ -351,14 +352,14 @@ impl Block {
         }
     }
 
-    /// Each message that stands here, ready or held, stood here when a reload was done.
-    pub(crate) fn stand_all(&mut self)
+    /// Marks each message, ready or held, as one that a reload found here.
+    pub(crate) fn mark_reloaded(&mut self)
         ensures { self.new ≡ stood_block self.old }
     {
-        stand_in(&mut self.slots);
+        mark_reloaded_in(&mut self.slots);
     }
 
-    /// The slots, in the order of arrival.
+    /// Returns the slots, in the order of arrival.
     pub(crate) fn slots(&self) -> &[Slot]
         ensures { somes (contents result.now) ≡ self.now.entries }
     {

@@ -1,7 +1,7 @@
-//! Blocks of messages, one after another.
+//! The calls of a queue over a list of blocks.
 
-ghost use Rattle.std.specs.Prelude.{◌≡◌, ◌+◌, ◌<◌, ◌≤◌, ◌++◌, ◌∷◌, [], ℕ, true, false, length, map, find, is_some, vec_len, vec_capacity};
-ghost use Rattle.std.specs.Prelude.{option_map, IfSome, IfNone, IfOk, OnOk, OnErr, None};
+ghost use Rattle.std.specs.Prelude.{◌≡◌, ◌+◌, ◌*◌, ◌<◌, ◌≤◌, ◌++◌, ◌∷◌, [], ℕ, true, false, length, map, find, is_some, vec_len, vec_capacity};
+ghost use Rattle.std.specs.Prelude.{option_map, max, IfSome, IfNone, IfOk, OnOk, OnErr, None};
 ghost use Rattle.model.specs.Broker.{is_ready, body_bytes};
 ghost use Rattle.model.specs.Entries.{is_under, is_held_as, held_as, change_first, without_first};
 ghost use Rattle.model.specs.declared.messages.Mark.TheVariants.{Ready};
@@ -9,60 +9,61 @@ ghost use Rattle.marks.specs.Places.{bit_of};
 ghost use Rattle.queue.specs.Line.{requeued};
 ghost use Rattle.queue.specs.Slots.{num, tally, BitTurned, HavePlaces};
 ghost use Rattle.queue.specs.Blocks.{parts, part_at, part_changed, without_held, joined, last_room, some_pass, size_of, stood_block, AreBlocksSigned};
-ghost use Rattle.queue.specs.Blocks.{AreFilled, AreFilledBut, StayFilled, StayFilledFor, IsSpent, IsNotSpent, IsHeld, NeedBothAt, FitInOne};
+ghost use Rattle.queue.specs.Blocks.{AreFilled, AreFilledBut, AreWhole, HoldAsMany, StayFilled, IsSpent, IsNotSpent, IsHeld, NeedBothAt, FitInOne};
 ghost use Rattle.queue.specs.Blocks.{IsPair, AreNeeded, AreJoined, AreApart, LastFits, LastHasTooMuch, LastHasSlots, LastIsShort, KeepSlots, block_at};
 
-use crate::block::{BLOCK_SLOTS, Block, FIRST_SLOTS};
+use crate::block::{BLOCK_SLOTS, Block};
 use crate::signs::Signs;
 use model::{Entry, Holder, Message};
 use std::alloc::{AllocError, Global};
 
-/// The first message in this block that can be given out.
-pub(crate) fn first_ready_at(blocks: &[Block], place: usize) -> Option<&Entry>
-    ensures { option_map (λ e. e.now) result ≡ find is_ready (part_at blocks.now place) }
+/// Returns the first ready message of the block at `index`.
+pub(crate) fn first_ready_at(blocks: &[Block], index: usize) -> Option<&Entry>
+    ensures { option_map (λ e. e.now) result ≡ find is_ready (part_at blocks.now index) }
 {
-    if place >= blocks.len() {
+    if index >= blocks.len() {
         return None;
     }
-    blocks[place].first_ready()
+    blocks[index].first_ready()
 }
 
-/// How many bytes the body has of the first message in this block that can be given out; none where none can.
-pub(crate) fn ready_bytes_at(blocks: &[Block], place: usize) -> usize
-    ensures { result ≡ size_of body_bytes (find is_ready (part_at blocks.now place)) }
+/// Returns the bytes of the body of that message, or 0 if there is none.
+pub(crate) fn ready_bytes_at(blocks: &[Block], index: usize) -> usize
+    ensures { result ≡ size_of body_bytes (find is_ready (part_at blocks.now index)) }
 {
-    match first_ready_at(blocks, place) {
+    match first_ready_at(blocks, index) {
         Some(entry) => entry.message.content().body.len(),
         None => 0,
     }
 }
 
-/// The message in this block that is held under this tag. It is found at once if it stands in the slot `near`, and so it is below.
+/// Returns the message of the block at `index` that is held by `holder`. Takes constant time if it is in the slot `near`,
+/// here and below.
 pub(crate) fn held_at<'a>(
     blocks: &'a [Block],
-    place: usize,
+    index: usize,
     holder: &Holder,
     near: usize,
 ) -> Option<&'a Entry>
-    ensures { option_map (λ e. e.now) result ≡ find (is_held_as holder.now) (part_at blocks.now place) }
+    ensures { option_map (λ e. e.now) result ≡ find (is_held_as holder.now) (part_at blocks.now index) }
 {
-    if place >= blocks.len() {
+    if index >= blocks.len() {
         return None;
     }
-    blocks[place].held(holder, near)
+    blocks[index].held(holder, near)
 }
 
-/// How many bytes the body has of the message in this block that is held under this tag; none if none is.
-pub(crate) fn held_bytes_at(blocks: &[Block], place: usize, holder: &Holder, near: usize) -> usize
-    ensures { result ≡ size_of body_bytes (find (is_held_as holder.now) (part_at blocks.now place)) }
+/// Returns the bytes of the body of that message, or 0 if there is none.
+pub(crate) fn held_bytes_at(blocks: &[Block], index: usize, holder: &Holder, near: usize) -> usize
+    ensures { result ≡ size_of body_bytes (find (is_held_as holder.now) (part_at blocks.now index)) }
 {
-    match held_at(blocks, place, holder, near) {
+    match held_at(blocks, index, holder, near) {
         Some(entry) => entry.message.content().body.len(),
         None => 0,
     }
 }
 
-/// The slot in this block of the message that is held under this tag.
+/// Returns the slot, in the block at index `place`, of the message held by `holder`.
 fn slot_held_at(blocks: &[Block], place: usize, holder: &Holder, arrival: u64) -> Option<usize>
     ensures { is_some result ≡ some_pass (is_held_as holder.now) (part_at blocks.now place) }
 {
@@ -72,23 +73,23 @@ fn slot_held_at(blocks: &[Block], place: usize, holder: &Holder, arrival: u64) -
     blocks[place].slot_held(holder, arrival)
 }
 
-/// The place of the last block of which the arrivals may have this number.
+/// Returns the index of the last block in which the arrival number `arrival` may be.
 fn block_of_arrival(blocks: &[Block], arrival: u64) -> usize {
     blocks
         .partition_point(|block| block.first() <= arrival)
         .saturating_sub(1)
 }
 
-/// Where a held message stands.
+/// The place of a held message.
 #[derive(Drop)]
 pub(crate) struct Spot {
-    /// The place of its block.
+    /// The index of its block.
     pub(crate) block: usize,
-    /// Its slot there.
+    /// The index of its slot in the block.
     pub(crate) slot: usize,
 }
 
-/// The first message in these blocks that is held under this tag.
+/// Searches the blocks for the message held by `holder`.
 fn search(blocks: &[Block], holder: &Holder, arrival: u64) -> Option<Spot>
     ensures some { IfSome result (λ s. some_pass (is_held_as holder.now) (part_at blocks.now s.block) ≡ true) }
     ensures none { IfNone result ((k : ℕ) → find (is_held_as holder.now) (part_at blocks.now k) ≡ None) }
@@ -101,7 +102,7 @@ fn search(blocks: &[Block], holder: &Holder, arrival: u64) -> Option<Spot>
     None
 }
 
-/// The message that is held under this tag. It is found at once if `arrival` is the number of its arrival.
+/// Returns the place of the message held by `holder`. Found without a search if `arrival` is the number of its arrival.
 pub(crate) fn spot_held(blocks: &[Block], holder: &Holder, arrival: u64) -> Option<Spot>
     ensures some { IfSome result (λ s. some_pass (is_held_as holder.now) (part_at blocks.now s.block) ≡ true) }
     ensures none { IfNone result ((k : ℕ) → find (is_held_as holder.now) (part_at blocks.now k) ≡ None) }
@@ -113,71 +114,73 @@ pub(crate) fn spot_held(blocks: &[Block], holder: &Holder, arrival: u64) -> Opti
     search(blocks, holder, arrival)
 }
 
-/// Gives the first ready message of this block out. Tells the number of its arrival. Nothing here is held under this tag yet.
-pub(crate) fn hold_at(blocks: &mut Vec<Block>, place: usize, holder: Holder) -> Option<u64>
-    requires within { place < vec_len blocks.old }
-    requires apart { find (is_held_as holder) (part_at blocks.old.items place) ≡ None }
-    ensures told { is_some result ≡ some_pass is_ready (part_at blocks.old.items place) }
-    ensures parts { parts blocks.new.items ≡ part_changed (change_first is_ready (held_as holder)) blocks.old.items place }
+/// Marks the first ready message of the block at `index` as held by `holder`, which holds no message there yet. Returns the
+/// number of its arrival.
+pub(crate) fn hold_at(blocks: &mut Vec<Block>, index: usize, holder: Holder) -> Option<u64>
+    requires within { index < vec_len blocks.old }
+    requires apart { find (is_held_as holder) (part_at blocks.old.items index) ≡ None }
+    ensures told { is_some result ≡ some_pass is_ready (part_at blocks.old.items index) }
+    ensures parts { parts blocks.new.items ≡ part_changed (change_first is_ready (held_as holder)) blocks.old.items index }
     ensures room { last_room blocks.new.items ≡ last_room blocks.old.items }
     ensures len { vec_len blocks.new ≡ vec_len blocks.old }
     ensures capacity { vec_capacity blocks.new ≡ vec_capacity blocks.old }
     ensures filled { StayFilled blocks.old.items blocks.new.items }
+    ensures short { LastIsShort blocks.old.items → LastIsShort blocks.new.items }
 {
-    blocks[place].hold(holder)
+    blocks[index].hold(holder)
 }
 
-/// The message in this block that is held under this tag is ready again, and marked redelivered.
-pub(crate) fn free_at(blocks: &mut Vec<Block>, place: usize, holder: &Holder, near: usize)
-    requires { place < vec_len blocks.old }
-    ensures parts { parts blocks.new.items ≡ part_changed (requeued (is_under holder.now)) blocks.old.items place }
+/// Makes the message of the block at `index` that is held by `holder` ready again, and marks it as redelivered.
+pub(crate) fn free_at(blocks: &mut Vec<Block>, index: usize, holder: &Holder, near: usize)
+    requires { index < vec_len blocks.old }
+    ensures parts { parts blocks.new.items ≡ part_changed (requeued (is_under holder.now)) blocks.old.items index }
     ensures room { last_room blocks.new.items ≡ last_room blocks.old.items }
     ensures len { vec_len blocks.new ≡ vec_len blocks.old }
     ensures capacity { vec_capacity blocks.new ≡ vec_capacity blocks.old }
     ensures filled { StayFilled blocks.old.items blocks.new.items }
+    ensures short { LastIsShort blocks.old.items → LastIsShort blocks.new.items }
 {
-    blocks[place].release(holder, near);
+    blocks[index].release(holder, near);
 }
 
-/// Takes the first ready message of this block out, if there is one.
-pub(crate) fn take_at(blocks: &mut Vec<Block>, place: usize) -> Option<Entry>
-    requires within { place < vec_len blocks.old }
-    requires some { some_pass is_ready (part_at blocks.old.items place) ≡ true }
-    ensures taken { result ≡ find is_ready (part_at blocks.old.items place) }
-    ensures parts { parts blocks.new.items ≡ part_changed (without_first is_ready) blocks.old.items place }
+/// Removes and returns the first ready message of the block at `index`.
+pub(crate) fn take_at(blocks: &mut Vec<Block>, index: usize) -> Option<Entry>
+    requires within { index < vec_len blocks.old }
+    requires some { some_pass is_ready (part_at blocks.old.items index) ≡ true }
+    ensures taken { result ≡ find is_ready (part_at blocks.old.items index) }
+    ensures parts { parts blocks.new.items ≡ part_changed (without_first is_ready) blocks.old.items index }
     ensures room { last_room blocks.new.items ≡ last_room blocks.old.items }
     ensures len { vec_len blocks.new ≡ vec_len blocks.old }
     ensures capacity { vec_capacity blocks.new ≡ vec_capacity blocks.old }
-    ensures filled { (most : ℕ) → AreFilled most blocks.old.items → AreFilledBut place most blocks.new.items }
+    ensures filled { (most : ℕ) → AreFilled most blocks.old.items → AreFilledBut index most blocks.new.items }
 {
-    blocks[place].take_first()
+    blocks[index].take_first()
 }
 
-/// Takes the message of this block out that is held under this tag.
+/// Removes and returns the message of the block at `index` that is held by `holder`.
 pub(crate) fn remove_at(
     blocks: &mut Vec<Block>,
-    place: usize,
+    index: usize,
     holder: &Holder,
     near: usize,
 ) -> Option<Entry>
-    requires within { place < vec_len blocks.old }
-    requires some { some_pass (is_held_as holder.now) (part_at blocks.old.items place) ≡ true }
-    requires once { tally (is_held_as holder.now) (part_at blocks.old.items place) ≤ 1 }
-    ensures taken { result ≡ find (is_held_as holder.now) (part_at blocks.old.items place) }
-    ensures parts { parts blocks.new.items ≡ part_changed (without_held holder.now) blocks.old.items place }
+    requires within { index < vec_len blocks.old }
+    requires some { some_pass (is_held_as holder.now) (part_at blocks.old.items index) ≡ true }
+    requires once { tally (is_held_as holder.now) (part_at blocks.old.items index) ≤ 1 }
+    ensures taken { result ≡ find (is_held_as holder.now) (part_at blocks.old.items index) }
+    ensures parts { parts blocks.new.items ≡ part_changed (without_held holder.now) blocks.old.items index }
     ensures room { last_room blocks.new.items ≡ last_room blocks.old.items }
     ensures len { vec_len blocks.new ≡ vec_len blocks.old }
     ensures capacity { vec_capacity blocks.new ≡ vec_capacity blocks.old }
-    ensures filled { (most : ℕ) → AreFilled most blocks.old.items → AreFilledBut place most blocks.new.items }
+    ensures filled { (most : ℕ) → AreFilled most blocks.old.items → AreFilledBut index most blocks.new.items }
 {
-    blocks[place].remove(holder, near)
+    blocks[index].remove(holder, near)
 }
 
-/// Gives the memory of a last block back that is whole and in which no message stands, if no room is promised.
+/// Frees the last block if it has 1,024 slots and no message, and no room is promised.
 pub(crate) fn give_back_spare(blocks: &mut Vec<Block>, room: usize, alloc: Global)
-    requires { room ≤ last_room blocks.old.items }
     ensures parts { parts blocks.new.items ≡ parts blocks.old.items }
-    ensures room { room ≤ last_room blocks.new.items }
+    ensures room { 0 < room → last_room blocks.new.items ≡ last_room blocks.old.items }
     ensures len { vec_len blocks.new ≡ vec_len blocks.old }
     ensures capacity { vec_capacity blocks.new ≡ vec_capacity blocks.old }
     ensures filled { StayFilled blocks.old.items blocks.new.items }
@@ -192,16 +195,16 @@ pub(crate) fn give_back_spare(blocks: &mut Vec<Block>, room: usize, alloc: Globa
     }
 }
 
-/// All that stands here stood here when a reload was done.
-pub(crate) fn stand_in(blocks: &mut [Block])
+/// Marks each message of the blocks as one that a reload found here.
+pub(crate) fn mark_reloaded_in(blocks: &mut [Block])
     ensures { blocks.new ≡ map stood_block blocks.old }
 {
     for block in blocks.iter_mut() {
-        block.stand_all();
+        block.mark_reloaded();
     }
 }
 
-/// How many pushes into the last block need no memory.
+/// Returns how many pushes into the last block need no allocation.
 fn room_of(blocks: &[Block]) -> usize
     ensures { result ≡ last_room blocks.now }
 {
@@ -211,7 +214,8 @@ fn room_of(blocks: &[Block]) -> usize
     blocks[blocks.len() - 1].room()
 }
 
-/// Makes room for so many messages more in the last block, if they come into it, and tells whether they do.
+/// Makes room for `more` messages in the last block if they fit into it, and returns whether they do. Fails only if an allocation
+/// fails.
 fn reserve_last(blocks: &mut Vec<Block>, more: usize) -> Result<bool, AllocError>
     ensures parts { parts blocks.new.items ≡ parts blocks.old.items }
     ensures kept { last_room blocks.old.items ≤ last_room blocks.new.items }
@@ -221,7 +225,7 @@ fn reserve_last(blocks: &mut Vec<Block>, more: usize) -> Result<bool, AllocError
     ensures fits { IfOk result (λ fits. fits ≡ false → LastHasTooMuch more blocks.old.items) }
     ensures full { OnErr result (last_room blocks.old.items < more) }
     ensures same { LastHasSlots more blocks.old.items → KeepSlots blocks.old.items blocks.new.items }
-    ensures filled { StayFilledFor more blocks.old.items blocks.new.items }
+    ensures filled { AreFilled 1024 blocks.old.items → AreFilled 1024 blocks.new.items }
 {
     if blocks.is_empty() {
         return Ok(false);
@@ -230,7 +234,7 @@ fn reserve_last(blocks: &mut Vec<Block>, more: usize) -> Result<bool, AllocError
     blocks[last].reserve(more)
 }
 
-/// The message comes to the end of the last block, with this number of its arrival, and is ready. Tells the place of the block.
+/// Appends `message`, the arrival number `arrival`, to the last block as ready. Returns the index of the block.
 pub(crate) fn push_last(blocks: &mut Vec<Block>, arrival: u64, message: Message) -> usize
     requires { 0 < last_room blocks.old.items }
     ensures place { result + 1 ≡ vec_len blocks.old }
@@ -239,13 +243,14 @@ pub(crate) fn push_last(blocks: &mut Vec<Block>, arrival: u64, message: Message)
     ensures len { vec_len blocks.new ≡ vec_len blocks.old }
     ensures capacity { vec_capacity blocks.new ≡ vec_capacity blocks.old }
     ensures filled { StayFilled blocks.old.items blocks.new.items }
+    ensures short { LastIsShort blocks.new.items }
 {
     let last = blocks.len() - 1;
     blocks[last].push(arrival, message);
     last
 }
 
-/// Whether a message in this block can be given out.
+/// Returns whether the block at index `place` has a ready message.
 fn has_ready_at(blocks: &[Block], place: usize) -> bool
     ensures { result ≡ some_pass is_ready (part_at blocks.now place) }
 {
@@ -255,19 +260,19 @@ fn has_ready_at(blocks: &[Block], place: usize) -> bool
     blocks[place].has_ready()
 }
 
-/// Sets the bit of this block as it is.
-pub(crate) fn sign(blocks: &[Block], signs: &mut Signs, place: usize)
-    requires { place < signs.old.places }
-    ensures { BitTurned signs.old signs.new place (num (some_pass is_ready (part_at blocks.now place))) }
+/// Sets the bit of the block at `index` to whether it has a ready message.
+pub(crate) fn sign(blocks: &[Block], signs: &mut Signs, index: usize)
+    requires { index < signs.old.places }
+    ensures { BitTurned signs.old signs.new index (num (some_pass is_ready (part_at blocks.now index))) }
 {
-    if has_ready_at(blocks, place) {
-        signs.set_ready(place);
+    if has_ready_at(blocks, index) {
+        signs.set_ready(index);
     } else {
-        signs.clear(place);
+        signs.clear(index);
     }
 }
 
-/// Sets the bits below `places` as their blocks are.
+/// Sets each bit below `places` to whether its block has a ready message.
 fn sign_all(blocks: &[Block], signs: &mut Signs, places: usize)
     requires within { places ≤ signs.old.places }
     requires blocks { length blocks.now ≤ places }
@@ -280,7 +285,7 @@ fn sign_all(blocks: &[Block], signs: &mut Signs, places: usize)
     }
 }
 
-/// Whether no message stands in this block, nor in the one before it.
+/// Returns whether neither the block at index `place` nor the one before it has a message.
 fn is_spent(blocks: &[Block], place: usize) -> bool
     requires { place < length blocks.now }
     ensures yes { result ≡ true → IsSpent place blocks.now }
@@ -289,7 +294,7 @@ fn is_spent(blocks: &[Block], place: usize) -> bool
     blocks[place].live() == 0 && (place == 0 || blocks[place - 1].live() == 0)
 }
 
-/// Gives the memory of a block back in which no message stands, nor in the one before it. It isn't the last.
+/// Frees the block at index `place`, which isn't the last, if neither it nor the one before it has a message.
 fn give_back_at(blocks: &mut Vec<Block>, place: usize, alloc: Global)
     requires within { place + 1 < vec_len blocks.old }
     requires spent { IsSpent place blocks.old.items }
@@ -302,7 +307,7 @@ fn give_back_at(blocks: &mut Vec<Block>, place: usize, alloc: Global)
     blocks[place].give_back(alloc);
 }
 
-/// Whether messages stand in this block, and it has slots for those of the next too.
+/// Returns whether the block at index `place` has messages, and slots for those of the next, too.
 fn fits_at(blocks: &[Block], place: usize) -> bool
     requires { place + 1 < length blocks.now }
     ensures yes { result ≡ true → FitInOne (block_at blocks.now place) (block_at blocks.now (place + 1)) }
@@ -311,7 +316,8 @@ fn fits_at(blocks: &[Block], place: usize) -> bool
     blocks[place].live() > 0 && blocks[place].fits(&blocks[place + 1])
 }
 
-/// The first of two neighbours that fit into it: this block and the one before it, or the next unless that is the last.
+/// Returns the index of the first of two neighbours that fit into it: the block at index `place` with the one before it, or with
+/// the next unless that is the last.
 fn pair_at(blocks: &[Block], place: usize) -> Option<usize>
     requires { place + 1 < length blocks.now }
     ensures some { IfSome result (λ first. IsPair place first blocks.now) }
@@ -326,7 +332,7 @@ fn pair_at(blocks: &[Block], place: usize) -> Option<usize>
     None
 }
 
-/// What stands in the next block comes into this one, which has slots for it. The next is gone.
+/// Moves the messages of the next block into the block at index `place`, which has slots for them, and removes the next.
 fn join_at(blocks: &mut Vec<Block>, place: usize)
     requires within { place + 1 < vec_len blocks.old }
     requires fit { FitInOne (block_at blocks.old.items place) (block_at blocks.old.items (place + 1)) }
@@ -341,7 +347,8 @@ fn join_at(blocks: &mut Vec<Block>, place: usize)
     blocks[place].take_in(next.into_slots());
 }
 
-/// Joins this block, from which a message went, with a neighbour, if the first of them has slots for both.
+/// Joins the block at index `place`, from which a message was removed, with a neighbour if the first of the two has slots for
+/// both.
 fn join_near(blocks: &mut Vec<Block>, signs: &mut Signs, place: usize)
     requires within { place + 1 < vec_len blocks.old }
     requires left { IsNotSpent place blocks.old.items }
@@ -350,6 +357,8 @@ fn join_near(blocks: &mut Vec<Block>, signs: &mut Signs, place: usize)
     requires apart { AreApart blocks.old.items }
     ensures signed { AreBlocksSigned (parts blocks.new.items) signs.new }
     ensures places { HavePlaces blocks.new signs.new }
+    ensures len { vec_len blocks.new ≤ vec_len blocks.old }
+    ensures signs { signs.new.places ≡ signs.old.places }
     ensures entries { joined (parts blocks.new.items) ≡ joined (parts blocks.old.items) }
     ensures room { last_room blocks.new.items ≡ last_room blocks.old.items }
     ensures filled { (most : ℕ) → AreFilledBut place most blocks.old.items → AreFilled most blocks.new.items }
@@ -364,30 +373,32 @@ fn join_near(blocks: &mut Vec<Block>, signs: &mut Signs, place: usize)
     }
 }
 
-/// Keeps the slots few after a message went from this block: gives it back if it is empty and none with messages stands before
-/// it, or joins it with a neighbour if the two fit into one. The last block stays as it is.
-pub(crate) fn settle(blocks: &mut Vec<Block>, signs: &mut Signs, place: usize, alloc: Global)
-    requires within { place < vec_len blocks.old }
+/// Keeps the number of slots low after a message was removed from the block at `index`: frees the block if it is empty and
+/// the one before it, too, or joins it with a neighbour if the two fit into one. The last block stays as it is.
+pub(crate) fn settle(blocks: &mut Vec<Block>, signs: &mut Signs, index: usize, alloc: Global)
+    requires within { index < vec_len blocks.old }
     requires signed { AreBlocksSigned (parts blocks.old.items) signs.old }
     requires places { HavePlaces blocks.old signs.old }
     requires apart { AreApart blocks.old.items }
     ensures signed { AreBlocksSigned (parts blocks.new.items) signs.new }
     ensures places { HavePlaces blocks.new signs.new }
+    ensures len { vec_len blocks.new ≤ vec_len blocks.old }
+    ensures signs { signs.new.places ≡ signs.old.places }
     ensures entries { joined (parts blocks.new.items) ≡ joined (parts blocks.old.items) }
     ensures room { last_room blocks.new.items ≡ last_room blocks.old.items }
-    ensures filled { (most : ℕ) → AreFilledBut place most blocks.old.items → AreFilled most blocks.new.items }
+    ensures filled { (most : ℕ) → AreFilledBut index most blocks.old.items → AreFilled most blocks.new.items }
 {
-    if place + 1 >= blocks.len() {
+    if index + 1 >= blocks.len() {
         return;
     }
-    if is_spent(blocks, place) {
-        give_back_at(blocks, place, alloc);
+    if is_spent(blocks, index) {
+        give_back_at(blocks, index, alloc);
     } else {
-        join_near(blocks, signs, place);
+        join_near(blocks, signs, index);
     }
 }
 
-/// Takes the blocks out that were given back.
+/// Removes the blocks that were freed.
 fn drop_given_back(blocks: &mut Vec<Block>)
     ensures entries { joined (parts blocks.new.items) ≡ joined (parts blocks.old.items) }
     ensures room { last_room blocks.old.items ≤ last_room blocks.new.items }
@@ -398,72 +409,171 @@ fn drop_given_back(blocks: &mut Vec<Block>)
     blocks.retain(|block| block.is_in_use());
 }
 
-/// Makes room for one block more. The blocks that were given back go before the list of blocks grows, and it grows where more
-/// than half of it is in use.
-fn make_place(blocks: &mut Vec<Block>, signs: &mut Signs) -> Result<(), AllocError>
+/// Makes room for further blocks in the list. Freed blocks are removed before the list grows, and it at least doubles then. Fails
+/// only if an allocation fails.
+fn make_places(blocks: &mut Vec<Block>, signs: &mut Signs, more: usize) -> Result<(), AllocError>
     requires signed { AreBlocksSigned (parts blocks.old.items) signs.old }
     requires places { HavePlaces blocks.old signs.old }
     ensures signed { AreBlocksSigned (parts blocks.new.items) signs.new }
     ensures places { HavePlaces blocks.new signs.new }
     ensures entries { joined (parts blocks.new.items) ≡ joined (parts blocks.old.items) }
     ensures kept { last_room blocks.old.items ≤ last_room blocks.new.items }
-    ensures room { OnOk result (vec_len blocks.new < signs.new.places) }
+    ensures room { OnOk result (vec_len blocks.new + more ≤ signs.new.places) }
+    ensures held { HoldAsMany blocks.old signs.old blocks.new signs.new }
     ensures filled { StayFilled blocks.old.items blocks.new.items }
 {
     let places = blocks.len();
-    if places < signs.places() {
+    if more <= signs.places() - places {
         return Ok(());
     }
     drop_given_back(blocks);
     sign_all(blocks, signs, places);
-    blocks.reserve_exact(blocks.len() + 1)?;
+    blocks.reserve_exact(more.max(blocks.len() + 1))?;
     signs.grow(blocks.capacity())
 }
 
-/// How many slots a block starts with, which wants so many: the first block grows as it is filled, another has all at once.
-fn slots_for(more: usize, is_first: bool) -> usize
-    ensures enough { more ≤ result }
-    ensures few { (most : ℕ) → 1024 ≤ most → more ≤ most → result ≤ most }
-{
-    if is_first {
-        more.max(FIRST_SLOTS)
-    } else {
-        more.max(BLOCK_SLOTS)
-    }
-}
-
-/// Starts a block with room for so many messages, of which the arrivals have the number `first` or later ones. What was the last
-/// is joined with the one before it if the two fit into one.
-fn start_block(
-    blocks: &mut Vec<Block>,
-    signs: &mut Signs,
-    alloc: Global,
-    first: u64,
-    more: usize,
-) -> Result<(), AllocError>
+/// Appends an empty block. The block that was the last is joined with the one before it if the two fit into one.
+fn append_block(blocks: &mut Vec<Block>, signs: &mut Signs, block: Block, alloc: Global)
     requires signed { AreBlocksSigned (parts blocks.old.items) signs.old }
     requires places { HavePlaces blocks.old signs.old }
     requires apart { AreApart blocks.old.items }
+    requires held { vec_len blocks.old < signs.old.places }
+    requires empty { block.entries ≡ [] }
     ensures signed { AreBlocksSigned (parts blocks.new.items) signs.new }
     ensures places { HavePlaces blocks.new signs.new }
     ensures entries { joined (parts blocks.new.items) ≡ joined (parts blocks.old.items) }
-    ensures room { OnOk result (more ≤ last_room blocks.new.items) }
-    ensures kept { OnErr result (last_room blocks.old.items ≤ last_room blocks.new.items) }
-    ensures filled { StayFilledFor more blocks.old.items blocks.new.items }
+    ensures room { last_room blocks.new.items ≡ block.room }
+    ensures len { vec_len blocks.new ≤ vec_len blocks.old + 1 }
+    ensures signs { signs.new.places ≡ signs.old.places }
+    ensures filled { (most : ℕ) → block.slots ≤ most → AreFilled most blocks.old.items → AreFilled most blocks.new.items }
 {
-    make_place(blocks, signs)?;
-    let block = Block::new(alloc, first, slots_for(more, blocks.is_empty()))?;
     let before = blocks.len().saturating_sub(1);
     blocks.push_reserved(block);
     settle(blocks, signs, before, alloc);
+}
+
+/// Starts the first block, without slots, if there is none, for arrivals with the number `first` or later ones.
+fn start_first(
+    blocks: &mut Vec<Block>,
+    signs: &mut Signs,
+    alloc: Global,
+    first: u64,
+    spares: usize,
+) -> Result<(), AllocError>
+    requires signed { AreBlocksSigned (parts blocks.old.items) signs.old }
+    requires places { HavePlaces blocks.old signs.old }
+    requires apart { AreApart blocks.old.items }
+    requires held { vec_len blocks.old + spares ≤ signs.old.places }
+    ensures signed { AreBlocksSigned (parts blocks.new.items) signs.new }
+    ensures places { HavePlaces blocks.new signs.new }
+    ensures entries { joined (parts blocks.new.items) ≡ joined (parts blocks.old.items) }
+    ensures kept { last_room blocks.old.items ≤ last_room blocks.new.items }
+    ensures held { vec_len blocks.new + spares ≤ signs.new.places }
+    ensures filled { StayFilled blocks.old.items blocks.new.items }
+{
+    if !blocks.is_empty() {
+        return Ok(());
+    }
+    make_places(blocks, signs, spares + 1)?;
+    let block = Block::new(alloc, first, 0)?;
+    append_block(blocks, signs, block, alloc);
     Ok(())
 }
 
-/// Makes room for so many messages more in the last block: grows it while it is short, and else starts another, of which the
-/// arrivals have the number `first` or later ones.
-pub(crate) fn make_room(
+/// Returns how many spare blocks `room` messages need beside the room `last` of the last block.
+fn spares_for(room: usize, last: usize) -> usize
+    ensures enough { room ≤ last + result * 1024 }
+    ensures few { 0 < result → last + result * 1024 < room + 1024 }
+{
+    let missing = room.saturating_sub(last);
+    let whole = missing / BLOCK_SLOTS;
+    if missing % BLOCK_SLOTS > 0 {
+        whole + 1
+    } else {
+        whole
+    }
+}
+
+/// Starts spare blocks of 1,024 slots until there are as many as asked for. If an allocation fails, those that were started stay.
+fn fill_spares(spares: &mut Vec<Block>, count: usize, alloc: Global) -> Result<(), AllocError>
+    requires whole { AreWhole spares.old.items }
+    ensures whole { AreWhole spares.new.items }
+    ensures enough { OnOk result (count ≤ vec_len spares.new) }
+    ensures least { vec_len spares.old ≤ vec_len spares.new }
+    ensures most { vec_len spares.new ≤ max count (vec_len spares.old) }
+{
+    'filling: while spares.len() < count {
+        let block = Block::new(alloc, 0, BLOCK_SLOTS)?;
+        if spares.push(block).is_err() {
+            return Err(AllocError);
+        }
+    }
+    Ok(())
+}
+
+/// Starts as many spare blocks as `more` messages need beside the room of the last block. Fails only if an allocation fails.
+fn add_spares(
     blocks: &mut Vec<Block>,
     signs: &mut Signs,
+    spares: &mut Vec<Block>,
+    alloc: Global,
+    more: usize,
+) -> Result<(), AllocError>
+    requires signed { AreBlocksSigned (parts blocks.old.items) signs.old }
+    requires places { HavePlaces blocks.old signs.old }
+    requires held { vec_len blocks.old + vec_len spares.old ≤ signs.old.places }
+    requires whole { AreWhole spares.old.items }
+    ensures signed { AreBlocksSigned (parts blocks.new.items) signs.new }
+    ensures places { HavePlaces blocks.new signs.new }
+    ensures entries { joined (parts blocks.new.items) ≡ joined (parts blocks.old.items) }
+    ensures held { vec_len blocks.new + vec_len spares.new ≤ signs.new.places }
+    ensures whole { AreWhole spares.new.items }
+    ensures kept { last_room blocks.old.items ≤ last_room blocks.new.items }
+    ensures least { vec_len spares.old ≤ vec_len spares.new }
+    ensures room { OnOk result (more ≤ last_room blocks.new.items + vec_len spares.new * 1024) }
+    ensures filled { StayFilled blocks.old.items blocks.new.items }
+{
+    let count = spares_for(more, room_of(blocks));
+    make_places(blocks, signs, count)?;
+    fill_spares(spares, count, alloc)
+}
+
+/// Makes room for `more` messages: grows the last block while it has fewer than 1,024 slots, and starts spare blocks otherwise.
+fn grow_last(
+    blocks: &mut Vec<Block>,
+    signs: &mut Signs,
+    spares: &mut Vec<Block>,
+    alloc: Global,
+    more: usize,
+) -> Result<(), AllocError>
+    requires signed { AreBlocksSigned (parts blocks.old.items) signs.old }
+    requires places { HavePlaces blocks.old signs.old }
+    requires held { vec_len blocks.old + vec_len spares.old ≤ signs.old.places }
+    requires whole { AreWhole spares.old.items }
+    ensures signed { AreBlocksSigned (parts blocks.new.items) signs.new }
+    ensures places { HavePlaces blocks.new signs.new }
+    ensures entries { joined (parts blocks.new.items) ≡ joined (parts blocks.old.items) }
+    ensures held { vec_len blocks.new + vec_len spares.new ≤ signs.new.places }
+    ensures whole { AreWhole spares.new.items }
+    ensures kept { last_room blocks.old.items ≤ last_room blocks.new.items }
+    ensures least { vec_len spares.old ≤ vec_len spares.new }
+    ensures room { OnOk result (more ≤ last_room blocks.new.items + vec_len spares.new * 1024) }
+    // messages share blocks, and a block its slots
+    ensures few { LastFits more blocks.old.items → vec_len spares.new ≡ vec_len spares.old }
+    ensures same { LastHasSlots more blocks.old.items → KeepSlots blocks.old.items blocks.new.items }
+    ensures filled { AreFilled 1024 blocks.old.items → AreFilled 1024 blocks.new.items }
+{
+    if reserve_last(blocks, more)? {
+        return Ok(());
+    }
+    add_spares(blocks, signs, spares, alloc, more)
+}
+
+/// Makes room for `more` messages unless there is enough, for arrivals with the number `first` or later ones.
+fn grow_room(
+    blocks: &mut Vec<Block>,
+    signs: &mut Signs,
+    spares: &mut Vec<Block>,
     alloc: Global,
     first: u64,
     more: usize,
@@ -471,20 +581,132 @@ pub(crate) fn make_room(
     requires signed { AreBlocksSigned (parts blocks.old.items) signs.old }
     requires places { HavePlaces blocks.old signs.old }
     requires apart { AreApart blocks.old.items }
+    requires held { vec_len blocks.old + vec_len spares.old ≤ signs.old.places }
+    requires whole { AreWhole spares.old.items }
     ensures signed { AreBlocksSigned (parts blocks.new.items) signs.new }
     ensures places { HavePlaces blocks.new signs.new }
     ensures entries { joined (parts blocks.new.items) ≡ joined (parts blocks.old.items) }
-    ensures room { OnOk result (more ≤ last_room blocks.new.items) }
-    ensures kept { OnErr result (last_room blocks.old.items ≤ last_room blocks.new.items) }
-    ensures few { LastFits more blocks.old.items → vec_len blocks.new ≡ vec_len blocks.old }
-    ensures same { LastHasSlots more blocks.old.items → KeepSlots blocks.old.items blocks.new.items }
-    ensures filled { StayFilledFor more blocks.old.items blocks.new.items }
+    ensures held { vec_len blocks.new + vec_len spares.new ≤ signs.new.places }
+    ensures whole { AreWhole spares.new.items }
+    ensures kept { last_room blocks.old.items ≤ last_room blocks.new.items }
+    ensures least { vec_len spares.old ≤ vec_len spares.new }
+    ensures room { OnOk result (more ≤ last_room blocks.new.items + vec_len spares.new * 1024) }
+    ensures filled { AreFilled 1024 blocks.old.items → AreFilled 1024 blocks.new.items }
 {
     if more <= room_of(blocks) {
         return Ok(());
     }
-    if reserve_last(blocks, more)? {
-        return Ok(());
+    start_first(blocks, signs, alloc, first, spares.len())?;
+    grow_last(blocks, signs, spares, alloc, more)
+}
+
+/// Frees the spare blocks that the promised room doesn't need.
+fn drop_spares(blocks: &[Block], spares: &mut Vec<Block>, room: usize)
+    requires there { room ≤ last_room blocks.now + vec_len spares.old * 1024 }
+    requires whole { AreWhole spares.old.items }
+    ensures there { room ≤ last_room blocks.now + vec_len spares.new * 1024 }
+    ensures needed { 0 < vec_len spares.new → last_room blocks.now + vec_len spares.new * 1024 < room + 1024 }
+    ensures whole { AreWhole spares.new.items }
+    ensures few { vec_len spares.new ≤ vec_len spares.old }
+{
+    spares.truncate(spares_for(room, room_of(blocks)));
+}
+
+/// Frees what the promised room doesn't need: spare blocks, and, if no room is promised, the 1,024 slots of an empty last block.
+pub(crate) fn keep_room(
+    blocks: &mut Vec<Block>,
+    spares: &mut Vec<Block>,
+    room: usize,
+    alloc: Global,
+)
+    requires there { room ≤ last_room blocks.old.items + vec_len spares.old * 1024 }
+    requires whole { AreWhole spares.old.items }
+    ensures parts { parts blocks.new.items ≡ parts blocks.old.items }
+    ensures len { vec_len blocks.new ≡ vec_len blocks.old }
+    ensures capacity { vec_capacity blocks.new ≡ vec_capacity blocks.old }
+    ensures filled { StayFilled blocks.old.items blocks.new.items }
+    ensures short { room ≡ 0 → LastIsShort blocks.new.items }
+    ensures there { room ≤ last_room blocks.new.items + vec_len spares.new * 1024 }
+    ensures needed { 0 < vec_len spares.new → last_room blocks.new.items + vec_len spares.new * 1024 < room + 1024 }
+    ensures whole { AreWhole spares.new.items }
+    ensures few { vec_len spares.new ≤ vec_len spares.old }
+{
+    drop_spares(blocks, spares, room);
+    give_back_spare(blocks, room, alloc);
+}
+
+/// Raises the promised room from `room` to `more`, and frees spare blocks that this doesn't need, for arrivals with the number
+/// `first` or later ones. Fails only if an allocation fails; there is as much room as before then.
+pub(crate) fn make_room(
+    blocks: &mut Vec<Block>,
+    signs: &mut Signs,
+    spares: &mut Vec<Block>,
+    alloc: Global,
+    first: u64,
+    room: usize,
+    more: usize,
+) -> Result<(), AllocError>
+    requires signed { AreBlocksSigned (parts blocks.old.items) signs.old }
+    requires places { HavePlaces blocks.old signs.old }
+    requires apart { AreApart blocks.old.items }
+    requires held { vec_len blocks.old + vec_len spares.old ≤ signs.old.places }
+    requires whole { AreWhole spares.old.items }
+    requires there { room ≤ last_room blocks.old.items + vec_len spares.old * 1024 }
+    ensures signed { AreBlocksSigned (parts blocks.new.items) signs.new }
+    ensures places { HavePlaces blocks.new signs.new }
+    ensures entries { joined (parts blocks.new.items) ≡ joined (parts blocks.old.items) }
+    ensures held { vec_len blocks.new + vec_len spares.new ≤ signs.new.places }
+    ensures whole { AreWhole spares.new.items }
+    ensures filled { AreFilled 1024 blocks.old.items → AreFilled 1024 blocks.new.items }
+    ensures made_there { OnOk result (more ≤ last_room blocks.new.items + vec_len spares.new * 1024) }
+    ensures made_needed { OnOk result (0 < vec_len spares.new → last_room blocks.new.items + vec_len spares.new * 1024 < more + 1024) }
+    ensures made_short { OnOk result (more ≡ 0 → LastIsShort blocks.new.items) }
+    ensures kept_there { OnErr result (room ≤ last_room blocks.new.items + vec_len spares.new * 1024) }
+    ensures kept_needed { OnErr result (0 < vec_len spares.new → last_room blocks.new.items + vec_len spares.new * 1024 < room + 1024) }
+    ensures kept_short { OnErr result (room ≡ 0 → LastIsShort blocks.new.items) }
+{
+    match grow_room(blocks, signs, spares, alloc, first, more) {
+        Err(_) => {
+            keep_room(blocks, spares, room, alloc);
+            Err(AllocError)
+        }
+        Ok(()) => {
+            keep_room(blocks, spares, more, alloc);
+            Ok(())
+        }
     }
-    start_block(blocks, signs, alloc, first, more)
+}
+
+/// Appends a spare block if the last one has no room, for arrivals with the number `first` or later ones.
+pub(crate) fn open_spare(
+    blocks: &mut Vec<Block>,
+    signs: &mut Signs,
+    spares: &mut Vec<Block>,
+    alloc: Global,
+    first: u64,
+)
+    requires signed { AreBlocksSigned (parts blocks.old.items) signs.old }
+    requires places { HavePlaces blocks.old signs.old }
+    requires apart { AreApart blocks.old.items }
+    requires held { vec_len blocks.old + vec_len spares.old ≤ signs.old.places }
+    requires whole { AreWhole spares.old.items }
+    requires room { 0 < last_room blocks.old.items + vec_len spares.old * 1024 }
+    ensures signed { AreBlocksSigned (parts blocks.new.items) signs.new }
+    ensures places { HavePlaces blocks.new signs.new }
+    ensures entries { joined (parts blocks.new.items) ≡ joined (parts blocks.old.items) }
+    ensures held { vec_len blocks.new + vec_len spares.new ≤ signs.new.places }
+    ensures whole { AreWhole spares.new.items }
+    ensures room { 0 < last_room blocks.new.items }
+    ensures sum { last_room blocks.new.items + vec_len spares.new * 1024 ≡ last_room blocks.old.items + vec_len spares.old * 1024 }
+    ensures few { vec_len spares.new ≤ vec_len spares.old }
+    ensures filled { AreFilled 1024 blocks.old.items → AreFilled 1024 blocks.new.items }
+{
+    if room_of(blocks) > 0 {
+        return;
+    }
+    if let Some(spare) = spares.pop() {
+        let mut block = spare;
+        block.begin(first);
+        append_block(blocks, signs, block, alloc);
+    }
 }

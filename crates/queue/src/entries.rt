@@ -1,4 +1,4 @@
-//! What a queue does with an entry that it keeps.
+//! Reads and changes the mark of an entry.
 
 ghost use Rattle.std.specs.Prelude.{◌≡◌};
 ghost use Rattle.model.specs.Broker.{is_ready};
@@ -7,7 +7,7 @@ ghost use Rattle.model.specs.Reloading.{stood_now};
 
 use model::{Entry, Holder, Mark};
 
-/// The message was given out under this delivery tag of this channel.
+/// Returns whether both are the same delivery tag of the same channel.
 fn is_same(holder: &Holder, other: &Holder) -> bool
     ensures { result ≡ is_under holder.now other.now }
 {
@@ -16,14 +16,14 @@ fn is_same(holder: &Holder, other: &Holder) -> bool
         && other.tag == holder.tag
 }
 
-/// The message can be given out.
+/// Returns whether the message is ready.
 pub(crate) fn is_free(entry: &Entry) -> bool
     ensures { result ≡ is_ready entry.now }
 {
     matches!(entry.mark, Mark::Ready)
 }
 
-/// The message is held under this delivery tag.
+/// Returns whether the message is held by `holder`.
 pub(crate) fn is_held_under(entry: &Entry, holder: &Holder) -> bool
     ensures { result ≡ is_held_as holder.now entry.now }
 {
@@ -33,7 +33,7 @@ pub(crate) fn is_held_under(entry: &Entry, holder: &Holder) -> bool
     }
 }
 
-/// The message is ready again, and marked redelivered.
+/// Makes the message ready again, and marks it as redelivered.
 pub(crate) fn free(entry: &mut Entry)
     ensures { entry.new ≡ freed_now entry.old }
 {
@@ -41,14 +41,14 @@ pub(crate) fn free(entry: &mut Entry)
     entry.message.redeliver();
 }
 
-/// The message is held from now on.
+/// Marks the message as held by `holder`.
 pub(crate) fn hold(entry: &mut Entry, holder: Holder)
     ensures { entry.new ≡ held_as holder entry.old }
 {
     entry.mark = Mark::Held(holder);
 }
 
-/// The message is ready again, if it is held under this delivery tag.
+/// Makes the message ready again if it is held by `holder`.
 pub(crate) fn free_under(entry: &mut Entry, holder: &Holder)
     ensures { entry.new ≡ freed (is_under holder.now) entry.old }
 {
@@ -57,7 +57,7 @@ pub(crate) fn free_under(entry: &mut Entry, holder: &Holder)
     }
 }
 
-/// The message stood here when a reload was done.
+/// Marks the message as one that a reload found here.
 pub(crate) fn stand(entry: &mut Entry)
     ensures { entry.new ≡ stood_now entry.old }
 {

@@ -1,14 +1,16 @@
-//! A queue in blocks, of which those with a ready message are marked.
+//! The queue that the broker runs on: blocks of slots, with a mark for each block that has a ready message. Start with
+//! [`Indexed`].
 
 ghost use Rattle.std.specs.Prelude.{◌≡◌, ◌+◌, ◌≤◌, ◌++◌, map, filter, not, vec_len, vec_capacity};
 ghost use Rattle.model.specs.Broker.{is_ready};
 ghost use Rattle.queue.specs.Line.{ready_count};
 ghost use Rattle.model.specs.Entries.{number_of};
 
-use crate::block::{BLOCK_SLOTS, Block};
+use crate::block::Block;
 use crate::blocks::{
-    Spot, first_ready_at, free_at, give_back_spare, held_at, held_bytes_at, hold_at, make_room,
-    push_last, ready_bytes_at, remove_at, settle, sign, spot_held, stand_in, take_at,
+    Spot, first_ready_at, free_at, give_back_spare, held_at, held_bytes_at, hold_at, keep_room,
+    make_room, mark_reloaded_in, open_spare, push_last, ready_bytes_at, remove_at, settle, sign,
+    spot_held, take_at,
 };
 use crate::signs::Signs;
 use crate::stores::Store;
@@ -17,28 +19,27 @@ use model::{Entry, Holder, Message};
 use std::alloc::{AllocError, Global};
 use std::marker::Model;
 
-/// Messages in the order in which they came, ready or held.
+/// A queue that finds messages by marks and arrival numbers.
 ///
-/// They stand in blocks. What comes goes into the last one, and where that is full `reserve` starts another, so that no call
-/// moves more messages than a block has. A block is given back once its last message is gone, and two are joined if what stands in
-/// them fits into the first. A mark for each block says whether a ready message stands in it. How many are ready, and how many
-/// bytes their bodies have, is kept.
+/// Messages are in blocks. `push` appends to the last block, or, if that is full, to a spare one that `reserve` has started, so
+/// no call moves more messages than one block has. A block is freed once its last message is gone, and two neighbours are joined
+/// if their messages fit into the first. The number of ready messages and the bytes of their bodies are kept.
 #[derive(Drop)]
 pub struct Indexed {
     alloc: Global,
     blocks: Vec<Block>,
+    /// Spare blocks, for promised room that the last of `blocks` doesn't have.
+    spares: Vec<Block>,
     signs: Signs,
     ready_count: usize,
-    /// The bytes of the bodies of the ready messages. As many bodies as there can be, each as long as can be, fit.
+    /// The bytes of the bodies of the ready messages. 128 bits suffice for any number of bodies of any length.
     ready_bytes: u128,
-    /// How many messages stand here. There are never more than can be counted so.
+    /// The number of messages, ready and held.
     live: usize,
-    /// How many pushes were promised room that are not done yet.
+    /// The promised room: the number of pushes that need no allocation.
     room: usize,
-    /// How many messages came so far.
+    /// The number of messages pushed so far.
     arrived: u64,
-    /// No block has more slots: the usual ones, or as many as were asked for at once.
-    most: usize,
 }
 
 impl Model for Indexed {
@@ -49,7 +50,7 @@ impl Model for Indexed {
 
     ghost view = { λ q. record { entries = joined (parts q.blocks.items); room = q.room } };
 
-    ghost invariant = { λ q. IsIndexed q.blocks q.signs q.ready_count q.live q.ready_bytes q.room q.most };
+    ghost invariant = { λ q. IsIndexed q.blocks q.spares q.signs q.ready_count q.live q.ready_bytes q.room };
 }
 
 impl Store for Indexed {
@@ -59,17 +60,17 @@ impl Store for Indexed {
         Indexed {
             alloc,
             blocks: Vec::new(alloc),
+            spares: Vec::new(alloc),
             signs: Signs::empty(alloc),
             ready_count: 0,
             ready_bytes: 0,
             live: 0,
             room: 0,
             arrived: 0,
-            most: BLOCK_SLOTS,
         }
     }
 
-    /// Grows the last block while it is short, and then starts another.
+    /// Grows the last block while it has fewer than 1,024 slots, and starts spare blocks for the rest.
     fn reserve(&mut self, more: usize) -> Result<(), AllocError> {
         if more <= self.room {
             return Ok(());
@@ -77,16 +78,29 @@ impl Store for Indexed {
         if more > usize::MAX - self.live {
             return Err(AllocError);
         }
-        self.most = self.most.max(more);
         make_room(
             &mut self.blocks,
             &mut self.signs,
+            &mut self.spares,
             self.alloc,
             self.arrived,
+            self.room,
             more,
         )?;
         self.room = more;
         Ok(())
+    }
+
+    fn room(&self) -> usize {
+        self.room
+    }
+
+    fn give_back(&mut self) {
+        if self.room == 0 {
+            return;
+        }
+        self.room = 0;
+        keep_room(&mut self.blocks, &mut self.spares, 0, self.alloc);
     }
 
     fn push(&mut self, message: Message) {
@@ -94,6 +108,13 @@ impl Store for Indexed {
         self.ready_bytes += message.content().body.len() as u128;
         self.live += 1;
         self.room -= 1;
+        open_spare(
+            &mut self.blocks,
+            &mut self.signs,
+            &mut self.spares,
+            self.alloc,
+            self.arrived,
+        );
         let place = push_last(&mut self.blocks, self.arrived, message);
         self.signs.set_ready(place);
         self.arrived = self.arrived.wrapping_add(1);
@@ -114,7 +135,7 @@ impl Store for Indexed {
         }
     }
 
-    /// Tells the number of the message's arrival, by which it is found again at once.
+    /// Returns the number of the message's arrival, by which it is found again in constant time.
     fn hold(&mut self, holder: Holder) -> Option<u64> {
         match self.signs.first_ready() {
             None => None,
@@ -178,14 +199,14 @@ impl Store for Indexed {
         }
     }
 
-    /// It takes time for each ready message, and none for what is held.
+    /// Takes a step for each ready message, and none for a held one.
     fn purge(&mut self, numbers: &mut Vec<u64>) {
         purge_in(self, numbers);
     }
 
-    /// It takes time for each slot.
-    fn stand_all(&mut self) {
-        stand_in(&mut self.blocks);
+    /// Takes a step for each slot.
+    fn mark_reloaded(&mut self) {
+        mark_reloaded_in(&mut self.blocks);
     }
 
     fn walk(&self) -> Walk<'_> {
@@ -193,13 +214,13 @@ impl Store for Indexed {
     }
 }
 
-/// Takes the ready messages out, one after another.
+/// Removes the ready messages one after another.
 fn purge_in(queue: &mut Indexed, numbers: &mut Vec<u64>)
     requires { vec_len numbers.old + ready_count queue.old.entries ≤ vec_capacity numbers.old }
     ensures entries { queue.new.entries ≡ filter (λ e. not (is_ready e)) queue.old.entries }
     ensures numbers { numbers.new.items ≡ numbers.old.items ++ map number_of (filter is_ready queue.old.entries) }
     ensures capacity { vec_capacity numbers.new ≡ vec_capacity numbers.old }
-    ensures room { queue.old.room ≤ queue.new.room }
+    ensures room { queue.new.room ≡ queue.old.room }
 {
     while let Some(entry) = queue.take_first() {
         numbers.push_reserved(entry.message.number());

@@ -3,7 +3,7 @@
 ghost use Rattle.std.specs.Prelude.{◌≡◌, ◌+◌};
 ghost use Rattle.model.specs.Broker as seen;
 
-/// Whether so many messages are as many as this limit, or more.
+/// Returns whether `messages` is at `limit` or above it.
 pub(crate) fn is_at(limit: Option<u32>, messages: usize) -> bool
     ensures { result ≡ seen.is_at limit messages }
 {
@@ -13,7 +13,17 @@ pub(crate) fn is_at(limit: Option<u32>, messages: usize) -> bool
     }
 }
 
-/// Whether so many bytes, with a body of `size` bytes, are more than this limit.
+/// Returns whether `messages` and `more` together are at `limit` or above it.
+pub(crate) fn is_at_with(limit: Option<u32>, messages: usize, more: usize) -> bool
+    ensures { result ≡ seen.is_at limit (messages + more) }
+{
+    match limit {
+        None => false,
+        Some(limit) => (limit as usize).saturating_sub(messages) <= more,
+    }
+}
+
+/// Returns whether `bytes` and `size` together are more than `byte_limit`.
 pub(crate) fn is_past(byte_limit: Option<u32>, bytes: u128, size: usize) -> bool
     ensures { result ≡ seen.is_past byte_limit (bytes + size) }
 {

@@ -7,19 +7,23 @@ use model::{Entry, Holder, Mark, Message};
 use std::alloc::{AllocError, Global};
 use std::marker::Model;
 
-/// Messages in the order in which they came, ready or held.
+/// A queue that keeps its messages in one vector, to be read first: each call goes over all of it.
 #[derive(Drop)]
 pub struct Listed {
     entries: Vec<Entry>,
+    /// The promised room: the number of pushes that need no allocation.
+    room: usize,
 }
 
 impl Model for Listed {
-    ghost use Rattle.std.specs.Prelude.{◌-◌, vec_len, vec_capacity};
+    ghost use Rattle.std.specs.Prelude.{◌+◌, ◌≤◌, vec_len, vec_capacity};
     ghost use Rattle.queue.specs.Line.{Line};
 
     ghost Value = { Line };
 
-    ghost view = { λ l. record { entries = l.entries.items; room = vec_capacity l.entries - vec_len l.entries } };
+    ghost view = { λ l. record { entries = l.entries.items; room = l.room } };
+
+    ghost invariant = { λ l. vec_len l.entries + l.room ≤ vec_capacity l.entries };
 }
 
 impl Store for Listed {
@@ -28,11 +32,25 @@ impl Store for Listed {
     fn new(alloc: Global) -> Listed {
         Listed {
             entries: Vec::new(alloc),
+            room: 0,
         }
     }
 
     fn reserve(&mut self, more: usize) -> Result<(), AllocError> {
-        self.entries.reserve(more)
+        if more <= self.room {
+            return Ok(());
+        }
+        self.entries.reserve(more)?;
+        self.room = more;
+        Ok(())
+    }
+
+    fn room(&self) -> usize {
+        self.room
+    }
+
+    fn give_back(&mut self) {
+        self.room = 0;
     }
 
     fn push(&mut self, message: Message) {
@@ -40,6 +58,7 @@ impl Store for Listed {
             message,
             mark: Mark::Ready,
         });
+        self.room -= 1;
     }
 
     fn ready(&self) -> usize {
@@ -54,7 +73,7 @@ impl Store for Listed {
         lists::first_ready(&self.entries)
     }
 
-    /// Tells 0: arrivals have no numbers here.
+    /// Returns 0 for a message: arrivals have no numbers here.
     fn hold(&mut self, holder: Holder) -> Option<u64> {
         lists::hold_first(&mut self.entries, holder).then_some(0)
     }
@@ -82,8 +101,8 @@ impl Store for Listed {
         lists::purge(&mut self.entries, numbers);
     }
 
-    fn stand_all(&mut self) {
-        lists::stand_all(&mut self.entries);
+    fn mark_reloaded(&mut self) {
+        lists::mark_reloaded(&mut self.entries);
     }
 
     fn walk(&self) -> Walk<'_> {

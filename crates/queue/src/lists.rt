@@ -1,4 +1,4 @@
-//! Entries in a vector, and what is done to them.
+//! The calls of a queue over a vector of entries.
 
 ghost use Rattle.std.specs.Prelude.{◌≡◌, ◌<◌, ◌≤◌, ◌+◌, ◌∷◌, ◌++◌, [], take, drop, get_or, find, filter, map, not, is_some, option_map, vec_len, vec_capacity};
 ghost use Rattle.std.specs.List.{position_from};
@@ -125,7 +125,7 @@ fn free_all(entries: &mut [Entry], holder: &Holder)
 }
 
 /// The place of the first entry that is held under this tag.
-fn place_held(entries: &[Entry], holder: &Holder) -> Option<usize>
+fn index_held(entries: &[Entry], holder: &Holder) -> Option<usize>
     ensures { result ≡ position_from (is_held_as holder.now) 0 entries.now }
 {
     entries
@@ -140,7 +140,7 @@ fn take_held(entries: &mut Vec<Entry>, holder: &Holder) -> Option<Entry>
     ensures len { vec_len entries.new ≤ vec_len entries.old }
     ensures capacity { vec_capacity entries.new ≡ vec_capacity entries.old }
 {
-    match place_held(entries, holder) {
+    match index_held(entries, holder) {
         None => None,
         Some(place) => Some(take_at(entries, place)),
     }
@@ -211,8 +211,8 @@ pub(crate) fn purge(entries: &mut Vec<Entry>, numbers: &mut Vec<u64>)
     drop_ready(entries);
 }
 
-/// All that stands here stood here when a reload was done.
-pub(crate) fn stand_all(entries: &mut [Entry])
+/// Marks each entry as one that a reload found here.
+pub(crate) fn mark_reloaded(entries: &mut [Entry])
     ensures { entries.new ≡ map stood_now entries.old }
 {
     for entry in entries.iter_mut() {

@@ -1,4 +1,4 @@
-//! Which places have a ready message: slots of a block, or blocks of a queue.
+//! The set of indices with a ready message: of the slots of a block, or of the blocks of a queue. Start with [`Signs`].
 
 ghost use Rattle.std.specs.Prelude.{◌≡◌};
 
@@ -6,14 +6,14 @@ use marks::{Flat, Over, Places};
 use std::alloc::{AllocError, Global};
 use std::marker::Model;
 
-/// A bit for each place. Two words find the first of 4,096.
+/// A bit for each index. The first of 4,096 is found by two words.
 type Marks = Over<Flat>;
 
-/// The set of places with a ready message.
+/// The set of indices with a ready message.
 #[derive(Drop)]
 pub(crate) struct Signs {
     ready: Marks,
-    /// There is room for the places below this.
+    /// The number of indices that have a bit.
     places: usize,
 }
 
@@ -33,7 +33,7 @@ impl Signs {
     ghost use Rattle.marks.specs.Places.{bit_of, IsNextMark};
     ghost use Rattle.queue.specs.Slots.{SameBits, BitTurned};
 
-    /// An empty set, with room for no place. It takes no memory.
+    /// Returns an empty set without any bits. Never allocates.
     pub(crate) fn empty(alloc: Global) -> Signs
         ensures ready { (k : ℕ) → bit_of result.ready k ≡ 0 }
         ensures places { result.places ≡ 0 }
@@ -44,7 +44,8 @@ impl Signs {
         }
     }
 
-    /// Makes room for the places below this. What is in the set stays, also where memory is wanting.
+    /// Grows the set so that each index below `places` has a bit. Fails only if an allocation fails; the set has the same members
+    /// in any case.
     pub(crate) fn grow(&mut self, places: usize) -> Result<(), AllocError>
         ensures same { SameBits self.old self.new }
         ensures room { OnOk result (self.new.places ≡ places) }
@@ -55,14 +56,14 @@ impl Signs {
         Ok(())
     }
 
-    /// How many places there is room for.
+    /// Returns the number of indices that have a bit.
     pub(crate) fn places(&self) -> usize
         ensures { result ≡ self.now.places }
     {
         self.places
     }
 
-    /// The first place with a ready message.
+    /// Returns the first index with a ready message.
     pub(crate) fn first_ready(&self) -> Option<usize>
         ensures some { IfSome result (λ place. IsNextMark (bit_of self.now.ready) 0 place) }
         ensures none { IfNone result ((k : ℕ) → bit_of self.now.ready k ≡ 0) }
@@ -70,19 +71,19 @@ impl Signs {
         self.ready.first()
     }
 
-    /// A ready message stands at the place.
-    pub(crate) fn set_ready(&mut self, place: usize)
-        requires { place < self.old.places }
-        ensures { BitTurned self.old self.new place 1 }
+    /// Adds `index`, an index at which a message is ready.
+    pub(crate) fn set_ready(&mut self, index: usize)
+        requires { index < self.old.places }
+        ensures { BitTurned self.old self.new index 1 }
     {
-        self.ready.set(place);
+        self.ready.set(index);
     }
 
-    /// No ready message stands at the place.
-    pub(crate) fn clear(&mut self, place: usize)
-        requires { place < self.old.places }
-        ensures { BitTurned self.old self.new place 0 }
+    /// Removes `index`, an index at which no message is ready.
+    pub(crate) fn clear(&mut self, index: usize)
+        requires { index < self.old.places }
+        ensures { BitTurned self.old self.new index 0 }
     {
-        self.ready.clear(place);
+        self.ready.clear(index);
     }
 }

@@ -12,14 +12,14 @@ use crate::entries::{free, hold, is_free, is_held_under, stand};
 use crate::signs::Signs;
 use model::{Entry, Holder};
 
-/// One place of a block: the number of the arrival there, and what arrived, until it goes.
+/// A slot of a block: the number of an arrival, and the entry that arrived, until it is removed.
 #[derive(Drop)]
 pub(crate) struct Slot {
     pub(crate) arrival: u64,
     pub(crate) entry: Option<Entry>,
 }
 
-/// What stands here is ready again, and marked redelivered.
+/// Makes the entry, if any, ready again, and marks it as redelivered.
 fn free_here(entry: &mut Option<Entry>)
     ensures { entry.new ≡ changed freed_now entry.old }
 {
@@ -28,7 +28,7 @@ fn free_here(entry: &mut Option<Entry>)
     }
 }
 
-/// What stands here is held from now on.
+/// Marks the entry, if any, as held by `holder`.
 fn hold_here(entry: &mut Option<Entry>, holder: Holder)
     ensures { entry.new ≡ changed (held_as holder) entry.old }
 {
@@ -37,7 +37,7 @@ fn hold_here(entry: &mut Option<Entry>, holder: Holder)
     }
 }
 
-/// What stands here stood here when a reload was done.
+/// Marks the entry, if any, as one that a reload found here.
 fn stand_here(entry: &mut Option<Entry>)
     ensures { entry.new ≡ changed stood_now entry.old }
 {
@@ -46,17 +46,17 @@ fn stand_here(entry: &mut Option<Entry>)
     }
 }
 
-/// What stands at this place, if anything does.
-pub(crate) fn entry_at(slots: &[Slot], place: usize) -> Option<&Entry>
-    ensures { option_map (λ e. e.now) result ≡ slot_at slots.now place }
+/// Returns the entry at `index`, if the slot is not empty.
+pub(crate) fn entry_at(slots: &[Slot], index: usize) -> Option<&Entry>
+    ensures { option_map (λ e. e.now) result ≡ slot_at slots.now index }
 {
-    if place >= slots.len() {
+    if index >= slots.len() {
         return None;
     }
-    slots[place].entry.as_ref()
+    slots[index].entry.as_ref()
 }
 
-/// Whether an entry that is held so stands at this place.
+/// Returns whether the entry at index `place` is held by `holder`.
 fn is_held_at(slots: &[Slot], place: usize, holder: &Holder) -> bool
     ensures { result ≡ slot_has (is_held_as holder.now) (slot_at slots.now place) }
 {
@@ -66,19 +66,19 @@ fn is_held_at(slots: &[Slot], place: usize, holder: &Holder) -> bool
     }
 }
 
-/// The number of the arrival at a place.
+/// Returns the number of the arrival at index `place`.
 fn arrival_at(slots: &[Slot], place: usize) -> u64
     requires { place < length slots.now }
 {
     slots[place].arrival
 }
 
-/// The place of the first arrival with this number or a later one.
-pub(crate) fn place_of_arrival(slots: &[Slot], arrival: u64) -> usize {
+/// Returns the index of the first arrival with the number `arrival` or a later one.
+pub(crate) fn index_of_arrival(slots: &[Slot], arrival: u64) -> usize {
     slots.partition_point(|slot| slot.arrival < arrival)
 }
 
-/// The first place of an entry that is held so.
+/// Returns the first index of an entry held by `holder`.
 fn search(slots: &[Slot], holder: &Holder) -> Option<usize>
     ensures some { IfSome result (λ i. slot_has (is_held_as holder.now) (slot_at slots.now i) ≡ true) }
     ensures none { IfNone result ((k : ℕ) → slot_has (is_held_as holder.now) (slot_at slots.now k) ≡ false) }
@@ -91,8 +91,8 @@ fn search(slots: &[Slot], holder: &Holder) -> Option<usize>
     None
 }
 
-/// The place of the entry that is held so. It is found at once if it stands at the place `near`.
-pub(crate) fn place_held(slots: &[Slot], holder: &Holder, near: usize) -> Option<usize>
+/// Returns the index of the entry held by `holder`. Takes constant time if it is `near`.
+pub(crate) fn index_held(slots: &[Slot], holder: &Holder, near: usize) -> Option<usize>
     ensures some { IfSome result (λ i. slot_has (is_held_as holder.now) (slot_at slots.now i) ≡ true) }
     ensures none { IfNone result ((k : ℕ) → slot_has (is_held_as holder.now) (slot_at slots.now k) ≡ false) }
 {
@@ -102,29 +102,29 @@ pub(crate) fn place_held(slots: &[Slot], holder: &Holder, near: usize) -> Option
     search(slots, holder)
 }
 
-/// The entry in this slot is held from now on. Tells the number of its arrival.
-pub(crate) fn hold_at(slots: &mut Vec<Slot>, place: usize, holder: Holder) -> u64
-    requires { place < vec_len slots.old }
-    ensures contents { contents slots.new.items ≡ slot_changed (held_as holder) slots.old.items place }
+/// Marks the entry at `index` as held by `holder`. Returns the number of its arrival.
+pub(crate) fn hold_at(slots: &mut Vec<Slot>, index: usize, holder: Holder) -> u64
+    requires { index < vec_len slots.old }
+    ensures contents { contents slots.new.items ≡ slot_changed (held_as holder) slots.old.items index }
     ensures len { vec_len slots.new ≡ vec_len slots.old }
     ensures capacity { vec_capacity slots.new ≡ vec_capacity slots.old }
 {
-    hold_here(&mut slots[place].entry, holder);
-    arrival_at(slots, place)
+    hold_here(&mut slots[index].entry, holder);
+    arrival_at(slots, index)
 }
 
-/// What stands in this slot is ready again, and marked redelivered.
-pub(crate) fn free_at(slots: &mut Vec<Slot>, place: usize)
-    requires { place < vec_len slots.old }
-    ensures contents { contents slots.new.items ≡ slot_changed freed_now slots.old.items place }
+/// Makes the entry at `index`, if any, ready again, and marks it as redelivered.
+pub(crate) fn free_at(slots: &mut Vec<Slot>, index: usize)
+    requires { index < vec_len slots.old }
+    ensures contents { contents slots.new.items ≡ slot_changed freed_now slots.old.items index }
     ensures len { vec_len slots.new ≡ vec_len slots.old }
     ensures capacity { vec_capacity slots.new ≡ vec_capacity slots.old }
 {
-    free_here(&mut slots[place].entry);
+    free_here(&mut slots[index].entry);
 }
 
-/// All that stands in these slots stood there when a reload was done.
-pub(crate) fn stand_in(slots: &mut [Slot])
+/// Marks each entry as one that a reload found here.
+pub(crate) fn mark_reloaded_in(slots: &mut [Slot])
     ensures { contents slots.new ≡ map (changed stood_now) (contents slots.old) }
 {
     for slot in slots.iter_mut() {
@@ -133,17 +133,17 @@ pub(crate) fn stand_in(slots: &mut [Slot])
 }
 
 /// Empties this slot.
-pub(crate) fn take_at(slots: &mut Vec<Slot>, place: usize) -> Option<Entry>
-    requires { place < vec_len slots.old }
-    ensures taken { result ≡ slot_at slots.old.items place }
-    ensures contents { contents slots.new.items ≡ slice_set (contents slots.old.items) place None }
+pub(crate) fn take_at(slots: &mut Vec<Slot>, index: usize) -> Option<Entry>
+    requires { index < vec_len slots.old }
+    ensures taken { result ≡ slot_at slots.old.items index }
+    ensures contents { contents slots.new.items ≡ slice_set (contents slots.old.items) index None }
     ensures len { vec_len slots.new ≡ vec_len slots.old }
     ensures capacity { vec_capacity slots.new ≡ vec_capacity slots.old }
 {
-    slots[place].entry.take()
+    slots[index].entry.take()
 }
 
-/// An entry comes behind the last slot.
+/// Appends a slot with `entry`.
 pub(crate) fn append(slots: &mut Vec<Slot>, arrival: u64, entry: Entry)
     requires { vec_len slots.old < vec_capacity slots.old }
     ensures contents { contents slots.new.items ≡ contents slots.old.items ++ Some entry ∷ [] }
@@ -156,7 +156,7 @@ pub(crate) fn append(slots: &mut Vec<Slot>, arrival: u64, entry: Entry)
     });
 }
 
-/// All of the other slots come behind these, in which there is room for them.
+/// Appends `others` to `slots`, which have capacity for them.
 fn move_all(slots: &mut Vec<Slot>, others: Vec<Slot>)
     requires { vec_len slots.old + vec_len others ≤ vec_capacity slots.old }
     ensures items { slots.new.items ≡ slots.old.items ++ others.items }
@@ -167,7 +167,7 @@ fn move_all(slots: &mut Vec<Slot>, others: Vec<Slot>)
     }
 }
 
-/// Takes the empty slots out.
+/// Removes the empty slots.
 fn drop_empty(slots: &mut Vec<Slot>)
     ensures entries { somes (contents slots.new.items) ≡ somes (contents slots.old.items) }
     ensures closed { vec_len slots.new ≡ length (somes (contents slots.old.items)) }
@@ -177,7 +177,7 @@ fn drop_empty(slots: &mut Vec<Slot>)
     slots.retain(|slot| slot.entry.is_some());
 }
 
-/// Sets the bit of this place as its slot is.
+/// Sets the bit of index `place` to whether its slot has a ready message.
 fn sign(slots: &[Slot], signs: &mut Signs, place: usize)
     requires { place < signs.old.places }
     ensures { BitTurned signs.old signs.new place (num (slot_has is_ready (slot_at slots.now place))) }
@@ -194,7 +194,7 @@ fn sign(slots: &[Slot], signs: &mut Signs, place: usize)
     }
 }
 
-/// Sets the bits below `places` as their slots are.
+/// Sets each bit below `places` to whether its slot has a ready message.
 fn sign_all(slots: &[Slot], signs: &mut Signs, places: usize)
     requires within { places ≤ signs.old.places }
     requires slots { length slots.now ≤ places }
@@ -207,7 +207,7 @@ fn sign_all(slots: &[Slot], signs: &mut Signs, places: usize)
     }
 }
 
-/// Closes the gaps: no slot is empty any more. Each has its bit.
+/// Removes the empty slots, and sets the bits of the rest.
 fn close_gaps(slots: &mut Vec<Slot>, signs: &mut Signs)
     requires within { vec_len slots.old ≤ signs.old.places }
     requires signed { AreSigned (contents slots.old.items) signs.old }
@@ -222,7 +222,7 @@ fn close_gaps(slots: &mut Vec<Slot>, signs: &mut Signs)
     sign_all(slots, signs, places);
 }
 
-/// Closes the gaps if more than half of the slots are empty, so that no more are than aren't.
+/// Removes the empty slots if they are more than half of all.
 pub(crate) fn close_many_gaps(slots: &mut Vec<Slot>, signs: &mut Signs, live: usize)
     requires within { vec_len slots.old ≤ signs.old.places }
     requires signed { AreSigned (contents slots.old.items) signs.old }
@@ -240,8 +240,8 @@ pub(crate) fn close_many_gaps(slots: &mut Vec<Slot>, signs: &mut Signs, live: us
     close_gaps(slots, signs);
 }
 
-/// What stands in the other slots comes behind what stands in these, in which there is room for it: their gaps are closed. Tells
-/// how many messages came. Each slot has its bit.
+/// Removes the empty slots, appends the entries of `others`, for which `slots` have capacity, and sets the bits. Returns the
+/// number of entries appended.
 pub(crate) fn move_in(slots: &mut Vec<Slot>, signs: &mut Signs, others: Vec<Slot>) -> usize
     requires within { vec_capacity slots.old ≤ signs.old.places }
     requires signed { AreSigned (contents slots.old.items) signs.old }

@@ -1,4 +1,4 @@
-//! The entries of a queue, gone over in the order of arrival.
+//! Iterates over the entries of a queue in the order of arrival. Start with [`Walk`].
 
 ghost use Rattle.std.specs.Prelude.{IfSome, IfNone};
 ghost use Rattle.queue.specs.Slots.{contents, somes};
@@ -9,14 +9,14 @@ use crate::slots::Slot;
 use model::Entry;
 use std::marker::Model;
 
-/// What is not gone over yet: entries, or slots of which some are empty and the blocks behind them.
+/// What is still to come: entries, or slots, some of them empty, and the blocks after them.
 #[derive(Drop)]
 enum Ahead<'a> {
     Entries(&'a [Entry]),
     Blocks(&'a [Slot], &'a [Block]),
 }
 
-/// A walk over the entries of a queue, ready and held, in the order of arrival: those that are still to come.
+/// An iterator over the entries of a queue, ready and held, in the order of arrival.
 #[derive(Drop)]
 pub struct Walk<'a> {
     ahead: Ahead<'a>,
@@ -32,7 +32,7 @@ impl<'a> Model for Walk<'a> {
     ghost view = { λ w. entries_ahead w.ahead };
 }
 
-/// The first entry of these slots, which go on behind it. It takes a step for each slot in front of it.
+/// Removes and returns the first entry of `slots`, with the empty slots before it. Takes a step for each of them.
 fn first_of<'a>(slots: &mut &'a [Slot]) -> Option<&'a Entry>
     ensures some { IfSome result (λ e. GoesOn (somes (contents slots.old.now)) (somes (contents slots.new.now)) e.now) }
     ensures none { IfNone result (IsOver (somes (contents slots.old.now)) (somes (contents slots.new.now))) }
@@ -45,7 +45,7 @@ fn first_of<'a>(slots: &mut &'a [Slot]) -> Option<&'a Entry>
     None
 }
 
-/// The first entry of these slots and of the blocks behind them, which go on behind it.
+/// Removes and returns the first entry of `slots` and, after them, of `blocks`.
 fn first_in<'a>(slots: &mut &'a [Slot], blocks: &mut &'a [Block]) -> Option<&'a Entry>
     ensures some { IfSome result (λ e. GoesOn (all_in slots.old.now blocks.old.now) (all_in slots.new.now blocks.new.now) e.now) }
     ensures none { IfNone result (IsOver (all_in slots.old.now blocks.old.now) (all_in slots.new.now blocks.new.now)) }
@@ -62,7 +62,7 @@ fn first_in<'a>(slots: &mut &'a [Slot], blocks: &mut &'a [Block]) -> Option<&'a 
     None
 }
 
-/// The first entry, and it goes on behind it.
+/// Removes and returns the first entry of what is still to come.
 fn next_of<'a>(ahead: &mut Ahead<'a>) -> Option<&'a Entry>
     ensures some { IfSome result (λ e. GoesOn (entries_ahead ahead.old) (entries_ahead ahead.new) e.now) }
     ensures none { IfNone result (IsOver (entries_ahead ahead.old) (entries_ahead ahead.new)) }
@@ -77,14 +77,14 @@ impl<'a> Walk<'a> {
     ghost use Rattle.std.specs.Prelude.{◌≡◌, []};
     ghost use Rattle.queue.specs.Blocks.{parts, joined};
 
-    /// A walk over nothing.
+    /// Returns an iterator without entries.
     pub fn empty() -> Walk<'a>
         ensures { result ≡ [] }
     {
         Walk::of_entries(&[])
     }
 
-    /// A walk over all of these.
+    /// Returns an iterator over `entries`.
     pub(crate) fn of_entries(entries: &'a [Entry]) -> Walk<'a>
         ensures { result ≡ entries.now }
     {
@@ -93,7 +93,7 @@ impl<'a> Walk<'a> {
         }
     }
 
-    /// A walk over all that stands in these blocks.
+    /// Returns an iterator over the entries of `blocks`.
     pub(crate) fn of_blocks(blocks: &'a [Block]) -> Walk<'a>
         ensures { result ≡ joined (parts blocks.now) }
     {
@@ -103,7 +103,6 @@ impl<'a> Walk<'a> {
     }
 }
 
-/// It gives the entries one after another.
 impl<'a> Iterator for Walk<'a> {
     ghost use Rattle.std.specs.Iterator.{YieldsFirstRef, item_count};
 

@@ -33,15 +33,15 @@ IsWhyNotTold err None whole = PutsOut err out_of_memory whole
 abbrev pub IsFaultTold : OutputStream → ReloadFault → Bool → Type 0
 IsFaultTold err fault whole = IsWhyNotTold err (obstacle_in fault) whole
 
--- what these files put in force, as they were read
+-- what these files put in force, by the texts that were read
 abbrev pub IsStated : FileNames → Snap → Config → Type 0
 IsStated names read force = IsInForceBy (known_in names read) names force
 
--- the file or certificate that is refused, as they were read, and why
+-- by the texts that were read, `file` names the file or certificate that is refused, and `why` is the reason
 abbrev pub IsWhyRefused : FileNames → Snap → Text → CommandRefusal → Type 0
 IsWhyRefused names read file why = FailsOver (known_in names read) (Some names.definitions) (Some names.guarantees) (Some names.certificates) file why
 
--- A file or a certificate is refused, as they were read, and that is reported: the whole line, or else a prefix.
+-- A file or a certificate is refused, by the texts that were read, and the refusal is reported: its whole line, or else a prefix of it.
 pub record IsRefused (names : FileNames) (read : Snap) (err : OutputStream) (whole : Bool) : Type 0 where
   pub file : Text
   pub why : CommandRefusal
@@ -50,12 +50,12 @@ pub record IsRefused (names : FileNames) (read : Snap) (err : OutputStream) (who
 
 -- ---- what is remembered between looks
 
--- The files were refused for this, as they were read, and have another text than one that is kept.
+-- The files, as read, are refused, naming `file` for the reason `why`, and differ from the texts that are kept.
 pub record IsRefusal (names : FileNames) (kept read : Snap) (file : Text) (why : CommandRefusal) : Type 0 where
   pub other : IsOther read kept
   pub fails : IsWhyRefused names read file why
 
--- The files state this, as they were read, and have another text than one that is kept.
+-- The files, as read, state the configuration `force`, and differ from the texts that are kept.
 pub record IsOffered (names : FileNames) (kept read : Snap) (force : Config) : Type 0 where
   pub other : IsOther read kept
   pub states : IsStated names read force

@@ -18,7 +18,7 @@ pub record Standing : Type 0 where
   pub told : Option Text
   pub whole : Bool
 
--- these four together
+-- the four as one value
 abbrev pub standing : Served → Snap → Option Text → Bool → Standing
 standing v kept told whole = record { served = v; kept = kept; told = told; whole = whole }
 

@@ -35,13 +35,13 @@ known_in names s name =
     else if bytes_eq name names.certificates then s.certificates
     else Absent
 
--- a file of which `known` is known was read with this result
+-- the second value is a result of reading a file about which the first one is true
 abbrev pub IsSlotOf : Known → Known → Type 0
 IsSlotOf known (Holds text) = IsFileRead known text
 IsSlotOf known Absent = IsUnreadable known
 IsSlotOf known Unknown = ⊤
 
--- The three were read from these files.
+-- `s` has the results of reading the three files.
 pub record IsReadFrom (holds : Text → Known) (names : FileNames) (s : Snap) : Type 0 where
   pub definitions : IsSlotOf (holds names.definitions) s.definitions
   pub guarantees : IsSlotOf (holds names.guarantees) s.guarantees
@@ -53,7 +53,7 @@ IsHeld known (Holds text) = HasText known text
 IsHeld known Absent = ⊥
 IsHeld known Unknown = ⊥
 
--- Each of the three was read, and the files have these texts.
+-- Each of the three files was read, and has the text that `s` says.
 pub record AreHeld (holds : Text → Known) (names : FileNames) (s : Snap) : Type 0 where
   pub definitions : IsHeld (holds names.definitions) s.definitions
   pub guarantees : IsHeld (holds names.guarantees) s.guarantees
@@ -65,23 +65,23 @@ WasRead (Holds text) = ⊤
 WasRead Absent = ⊥
 WasRead Unknown = ⊥
 
--- a text was read of each of the three
+-- each of the three files was read
 pub record AllRead (s : Snap) : Type 0 where
   pub definitions : WasRead s.definitions
   pub guarantees : WasRead s.guarantees
   pub certificates : WasRead s.certificates
 
--- both have a text, and it is the same
+-- both reads returned a text, and the same one
 abbrev pub IsSameText : Known → Known → Type 0
 IsSameText (Holds s) (Holds t) = s ≡ t
 IsSameText one other = ⊥
 
--- Each of the three was read in both, with the same text.
+-- Each of the three files was read both times, with the same text.
 pub record AreSame (one other : Snap) : Type 0 where
   pub definitions : IsSameText one.definitions other.definitions
   pub guarantees : IsSameText one.guarantees other.guarantees
   pub certificates : IsSameText one.certificates other.certificates
 
--- one of the three has another text than in `kept`, or was not read
+-- one of the three files has another text than in `kept`, or could not be read
 abbrev pub IsOther : Snap → Snap → Type 0
 IsOther read kept = AreSame read kept → ⊥

@@ -16,7 +16,7 @@ use server::{
     Ended, Files, Listener, ServeArguments, Service, answer_asked, begin, refuse_words,
     serve_clients, turns_of,
 };
-use serving::new_is_served;
+use serving::ghost_new_is_served;
 use std::alloc::Global;
 use std::convert::AsStr;
 use std::io::Write;
@@ -113,7 +113,7 @@ fn serve_reloading<L: Listener, F: Files, O: Write, E: Write>(
     };
     let turns = turns_of(arguments.turns);
     let every = every_of(every);
-    new_is_served(&server, &sockets);
+    ghost_new_is_served(&server, &sockets);
     let whole = serve_and_reload(
         alloc,
         &mut server,

@@ -1,10 +1,14 @@
 -- Where deaths lead a message: by the dead-letter exchange of its queue, under the key that the queue fixes or else its own.
-use Rattle.reloading.proofs.Names.{◌≡◌, ℕ, zero, suc, ◌<◌, Bool, false, true, Option, Some, None, List, [], ◌∷◌, length, get_or, refl, sym, ap, subst, ◌∙◌, inl, inr, arith, Decides, is_some, false≢true, Text, Topology, IsIn, IsWellFormed, AreApart, queue_names, Reading, of_key, RoutesBy, reading_after, fixed_after, key_after, Comes, routed, dead, Dies, Later, DeclaredQueue, in_from_contains, FixesKey, LeadsNowhere}
+use Rattle.reloading.proofs.Names.{◌≡◌, ℕ, zero, suc, Bool, false, Option, Some, None, List, [], ◌∷◌, get_or, refl, sym, ap, subst, ◌∙◌, inl, inr, Decides, slice_get, false≢true, Text, Topology, IsIn, IsWellFormed, AreApart, queue_names, Reading, of_key, RoutesBy, reading_after, fixed_after, key_after, Comes, routed, dead, Dies, Later, DeclaredQueue, in_from_contains, Guarantee, EndangersNone, IsExploredFor, IsFixedFor}
 use Rattle.laws.proofs.Safe.{comes_fixed, refixed, same_reading}
 use Rattle.exchange_graph.specs.Marks.{queue_name}
-use Rattle.exchange_graph.specs.Dying.{IsDeadLetter, LeavesFor}
-use Rattle.exchange_graph.specs.declared.dying.DeadLetter.{DeadLetter}
-use Rattle.reloading.proofs.First.{in_get}
+use Rattle.std.specs.Borrow.{Bor}
+use Rattle.std.specs.Prelude.{IfSome}
+use Rattle.exchange_graph.proofs.Names.{contains_in}
+use Rattle.exchange_graph.specs.Dying.{IsDeadLetter}
+use Rattle.paths.specs.Deaths.{AreDeaths, IsDeathOf}
+use Rattle.paths.specs.Exploring.{AreExplored, IsExploration}
+use Rattle.paths.specs.declared.visits.Visit.{Visit}
 
 -- ---- the key
 
@@ -62,38 +66,53 @@ route_tells t q key x onward r yes' wf route d = (λ y. later (d.0 y), λ l. d.1
         subst (λ (k : Text). Comes t (of_key k) None x r) (sym under)
         (subst (λ (y : Text). Comes t (of_key (key_after l.last.dead_letter_key key)) None y r) (sym at) (comes_own t l.last.dead_letter_key key None l.last.dead_letter_key refl l.comes))
 
--- ---- a queue that fixes the key
+-- what was explored for a message tells whether it leads there
+pub explored_tells : (t : Topology) (q key r : Text) (visits : List Visit) (yes' : Bool) → IsWellFormed t → (f : IsExploredFor t q key visits)
+    → ((x k : Text) → AreExplored t x k visits → Decides yes' (Comes t (of_key k) None x r)) → Decides yes' (Later t q key r)
+explored_tells t q key r visits yes' wf f d = route_tells t q key f.exchange f.onward r yes' wf f.letter (d f.exchange f.onward f.explored)
 
--- where a key is fixed, the message's own plays no part
-comes_whatever : (t : Topology) (r s : Reading) (f : Option Text) {x q : Text} → is_some f ≡ true → Comes t r f x q → Comes t s f x q
-comes_whatever t r s None e c = absurd (false≢true e)
-comes_whatever t r s (Some k) e (routed ro) = routed ro
-comes_whatever t r s (Some k) e (dead last ro d c) = dead last ro d (comes_whatever t r s (fixed_after last.dead_letter_key (Some k)) (still last.dead_letter_key) c)
-  where
-    still : (a : Option Text) → is_some (fixed_after a (Some k)) ≡ true
-    still None = refl
-    still (Some j) = refl
+pub exploration_of : (t : Topology) (q key : Text) (visits : List Visit) → IsExploredFor t q key visits → IsExploration t visits
+exploration_of t q key visits f = record { exchange = f.exchange; key = f.onward; explored = f.explored }
 
--- so it leads there under each key, or under none
-pub any_key : (t : Topology) (q key other r : Text) → FixesKey t q → Later t q key r → Later t q other r
-any_key t q key other r fixes l = record {
-  last = l.last;
-  exchange = l.exchange;
-  dies = l.dies;
-  comes = comes_whatever t (of_key key) (of_key other) l.last.dead_letter_key (fixes l.exchange l.last l.dies) l.comes;
+-- where it doesn't, whatever the key is, no message is endangered
+pub fixed_spares : (t : Topology) (g : Guarantee) (q : Text) (visits : List Visit) (yes' : Bool) → IsFixedFor t q visits
+    → ((p key : Text) → IsExploredFor t p key visits → Decides yes' (Later t p key g.queue)) → yes' ≡ false → EndangersNone t g q
+fixed_spares t g q visits yes' f d off m e = false≢true (sym off ∙ (d q m.key (f m.key)).1 e.later)
+
+-- ---- a queue that sets the key
+
+in_at : {A : Type 0} (xs : List A) (i : ℕ) (x : A) → slice_get xs i ≡ Some x → IsIn x xs
+in_at [] i x e = absurd (let h : None ≡ Some x = e in cc)
+in_at (y ∷ ys) zero x e = inl (let h : Some y ≡ Some x = e in cc)
+in_at (y ∷ ys) (suc i) x e = inr (in_at ys i x e)
+
+name_at : (qs : List DeclaredQueue) (i : ℕ) (d : DeclaredQueue) → slice_get qs i ≡ Some d → get_or (queue_names qs) i [] ≡ d.name
+name_at [] i d e = absurd (let h : None ≡ Some d = e in cc)
+name_at (q ∷ qs) zero d e = (let h : Some q ≡ Some d = e in let g : q ≡ d = cc in ap (λ (z : DeclaredQueue). z.name) g)
+name_at (q ∷ qs) (suc i) d e = name_at qs i d e
+
+-- what its dead letters reach is the same for all keys
+pub fixed_front : (t : Topology) (q : Text) (at : ℕ) (visits : List Visit) → queue_name t at ≡ q → IsDeathOf t at visits → IsFixedFor t q visits
+fixed_front t q at visits named d key = record {
+  exchange = d.exchange;
+  onward = d.key;
+  letter = record {
+    last = d.fixes.queue;
+    dies = record {
+      is_queue = contains_in t.queues d.fixes.queue (in_at t.queues at d.fixes.queue d.fixes.is_there);
+      is_named = sym (name_at t.queues at d.fixes.queue d.fixes.is_there) ∙ named;
+      dead = d.fixes.dead;
+    };
+    under = under d.fixes.queue.dead_letter_key d.fixes.own;
+  };
+  explored = d.explored;
 }
+  where
+    under : (own : Option Text) → own ≡ Some d.key → d.key ≡ key_after own key
+    under None e = absurd (let h : None ≡ Some d.key = e in cc)
+    under (Some k) e = (let h : Some k ≡ Some d.key = e in cc)
 
-name_of : (qs : List DeclaredQueue) (i : ℕ) (d : DeclaredQueue) → i < length qs → d ≡ get_or qs i d → get_or (queue_names qs) i [] ≡ d.name
-name_of [] i d lt is = absurd (omega (arith, lt))
-name_of (q ∷ qs) zero d lt is = ap (λ (z : DeclaredQueue). z.name) (sym is)
-name_of (q ∷ qs) (suc i) d lt is = name_of qs i d (let k : suc i < suc (length qs) = lt in omega (arith, k)) is
-
-pub fixed_at : (t : Topology) (q : Text) (i : ℕ) (d : DeclaredQueue) → IsWellFormed t → i < length t.queues → queue_name t i ≡ q → d ≡ get_or t.queues i d → is_some d.dead_letter_key ≡ true → FixesKey t q
-fixed_at t q i d wf lt named is fixed x last dies =
-    let same : d ≡ last = one_queue d last t.queues wf.queues_apart (in_get t.queues i d d lt (sym is)) (dies_in t q x last dies) (sym (name_of t.queues i d lt is) ∙ named ∙ sym dies.is_named) in
-    subst (λ (z : DeclaredQueue). is_some z.dead_letter_key ≡ true) same fixed
-
--- what dies nowhere comes nowhere by deaths
-pub leads_nowhere : (t : Topology) (q key r : Text) (route : Option DeadLetter) → is_some route ≡ false → LeavesFor route t q key → LeadsNowhere t q r
-leads_nowhere t q key r None e steps other l = steps l.exchange l.last l.dies
-leads_nowhere t q key r (Some route) e steps other l = false≢true (sym e)
+pub fronts_fixed : (t : Topology) (q : Text) (fronts : List (Option (List Visit))) (at : ℕ) (front : Option (Bor (List Visit))) → AreDeaths t fronts → queue_name t at ≡ q → IfSome front (λ e. slice_get fronts at ≡ Some (Some e.now))
+    → IfSome front (λ e. IsFixedFor t q e.now)
+fronts_fixed t q fronts at None d named s = tt
+fronts_fixed t q fronts at (Some e) d named s = fixed_front t q at e.now named (d.each at (Some e.now) s)

@@ -1,5 +1,7 @@
 pub mod First
+pub mod Forbidding
 pub mod LiveQueues
+pub mod Narrowing
 pub mod Obstacles
 pub mod Passed
 pub mod Wanting

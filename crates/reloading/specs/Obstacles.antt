@@ -1,15 +1,13 @@
 -- The obstacles to a reload, index by index (own).
-use Rattle.std.specs.Prelude.{◌≡◌, ◌+◌, ℕ, List, [], Bool, true, Option, Some, None, is_some, ◌⊎◌}
+use Rattle.std.specs.Prelude.{◌≡◌, ◌+◌, ℕ, List, [], Bool, true, Option, Some, None, ◌⊎◌}
 use Rattle.model.specs.Words.{Text}
 use Rattle.model.specs.Topology.{Topology, IsIn, queue_names}
-use Rattle.model.specs.Routing.{Dies, Later}
 use Rattle.model.specs.Guarantee.{Guarantee}
 use Rattle.model.specs.Reloading.{Endangers, IsObstacle, NothingStands}
 use Rattle.model.specs.Message.{Message}
 use Rattle.model.specs.Broker.{Broker}
 use Rattle.model.specs.State.{Config}
 use Rattle.model.specs.declared.messages.Entry.{Entry}
-use Rattle.model.specs.declared.topologies.DeclaredQueue.{DeclaredQueue}
 use Rattle.model.specs.declared.obstacles.Obstacle.{Obstacle}
 use Rattle.model.specs.declared.obstacles.Obstacle.TheVariants.{InUse, Breaks}
 use Rattle.model.specs.declared.messages.User.{User}
@@ -35,14 +33,6 @@ pub record AreAlike (m o : Message) : Type 0 where
   pub key : m.key ≡ o.key
   pub exchange : m.first_exchange ≡ o.first_exchange
   pub first_key : m.first_key ≡ o.first_key
-
--- dead-lettering leads no message from queue `q` to queue `r`, whatever its key is
-abbrev pub LeadsNowhere : Topology → Text → Text → Type 0
-LeadsNowhere new q r = (key : Text) → Later new q key r → ⊥
-
--- the queue sets the key of its dead letters, if it makes any
-abbrev pub FixesKey : Topology → Text → Type 0
-FixesKey new q = (exchange : Text) (last : DeclaredQueue) → Dies new q exchange last → is_some last.dead_letter_key ≡ true
 
 -- the guarantee endangers no message of this queue, whatever it is
 abbrev pub EndangersNone : Topology → Guarantee → Text → Type 0

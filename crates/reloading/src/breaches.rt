@@ -1,19 +1,25 @@
 //! Finds messages in queues that a new guarantee endangers.
 
-ghost use Rattle.std.specs.Prelude.{◌≡◌, ◌<◌, ◌-◌, ◌^◌, IfOk};
+ghost use Rattle.std.specs.Prelude.{◌≡◌, ◌≤◌, Decides, IfOk, IfSome, OnErr, false, length, true};
 ghost use Rattle.model.specs.Topology.{queue_names};
+ghost use Rattle.model.specs.declared.topologies.Mode.TheVariants.{Never};
 ghost use Rattle.model.specs.declared.obstacles.Obstacle.TheVariants.{Breaks};
-ghost use Rattle.paths.specs.Leading.{AreLeading};
+ghost use Rattle.paths.specs.Deaths.{AreDeaths};
 ghost use Rattle.reloading.specs.First.{TellsFirst};
-ghost use Rattle.reloading.specs.Obstacles.{TellsEntries, TellsQueues};
+ghost use Rattle.reloading.specs.Forbidding.{AreForbidding, EndangersBelow, IsFixedFor, NoneForbids, NoneMay};
+ghost use Rattle.reloading.specs.Obstacles.{AreAlike, TellsQueues};
+ghost use Rattle.reloading.specs.Narrowing.{EntriesTell, MessageTells, QueuesTell, TellsBelow};
+ghost use Rattle.reloading.specs.Wanting.{HasNever};
 
-use crate::dangers::{endangers_next, may_endanger};
+use crate::danger::Danger;
+use crate::dangers::{all_forbidding, first_endangering, first_may, fixed_for};
 use crate::live_queues::LiveQueues;
+use crate::narrowing::{bound_of, ends_at, joined, obstacle_of};
 use crate::passed::{keep, like_at, none_passed, slot_of};
 use exchange_graph::Topology;
 use guarantees::Guarantee;
 use model::{Message, Mode, Obstacle, Text};
-use paths::Leading;
+use paths::{Deaths, Explored, Leading};
 use std::alloc::{AllocError, Global};
 
 /// Returns the obstacle that a message in `queue` breaks the guarantee with this number.
@@ -27,102 +33,209 @@ fn breaks(queue: &Text, message: &Message, guarantee: usize) -> Result<Obstacle,
     })
 }
 
-/// Returns the first message of the queue at index `place` that the guarantee endangers, as an obstacle.
-fn first_of_queue<S: LiveQueues>(
+/// Returns the message in `queue` with the first of the guarantees before index `bound` that endangers it, if one does.
+fn endangered(
+    alloc: Global,
+    topology: &Topology,
+    guarantees: &[Guarantee],
+    forbidding: &[Option<Leading>],
+    bound: usize,
+    fixed: Option<&Explored>,
+    queue: &Text,
+    message: &Message,
+) -> Result<Option<Danger>, AllocError>
+    requires bound { bound ≤ length guarantees.now }
+    requires forbidding { AreForbidding topology.now guarantees.now (length guarantees.now) forbidding.now }
+    requires fixed { IfSome fixed (λ explored. IsFixedFor topology.now queue.now explored.now) }
+    ensures { IfOk result (TellsBelow (MessageTells topology.now queue.now message.now) guarantees.now bound) }
+{
+    let name = queue.as_bytes();
+    let first = first_endangering(
+        alloc, topology, guarantees, forbidding, bound, fixed, name, message,
+    )?;
+    match first {
+        Some(guarantee) => Ok(Some(Danger {
+            guarantee,
+            obstacle: breaks(queue, message, guarantee + 1)?,
+        })),
+        None => Ok(None),
+    }
+}
+
+/// Returns the same, but `None` at once if `like` is a message like this one that none of these guarantees endangers.
+fn endangered_next(
+    alloc: Global,
+    topology: &Topology,
+    guarantees: &[Guarantee],
+    forbidding: &[Option<Leading>],
+    bound: usize,
+    fixed: Option<&Explored>,
+    queue: &Text,
+    like: Option<&Message>,
+    message: &Message,
+) -> Result<Option<Danger>, AllocError>
+    requires bound { bound ≤ length guarantees.now }
+    requires forbidding { AreForbidding topology.now guarantees.now (length guarantees.now) forbidding.now }
+    requires fixed { IfSome fixed (λ explored. IsFixedFor topology.now queue.now explored.now) }
+    requires alike { IfSome like (λ m. AreAlike m.now message.now) }
+    requires passed { IfSome like (λ m. EndangersBelow topology.now guarantees.now bound queue.now m.now) }
+    ensures { IfOk result (TellsBelow (MessageTells topology.now queue.now message.now) guarantees.now bound) }
+{
+    match like {
+        Some(_) => Ok(None),
+        None => endangered(
+            alloc, topology, guarantees, forbidding, bound, fixed, queue, message,
+        ),
+    }
+}
+
+/// Returns the first message of the queue at index `place` that the first of the guarantees before index `bound` endangers that endangers one at all.
+/// Those before index `least` endanger none.
+fn first_of_entries<S: LiveQueues>(
     alloc: Global,
     live: &S,
     topology: &Topology,
-    guarantee: &Guarantee,
-    leading: &Leading,
-    number: usize,
+    guarantees: &[Guarantee],
+    forbidding: &[Option<Leading>],
+    bound: usize,
+    fixed: Option<&Explored>,
+    least: usize,
     place: usize,
     queue: &Text,
-) -> Result<Option<Obstacle>, AllocError>
-    requires { AreLeading topology.now guarantee.now.queue leading.now }
-    ensures { IfOk result (λ o. TellsEntries topology.now guarantee.now number (S.entries live.now) place queue.now o) }
+) -> Result<Option<Danger>, AllocError>
+    requires bound { bound ≤ length guarantees.now }
+    requires forbidding { AreForbidding topology.now guarantees.now (length guarantees.now) forbidding.now }
+    requires fixed { IfSome fixed (λ explored. IsFixedFor topology.now queue.now explored.now) }
+    requires least { NoneMay topology.now guarantees.now least queue.now }
+    ensures { IfOk result (TellsBelow (EntriesTell topology.now (S.entries live.now) place queue.now) guarantees.now bound) }
 {
-    let name = queue.as_bytes();
-    if !may_endanger(alloc, topology, guarantee, leading, name)? {
-        return Ok(None);
-    }
     let mut passed = none_passed();
     let mut slot = 0;
+    let mut found = None;
     'entries: for entry in live.walk(place) {
         let message = &entry.message;
         slot = slot_of(&passed, slot, message);
         let like = like_at(&passed, slot, message);
-        if endangers_next(alloc, topology, guarantee, leading, name, like, message)? {
-            return Ok(Some(breaks(queue, message, number)?));
+        let left = bound_of(&found, bound);
+        let more = endangered_next(
+            alloc, topology, guarantees, forbidding, left, fixed, queue, like, message,
+        )?;
+        found = joined(more, found);
+        if ends_at(&found, least) {
+            return Ok(found);
         }
         keep(&mut passed, slot, message);
     }
-    Ok(None)
+    Ok(found)
 }
 
-/// Finds what leads to the guarantee's queue.
-fn leading_to(
+/// Returns the same of a queue with a dead-letter exchange, without looking at its messages if none of the guarantees before index `bound` may endanger
+/// one.
+fn first_of_dying<S: LiveQueues>(
     alloc: Global,
+    live: &S,
     topology: &Topology,
-    guarantee: &Guarantee,
-) -> Result<Leading, AllocError>
-    ensures { IfOk result (AreLeading topology.now guarantee.now.queue) }
+    deaths: &Deaths,
+    guarantees: &[Guarantee],
+    forbidding: &[Option<Leading>],
+    bound: usize,
+    place: usize,
+    queue: &Text,
+) -> Result<Option<Danger>, AllocError>
+    requires bound { bound ≤ length guarantees.now }
+    requires deaths { AreDeaths topology.now deaths.now }
+    requires forbidding { AreForbidding topology.now guarantees.now (length guarantees.now) forbidding.now }
+    ensures { IfOk result (TellsBelow (EntriesTell topology.now (S.entries live.now) place queue.now) guarantees.now bound) }
 {
-    Leading::to(alloc, topology, guarantee.queue().as_bytes())
+    let name = queue.as_bytes();
+    let fixed = fixed_for(topology, deaths, name);
+    match first_may(topology, guarantees, forbidding, bound, fixed, name) {
+        Some(least) => first_of_entries(
+            alloc, live, topology, guarantees, forbidding, bound, fixed, least, place, queue,
+        ),
+        None => Ok(None),
+    }
 }
 
-/// Returns the first message of all queues that a `never` guarantee endangers; `at` is its index. What leads to its queue is found
-/// once.
-fn first_of_never<S: LiveQueues>(
+/// Returns the same of any queue. It may be one that the new topology lacks.
+fn first_of_queue<S: LiveQueues>(
+    alloc: Global,
+    live: &S,
+    topology: &Topology,
+    deaths: &Deaths,
+    guarantees: &[Guarantee],
+    forbidding: &[Option<Leading>],
+    bound: usize,
+    place: usize,
+    queue: &Text,
+) -> Result<Option<Danger>, AllocError>
+    requires bound { bound ≤ length guarantees.now }
+    requires deaths { AreDeaths topology.now deaths.now }
+    requires forbidding { AreForbidding topology.now guarantees.now (length guarantees.now) forbidding.now }
+    ensures { IfOk result (TellsBelow (EntriesTell topology.now (S.entries live.now) place queue.now) guarantees.now bound) }
+{
+    match topology.dead_letter(queue.as_bytes(), &[]) {
+        Some(_) => first_of_dying(
+            alloc, live, topology, deaths, guarantees, forbidding, bound, place, queue,
+        ),
+        None => Ok(None),
+    }
+}
+
+/// Returns the first message of all queues that the first guarantee endangers that endangers one. All messages are walked once.
+fn first_of_queues<S: LiveQueues>(
     alloc: Global,
     live: &S,
     old: &Topology,
     topology: &Topology,
-    guarantee: &Guarantee,
-    at: usize,
-) -> Result<Option<Obstacle>, AllocError>
-    requires { at < 2 ^ 64 - 1 }
-    ensures { IfOk result (λ o. TellsQueues topology.now (queue_names old.now.queues) (S.entries live.now) at guarantee.now o) }
+    deaths: &Deaths,
+    guarantees: &[Guarantee],
+    forbidding: &[Option<Leading>],
+) -> Result<Option<Danger>, AllocError>
+    requires deaths { AreDeaths topology.now deaths.now }
+    requires forbidding { AreForbidding topology.now guarantees.now (length guarantees.now) forbidding.now }
+    ensures { IfOk result (TellsBelow (QueuesTell topology.now (queue_names old.now.queues) (S.entries live.now)) guarantees.now (length guarantees.now)) }
 {
-    let leading = leading_to(alloc, topology, guarantee)?;
+    let mut found = None;
     for place in 0..old.queues().len() {
         let queue = &old.queue(place).name;
-        let first = first_of_queue(
-            alloc,
-            live,
-            topology,
-            guarantee,
-            &leading,
-            at + 1,
-            place,
-            queue,
+        let bound = bound_of(&found, guarantees.len());
+        let more = first_of_queue(
+            alloc, live, topology, deaths, guarantees, forbidding, bound, place, queue,
         )?;
-        match first {
-            Some(first) => return Ok(Some(first)),
-            None => {}
-        }
+        found = joined(more, found);
     }
-    Ok(None)
+    Ok(found)
 }
 
-/// Returns the first message of all queues that the guarantee at index `at` endangers.
-fn first_of_guarantee<S: LiveQueues>(
-    alloc: Global,
-    live: &S,
-    old: &Topology,
-    topology: &Topology,
-    guarantee: &Guarantee,
-    at: usize,
-) -> Result<Option<Obstacle>, AllocError>
-    requires { at < 2 ^ 64 - 1 }
-    ensures { IfOk result (λ o. TellsQueues topology.now (queue_names old.now.queues) (S.entries live.now) at guarantee.now o) }
+/// Returns whether the guarantee forbids a queue.
+fn forbids(guarantee: &Guarantee) -> bool
+    ensures { Decides result (guarantee.now.mode ≡ Never) }
 {
     match guarantee.mode() {
-        Mode::Reaches => Ok(None),
-        Mode::Never => first_of_never(alloc, live, old, topology, guarantee, at),
+        Mode::Reaches => false,
+        Mode::Never => true,
     }
 }
 
-/// Returns the first message that one of the guarantees endangers, guarantee by guarantee. Fails only if an allocation fails.
+/// Returns whether one of the guarantees forbids a queue.
+fn some_forbid(guarantees: &[Guarantee]) -> bool
+    ensures none { result ≡ false → NoneForbids guarantees.now (length guarantees.now) }
+    ensures some { result ≡ true → HasNever guarantees.now }
+{
+    for at in 0..guarantees.len() {
+        if forbids(&guarantees[at]) {
+            return true;
+        }
+    }
+    false
+}
+
+/// Returns the first message that one of the guarantees endangers, guarantee by guarantee. Fails only if one of them is a `never` and an allocation
+/// fails.
+///
+/// What dead letters reach is explored once for all guarantees, and all messages are walked once: of the guarantees that endanger one, the first so far
+/// is kept, and only those before it are looked at after that.
 pub fn first_breach<S: LiveQueues>(
     alloc: Global,
     live: &S,
@@ -130,14 +243,15 @@ pub fn first_breach<S: LiveQueues>(
     topology: &Topology,
     guarantees: &[Guarantee],
 ) -> Result<Option<Obstacle>, AllocError>
-    ensures { IfOk result (λ o. TellsFirst (TellsQueues topology.now (queue_names old.now.queues) (S.entries live.now)) guarantees.now o) }
+    ensures told { IfOk result (λ o. TellsFirst (TellsQueues topology.now (queue_names old.now.queues) (S.entries live.now)) guarantees.now o) }
+    ensures never { OnErr result (HasNever guarantees.now) }
 {
-    for at in 0..guarantees.len() {
-        let first = first_of_guarantee(alloc, live, old, topology, &guarantees[at], at)?;
-        match first {
-            Some(first) => return Ok(Some(first)),
-            None => {}
-        }
+    if !some_forbid(guarantees) {
+        return Ok(None);
     }
-    Ok(None)
+    let deaths = Deaths::of(alloc, topology)?;
+    let forbidding = all_forbidding(alloc, topology, &deaths, guarantees)?;
+    let forbidding = forbidding.as_slice();
+    let found = first_of_queues(alloc, live, old, topology, &deaths, guarantees, forbidding)?;
+    Ok(obstacle_of(found))
 }

@@ -2,11 +2,13 @@
 #![tactic(auto)]
 
 mod breaches;
+mod danger;
 mod dangers;
 mod judging;
 mod live_queues;
+mod narrowing;
+mod orphaned;
 mod passed;
-mod stranded;
 
 pub use judging::obstacle;
 pub use live_queues::LiveQueues;

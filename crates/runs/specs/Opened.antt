@@ -29,7 +29,7 @@ OpensReady old k opened new = IsOpened (event.Running (old.given + 1) 255 k) run
 abbrev pub Hears : World → ℕ → List ℕ → World → Type 0
 Hears old c bytes new = MatchBool (is_over old c) (Same old new) (new ≡ with_heard old c bytes)
 
--- one command or fault was performed, with these notes
+-- the next command or fault was performed, and its notes are `notes`
 abbrev pub Did : World → ℕ → List Note → World → Type 0
 Did old c notes new = (hs : List Happening) × (notes ≡ notes_of hs) × Turns old c hs new
 
@@ -37,7 +37,7 @@ Did old c notes new = (hs : List Happening) × (notes ≡ notes_of hs) × Turns 
 abbrev pub DidNothing : World → ℕ → World → Type 0
 DidNothing old c new = Rests old c × Waits old c new
 
--- one delivery was made, to connection c, with these notes
+-- one delivery was made, to connection `c`, and its notes are `notes`
 abbrev pub Pumped : World → ℕ → List Note → World → Type 0
 Pumped old c notes new = (hs : List Happening) × (notes ≡ notes_of hs) × Delivers old c hs new
 

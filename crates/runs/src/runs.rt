@@ -20,7 +20,7 @@ pub fn run_over<M: Machine>(
     requires { M.world machine.old ≡ new_world (M.world machine.old).config }
     ensures { IfOk result (λ t. IsRunOf (M.world machine.old).config (map (told M.config) arrivals.now) (M.world machine.new) t) }
 {
-    machine.is_sound();
+    machine.ghost_is_sound();
     let mut transcript = Transcript::new(alloc);
     play(alloc, machine, arrivals, &mut transcript)?;
     transcript.finish(machine)?;
@@ -160,7 +160,7 @@ fn reload<M: Machine>(
 ) -> Result<(), AllocError>
     ensures { OnOk result (AnswersAndTells (M.world machine.old) (arrival.Reload (M.config setup)) transcript.old (M.world machine.new) transcript.new) }
 {
-    M::offers_sound(&setup);
+    M::ghost_offers_sound(&setup);
     match machine.reload(alloc, setup) {
         Ok(()) => transcript.note_one(Note::Reloaded),
         Err(fault) => match fault.obstacle() {

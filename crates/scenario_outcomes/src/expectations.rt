@@ -7,7 +7,7 @@ use std::fmt;
 /// The first expectation of a scenario that was not met.
 #[derive(Clone, Copy, Drop)]
 pub enum Unmet {
-    /// This call should have returned a value, and failed.
+    /// This call failed, though it should have returned a value.
     Call(&'static str),
     /// This claim does not hold.
     Claim(&'static str),

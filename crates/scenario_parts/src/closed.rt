@@ -3,7 +3,7 @@
 use std::io;
 use std::io::{ErrorKind, Write};
 
-/// A stream of which every write fails with `BrokenPipe`.
+/// A stream on which every write fails with `BrokenPipe`.
 #[derive(Drop)]
 pub struct Closed;
 

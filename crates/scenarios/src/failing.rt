@@ -1,4 +1,4 @@
-//! Clients over a wire of which each accept, read and write fails in turn.
+//! Two clients over a wire on which each accept, read and write fails in turn.
 
 use engine::Engine;
 use memory_wire::{Asked, Client, Failing, Logged, MemoryWire};
@@ -9,7 +9,7 @@ use scenario_parts::{
 use serving::{Server, serve};
 use std::alloc::Global;
 
-/// How clients are served: the number of bytes that a write takes at most, and the number of rounds.
+/// The pace at which clients are served: the largest number of bytes that a write takes, and the number of rounds.
 #[derive(Clone, Copy, Drop)]
 pub(crate) struct Pace {
     pub(crate) window: usize,
@@ -51,7 +51,7 @@ const OWN_BEHIND: &[u8] =
 /// The reply get-empty.
 const EMPTY: &[u8] = b"\x01\x00\x01\x00\x00\x00\x05\x00\x3c\x00\x48\x00\xce";
 
-/// The number of calls of one kind that are tried at most.
+/// The largest number of calls of one kind that are tried.
 const PATIENCE: u64 = 1_000;
 
 /// Returns a client that opens and then writes `then`.
@@ -64,8 +64,8 @@ pub(crate) fn client(alloc: Global, then: &[u8], window: usize) -> Result<Client
     })
 }
 
-/// Two clients over a wire of which one call may fail. The first to connect publishes a message and gets it; the second publishes
-/// another one.
+/// Two clients over a wire on which one call may fail.
+/// The first to connect publishes a message and gets it; the second publishes another one.
 #[derive(Drop)]
 struct Run {
     server: Server<Engine>,

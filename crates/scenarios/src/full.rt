@@ -5,7 +5,7 @@ use scenario_parts::{Unmet, expect, expect_bytes, expect_number, new_broker, val
 use serving::Server;
 use std::alloc::{AllocError, Global};
 
-/// The number of open connections at most. Sockets count from 0, so the socket of this number is one too many.
+/// The largest number of open connections. Sockets are numbered from 0, so the socket with this number is one too many.
 const MOST_CONNECTIONS: u64 = 1_024;
 
 /// Returns clients that write nothing, one more than a server takes.

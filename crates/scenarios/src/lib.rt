@@ -1,7 +1,7 @@
 //! The scenarios of runs and rounds. Start with [`tell_all`], which `cases` calls.
 //!
-//! They cover a machine that refuses connections, a paused connection, more clients than a server takes, reloads of a new server,
-//! a wire of which each call fails in turn, and a machine of which each call fails for memory in turn.
+//! They cover a machine that refuses connections, a paused connection, more clients than a server takes, reloads of a new server, a wire on
+//! which each call fails in turn, and a machine on which each call that may allocate fails in turn.
 #![tactic(auto)]
 
 mod failing;
@@ -61,7 +61,7 @@ fn tell_rounds(sums: &mut Sums, rt: &HostRuntime) -> io::Result<()> {
     )
 }
 
-/// Runs a scenario over a wire of which each call fails in turn, and prints how many calls there were.
+/// Runs a scenario over a wire on which each call fails in turn, and prints the number of calls.
 fn tell_failing(sums: &mut Sums, rt: &HostRuntime, name: &str, pace: Pace) -> io::Result<()> {
     let calls = match each_call_of_a_wire_fails(rt.alloc(), pace) {
         Ok(calls) => calls,
@@ -74,7 +74,7 @@ fn tell_failing(sums: &mut Sums, rt: &HostRuntime, name: &str, pace: Pace) -> io
     sums.tell(rt, name, Ok(()))
 }
 
-/// Runs the scenarios of a wire of which each call fails in turn, and of a machine of which each call fails for memory in turn.
+/// Runs the scenarios of a wire on which each call fails in turn, and of a machine on which each call that may allocate fails in turn.
 fn tell_failures(sums: &mut Sums, rt: &HostRuntime) -> io::Result<()> {
     let whole = Pace {
         window: usize::MAX,

@@ -1,4 +1,4 @@
-//! Back-pressure: a client that doesn't take its output gets no more of it than one command brings.
+//! Back-pressure: a client that doesn't take its output gets at most the output of one further command.
 
 use certificate::Checked;
 use engine::{Setup, run};

@@ -1,4 +1,4 @@
-//! A machine of which each call that may allocate fails in turn.
+//! A machine on which each call that may allocate fails in turn.
 
 use crate::failing::{GET_TWICE, PUBLISH_AND_GET, client, is_close};
 use crate::wanting::Wanting;
@@ -7,7 +7,7 @@ use scenario_parts::{ACKED, OPENED, PUBLISH, Unmet, expect, joined, new_broker, 
 use serving::{Server, serve};
 use std::alloc::Global;
 
-/// The number of calls that are tried at most.
+/// The largest number of calls that are tried.
 const PATIENCE: u64 = 1_000;
 
 /// The least number of calls that two clients need: each opening alone is five commands.
@@ -72,8 +72,8 @@ fn expect_one_lost(alloc: Global, wire: &MemoryWire) -> Result<(), Unmet> {
     Ok(())
 }
 
-/// Serves two clients, each of which publishes a message and gets it, while the machine's call number `count` fails. Returns
-/// whether there was such a call.
+/// Serves two clients that publish a message and get it, while the machine's call number `count` fails.
+/// Returns whether there was such a call.
 fn serve_two(alloc: Global, count: u64) -> Result<bool, Unmet> {
     let mut left = count;
     let machine = Wanting {

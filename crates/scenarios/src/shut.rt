@@ -73,11 +73,11 @@ impl<'a> Machine for Shut<'a> {
         0
     }
 
-    fn is_sound(&self) {}
+    fn ghost_is_sound(&self) {}
 
     ghost use Rattle.model.specs.Headline.{IsSound};
 
-    fn offers_sound(_setup: &())
+    fn ghost_offers_sound(_setup: &())
         ensures { IsSound (record { topology = record { exchanges = []; queues = []; bindings = [] }; guarantees = []; users = [] }) }
     {}
 

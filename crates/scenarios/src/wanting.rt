@@ -1,4 +1,4 @@
-//! A machine of which one call fails for memory.
+//! A machine on which one call fails as if an allocation failed.
 
 use notes::Notes;
 use runs::{Delivered, Machine, ReloadFault};
@@ -95,14 +95,14 @@ impl<'a, M: Machine> Machine for Wanting<'a, M> {
         self.machine.lagged()
     }
 
-    fn is_sound(&self) {
-        self.machine.is_sound();
+    fn ghost_is_sound(&self) {
+        self.machine.ghost_is_sound();
     }
 
-    fn offers_sound(setup: &M::Setup)
+    fn ghost_offers_sound(setup: &M::Setup)
         ensures { IsSound (M.config setup.now) }
     {
-        M::offers_sound(setup);
+        M::ghost_offers_sound(setup);
     }
 
     fn copied(alloc: Global, setup: &M::Setup) -> Result<M::Setup, AllocError>

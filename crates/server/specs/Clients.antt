@@ -78,7 +78,7 @@ pub data NobodyComes (may : Openings) (out err : OutputStream) : ℕ → Type 0 
 
 -- ---- `serve`
 
--- the number of turns to serve: the number given, or 2^64 - 1
+-- the number of turns to serve: the number given, if that is below 2^64, or 2^64 - 1 if none is given
 abbrev pub IsTurns : Option Text → ℕ → Type 0
 IsTurns None turns = turns ≡ 18446744073709551615
 IsTurns (Some text) turns = IsNumeral 10 (without_leading_plus text) → digits_value 10 (without_leading_plus text) < 2 ^ 64

@@ -82,7 +82,7 @@ abbrev pub outcome_lines : ℕ → List Outcome → Text
 outcome_lines number [] = []
 outcome_lines number (o ∷ os) = outcome_line number o ++ outcome_lines (number + 1) os
 
--- What exit status 0 means: each guarantee has its certificate, there are no more, and so all guarantees hold.
+-- What exit status 0 means: each guarantee has its certificate, no certificate is left over, and so all guarantees hold.
 abbrev pub IsVouched : Topology → List Guarantee → List Certificate → ℕ → Type 0
 IsVouched t gs cs status = status ≡ 0 → AreCertified t gs cs × AllHold t gs
 

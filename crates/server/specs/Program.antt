@@ -70,7 +70,7 @@ ReadsScript known arrivals = (text : Text) × HasText known text × (script text
 abbrev pub IsInForceBy : (Text → Known) → FileNames → Config → Type 0
 IsInForceBy holds names force = IsInForce holds (Some names.definitions) (Some names.guarantees) (Some names.certificates) force
 
--- The event of the broker for an event of a script: a reload brings what its files put in force, any other event is the same.
+-- The event of the broker for an event of a script: a reload brings what its files put in force, any other event stays as it is.
 abbrev pub IsSetUp : (Text → Known) → ScriptArrival → Arrival Config → Type 0
 IsSetUp holds arrival.Open a = a ≡ arrival.Open
 IsSetUp holds (arrival.Ready k) a = a ≡ arrival.Ready k
@@ -80,7 +80,7 @@ IsSetUp holds arrival.Pump a = a ≡ arrival.Pump
 IsSetUp holds (arrival.Lose c) a = a ≡ arrival.Lose c
 IsSetUp holds (arrival.Reload names) a = (force : Config) × (a ≡ arrival.Reload force) × IsInForceBy holds names force
 
--- the same for a list of events, one by one
+-- the events of the broker for the events of a script, one by one
 abbrev pub AreSetUp : (Text → Known) → List ScriptArrival → List (Arrival Config) → Type 0
 AreSetUp holds [] arrivals = arrivals ≡ []
 AreSetUp holds (s ∷ ss) arrivals = (a : Arrival Config) × (rest : List (Arrival Config)) × (arrivals ≡ a ∷ rest) × IsSetUp holds s a × AreSetUp holds ss rest
@@ -208,7 +208,7 @@ status_of (Certificate n fault) = 3
 status_of NotListening = 4
 status_of Memory = 4
 
--- Why a script's file is not replayed: its first line at fault, its length, or that it cannot be read.
+-- Why a script's file is not replayed: its first line at fault, its length, or that it cannot be read; an allocation failure promises nothing.
 abbrev pub IsWhyOfFile : CommandRefusal → Known → Type 0
 IsWhyOfFile (Line n) known = (text : Text) × HasText known text × (script text ≡ Err n)
 IsWhyOfFile (Refused n) known = ⊥
@@ -221,13 +221,13 @@ IsWhyOfFile (Certificate n fault) known = ⊥
 IsWhyOfFile NotListening known = ⊥
 IsWhyOfFile Memory known = ⊤
 
--- the same for a script's text
+-- why a script's text is not replayed: its first line at fault; an allocation failure promises nothing
 abbrev pub IsRefusalOf : CommandRefusal → Text → Type 0
 IsRefusalOf (Line n) text = script text ≡ Err n
 IsRefusalOf Memory text = ⊤
 IsRefusalOf other text = ⊥
 
--- Why guarantees are not admitted: the first certificate at fault, counted from 1, and its first fault.
+-- Why guarantees are not admitted: the first certificate at fault, counted from 1, and its first fault; an allocation failure promises nothing.
 abbrev pub IsWhyUnadmitted : Topology → List Guarantee → List Shown → CommandRefusal → Type 0
 IsWhyUnadmitted t gs cs (Line n) = ⊥
 IsWhyUnadmitted t gs cs (Refused n) = ⊥
@@ -392,13 +392,13 @@ pub data Fails (holds : Text → Known) : Wanted → Text → CommandRefusal →
       → Fails holds (Replay script definitions guarantees certificates) file why
   -- the exchange does not exist
   unrouted : {file exchange key : Text} → ListsFile (holds file) exchange key None → Fails holds (Route file exchange key) file NoExchange
-  -- this call opens no sockets
+  -- `serve` is asked of a call that can open no sockets
   unheard : {definitions guarantees certificates listen file : Text} {turns reload : Option Text}
       → Fails holds (Serve definitions guarantees certificates listen turns reload) file NotListening
   -- an allocation failed
   wanting : {wanted : Wanted} {file : Text} → Fails holds wanted file Memory
 
--- the command prints nothing for this reason, and leaves the files like this
+-- the command prints nothing for the reason `why`, and leaves the files as `after`
 abbrev pub IsNotAnswered : (Text → Known) → (Text → Known) → Wanted → Text → CommandRefusal → Type 0
 IsNotAnswered before after wanted file why = Fails before wanted file why × FilesAreLeft before after file why
 
@@ -408,7 +408,7 @@ IsNotAnswered before after wanted file why = Fails before wanted file why × Fil
 abbrev pub TellsLine : OutputStream → Text → Bool → Type 0
 TellsLine err line whole = PutsOut err line whole ⊎ PutsOut err out_of_memory whole
 
--- this refusal was reported, or an allocation failure instead
+-- the refusal was reported, or an allocation failure in its place
 abbrev pub RefusesWith : OutputStream → Text → CommandRefusal → ℕ → Type 0
 RefusesWith err file why status = TriesPut err (refusal_line file why) (status_of why) status ⊎ TriesPut err out_of_memory 4 status
 
@@ -443,15 +443,15 @@ pub data RunsAs (words : List Text) (before after : Text → Known) (out err : O
   printed : (wanted : Wanted) (text : Text) (status : ℕ) (done : Bool) → AsksFor words wanted
       → IsCommandAnswered before after wanted text status → PutsOut out text done → GetsNothing err
       → RunsAs words before after out err (tried done status)
-  -- the command's answer was printed, and then it was reported why a file is not written
+  -- the command's answer was printed, and then the reason why a file was not written
   put_unfiled : {status : ℕ} (wanted : Wanted) (text file : Text) (why : CommandRefusal) (done : Bool)
       → AsksFor words wanted → IsAnsweredUnfiled before after wanted text file why → PutsOut out text done
       → RefusesWith err file why status → RunsAs words before after out err status
-  -- it was reported why the command prints nothing
+  -- the command prints nothing, and the reason was reported
   told_of : {wanted : Wanted} {file : Text} (why : CommandRefusal) (done : Bool) → AsksFor words wanted
       → IsNotAnswered before after wanted file why → GetsNothing out → PutsOut err (refusal_line file why) done
       → RunsAs words before after out err (tried done (status_of why))
-  -- the command prints nothing, and an allocation failed for the report of it
+  -- the command prints nothing, and an allocation failed when the reason was to be reported: `out of memory` is printed instead
   untold : {wanted : Wanted} {file : Text} (why : CommandRefusal) (done : Bool) → AsksFor words wanted
       → IsNotAnswered before after wanted file why → GetsNothing out → PutsOut err out_of_memory done
       → RunsAs words before after out err 4

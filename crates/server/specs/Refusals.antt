@@ -15,7 +15,7 @@ of_unread why.NoDescriptor = NoDescriptor
 of_unread why.TooLong = TooLong
 of_unread why.Memory = Memory
 
--- the same, or a file to which a cause applies
+-- the refusal of a command for a file that is refused in this way
 abbrev pub of_refused : FileRefusal → CommandRefusal
 of_refused (file.Refused n) = Refused n
 of_refused file.TooLong = TooLong

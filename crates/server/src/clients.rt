@@ -17,7 +17,7 @@ use crate::starting::started;
 use crate::storage::Files;
 use crate::streams::put;
 use engine::Engine;
-use serving::{Server, Wire, new_is_served, serve};
+use serving::{Server, Wire, ghost_new_is_served, serve};
 use std::alloc::{AllocError, Global};
 use std::io::Write;
 
@@ -83,7 +83,7 @@ impl<W: Wire> Ended<W> {
     }
 }
 
-/// Returns the number of turns to serve: `given`, or `u64::MAX` without one.
+/// Returns the number of turns to serve: `given`, or `u64::MAX` if there is none or it isn't a number below 2^64.
 pub fn turns_of(given: Option<&str>) -> u64
     ensures { IsTurns (file_named given.entry) result }
 {
@@ -246,7 +246,7 @@ pub fn serve_clients<L: Listener, F: Files, O: Write, E: Write>(
         Err(status) => return Ended::without_clients(status),
     };
     let turns = turns_of(asked.turns);
-    new_is_served(&server, &sockets);
+    ghost_new_is_served(&server, &sockets);
     serve(alloc, &mut server, &mut sockets, turns);
     Ended {
         status: 0,

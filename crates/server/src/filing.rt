@@ -23,7 +23,7 @@ pub fn draft_for(alloc: Global, out: Option<&str>) -> Option<Draft>
     }
 }
 
-/// Returns the text of a drafted file.
+/// Returns the text of a drafted file. Fails if a text in it isn't UTF-8, if it would be too long, or if an allocation fails.
 fn text_of(draft: Draft) -> Result<Vec<u8>, CommandRefusal>
     ensures { (cs : List Shown) → IsDraft draft cs → MatchResult result (λ text. ReadsBack text.items cs) IsUnwritten }
 {
@@ -35,7 +35,7 @@ fn text_of(draft: Draft) -> Result<Vec<u8>, CommandRefusal>
     }
 }
 
-/// Writes a drafted file.
+/// Writes a drafted file. Fails if its text can't be made, or if the write fails.
 fn write_file<F: Files>(file: &str, draft: Draft, files: &mut F) -> Result<(), CommandRefusal>
     ensures { (cs : List Shown) → IsDraft draft cs
         → MatchResult result

@@ -38,8 +38,8 @@ pub enum CommandRefusal {
     Unwritten,
     /// The file has no exchange of this name.
     NoExchange,
-    /// The certificate of this number, counted from 1, has the fault of this number. Fault 5 is also that it has no guarantee, or
-    /// that its guarantee has no certificate.
+    /// The certificate `number`, counted from 1, has the fault `fault`. Fault 5 also says that it has no guarantee, or that its
+    /// guarantee has no certificate.
     Certificate { number: u64, fault: u8 },
     /// It can't listen at the given address.
     NotListening,

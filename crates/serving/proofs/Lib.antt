@@ -7,6 +7,8 @@ pub mod Staying
 pub mod Apart
 pub mod Fits
 pub mod Quieting
+pub mod Fullness
+pub mod Passing
 pub mod Seating
 pub mod Loudness
 pub mod Waiting

@@ -13,7 +13,7 @@ all_true zero i = refl
 all_true (suc n) zero = refl
 all_true (suc n) (suc i) = all_true n i
 
-all_length : (n : ℕ) → length (replicate n true) ≡ n
+pub all_length : (n : ℕ) → length (replicate n true) ≡ n
 all_length zero = refl
 all_length (suc n) = ap suc (all_length n)
 
@@ -36,7 +36,7 @@ set_elsewhere (m ∷ ms) zero (suc j) x ne = refl
 set_elsewhere (m ∷ ms) (suc i) zero x ne = refl
 set_elsewhere (m ∷ ms) (suc i) (suc j) x ne = set_elsewhere ms i j x (λ e. ne (ap suc e))
 
-set_length : (marks : List Bool) (i : ℕ) (x : Bool) → length (slice_set marks i x) ≡ length marks
+pub set_length : (marks : List Bool) (i : ℕ) (x : Bool) → length (slice_set marks i x) ≡ length marks
 set_length [] i x = refl
 set_length (m ∷ ms) zero x = refl
 set_length (m ∷ ms) (suc i) x = ap suc (set_length ms i x)
@@ -64,7 +64,7 @@ unmarked (m ∷ ms) zero e = (omega arith, e)
 unmarked (m ∷ ms) (suc i) e = let u = unmarked ms i e in let lt = u.0 in (omega (arith, lt), u.1)
 
 -- behind the end of the marks there is none
-unmarked_behind : (marks : List Bool) (i : ℕ) → length marks ≤ i → slice_index_or marks i false ≡ false
+pub unmarked_behind : (marks : List Bool) (i : ℕ) → length marks ≤ i → slice_index_or marks i false ≡ false
 unmarked_behind [] i le = refl
 unmarked_behind (m ∷ ms) zero le = absurd (omega (arith, le))
 unmarked_behind (m ∷ ms) (suc i) le = unmarked_behind ms i (omega (arith, le))
@@ -73,6 +73,14 @@ marked : (marks : List Bool) (i : ℕ) → i < length marks → slice_index_or m
 marked [] i lt e = absurd (omega (arith, lt))
 marked (m ∷ ms) zero lt e = e
 marked (m ∷ ms) (suc i) lt e = marked ms i (omega (arith, lt)) e
+
+-- a mark was taken away where none was before
+pub unmarked_more : (marks : List Bool) (slot i : ℕ) → ((j : ℕ) → j < slot → slice_index_or marks j false ≡ false) → i < slot + 1 → slice_index_or (slice_set marks slot false) i false ≡ false
+unmarked_more [] slot i none lt = refl
+unmarked_more (m ∷ ms) zero zero none lt = refl
+unmarked_more (m ∷ ms) zero (suc i) none lt = absurd (omega (arith, lt))
+unmarked_more (m ∷ ms) (suc slot) zero none lt = none 0 (omega arith)
+unmarked_more (m ∷ ms) (suc slot) (suc i) none lt = unmarked_more ms slot i (λ j less. none (suc j) (omega (arith, less))) (omega (arith, lt))
 
 in_set : (x : Bool) → ◌≡◌ {A = ℕ} (cond x 0 1) 1 → x ≡ false
 in_set false e = refl
@@ -111,11 +119,11 @@ next_behind loud marks from are none = go (cases_lt from (length marks))
 
 -- ---- from one loud slot to the next
 
-later_to : (start now : List (Option Peer)) (i j n : ℕ) → j ≡ i + n → drop i now ≡ drop i start → drop j now ≡ drop j start
+pub later_to : (start now : List (Option Peer)) (i j n : ℕ) → j ≡ i + n → drop i now ≡ drop i start → drop j now ≡ drop j start
 later_to start now i j zero is e = let same : i ≡ j = omega (arith, is) in subst (λ (k : ℕ). drop k now ≡ drop k start) same e
 later_to start now i j (suc n) is e = later_to start now (i + 1) j n (omega (arith, is)) (later_on start now i e)
 
-due_to : (f : Option Peer → List Ask) → f None ≡ [] → (ps : List (Option Peer)) (i j n : ℕ) → j ≡ i + n → ((k : ℕ) → i ≤ k → k < j → f (slice_index_or ps k None) ≡ []) → flat_map f (drop i ps) ≡ flat_map f (drop j ps)
+pub due_to : (f : Option Peer → List Ask) → f None ≡ [] → (ps : List (Option Peer)) (i j n : ℕ) → j ≡ i + n → ((k : ℕ) → i ≤ k → k < j → f (slice_index_or ps k None) ≡ []) → flat_map f (drop i ps) ≡ flat_map f (drop j ps)
 due_to f e ps i j zero is none = let same : i ≡ j = omega (arith, is) in ap (λ (k : ℕ). flat_map f (drop k ps)) same
 due_to f e ps i j (suc n) is none =
     due_at f e ps i ∙ ap (λ (z : List Ask). z ++ flat_map f (drop (suc i) ps)) (none i (omega arith) (omega (arith, is)))

@@ -11,6 +11,7 @@ use Rattle.serving.proofs.Onward.{tells_none, attempt_one}
 use Rattle.serving.proofs.Apart.{StaysFor, same_stays, gone_stays}
 use Rattle.serving.proofs.Fits.{fit_within}
 use Rattle.serving.proofs.Quieting.{still_quiet}
+use Rattle.serving.proofs.Fullness.{full_stays}
 use Rattle.serving.proofs.Keeping.{Went, went_one, went_on}
 
 -- ---- the deed
@@ -49,8 +50,8 @@ given_stays a b offered (Err (Breaks q key number)) p = p.1.given
 given_stays a b offered (Err Memory) p = p.given
 
 -- slots and marks are as they should be after it
-pub kept_reloaded : (a b : World) (peers : Slab Peer) (marks : List Bool) (buffer : List ℕ) (offered : Config) (r : Result Unit ReloadFault) → TellsReload a offered r b → IsServerKept a peers marks buffer → IsServerKept b peers marks buffer
-kept_reloaded a b peers marks buffer offered r p k =
+pub kept_reloaded : (a b : World) (peers : Slab Peer) (marks full : List Bool) (buffer : List ℕ) (offered : Config) (r : Result Unit ReloadFault) → TellsReload a offered r b → IsServerKept a peers marks full buffer → IsServerKept b peers marks full buffer
+kept_reloaded a b peers marks full buffer offered r p k =
     let ps = peers.slots in
     let same = given_stays a b offered r p in
     let was = k.settled in
@@ -63,5 +64,6 @@ kept_reloaded a b peers marks buffer offered r p k =
         ended = λ i q at. gone_stays a b q.connection (stays a b offered r p q.connection) ∙ was.ended i q at;
         most = was.most;
       };
+      full = full_stays a b ps full (λ c. stays a b offered r p c) k.full;
       room = k.room;
     }

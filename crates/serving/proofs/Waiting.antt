@@ -1,10 +1,11 @@
 -- Slots for which the wire answers itself that their sockets have nothing: what is asked of it so is what they are due.
-use Rattle.serving.proofs.Names.{◌≡◌, ◌<◌, ◌≤◌, ◌+◌, ◌-◌, ◌∙◌, ◌++◌, ℕ, zero, suc, List, [], ◌∷◌, Bool, true, false, Option, Some, None, refl, sym, ap, subst, append_assoc, count_by, drop, flat_map, arith, is_some, if◌then◌else◌, World, is_awake, Ask, To_read, Told, At, AreQuiet, IsMarkedAt, Served, Serves, served, read_of, reads_due, Peer, Lacks}
+use Rattle.serving.proofs.Names.{◌≡◌, ◌<◌, ◌≤◌, ◌+◌, ◌-◌, ◌∙◌, ◌++◌, ℕ, zero, suc, List, [], ◌∷◌, Bool, true, false, Option, Some, None, refl, sym, ap, subst, append_assoc, cond, count_by, drop, flat_map, arith, is_some, slice_index_or, ◌||◌, if◌then◌else◌, World, is_awake, Ask, To_read, Told, At, AreQuiet, IsMarkedAt, Served, Serves, served, read_of, reads_due, Peer, Lacks}
 use Rattle.std.proofs.Common.{drop-drop}
 use Rattle.serving.specs.Wire.{AllWait, least_room}
 use Rattle.serving.proofs.Deeds.{heard_nothing}
 use Rattle.serving.proofs.Onward.{or_false, serves_not, serves_then}
-use Rattle.serving.proofs.Seating.{tally, tally_counts}
+use Rattle.serving.proofs.Apart.{due_on, later_on}
+use Rattle.serving.proofs.Seating.{left_behind, tally, tally_counts}
 
 -- The reads that the first n of these slots are due were asked, and nothing was done; each of those slots is taken.
 pub record Waited (L : Lacks) (w : World) (all : List (Option Peer)) (n : ℕ) (ps : List (Option Peer)) (told now : Told) : Type 0 where
@@ -38,7 +39,7 @@ all_waited {L = L} w all (suc n) (Some p ∷ ps) told now each (mid, tells, rest
       taken = omega (arith, more);
     }
 
-at_drop : (ps : List (Option Peer)) (i j : ℕ) (p : Peer) → At (drop i ps) j p → At ps (i + j) p
+pub at_drop : (ps : List (Option Peer)) (i j : ℕ) (p : Peer) → At (drop i ps) j p → At ps (i + j) p
 at_drop [] zero j p at = at
 at_drop [] (suc i) j p at = absurd (cc at)
 at_drop (o ∷ ps) zero j p at =
@@ -94,6 +95,19 @@ passes_on {L = L} start w now marks i j left told after acted le quiet marked wa
     later =
         let is : i + (j - i) ≡ j = omega (arith, le) in
         subst (λ (k : ℕ). drop k now ≡ drop k start.peers) is (sym (drop-drop (j - i) i now) ∙ ap (drop (j - i)) p.later ∙ drop-drop (j - i) i start.peers)
+
+-- one slot was looked at
+pub passes_read : {L : Lacks} (start mid next : Served) (j left n : ℕ) (acted done : Bool) → n ≡ cond (is_some (slice_index_or mid.peers j None)) 1 0
+    → Serves L mid (read_of mid.world (slice_index_or mid.peers j None)) done next → drop (j + 1) next.peers ≡ drop (j + 1) mid.peers
+    → flat_map (read_of next.world) (drop (j + 1) mid.peers) ≡ flat_map (read_of mid.world) (drop (j + 1) mid.peers)
+    → Passes L start mid.world mid.peers mid.told j left acted → Passes L start next.world next.peers next.told (j + 1) (left - n) (acted || done)
+passes_read start mid next j left n acted done count one later due p = record {
+  later = later ∙ later_on start.peers mid.peers j p.later;
+  asked = p.asked ++ read_of mid.world (slice_index_or mid.peers j None);
+  serves = serves_then start mid next _ _ _ _ p.serves one;
+  so_far = due_on (read_of mid.world) (read_of next.world) refl start.peers mid.peers j p.asked (reads_due start) p.later due p.so_far;
+  left = left_behind mid.peers next.peers j left n count later p.left;
+}
 
 waits_taken : (n : ℕ) (ps : List (Option Peer)) (told now : Told) → AllWait n ps told now → n ≤ tally is_some ps
 waits_taken zero ps told now waits = omega arith

@@ -1,6 +1,6 @@
 -- Slots for which there is nothing to do until something comes for them (own).
 use Rattle.std.specs.Prelude.{◌≡◌, ◌≢◌, ◌↔◌, ◌≤◌, ◌<◌, ◌*◌, ℕ, List, length, Bool, true, false, cond, Option, slice_index_or}
-use Rattle.model.specs.Arrivals.{World, is_awake, has_output}
+use Rattle.model.specs.Arrivals.{World, is_awake, is_paused, has_output}
 use Rattle.serving.specs.Story.{At, read_room}
 use Rattle.serving.specs.Rounds.{HasEnded}
 use Rattle.slab.specs.Slab.{Slab}
@@ -36,6 +36,14 @@ pub record IsNextLoud (marks : List Bool) (from slot : ℕ) : Type 0 where
   pub loud : slice_index_or marks slot false ≡ false
   pub before : (i : ℕ) → from ≤ i → i < slot → IsMarkedAt marks i
 
+-- the slot holds a peer whose connection is paused
+abbrev pub HoldsPaused : World → List (Option Peer) → ℕ → Type 0
+HoldsPaused w ps i = (p : Peer) × At ps i p × (is_paused w p.connection ≡ true)
+
+-- each slot that is marked as full holds a peer whose connection is paused
+abbrev pub AreFull : World → List (Option Peer) → List Bool → Type 0
+AreFull w ps marks = (i : ℕ) → IsMarkedAt marks i → HoldsPaused w ps i
+
 -- the slot does not hold connection c
 abbrev pub IsOther : ℕ → List (Option Peer) → ℕ → Type 0
 IsOther c ps i = (p : Peer) → At ps i p → p.connection ≢ c
@@ -55,7 +63,8 @@ pub record AreSettled (w : World) (peers : Slab Peer) (marks : List Bool) : Type
   pub ended : (i : ℕ) → HasEnded w peers.slots i
   pub most : most_peers ≤ peers.capacity
 
--- The invariant of a server between rounds: the slots are settled, and the buffer has its full length.
-pub record IsServerKept (w : World) (peers : Slab Peer) (marks : List Bool) (buffer : List ℕ) : Type 0 where
+-- The invariant of a server between rounds: the slots are settled, marks of full ones are right, and the buffer has its full length.
+pub record IsServerKept (w : World) (peers : Slab Peer) (marks fulls : List Bool) (buffer : List ℕ) : Type 0 where
   pub settled : AreSettled w peers marks
+  pub full : AreFull w peers.slots fulls
   pub room : length buffer ≡ read_room

@@ -22,7 +22,7 @@ pub record Served : Type 0 where
   pub peers : List (Option Peer)
   pub told : Told
 
--- these three together
+-- the three as one value
 abbrev pub served : World → List (Option Peer) → Told → Served
 served w ps t = record { world = w; peers = ps; told = t }
 
@@ -54,16 +54,16 @@ pub data Deed : Type 0 where
   -- a socket was accepted, but no connection was opened: none can be, or an allocation failed
   Turned_away : (socket : ℕ) → (opening : Attempt) → Deed
   Met_no_one : (is_failure : Bool) → Deed
-  -- a read of length `room` got these bytes, which did this to the connection
+  -- a read of length `room` got these bytes, which started or stopped the connection as `passage` says
   Heard : (slot : ℕ) → (peer : Peer) → (room : ℕ) → (bytes : List ℕ) → (passage : Passage) → Deed
   -- an allocation for these bytes failed
   Heard_partly : (slot : ℕ) → (peer : Peer) → (room : ℕ) → (bytes : List ℕ) → Deed
   Heard_nothing : (slot : ℕ) → (peer : Peer) → (room : ℕ) → Deed
   -- the input of the socket ended, or its read failed
   Heard_end : (slot : ℕ) → (peer : Peer) → (room : ℕ) → (is_failure : Bool) → Deed
-  -- the socket took bytes of the output, and what waited for that did this to the connection
+  -- the socket took bytes of the output; then the turns that had waited for it were taken, which started or stopped the connection as `passage` says
   Gave : (slot : ℕ) → (peer : Peer) → (offered taken : List ℕ) → (passage : Passage) → Deed
-  -- an allocation for what waited failed
+  -- an allocation failed in a turn that had waited for the output to be taken
   Gave_partly : (slot : ℕ) → (peer : Peer) → (offered taken : List ℕ) → Deed
   Gave_nothing : (slot : ℕ) → (peer : Peer) → (offered : List ℕ) → Deed
   -- the write failed
@@ -77,7 +77,7 @@ pub data Deed : Type 0 where
   -- the connection is over with an empty output
   Let_go : (slot : ℕ) → (peer : Peer) → Deed
   Paused : Deed
-  -- this was offered, and is in force now, or there was an obstacle
+  -- a reload offered this configuration: it was put in force, or refused because of an obstacle
   Reload_decided : (offered : Config) → Deed
   -- the reload failed to allocate
   Reload_undecided : (offered : Config) → Deed
@@ -236,7 +236,7 @@ pub record DoesDeed (L : Lacks) (old : Served) (d : Deed) (os : List Occurrence)
   pub greets : Greets old.world d new.world
   pub told : Tells old.told (calls d) new.told
 
--- these deeds, one after another
+-- the deeds are done one after another
 abbrev pub Story : Lacks → Served → List Deed → List Occurrence → Served → Type 0
 Story L old [] os new = (os ≡ []) × (new ≡ old)
 Story L old (d ∷ ds) os new = (mid : Served) × (first : List Occurrence) × (rest : List Occurrence)

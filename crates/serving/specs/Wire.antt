@@ -126,6 +126,18 @@ AllWait (suc n) [] old new = ⊥
 AllWait (suc n) (None ∷ ps) old new = ⊥
 AllWait (suc n) (Some p ∷ ps) old new = (mid : Told) × Tells old (Nothing_got p.socket least_room ∷ []) mid × AllWait n ps mid new
 
+-- the socket took nothing of these bytes; it was not asked if there are none
+abbrev pub TakesNothing : ℕ → List ℕ → Told → Told → Type 0
+TakesNothing s [] old new = new ≡ old
+TakesNothing s (byte ∷ bytes) old new = Tells old (Nothing_taken s (byte ∷ bytes) ∷ []) new
+
+-- the sockets of the first n of these slots were offered the outputs of their connections, one after another, and took nothing
+abbrev pub NoneTakes : (ℕ → List ℕ) → ℕ → List (Option Peer) → Told → Told → Type 0
+NoneTakes output zero ps old new = new ≡ old
+NoneTakes output (suc n) [] old new = new ≡ old
+NoneTakes output (suc n) (None ∷ ps) old new = NoneTakes output n ps old new
+NoneTakes output (suc n) (Some p ∷ ps) old new = (mid : Told) × TakesNothing p.socket (output p.connection) old mid × NoneTakes output n ps mid new
+
 -- no earlier socket had this name
 abbrev pub IsFresh : ℕ → Told → Type 0
 IsFresh s told = told.is_given s ≡ false

@@ -10,9 +10,10 @@ mod peers;
 mod quiet;
 mod rounds;
 mod servers;
+mod slot_marks;
 mod turns;
 mod wire;
 
 pub use peers::Peer;
-pub use servers::{Server, new_is_served, serve};
+pub use servers::{Server, ghost_new_is_served, serve};
 pub use wire::{Accept, Read, Wire, Write};

@@ -15,6 +15,7 @@ use crate::offers::Offers;
 use crate::peers::{Peer, SLOTS};
 use crate::quiet::Quiet;
 use crate::rounds::round;
+use crate::slot_marks::SlotMarks;
 use crate::wire::Wire;
 use runs::{Machine, ReloadFault};
 use slab::Slab;
@@ -24,11 +25,12 @@ use std::marker::Model;
 /// The greatest number of bytes that a read is offered: the length of the buffer.
 const READ_ROOM: usize = 65_536;
 
-/// A server: a machine, its peers by slot, which slots are quiet, what reads are offered, and the buffer that they fill.
+/// A server: a machine, its peers by slot, which slots are quiet, which are full, what reads are offered, and the buffer that they fill.
 pub struct Server<M: Machine> {
     machine: M,
     peers: Slab<Peer>,
     quiet: Quiet,
+    full: SlotMarks,
     offers: Offers,
     buffer: Vec<u8>,
 }
@@ -40,6 +42,7 @@ impl<M: Machine + Drop> Drop for Server<M> {
             machine: _,
             peers: _,
             quiet: _,
+            full: _,
             offers: _,
             buffer: _,
         } = self;
@@ -54,7 +57,7 @@ impl<M: Machine> Model for Server<M> {
 
     ghost view = { λ s. record { machine = s.machine; peers = s.peers.slots } };
 
-    ghost invariant = { λ s. IsServerKept (M.world s.machine) s.peers s.quiet s.buffer.items };
+    ghost invariant = { λ s. IsServerKept (M.world s.machine) s.peers s.quiet s.full s.buffer.items };
 }
 
 impl<M: Machine> Server<M> {
@@ -68,11 +71,13 @@ impl<M: Machine> Server<M> {
         let buffer = vec![in alloc; 0; READ_ROOM]?;
         let peers = Slab::with_capacity(alloc, SLOTS)?;
         let quiet = Quiet::new(alloc, peers.capacity())?;
+        let full = SlotMarks::none(alloc, peers.capacity())?;
         let offers = Offers::new(alloc)?;
         Ok(Server {
             machine,
             peers,
             quiet,
+            full,
             offers,
             buffer,
         })
@@ -98,6 +103,7 @@ impl<M: Machine> Server<M> {
             &mut self.machine,
             &mut self.peers,
             &mut self.quiet,
+            &mut self.full,
             &mut self.offers,
             wire,
             self.buffer.as_mut_slice(),
@@ -115,24 +121,24 @@ impl<M: Machine> Server<M> {
             → IsServed M.lacks f told (served (M.world self.old.machine) self.old.peers now)
             → IsServed M.lacks f told (served (M.world self.new.machine) self.new.peers now) }
     {
-        M::offers_sound(&setup);
+        M::ghost_offers_sound(&setup);
         self.machine.reload(alloc, setup)
     }
 
     /// Shows that what the machine has in force is sound: the topology is well formed, and its guarantees hold.
-    fn is_sound(&self)
+    fn ghost_is_sound(&self)
         ensures { IsSound (M.world self.now.machine).config }
     {
-        self.machine.is_sound();
+        self.machine.ghost_is_sound();
     }
 }
 
 /// Shows that a new server of a machine without connections is served: nothing was done yet. Does nothing at run time.
-pub fn new_is_served<M: Machine, W: Wire>(server: &Server<M>, wire: &W)
+pub fn ghost_new_is_served<M: Machine, W: Wire>(server: &Server<M>, wire: &W)
     ensures { (f : Config) → M.world server.now.machine ≡ new_world f → server.now.peers ≡ []
         → IsServed M.lacks f (W.told wire.now) (served (M.world server.now.machine) server.now.peers (W.told wire.now)) }
 {
-    server.is_sound();
+    server.ghost_is_sound();
 }
 
 /// Does `turns` rounds.

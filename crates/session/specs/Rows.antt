@@ -34,7 +34,7 @@ pub record OpeningFrames : Type 0 where
   pub tune : spelling 4096 (opening_move 1 true new_session phase.Start 0
       (ConnectionStartOk (record { client_properties = []; mechanism = []; response = []; locale = [] }))).sends
       ≡ 1 ∷ 0 ∷ 0 ∷ 0 ∷ 0 ∷ 0 ∷ 12 ∷ 0 ∷ 10 ∷ 0 ∷ 30 ∷ 0 ∷ 255 ∷ 0 ∷ 2 ∷ 0 ∷ 0 ∷ 0 ∷ 0 ∷ 206 ∷ []
-  -- a tune-ok gets no reply; a 0 stands for the server's limit
+  -- a tune-ok gets no reply; a 0 means the server's limit
   pub tuned : opening_move 1 false new_session phase.Tune 0 (tune_ok 0 0 0)
       ≡ record { sends = []; next = record { phase = phase.Open; channel_max = 255; frame_max = 131072 } }
   pub lower : opening_move 1 false new_session phase.Tune 0 (tune_ok 10 4096 0)

@@ -10,7 +10,7 @@ use crate::responses::read_response;
 use model::User;
 
 /// Returns `false`, after the work of checking a wrong password: one digest, compared in full.
-fn stand_in(password: &[u8]) -> bool
+fn fail_slowly(password: &[u8]) -> bool
     ensures { result ≡ false }
 {
     has_hash(
@@ -32,7 +32,7 @@ fn is_known(users: &[User], name: &[u8], password: &[u8]) -> bool
         is_named = is_named | has_name;
         is_right = is_right | (has_name && has_hash(user.hash.as_bytes(), password));
     }
-    is_right | (!is_named && stand_in(password))
+    is_right | (!is_named && fail_slowly(password))
 }
 
 /// Returns whether `mechanism` and `response` log in one of `users`.

@@ -30,7 +30,7 @@ impl Model for Session {
     ghost invariant = { λ s. IsSession (record { phase = s.phase; channel_max = s.channel_max; frame_max = s.frame_max }) };
 }
 
-/// Returns the phase after `method` was sent, given that the sends behind it lead to `after`.
+/// Returns the phase after `method` was sent, given that the sends after it lead to `after`.
 fn after_method(method: &Method, after: Phase) -> Phase
     ensures { result ≡ said.after_method method.now after }
 {
@@ -41,7 +41,7 @@ fn after_method(method: &Method, after: Phase) -> Phase
     }
 }
 
-/// Returns the phase after `send`, given that the sends behind it lead to `after`.
+/// Returns the phase after `send`, given that the sends after it lead to `after`.
 fn after_send(send: &Send, after: Phase) -> Phase
     ensures { (sends : List sent.Send) → after ≡ after_sends sends → result ≡ after_sends (send.now ∷ sends) }
 {

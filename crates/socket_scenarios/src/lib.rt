@@ -46,6 +46,11 @@ fn tell_silent(sums: &mut Sums, rt: &HostRuntime) -> io::Result<()> {
         rt,
         "silent_sockets_are_passed_by_up_to_one_that_speaks",
         passed::silent_sockets_are_passed_by_up_to_one_that_speaks(rt, alloc),
+    )?;
+    sums.tell(
+        rt,
+        "full_sockets_are_passed_by_up_to_one_with_room",
+        passed::full_sockets_are_passed_by_up_to_one_with_room(rt, alloc),
     )
 }
 

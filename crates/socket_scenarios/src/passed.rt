@@ -1,11 +1,12 @@
-//! Silent sockets of the system, for which the wire answers in a run of slots.
+//! Silent and full sockets of the system, for which the wire answers in a run of slots.
 
-use crate::silent::{listening, met};
+use crate::silent::{fill, listening, met, read_all};
 use scenario_outcomes::{Unmet, expect_number, value_of};
-use serving::{Peer, Read, Wire as _};
+use serving::{Peer, Read, Wire as _, Write};
 use slab::Slab;
 use sockets::Sockets;
 use std::alloc::Global;
+use std::io;
 use std::io::Write as _;
 use std::net::Net;
 
@@ -81,4 +82,75 @@ pub(crate) fn silent_sockets_are_passed_by_up_to_one_that_speaks<N: Net>(
         expect_turn(&mut sockets, &peers)?;
     }
     Ok(())
+}
+
+/// Expects that the second socket takes bytes once the first, which is full, is skipped and the second is not.
+fn expect_taken_by_second(
+    sockets: &mut Sockets,
+    peers: &Slab<Peer>,
+    first: u64,
+    second: u64,
+) -> Result<(), Unmet> {
+    for _ in 0..PATIENCE {
+        sockets.rest();
+        sockets.accept();
+        match sockets.pass_full(peers, 0, 2) {
+            0 => {
+                sockets.write(first, b"four");
+            }
+            1 => {
+                if let Write::Took(_) = sockets.write(second, b"four") {
+                    return Ok(());
+                }
+            }
+            _ => {}
+        }
+    }
+    Err(Unmet::Claim("a full socket is passed by, and one that has room is not"))
+}
+
+/// Expects that all slots are skipped in a round behind a rest that named another socket.
+fn expect_all_full<S: io::Write>(
+    sockets: &mut Sockets,
+    peers: &Slab<Peer>,
+    speaker: &mut S,
+) -> Result<(), Unmet> {
+    for _ in 0..PATIENCE {
+        value_of("write_all", speaker.write_all(b"one"))?;
+        sockets.rest();
+        sockets.accept();
+        if sockets.pass_full(peers, 0, 2) == 2 {
+            return Ok(());
+        }
+    }
+    Err(Unmet::Claim("full sockets are passed by"))
+}
+
+/// Expects that the first of these slots has its turn, and is not skipped then.
+fn expect_full_turn(sockets: &mut Sockets, peers: &Slab<Peer>) -> Result<(), Unmet> {
+    for _ in 0..TURNS {
+        sockets.accept();
+        if sockets.pass_full(peers, 0, 2) == 0 {
+            return Ok(());
+        }
+    }
+    Err(Unmet::Claim("a full socket is asked in its turn"))
+}
+
+/// A socket that is full is skipped, up to another that an event named as one with room. The first has its turn once no round rests.
+pub(crate) fn full_sockets_are_passed_by_up_to_one_with_room<N: Net>(
+    net: &N,
+    alloc: Global,
+) -> Result<(), Unmet> {
+    let mut sockets = listening(net, alloc)?;
+    let (_deaf, first) = met(net, &mut sockets)?;
+    let (mut reader, second) = met(net, &mut sockets)?;
+    let (mut speaker, _) = met(net, &mut sockets)?;
+    let peers = two_slots(alloc, first, second)?;
+    fill(&mut sockets, first)?;
+    let taken = fill(&mut sockets, second)?;
+    expect_all_full(&mut sockets, &peers, &mut speaker)?;
+    read_all(&mut reader, taken)?;
+    expect_taken_by_second(&mut sockets, &peers, first, second)?;
+    expect_full_turn(&mut sockets, &peers)
 }

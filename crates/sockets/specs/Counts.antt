@@ -3,7 +3,7 @@ use Rattle.std.specs.Prelude.{◌≡◌, ◌*◌, ◌%◌, ℕ, List, [], ◌∷
 use Rattle.serving.specs.Wire.{Call, Totals, Told, is_failed, total_after}
 use Rattle.sockets.specs.declared.counts.Count.{Count}
 
--- this count, if it is that of socket s
+-- the count, if it is that of socket `s`
 abbrev pub totals_of : ℕ → Option Count → Option Totals
 totals_of s None = None
 totals_of s (Some c) = if c.name == s then Some (record { got = c.got; taken = c.taken }) else None

@@ -46,6 +46,8 @@ struct Accepted {
     voice: Voice,
     /// The turn since which a write waits for room, if one does.
     full: Option<u64>,
+    /// Whether an event named room since the last write, which waited for it.
+    has_room: bool,
     /// When it is ended, if its connection is not running: by then that has to run, or to be over and all its output written.
     ends: Option<Instant>,
     /// Whether its connection is not running.
@@ -95,13 +97,9 @@ fn in_new_cycle(voice: Voice) -> Voice {
     }
 }
 
-/// Returns the turn since which a socket is still full after an event, if it is: no longer if it has room, or never will, which a write then finds.
-fn still_full(event: &Event, full: Option<u64>) -> Option<u64> {
-    if event.is_writable() || event.is_write_closed() || event.is_error() {
-        None
-    } else {
-        full
-    }
+/// Returns whether a full socket is asked for a write after an event: it has room, or never will, which the write then finds.
+fn has_room(event: &Event) -> bool {
+    event.is_writable() || event.is_write_closed() || event.is_error()
 }
 
 /// Returns the socket with this name, if it is still there.
@@ -215,6 +213,7 @@ impl Sockets {
             stream,
             voice: Voice::Speaking,
             full: None,
+            has_room: false,
             ends: self.watch.ends(),
             is_stranger: true,
         };
@@ -348,6 +347,43 @@ impl Sockets {
         slot
     }
 
+    /// Returns whether a write of a slot's socket is answered without a look at it: no event has named room, and it is not its turn.
+    fn stays_full(&mut self, peers: &Slab<Peer>, slot: usize) -> bool
+        ensures failures { self.new.failures ≡ self.old.failures }
+        ensures counts { self.new.counts ≡ self.old.counts }
+        ensures given { self.new.given ≡ self.old.given }
+    {
+        let Some(peer) = peers.get(slot).copied() else {
+            return true;
+        };
+        match self.accepted.get(place_in(peer.socket)) {
+            Some(found) if found.name == peer.socket && !found.has_room => {
+                self.rounds.passes_write(found.full)
+            }
+            _ => false,
+        }
+    }
+
+    /// Returns the first slot at or after `from` whose socket has to be asked for a write: at most `end`.
+    fn first_with_room(&mut self, peers: &Slab<Peer>, from: usize, end: usize) -> usize
+        requires { from ≤ end }
+        // The frame: what the sockets know is unchanged.
+        ensures failures { self.new.failures ≡ self.old.failures }
+        ensures counts { self.new.counts ≡ self.old.counts }
+        ensures given { self.new.given ≡ self.old.given }
+        ensures least { from ≤ result }
+        ensures most { result ≤ end }
+    {
+        if !self.rounds.asks_full() {
+            return end;
+        }
+        let mut slot = from;
+        while slot < end && self.stays_full(peers, slot) {
+            slot += 1;
+        }
+        slot
+    }
+
     /// Writes to `socket`. Fails if the socket's time is over.
     fn write_to(&mut self, socket: u64, bytes: &[u8]) -> Write
         ensures failures { (s : ℕ) → self.new.failures ≡ self.old.failures + fails (write_call s result bytes.now) }
@@ -366,6 +402,7 @@ impl Sockets {
         }
         let answer = write_answer(accepted.stream.write(bytes));
         accepted.full = self.rounds.after_write(answer, bytes.len());
+        accepted.has_room = false;
         match answer {
             Write::Took(count) => Write::Took(count),
             Write::Wait => Write::Wait,
@@ -384,7 +421,11 @@ impl Sockets {
                 self.voice = Voice::Speaking;
             } else if let Some(accepted) = named(&mut self.accepted, event.token().0 as u64) {
                 accepted.voice = heard(event, accepted.voice);
-                accepted.full = still_full(event, accepted.full);
+                if accepted.full.is_some() && has_room(event) {
+                    accepted.full = None;
+                    accepted.has_room = true;
+                    self.rounds.free();
+                }
             }
         }
         if !self.events.is_empty() {
@@ -412,6 +453,10 @@ impl Wire for Sockets {
 
     fn pass_silent(&mut self, peers: &Slab<Peer>, from: usize, end: usize) -> usize {
         self.first_asked(peers, from, end)
+    }
+
+    fn pass_full(&mut self, peers: &Slab<Peer>, from: usize, end: usize) -> usize {
+        self.first_with_room(peers, from, end)
     }
 
     fn write(&mut self, socket: u64, bytes: &[u8]) -> Write {

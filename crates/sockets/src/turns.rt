@@ -79,6 +79,10 @@ pub(crate) struct Rounds {
     silent: Line,
     /// The sockets that had no room for all of a write.
     full: Line,
+    /// Whether an event has named room since this round began.
+    names_room: bool,
+    /// Whether an event named room between the beginnings of the round before and of this one.
+    named_room: bool,
     /// The greedy sockets of clients that have logged in.
     greedy: Cycle,
     /// The greedy sockets of clients that have not.
@@ -165,6 +169,17 @@ impl Line {
         self.asked = 0;
     }
 
+    /// Begins a round. Counts those that wait anew only if it takes a turn.
+    fn begin_turn(&mut self, is_turn: bool)
+        ensures length { is_turn ≡ true → self.new.length ≡ self.old.met }
+        ensures asked { self.new.asked ≡ 0 }
+    {
+        if is_turn {
+            self.begin();
+        }
+        self.asked = 0;
+    }
+
     /// Returns whether a socket that has waited since turn `since` is asked in turn `turn`.
     ///
     /// It is if an eighth of their number of turns is over, and fewer than 8 were asked. So all are asked in turn: between two questions to one of
@@ -209,6 +224,8 @@ impl Rounds {
             turn: 0,
             silent: Line::new(),
             full: Line::new(),
+            names_room: false,
+            named_room: false,
             greedy: Cycle::new(MOST_GREEDY),
             strangers: Cycle::new(MOST_STRANGERS),
         }
@@ -221,6 +238,7 @@ impl Rounds {
         ensures number { self.old.number ≤ self.new.number }
         ensures sure { self.new.number % 16 ≡ 0 → self.new.is_turn ≡ true }
         ensures untold { self.old.told + 2 < self.new.number → self.new.is_turn ≡ true }
+        ensures named { self.new.named_room ≡ self.old.names_room }
     {
         self.number = self.number.saturating_add(1);
         let is_told = self.number <= self.told.saturating_add(TOLD_ROUNDS);
@@ -229,9 +247,20 @@ impl Rounds {
             self.turn = self.turn.saturating_add(1);
         }
         self.silent.begin();
-        self.full.begin();
+        self.full.begin_turn(self.is_turn);
+        self.named_room = self.names_room;
+        self.names_room = false;
         self.greedy.begin();
         self.strangers.begin();
+    }
+
+    /// Records that an event named room at a socket that was full.
+    pub(crate) fn free(&mut self)
+        ensures silent { self.new.silent ≡ self.old.silent }
+        ensures full { self.new.full ≡ self.old.full }
+        ensures names { self.new.names_room ≡ true }
+    {
+        self.names_room = true;
     }
 
     /// Records that a rest named a socket, so that all others have nothing.
@@ -347,7 +376,38 @@ impl Rounds {
         let Some(since) = since else {
             return true;
         };
+        if !self.is_turn {
+            return false;
+        }
         self.full.meet();
-        self.is_turn && self.full.asks(self.turn, since)
+        self.full.asks(self.turn, since)
+    }
+
+    /// Returns whether any socket that was full may be asked for a write in this round: if it takes a turn, or an event named room before it.
+    pub(crate) fn asks_full(&self) -> bool
+        ensures turn { self.now.is_turn ≡ true → result ≡ true }
+        ensures named { self.now.named_room ≡ true → result ≡ true }
+    {
+        self.is_turn || self.named_room
+    }
+
+    /// Returns whether a write to a socket is answered in this round without asking the system: it was not full, or it is not its turn.
+    pub(crate) fn passes_write(&mut self, since: Option<u64>) -> bool
+        ensures due { (s : ℕ) → since ≡ Some s → self.old.is_turn ≡ true
+            → s + self.old.full.length / 8 < self.old.turn → self.old.full.asked < 8 → result ≡ false }
+        ensures full { self.new.full.asked ≡ self.old.full.asked }
+        ensures silent { self.new.silent ≡ self.old.silent }
+    {
+        let Some(since) = since else {
+            return true;
+        };
+        if !self.is_turn {
+            return true;
+        }
+        if self.full.is_next(self.turn, since) {
+            return false;
+        }
+        self.full.meet();
+        true
     }
 }

@@ -1,5 +1,5 @@
 -- Dead letters as gates: which they are, and what comes of a key that a queue fixed.
-use Rattle.state_routes.proofs.Names.{◌≡◌, ◌⊎◌, ℕ, zero, suc, ◌+◌, ◌<◌, ◌≤◌, Bool, true, false, cond, List, [], ◌∷◌, ◌++◌, length, refl, sym, ap, subst, ◌∙◌, inl, inr, Option, Some, None, arith, add-one, append-nil, append_assoc, drop, get_or, Decides, false≢true, bytes_eq-Decides, Text, Topology, IsIn, Reading, of_key, RoutesBy, reading_after, fixed_after, Comes, routed, dead, Tracked, Mode, Reaches, Never, Exchange, DeclaredQueue, Binding, Place, Direct, Hop, Gate, Pattern, node, tracked_place, test_by, kind_at, is_into_queue, entry, default_entry, entries, entries_through, AreEntered, none, next, AreMore, dying, unfixed_end, GoOn, links_in, in_front, in_back, in-append}
+use Rattle.state_routes.proofs.Names.{◌≡◌, ◌⊎◌, ℕ, zero, suc, ◌+◌, ◌<◌, ◌≤◌, Bool, true, false, cond, List, [], ◌∷◌, ◌++◌, length, refl, sym, ap, subst, ◌∙◌, inl, inr, Option, Some, None, arith, add-one, append-nil, append_assoc, drop, get_or, Decides, false≢true, bytes_eq-Decides, Text, Topology, IsIn, Reading, of_key, RoutesBy, reading_after, fixed_after, Comes, routed, dead, Tracked, Mode, Reaches, Never, Exchange, DeclaredQueue, Binding, Place, Direct, Hop, Gate, Pattern, node, tracked_index, test_by, kind_at, is_into_queue, entry, default_entry, entries, entries_through, AreEntered, none, next, AreMore, dying, unfixed_end, GoOn, links_in, in_front, in_back, in-append}
 use Rattle.model.specs.declared.topologies.Place.TheVariants as place
 
 -- ---- keys that a queue fixed
@@ -102,7 +102,7 @@ pub record FromDeath (t : Topology) (ps : List Tracked) (Ends : DeclaredQueue �
   pub last : DeclaredQueue
   pub is_in : IsIn last queues
   pub ends : Ends last (Some g.link.to)
-  pub way : ((b : Binding) × IsIn b t.bindings × (b.to ≡ place.Queue last.name) × (g.link.from ≡ node t.exchanges b.source) × (g.test ≡ test_by ps (kind_at t.exchanges b.source) b.key)) ⊎ ((g.link.from ≡ 2) × (g.test ≡ Pattern (tracked_place ps Direct last.name)))
+  pub way : ((b : Binding) × IsIn b t.bindings × (b.to ≡ place.Queue last.name) × (g.link.from ≡ node t.exchanges b.source) × (g.test ≡ test_by ps (kind_at t.exchanges b.source) b.key)) ⊎ ((g.link.from ≡ 2) × (g.test ≡ Pattern (tracked_index ps Direct last.name)))
 
 -- where the queue's dead letters lead on, and that its ways end there
 pub record ToDeath (t : Topology) (ps : List Tracked) (Ends : DeclaredQueue → Option ℕ → Type 0) (last : DeclaredQueue) (gates : List Gate) : Type 0 where

@@ -1,5 +1,5 @@
 -- The open links lead exactly where a state makes sure, or does not rule out, that keys lead.
-use Rattle.state_routes.proofs.Names.{rules, ◌≡◌, ◌⊎◌, ℕ, zero, suc, Bool, true, false, cond, eqb, List, [], ◌∷◌, ◌++◌, refl, sym, ap, subst, ◌∙◌, inl, inr, Option, Some, None, arith, Decides, Contains, not, ◌&&◌, ◌||◌, unwrap_or, option_map, bytes_eq, false≢true, eqb-true, bytes_eq-Decides, Text, Topology, IsIn, IsWellFormed, exchange_names, Reading, Binds, Edge, bound, alternate, default, Leads, here, on, RoutesBy, of_key, reading_after, fixed_after, Comes, routed, dead, Tracked, same_tracked, is_accepted, PatternAnswers, sure, possible, Mode, Reaches, Never, Exchange, DeclaredQueue, Binding, Place, ExchangeKind, Direct, Fanout, Topic, Hop, Gate, Pattern, Chain, still, along, node, end_node, alternate_link, alternate_links, tracked_place, test_by, kind_at, kind_or_direct, gate_of, binding_gates, has_queue, default_gate, gates_of, accepted, is_open, is_shut, passes, blocks, all_block, open_links, open_alternates, open_ways, entry, default_entry, AreEntered, dying, GoOn, IsEnd, AreOnce, in_front, in_back, in-append, in_map, from_map, contained, has_place, same_tracked_tells}
+use Rattle.state_routes.proofs.Names.{rules, ◌≡◌, ◌⊎◌, ℕ, zero, suc, Bool, true, false, cond, eqb, List, [], ◌∷◌, ◌++◌, refl, sym, ap, subst, ◌∙◌, inl, inr, Option, Some, None, arith, Decides, Contains, not, ◌&&◌, ◌||◌, unwrap_or, option_map, bytes_eq, false≢true, eqb-true, bytes_eq-Decides, Text, Topology, IsIn, IsWellFormed, exchange_names, Reading, Binds, Edge, bound, alternate, default, Leads, here, on, RoutesBy, of_key, reading_after, fixed_after, Comes, routed, dead, Tracked, same_tracked, is_accepted, PatternAnswers, sure, possible, Mode, Reaches, Never, Exchange, DeclaredQueue, Binding, Place, ExchangeKind, Direct, Fanout, Topic, Hop, Gate, Pattern, Chain, still, along, node, end_node, alternate_link, alternate_links, tracked_index, test_by, kind_at, kind_or_direct, gate_of, binding_gates, has_queue, default_gate, gates_of, accepted, is_open, is_shut, passes, blocks, all_block, open_links, open_alternates, open_ways, entry, default_entry, AreEntered, dying, GoOn, IsEnd, AreOnce, in_front, in_back, in-append, in_map, from_map, contained, has_place, same_tracked_tells}
 use Rattle.std.specs.Prelude.{slice_get}
 use Rattle.model.specs.declared.topologies.Place.TheVariants as place
 use Rattle.state_routes.specs.declared.gates.Test.{Test}
@@ -15,24 +15,24 @@ answers_in (p ∷ ps) [] kind text b a = absurd a
 answers_in (p ∷ ps) (m ∷ ms) kind text b (inl a) = inl (sym (ap (λ (k : ExchangeKind). record { kind = k; text = p.text }) a.0 ∙ ap (λ (z : Text). record { kind = kind; text = z }) a.1))
 answers_in (p ∷ ps) (m ∷ ms) kind text b (inr a) = inr (answers_in ps ms kind text b a)
 
-at_its_place : (ps : List Tracked) (ms : List ℕ) (kind : ExchangeKind) (text : Text) (b : Bool) → AreOnce ps → PatternAnswers ps ms kind text b → slice_get (accepted ps ms) (tracked_place ps kind text) ≡ Some b
+at_its_place : (ps : List Tracked) (ms : List ℕ) (kind : ExchangeKind) (text : Text) (b : Bool) → AreOnce ps → PatternAnswers ps ms kind text b → slice_get (accepted ps ms) (tracked_index ps kind text) ≡ Some b
 at_its_place [] ms kind text b o a = absurd a
 at_its_place (p ∷ ps) [] kind text b o a = absurd a
 at_its_place (p ∷ ps) (m ∷ ms) kind text b o a = go (same_tracked (record { kind = kind; text = text }) p) (same_tracked_tells (record { kind = kind; text = text }) p) a (λ z. at_its_place ps ms kind text b o.1 z)
   where
-    go : (v : Bool) → Decides v (record { kind = kind; text = text } ≡ p) → ((p.kind ≡ kind) × (p.text ≡ text) × (is_accepted p m ≡ b)) ⊎ PatternAnswers ps ms kind text b → (PatternAnswers ps ms kind text b → slice_get (accepted ps ms) (tracked_place ps kind text) ≡ Some b)
-        → slice_get (is_accepted p m ∷ accepted ps ms) (cond v zero (suc (tracked_place ps kind text))) ≡ Some b
+    go : (v : Bool) → Decides v (record { kind = kind; text = text } ≡ p) → ((p.kind ≡ kind) × (p.text ≡ text) × (is_accepted p m ≡ b)) ⊎ PatternAnswers ps ms kind text b → (PatternAnswers ps ms kind text b → slice_get (accepted ps ms) (tracked_index ps kind text) ≡ Some b)
+        → slice_get (is_accepted p m ∷ accepted ps ms) (cond v zero (suc (tracked_index ps kind text))) ≡ Some b
     go true d (inl z) f = ap (λ (w : Bool). Some w) z.2
     go true d (inr z) f = absurd (o.0 (subst (λ (w : Tracked). IsIn w ps) (d.0 refl) (answers_in ps ms kind text b z)))
     go false d (inl z) f = absurd (false≢true (d.1 (sym (ap (λ (k : ExchangeKind). record { kind = k; text = p.text }) z.0 ∙ ap (λ (w : Text). record { kind = kind; text = w }) z.1))))
     go false d (inr z) f = f z
 
-from_its_place : (ps : List Tracked) (ms : List ℕ) (kind : ExchangeKind) (text : Text) (b : Bool) → slice_get (accepted ps ms) (tracked_place ps kind text) ≡ Some b → PatternAnswers ps ms kind text b
+from_its_place : (ps : List Tracked) (ms : List ℕ) (kind : ExchangeKind) (text : Text) (b : Bool) → slice_get (accepted ps ms) (tracked_index ps kind text) ≡ Some b → PatternAnswers ps ms kind text b
 from_its_place [] ms kind text b e = let h : None ≡ Some b = e in cc
 from_its_place (p ∷ ps) [] kind text b e = let h : None ≡ Some b = e in cc
 from_its_place (p ∷ ps) (m ∷ ms) kind text b e = go (same_tracked (record { kind = kind; text = text }) p) (same_tracked_tells (record { kind = kind; text = text }) p) e (λ z. from_its_place ps ms kind text b z)
   where
-    go : (v : Bool) → Decides v (record { kind = kind; text = text } ≡ p) → slice_get (is_accepted p m ∷ accepted ps ms) (cond v zero (suc (tracked_place ps kind text))) ≡ Some b → (slice_get (accepted ps ms) (tracked_place ps kind text) ≡ Some b → PatternAnswers ps ms kind text b)
+    go : (v : Bool) → Decides v (record { kind = kind; text = text } ≡ p) → slice_get (is_accepted p m ∷ accepted ps ms) (cond v zero (suc (tracked_index ps kind text))) ≡ Some b → (slice_get (accepted ps ms) (tracked_index ps kind text) ≡ Some b → PatternAnswers ps ms kind text b)
         → ((p.kind ≡ kind) × (p.text ≡ text) × (is_accepted p m ≡ b)) ⊎ PatternAnswers ps ms kind text b
     go true d e f = inl (ap (λ (w : Tracked). w.kind) (sym (d.0 refl)), ap (λ (w : Tracked). w.text) (sym (d.0 refl)), (let h : Some (is_accepted p m) ≡ Some b = e in cc))
     go false d e f = inr (f e)
@@ -70,8 +70,8 @@ module _ (ps : List Tracked) (ms : List ℕ) (once : AreOnce ps) where
 
   pub test_opens : (kind : ExchangeKind) (key : Text) → is_open (test_by ps kind key) (accepted ps ms) ≡ true → (kind ≡ Fanout) ⊎ PatternAnswers ps ms kind key true
   test_opens Fanout key e = inl refl
-  test_opens Direct key e = inr (from_its_place ps ms Direct key true (or_true (slice_get (accepted ps ms) (tracked_place ps Direct key)) e))
-  test_opens Topic key e = inr (from_its_place ps ms Topic key true (or_true (slice_get (accepted ps ms) (tracked_place ps Topic key)) e))
+  test_opens Direct key e = inr (from_its_place ps ms Direct key true (or_true (slice_get (accepted ps ms) (tracked_index ps Direct key)) e))
+  test_opens Topic key e = inr (from_its_place ps ms Topic key true (or_true (slice_get (accepted ps ms) (tracked_index ps Topic key)) e))
 
   pub shuts_test : (kind : ExchangeKind) (key : Text) → (kind ≡ Fanout → ⊥) × PatternAnswers ps ms kind key false → is_shut (test_by ps kind key) (accepted ps ms) ≡ true
   shuts_test Fanout key s = absurd (s.0 refl)
@@ -80,8 +80,8 @@ module _ (ps : List Tracked) (ms : List ℕ) (once : AreOnce ps) where
 
   pub test_shuts : (kind : ExchangeKind) (key : Text) → is_shut (test_by ps kind key) (accepted ps ms) ≡ true → (kind ≡ Fanout → ⊥) × PatternAnswers ps ms kind key false
   test_shuts Fanout key e = absurd (false≢true e)
-  test_shuts Direct key e = ((λ f. let h : Direct ≡ Fanout = f in cc), from_its_place ps ms Direct key false (not_or_true (slice_get (accepted ps ms) (tracked_place ps Direct key)) e))
-  test_shuts Topic key e = ((λ f. let h : Topic ≡ Fanout = f in cc), from_its_place ps ms Topic key false (not_or_true (slice_get (accepted ps ms) (tracked_place ps Topic key)) e))
+  test_shuts Direct key e = ((λ f. let h : Direct ≡ Fanout = f in cc), from_its_place ps ms Direct key false (not_or_true (slice_get (accepted ps ms) (tracked_index ps Direct key)) e))
+  test_shuts Topic key e = ((λ f. let h : Topic ≡ Fanout = f in cc), from_its_place ps ms Topic key false (not_or_true (slice_get (accepted ps ms) (tracked_index ps Topic key)) e))
 
   pub opens_passes : (m : Mode) (kind : ExchangeKind) (key : Text) → (reading_by m ps ms).opens kind key → passes m (test_by ps kind key) (accepted ps ms) ≡ true
   opens_passes Reaches kind key o = opens_test kind key o
@@ -102,11 +102,11 @@ module _ (ps : List Tracked) (ms : List ℕ) (once : AreOnce ps) where
   blocks_shuts Never kind key e = ((λ f. true_not (is_open (test_by ps kind key) (accepted ps ms)) e (opens_test kind key (inl f))), (λ a. true_not (is_open (test_by ps kind key) (accepted ps ms)) e (opens_test kind key (inr a))))
 
   -- the default exchange asks for a name as a direct exchange for a key
-  pub names_passes : (m : Mode) (queue : Text) → (reading_by m ps ms).names queue → passes m (Pattern (tracked_place ps Direct queue)) (accepted ps ms) ≡ true
+  pub names_passes : (m : Mode) (queue : Text) → (reading_by m ps ms).names queue → passes m (Pattern (tracked_index ps Direct queue)) (accepted ps ms) ≡ true
   names_passes Reaches queue a = opens_passes Reaches Direct queue (inr a)
   names_passes Never queue a = opens_passes Never Direct queue (inr a)
 
-  pub passes_names : (m : Mode) (queue : Text) → passes m (Pattern (tracked_place ps Direct queue)) (accepted ps ms) ≡ true → (reading_by m ps ms).names queue
+  pub passes_names : (m : Mode) (queue : Text) → passes m (Pattern (tracked_index ps Direct queue)) (accepted ps ms) ≡ true → (reading_by m ps ms).names queue
   passes_names Reaches queue e = elim (passes_opens Reaches Direct queue e) [ inl f ↦ absurd (let h : Direct ≡ Fanout = f in cc) | inr a ↦ a ]
   passes_names Never queue e = elim (passes_opens Never Direct queue e) [ inl f ↦ absurd (let h : Direct ≡ Fanout = f in cc) | inr a ↦ a ]
 
@@ -382,7 +382,7 @@ module _ (m : Mode) (t : Topology) (q : Text) (ps : List Tracked) (ms : List ℕ
       let opens = passes_opens ps ms once m e.0.kind b.key (subst (λ (k : ExchangeKind). passes m (test_by ps k b.key) (accepted ps ms) ≡ true) (kind_is e.0 b.source (has_place t.exchanges e.0 e.1) e.2) o) in
       bound e.0 b (has_place t.exchanges e.0 e.1) (sym e.2) (record { is_binding = has_place t.bindings b i; source = e.2; leads = leads }) opens
 
-  default_edge : (d : DeclaredQueue) → IsIn d t.queues → passes m (Pattern (tracked_place ps Direct d.name)) (accepted ps ms) ≡ true → Edge t (reading_by m ps ms) [] (place.Queue d.name)
+  default_edge : (d : DeclaredQueue) → IsIn d t.queues → passes m (Pattern (tracked_index ps Direct d.name)) (accepted ps ms) ≡ true → Edge t (reading_by m ps ms) [] (place.Queue d.name)
   default_edge d i o = default d (has_place t.queues d i) refl (passes_names ps ms once m d.name o)
 
   edge_of : (l : Hop) → IsIn l (ways_at m t q ps ms deaths) → FromEdge l
@@ -407,7 +407,7 @@ module _ (m : Mode) (t : Topology) (q : Text) (ps : List Tracked) (ms : List ℕ
               from_is = ap (λ (z : Hop). z.from) s ∙ ap (λ (z : Gate). z.link.from) r.1;
               leads = inl (
                 place.Queue d.0.name,
-                default_edge d.0 d.1 (subst (λ (z : Text). passes m (Pattern (tracked_place ps Direct z)) (accepted ps ms) ≡ true) (sym d.2) (subst (λ (z : Gate). passes m z.test (accepted ps ms) ≡ true) r.1 o)),
+                default_edge d.0 d.1 (subst (λ (z : Text). passes m (Pattern (tracked_index ps Direct z)) (accepted ps ms) ≡ true) (sym d.2) (subst (λ (z : Gate). passes m z.test (accepted ps ms) ≡ true) r.1 o)),
                 ap (λ (z : Hop). z.to) s ∙ ap (λ (z : Gate). z.link.to) r.1 ∙ sym (ap (λ (z : Text). end_node t.exchanges q (place.Queue z)) d.2 ∙ same_end t.exchanges q),
               );
             }

@@ -26,7 +26,7 @@ pub use Rattle.state_routes.specs.Collected.{AreInReach, collected, keys_by_onto
 pub use Rattle.state_routes.specs.Deaths.{AreEntered, AreGates, AreMore, GoOn, IsEnd, IsUnfixedEnd, default_entry, dying, entries, entries_through, entry, is_into_queue, links_in, next, none, unfixed_end}
 pub use Rattle.state_routes.specs.Exits.{AddsAlternates, AddsGates, AreEmpty, AreExits, Exit, IsBounded, LeadFrom, LeadsFrom, exit_at, gates_from, links_from, no_exit, open_through}
 pub use Rattle.state_routes.specs.Following.{Enters, Spreads}
-pub use Rattle.state_routes.specs.Gates.{accepted, all_block, binding_gates, blocks, default_gate, gate_of, gates_of, has_queue, is_open, is_shut, kind_at, kind_or_direct, open_alternates, open_links, open_ways, passes, test_by, tracked_place}
+pub use Rattle.state_routes.specs.Gates.{accepted, all_block, binding_gates, blocks, default_gate, gate_of, gates_of, has_queue, is_open, is_shut, kind_at, kind_or_direct, open_alternates, open_links, open_ways, passes, test_by, tracked_index}
 pub use Rattle.state_routes.specs.Keys.{AreKeysOf, ByKind, texts_by, with_text}
 pub use Rattle.state_routes.specs.Nodes.{alternate_link, alternate_links, any_links, count, end_node, link_of, links_of, node}
 pub use Rattle.state_routes.specs.Placing.{RiseBelow, Rises}

@@ -1,4 +1,4 @@
--- What leads on from each place.
+-- What leads on from each node (own).
 use Rattle.std.specs.Prelude.{◌≡◌, ◌<◌, ◌==◌, ℕ, List, [], ◌∷◌, ◌++◌, Bool, length, slice_index_or}
 use Rattle.std.specs.List.{filter}
 use Rattle.model.specs.Topology.{IsIn}
@@ -7,66 +7,66 @@ use Rattle.paths.specs.declared.reach.Hop.{Hop}
 use Rattle.state_routes.specs.declared.gates.Gate.{Gate}
 use Rattle.state_routes.specs.Gates.{open_ways}
 
--- what leads on from one place: gates, and links to alternate exchanges
+-- what leads on from one node: gates, and links to alternate exchanges
 pub record Exit : Type 0 where
   pub gates : List Gate
   pub alternates : List Hop
 
--- nothing
+-- the exit by which nothing leads on
 abbrev pub no_exit : Exit
 no_exit = record { gates = []; alternates = [] }
 
--- what leads on from this place
+-- the exit of node `p`
 abbrev pub exit_at : List Exit → ℕ → Exit
 exit_at exits p = slice_index_or exits p no_exit
 
--- those gates that start at this place
+-- the gates that start at node `p`
 abbrev pub gates_from : ℕ → List Gate → List Gate
 gates_from p gs = filter (λ (g : Gate). g.link.from == p) gs
 
--- those links that start at this place
+-- the links that start at node `p`
 abbrev pub links_from : ℕ → List Hop → List Hop
 links_from p ls = filter (λ (l : Hop). l.from == p) ls
 
--- from each of n places lead these gates and links that start there
+-- `exits` has an entry for each of `n` nodes, with those of the gates `gs` and of the links `ls` that start there
 pub record AreExits (gs : List Gate) (ls : List Hop) (n : ℕ) (exits : List Exit) : Type 0 where
   pub size : length exits ≡ n
   pub gates : (p : ℕ) → (exit_at exits p).gates ≡ gates_from p gs
   pub alternates : (p : ℕ) → (exit_at exits p).alternates ≡ links_from p ls
 
--- the links that are open from any of the places, by what the patterns accept
+-- the links that are open from any node, by what the patterns accept
 abbrev pub open_through : Mode → List Exit → List Bool → List Hop
 open_through m [] acc = []
 open_through m (e ∷ es) acc = open_ways m e.gates e.alternates acc ++ open_through m es acc
 
--- the link starts at this place and ends at one of n
+-- the link starts at node `p` and ends at one of `n` nodes
 abbrev pub LeadsFrom : ℕ → ℕ → Hop → Type 0
 LeadsFrom n p l = (l.from ≡ p) × (l.to < n)
 
--- so does all that leads on from the place
+-- each gate and link of the exit does so
 pub record LeadFrom (n p : ℕ) (e : Exit) : Type 0 where
   pub gates : (g : Gate) → IsIn g e.gates → LeadsFrom n p g.link
   pub alternates : (l : Hop) → IsIn l e.alternates → LeadsFrom n p l
 
--- the start is one of the places, and what leads on from each leads to one
+-- `start` is one of the nodes, and each exit leads from its node to one of them
 pub record IsBounded (exits : List Exit) (start : ℕ) : Type 0 where
   pub begins : start < length exits
   pub leads : (p : ℕ) → LeadFrom (length exits) p (exit_at exits p)
 
--- ---- on the way
+-- ---- while exits are built
 
--- there are so many places, and nothing leads on from any
+-- there are `n` exits, by which nothing leads on
 pub record AreEmpty (n : ℕ) (exits : List Exit) : Type 0 where
   pub size : length exits ≡ n
   pub none : (p : ℕ) → exit_at exits p ≡ no_exit
 
--- these gates lead on as well, each from where it starts
+-- `new` is `old` with these gates added, each to the exit of the node where it starts
 pub record AddsGates (gs : List Gate) (old new : List Exit) : Type 0 where
   pub size : length new ≡ length old
   pub gates : (p : ℕ) → (exit_at new p).gates ≡ (exit_at old p).gates ++ gates_from p gs
   pub alternates : (p : ℕ) → (exit_at new p).alternates ≡ (exit_at old p).alternates
 
--- these links to alternate exchanges lead on as well, each from where it starts
+-- `new` is `old` with these links to alternate exchanges added, each to the exit of the node where it starts
 pub record AddsAlternates (ls : List Hop) (old new : List Exit) : Type 0 where
   pub size : length new ≡ length old
   pub gates : (p : ℕ) → (exit_at new p).gates ≡ (exit_at old p).gates

@@ -1,4 +1,4 @@
--- Patterns as texts, by the kind of exchange that compares them.
+-- Patterns as texts, by the kind of exchange that compares them (own).
 use Rattle.std.specs.Prelude.{List, [], ◌∷◌, ◌++◌}
 use Rattle.model.specs.Words.{Text}
 use Rattle.model.specs.Topology.{IsIn}
@@ -12,19 +12,19 @@ pub record ByKind : Type 0 where
   pub fanout : List Text
   pub topic : List Text
 
--- those of one kind
+-- the texts of one kind
 abbrev pub texts_by : ByKind → ExchangeKind → List Text
 texts_by keys Direct = keys.direct
 texts_by keys Fanout = keys.fanout
 texts_by keys Topic = keys.topic
 
--- one more of a kind
+-- the same with one more text of a kind
 abbrev pub with_text : ByKind → ExchangeKind → Text → ByKind
 with_text keys Direct text = record keys { direct = keys.direct ++ text ∷ [] }
 with_text keys Fanout text = record keys { fanout = keys.fanout ++ text ∷ [] }
 with_text keys Topic text = record keys { topic = keys.topic ++ text ∷ [] }
 
--- these are the texts of the patterns, each under its kind
+-- `keys` has exactly the texts of the patterns `ps`, each under its kind
 abbrev pub AreKeysOf : ByKind → List Tracked → Type 0
 AreKeysOf keys ps = (kind : ExchangeKind) (text : Text)
     → (IsIn text (texts_by keys kind) → IsIn (record { kind = kind; text = text }) ps)

@@ -1,4 +1,5 @@
--- The places of a topology as numbers: 0 is the guarantee's queue, 1 any other, 2 the default exchange, and from 3 on the exchanges of the file.
+-- The exchanges and queues of a topology as nodes: 0 is the guarantee's queue, 1 any other, 2 the default exchange, and from 3 on the
+-- exchanges of the file (own).
 use Rattle.std.specs.Prelude.{ℕ, ◌+◌, List, [], ◌∷◌, ◌++◌, Option, Some, None, length, if◌then◌else◌}
 use Rattle.std.specs.Str.{bytes_eq}
 use Rattle.model.specs.Words.{Text}
@@ -7,42 +8,42 @@ use Rattle.model.specs.declared.topologies.Exchange.{Exchange}
 use Rattle.model.specs.declared.topologies.Binding.{Binding}
 use Rattle.model.specs.declared.topologies.Place.{Place}
 use Rattle.model.specs.declared.topologies.Place.TheVariants as place
-use Rattle.exchange_graph.specs.Fans.{exchange_place}
+use Rattle.exchange_graph.specs.Fans.{exchange_index}
 use Rattle.paths.specs.declared.reach.Hop.{Hop}
 
--- the number of the exchange of this name; one that is not there has a number of its own
+-- the node of the exchange of this name; a name that no exchange has is the node behind the last exchange
 abbrev pub node : List Exchange → Text → ℕ
 node exchanges [] = 2
-node exchanges (b ∷ bs) = exchange_place exchanges (b ∷ bs) + 3
+node exchanges (b ∷ bs) = exchange_index exchanges (b ∷ bs) + 3
 
--- how many numbers there are
+-- the number of nodes
 abbrev pub count : Topology → ℕ
 count t = length t.exchanges + 4
 
--- the number of the place where a binding ends
+-- the node where a binding ends
 abbrev pub end_node : List Exchange → Text → Place → ℕ
 end_node exchanges queue (place.Exchange name) = node exchanges name
 end_node exchanges queue (place.Queue name) = if bytes_eq name queue then 0 else 1
 
--- where a binding leads from and to
+-- the nodes that a binding connects
 abbrev pub link_of : List Exchange → Text → Binding → Hop
 link_of exchanges queue b = record { from = node exchanges b.source; to = end_node exchanges queue b.to }
 
--- where these bindings lead from and to, in their order
+-- the same for each of these bindings, in order
 abbrev pub links_of : List Exchange → Text → List Binding → List Hop
 links_of exchanges queue [] = []
 links_of exchanges queue (b ∷ bs) = link_of exchanges queue b ∷ links_of exchanges queue bs
 
--- where the alternate exchange of an exchange leads from and to, if it has one
+-- the nodes that an alternate exchange connects, if the exchange has one
 abbrev pub alternate_link : List Exchange → Text → Option Text → List Hop
 alternate_link exchanges name None = []
 alternate_link exchanges name (Some other) = record { from = node exchanges name; to = node exchanges other } ∷ []
 
--- where the alternate exchanges of these exchanges lead from and to, in their order
+-- the same for each of these exchanges, in order
 abbrev pub alternate_links : List Exchange → List Exchange → List Hop
 alternate_links exchanges [] = []
 alternate_links exchanges (x ∷ xs) = alternate_link exchanges x.name x.alternate ++ alternate_links exchanges xs
 
--- where any binding or alternate exchange leads from and to
+-- the links of all bindings and alternate exchanges
 abbrev pub any_links : Topology → Text → List Hop
 any_links t queue = links_of t.exchanges queue t.bindings ++ alternate_links t.exchanges t.exchanges

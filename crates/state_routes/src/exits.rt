@@ -1,4 +1,4 @@
-//! What leads on from each place.
+//! What leads on from each node. Start with `exits_of`.
 
 ghost use Rattle.std.specs.Prelude.{◌≡◌, ◌<◌, ◌++◌, ◌∷◌, [], length, IfOk, OnOk, slice_set};
 ghost use Rattle.model.specs.Topology.{IsIn};
@@ -11,7 +11,7 @@ use paths::Hop;
 use std::alloc::{AllocError, Global};
 use std::marker::Model;
 
-/// What leads on from one place.
+/// The gates and the links to alternate exchanges that start at one node.
 #[derive(Drop)]
 pub struct Exits {
     gates: Vec<Gate>,
@@ -27,7 +27,6 @@ impl Model for Exits {
 }
 
 impl Exits {
-    /// Nothing.
     fn none(alloc: Global) -> Exits
         ensures { result ≡ no_exit }
     {
@@ -37,7 +36,6 @@ impl Exits {
         }
     }
 
-    /// One gate more.
     fn add_gate(&mut self, gate: Gate) -> Result<(), AllocError>
         ensures { OnOk result (self.new ≡ record self.old { gates = self.old.gates ++ gate ∷ [] }) }
     {
@@ -45,7 +43,6 @@ impl Exits {
         Ok(())
     }
 
-    /// One link to an alternate exchange more.
     fn add_alternate(&mut self, link: Hop) -> Result<(), AllocError>
         ensures { OnOk result (self.new ≡ record self.old { alternates = self.old.alternates ++ link ∷ [] }) }
     {
@@ -53,7 +50,7 @@ impl Exits {
         Ok(())
     }
 
-    /// Adds the links that are open where these patterns accept.
+    /// Appends the links that are open if exactly the `accepted` patterns accept. Fails only if an allocation fails.
     pub fn add_open(
         &self,
         mode: Mode,
@@ -72,7 +69,8 @@ impl Exits {
     }
 }
 
-/// Adds the links of these gates and to these alternate exchanges that are open where these patterns accept.
+/// Appends the links of `gates` and to `alternates` that are open if exactly the `accepted` patterns accept.
+/// Fails only if an allocation fails.
 fn add_ways(
     mode: Mode,
     links: &mut Vec<Hop>,
@@ -87,7 +85,7 @@ fn add_ways(
     Ok(())
 }
 
-/// So many places from which nothing leads on.
+/// Returns `count` exits by which nothing leads on. Fails only if an allocation fails.
 fn no_exits(alloc: Global, count: usize) -> Result<Vec<Exits>, AllocError>
     ensures { IfOk result (λ exits. AreEmpty count exits.items) }
 {
@@ -98,7 +96,7 @@ fn no_exits(alloc: Global, count: usize) -> Result<Vec<Exits>, AllocError>
     Ok(exits)
 }
 
-/// Puts a gate where it starts.
+/// Adds `gate` to the exit of the node where it starts. Fails only if an allocation fails.
 fn put_gate(exits: &mut Vec<Exits>, gate: Gate) -> Result<(), AllocError>
     requires { gate.link.from < length exits.old.items }
     ensures { OnOk result (exits.new.items ≡ slice_set exits.old.items gate.link.from
@@ -108,7 +106,7 @@ fn put_gate(exits: &mut Vec<Exits>, gate: Gate) -> Result<(), AllocError>
     exits[gate.link.from].add_gate(gate)
 }
 
-/// Puts a link to an alternate exchange where it starts.
+/// Adds `link`, to an alternate exchange, to the exit of the node where it starts. Fails only if an allocation fails.
 fn put_alternate(exits: &mut Vec<Exits>, link: Hop) -> Result<(), AllocError>
     requires { link.from < length exits.old.items }
     ensures { OnOk result (exits.new.items ≡ slice_set exits.old.items link.from
@@ -118,7 +116,7 @@ fn put_alternate(exits: &mut Vec<Exits>, link: Hop) -> Result<(), AllocError>
     exits[link.from].add_alternate(link)
 }
 
-/// Puts each of these gates where it starts.
+/// Adds each of `gates` to the exit of the node where it starts. Fails only if an allocation fails.
 fn put_gates(exits: &mut Vec<Exits>, gates: &[Gate]) -> Result<(), AllocError>
     requires { (g : Gate) → IsIn g gates.now → g.link.from < length exits.old.items }
     ensures { OnOk result (AddsGates gates.now exits.old.items exits.new.items) }
@@ -129,7 +127,7 @@ fn put_gates(exits: &mut Vec<Exits>, gates: &[Gate]) -> Result<(), AllocError>
     Ok(())
 }
 
-/// Puts each of these links to alternate exchanges where it starts.
+/// Adds each of `alternates` to the exit of the node where it starts. Fails only if an allocation fails.
 fn put_alternates(exits: &mut Vec<Exits>, alternates: &[Hop]) -> Result<(), AllocError>
     requires { (l : Hop) → IsIn l alternates.now → l.from < length exits.old.items }
     ensures { OnOk result (AddsAlternates alternates.now exits.old.items exits.new.items) }
@@ -140,7 +138,8 @@ fn put_alternates(exits: &mut Vec<Exits>, alternates: &[Hop]) -> Result<(), Allo
     Ok(())
 }
 
-/// What of these gates and links to alternate exchanges leads on from each of so many places.
+/// Returns the exits of `count` nodes:
+/// `gates` and links to alternate exchanges, each at the node where it starts. Fails only if an allocation fails.
 pub fn exits_of(
     alloc: Global,
     count: usize,

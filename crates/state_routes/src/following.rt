@@ -1,4 +1,4 @@
-//! Which places messages come to, from place to place.
+//! Finds the nodes that messages reach. Start with `reached_through`.
 
 ghost use Rattle.std.specs.Prelude.{◌≡◌, ◌<◌, ◌∷◌, [], length, replicate, false, IfOk, OnOk};
 ghost use Rattle.model.specs.Topology.{IsIn};
@@ -12,7 +12,8 @@ use model::Mode;
 use paths::{Hop, unmarked};
 use std::alloc::{AllocError, Global};
 
-/// Marks a place, which then waits to be left, unless it is marked.
+/// Marks the node where `link` ends, and appends it to `rest`, the nodes still to visit, unless it is marked already.
+/// Fails only if an allocation fails.
 fn enter(link: Hop, marks: &mut [bool], rest: &mut Vec<usize>) -> Result<(), AllocError>
     requires { link.to < length marks.old }
     ensures { OnOk result (Enters (link ∷ []) marks.old rest.old.items marks.new rest.new.items) }
@@ -25,7 +26,7 @@ fn enter(link: Hop, marks: &mut [bool], rest: &mut Vec<usize>) -> Result<(), All
     Ok(())
 }
 
-/// Marks the ends of these links, which then wait to be left, but for those that are marked.
+/// Does the same for each of `links`. Fails only if an allocation fails.
 fn enter_all(links: &[Hop], marks: &mut [bool], rest: &mut Vec<usize>) -> Result<(), AllocError>
     requires { (l : Hop) → IsIn l links.now → l.to < length marks.old }
     ensures { OnOk result (Enters links.now marks.old rest.old.items marks.new rest.new.items) }
@@ -36,7 +37,7 @@ fn enter_all(links: &[Hop], marks: &mut [bool], rest: &mut Vec<usize>) -> Result
     Ok(())
 }
 
-/// Follows the links that are open from this place; `links` is for them.
+/// Follows the links that are open from node `place`; `links` is a buffer for them. Fails only if an allocation fails.
 fn leave(
     mode: Mode,
     exits: &[Exits],
@@ -58,7 +59,7 @@ fn leave(
     Ok(())
 }
 
-/// Follows all links that are open from the places that wait, and from those that they lead to.
+/// Follows all open links from the nodes in `rest`, and from those that they lead to. Fails only if an allocation fails.
 fn follow(
     alloc: Global,
     mode: Mode,
@@ -80,7 +81,7 @@ fn follow(
     Ok(())
 }
 
-/// Marks the places to which open links lead from this one, itself among them.
+/// Returns a mark for each node: whether open links lead there from `start`, which is marked itself. Fails only if an allocation fails.
 pub fn reached_through(
     alloc: Global,
     mode: Mode,

@@ -1,4 +1,4 @@
-//! Bindings as gates between places, each behind a tracked pattern.
+//! Bindings as gates between nodes, each with a test by a tracked pattern. Start with `gates_of`.
 
 ghost use Rattle.std.specs.Prelude.{◌≡◌, ◌++◌, IfOk, OnOk};
 ghost use Rattle.model.specs.Tracking.{same_kind, same_tracked};
@@ -15,7 +15,7 @@ ghost use Rattle.state_routes.specs.Gates.{
   open_alternates,
   open_links,
   passes,
-  tracked_place,
+  tracked_index,
   test_by,
 };
 
@@ -26,23 +26,23 @@ use paths::Hop;
 use std::alloc::{AllocError, Global};
 use word_automata::Tracked;
 
-/// What a gate asks of a key.
+/// What a gate tests of a key.
 #[derive(Clone, Copy, Drop)]
 pub enum Test {
-    /// Nothing.
+    /// Each key passes.
     Always,
-    /// That the tracked pattern at this place accepts it.
+    /// A key passes if the tracked pattern at this index accepts it.
     Pattern(usize),
 }
 
-/// A way from one place to another, for the keys that pass its test.
+/// A link between two nodes, for the keys that pass its test.
 #[derive(Clone, Copy, Drop)]
 pub struct Gate {
     pub link: Hop,
     pub test: Test,
 }
 
-/// Whether two kinds are the same.
+/// Returns whether two kinds are the same.
 fn same_kind(one: ExchangeKind, other: ExchangeKind) -> bool
     ensures { result ≡ same_kind one other }
 {
@@ -65,7 +65,7 @@ fn same_kind(one: ExchangeKind, other: ExchangeKind) -> bool
     }
 }
 
-/// Whether this is the tracked pattern.
+/// Returns whether `pattern` has the kind `kind` and the text `text`.
 fn is_same(pattern: &Tracked, kind: ExchangeKind, text: &[u8]) -> bool
     ensures { result ≡ same_tracked (record { kind = kind; text = text.now }) pattern.now }
 {
@@ -73,9 +73,9 @@ fn is_same(pattern: &Tracked, kind: ExchangeKind, text: &[u8]) -> bool
     alike && text == pattern.text().as_bytes()
 }
 
-/// The place of a tracked pattern, or how many there are.
-pub fn tracked_place(patterns: &[Tracked], kind: ExchangeKind, text: &[u8]) -> usize
-    ensures { result ≡ tracked_place patterns.now kind text.now }
+/// Returns the index of the tracked pattern with this kind and text, or the number of patterns if there is none.
+pub fn tracked_index(patterns: &[Tracked], kind: ExchangeKind, text: &[u8]) -> usize
+    ensures { result ≡ tracked_index patterns.now kind text.now }
 {
     let mut place = 0;
     for pattern in patterns {
@@ -87,18 +87,18 @@ pub fn tracked_place(patterns: &[Tracked], kind: ExchangeKind, text: &[u8]) -> u
     place
 }
 
-/// What a binding key of an exchange of this kind asks.
+/// Returns the test of a binding with `key` from an exchange of kind `kind`.
 pub fn test_by(patterns: &[Tracked], kind: ExchangeKind, key: &[u8]) -> Test
     ensures { result ≡ test_by patterns.now kind key.now }
 {
     match kind {
         ExchangeKind::Fanout => Test::Always,
-        ExchangeKind::Direct => Test::Pattern(tracked_place(patterns, kind, key)),
-        ExchangeKind::Topic => Test::Pattern(tracked_place(patterns, kind, key)),
+        ExchangeKind::Direct => Test::Pattern(tracked_index(patterns, kind, key)),
+        ExchangeKind::Topic => Test::Pattern(tracked_index(patterns, kind, key)),
     }
 }
 
-/// The kind of the exchange of this name.
+/// Returns the kind of the exchange `name`, or `Direct` if there is none.
 pub fn kind_at(topology: &Topology, name: &[u8]) -> ExchangeKind
     ensures { result ≡ kind_at topology.now.exchanges name.now }
 {
@@ -108,7 +108,7 @@ pub fn kind_at(topology: &Topology, name: &[u8]) -> ExchangeKind
     }
 }
 
-/// A binding's gate.
+/// Returns the gate of `binding`.
 fn gate_of(topology: &Topology, queue: &[u8], patterns: &[Tracked], binding: &Binding) -> Gate
     ensures { result ≡ gate_of topology.now.exchanges queue.now patterns.now binding.now }
 {
@@ -119,7 +119,7 @@ fn gate_of(topology: &Topology, queue: &[u8], patterns: &[Tracked], binding: &Bi
     }
 }
 
-/// The gates of these bindings.
+/// Returns the gates of `bindings`, in order. Fails only if an allocation fails.
 fn binding_gates(
     alloc: Global,
     topology: &Topology,
@@ -136,7 +136,7 @@ fn binding_gates(
     Ok(gates)
 }
 
-/// Whether the queue is there.
+/// Returns whether `queue` exists.
 fn has_queue(topology: &Topology, queue: &[u8]) -> bool
     ensures { result ≡ has_queue topology.now.queues queue.now }
 {
@@ -146,7 +146,8 @@ fn has_queue(topology: &Topology, queue: &[u8]) -> bool
         .any(|other| other.name.as_bytes() == queue)
 }
 
-/// The gates of a topology: those of its bindings, and the default exchange's to the queue.
+/// Returns the gates of a topology: those of its bindings, and that of the default exchange to `queue`, if it exists.
+/// Fails only if an allocation fails.
 pub fn gates_of(
     alloc: Global,
     topology: &Topology,
@@ -157,7 +158,7 @@ pub fn gates_of(
 {
     let mut gates = binding_gates(alloc, topology, queue, patterns, topology.bindings())?;
     if has_queue(topology, queue) {
-        let place = tracked_place(patterns, ExchangeKind::Direct, queue);
+        let place = tracked_index(patterns, ExchangeKind::Direct, queue);
         gates.push(Gate {
             link: Hop { from: 2, to: 0 },
             test: Test::Pattern(place),
@@ -166,7 +167,7 @@ pub fn gates_of(
     Ok(gates)
 }
 
-/// Whether the test is known to be passed.
+/// Returns whether the test is known to pass.
 fn is_open(test: Test, accepted: &[bool]) -> bool
     ensures { result ≡ is_open test accepted.now }
 {
@@ -179,7 +180,7 @@ fn is_open(test: Test, accepted: &[bool]) -> bool
     }
 }
 
-/// Whether the test is known not to be passed.
+/// Returns whether the test is known to fail.
 fn is_shut(test: Test, accepted: &[bool]) -> bool
     ensures { result ≡ is_shut test accepted.now }
 {
@@ -192,8 +193,8 @@ fn is_shut(test: Test, accepted: &[bool]) -> bool
     }
 }
 
-/// Whether the test lets a key pass, as a promise of this mode counts: for a `reaches` where that is known, for a `never`
-/// where nothing rules it out.
+/// Returns whether the test lets a key pass, as a promise of mode `mode` counts it: for a `reaches` if it is known to pass, for a `never`
+/// unless it is known to fail.
 fn passes(mode: Mode, test: Test, accepted: &[bool]) -> bool
     ensures { result ≡ passes mode test accepted.now }
 {
@@ -203,7 +204,8 @@ fn passes(mode: Mode, test: Test, accepted: &[bool]) -> bool
     }
 }
 
-/// Whether the test holds a key up, counted in the same way.
+/// Returns whether the test stops a key, counted in the same way: for a `reaches` if it is known to fail, for a `never` unless it is known
+/// to pass.
 fn blocks(mode: Mode, test: Test, accepted: &[bool]) -> bool
     ensures { result ≡ blocks mode test accepted.now }
 {
@@ -213,7 +215,7 @@ fn blocks(mode: Mode, test: Test, accepted: &[bool]) -> bool
     }
 }
 
-/// Whether each gate from this place holds a key up.
+/// Returns whether each gate from node `from` stops a key.
 fn all_block(mode: Mode, gates: &[Gate], from: usize, accepted: &[bool]) -> bool
     ensures { result ≡ all_block mode gates.now from accepted.now }
 {
@@ -225,7 +227,7 @@ fn all_block(mode: Mode, gates: &[Gate], from: usize, accepted: &[bool]) -> bool
     true
 }
 
-/// Adds the links of the gates that let a key pass.
+/// Appends the links of the gates that let a key pass. Fails only if an allocation fails.
 pub fn add_open(
     mode: Mode,
     links: &mut Vec<Hop>,
@@ -242,7 +244,7 @@ pub fn add_open(
     Ok(())
 }
 
-/// Adds the links to the alternate exchanges of those whose gates all hold a key up.
+/// Appends the links to alternate exchanges from the nodes whose gates all stop a key. Fails only if an allocation fails.
 pub fn add_alternates(
     mode: Mode,
     links: &mut Vec<Hop>,

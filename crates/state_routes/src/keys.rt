@@ -1,4 +1,4 @@
-//! Patterns, found by their texts.
+//! Sets of patterns, looked up by their texts.
 
 ghost use Rattle.std.specs.Prelude.{◌≡◌, ◌++◌, ◌∷◌, [], Decides, OnErr, OnOk};
 ghost use Rattle.model.specs.Topology.{IsIn};
@@ -9,7 +9,7 @@ use std::alloc::{AllocError, Global};
 use std::marker::Model;
 use topology_drafts::Names;
 
-/// Patterns, by the kind of exchange that compares them.
+/// A set of patterns, by the kind of exchange that compares them.
 #[derive(Drop)]
 pub struct Keys {
     direct: Names,
@@ -25,7 +25,7 @@ impl Model for Keys {
     ghost view = { λ k. record { direct = k.direct; fanout = k.fanout; topic = k.topic } };
 }
 
-/// Puts a text behind the others, among which it is not.
+/// Appends `text`, which is not in `names` yet. Fails only if an allocation fails; nothing has changed then.
 fn put(names: &mut Names, alloc: Global, text: &[u8]) -> Result<(), AllocError>
     requires { IsIn text.now names.old → ⊥ }
     ensures ok { OnOk result (names.new ≡ names.old ++ text.now ∷ []) }
@@ -36,7 +36,7 @@ fn put(names: &mut Names, alloc: Global, text: &[u8]) -> Result<(), AllocError>
 }
 
 impl Keys {
-    /// No patterns.
+    /// Returns an empty set. Never allocates.
     pub fn none(alloc: Global) -> Keys
         ensures { result ≡ record { direct = []; fanout = []; topic = [] } }
     {
@@ -47,7 +47,7 @@ impl Keys {
         }
     }
 
-    /// Whether the pattern is among them.
+    /// Returns whether the pattern is in the set.
     pub fn has(&self, kind: ExchangeKind, text: &[u8]) -> bool
         ensures { Decides result (IsIn text.now (texts_by self.now kind)) }
     {
@@ -58,7 +58,7 @@ impl Keys {
         }
     }
 
-    /// Adds a pattern that is not among them. Where memory is wanting, they are as before.
+    /// Adds a pattern that is not in the set. Fails only if an allocation fails; nothing has changed then.
     pub fn put(&mut self, alloc: Global, kind: ExchangeKind, text: &[u8]) -> Result<(), AllocError>
         requires { IsIn text.now (texts_by self.old kind) → ⊥ }
         ensures ok { OnOk result (self.new ≡ with_text self.old kind text.now) }
@@ -71,7 +71,7 @@ impl Keys {
         }
     }
 
-    /// Adds a pattern, unless it is among them.
+    /// Adds a pattern, unless it is in the set. Fails only if an allocation fails.
     #[tactic(auto, using(crate::proofs::Keying::is_among))]
     pub fn enter(
         &mut self,

@@ -1,8 +1,8 @@
-//! What a guarantee keeps track of, and where a key leads of which no more is known than a state tells.
+//! Decides where messages go when only a state is known of their keys: which tracked patterns accept them.
+//! Start with [`tracked_patterns`] and [`Routes`].
 //!
-//! Names are looked up once: a topology's exchanges and the guarantee's queue become places, numbered from 0, and its
-//! bindings gates between them, each behind a tracked pattern (`specs/Gates.antt`). For a `never`, dead letters are gates
-//! too (`specs/Deaths.antt`).
+//! Names are looked up once: a topology's exchanges and the guarantee's queue become numbered nodes, and its bindings gates between them,
+//! each with a test by a tracked pattern (`specs/Gates.antt`). For a `never`, dead letters are gates too (`specs/Deaths.antt`).
 #![tactic(auto)]
 
 mod deaths;
@@ -16,6 +16,6 @@ mod places;
 mod routes;
 mod tracking;
 
-pub use places::places_to;
+pub use places::indices_to;
 pub use routes::Routes;
 pub use tracking::tracked_patterns;

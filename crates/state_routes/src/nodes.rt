@@ -1,7 +1,7 @@
-//! The places of a topology as numbers.
+//! The exchanges and queues of a topology as numbered nodes.
 
 ghost use Rattle.std.specs.Prelude.{◌≡◌, ◌+◌, ◌<◌, ◌≤◌, length, IfOk};
-ghost use Rattle.exchange_graph.specs.Fans.{exchange_place};
+ghost use Rattle.exchange_graph.specs.Fans.{exchange_index};
 ghost use Rattle.state_routes.specs.Nodes.{alternate_links, any_links, end_node, link_of, links_of, node};
 
 use exchange_graph::Topology;
@@ -9,9 +9,9 @@ use model::{Binding, Exchange, Place};
 use paths::Hop;
 use std::alloc::{AllocError, Global};
 
-/// The place of the exchange of this name, or how many there are.
-fn exchange_place(topology: &Topology, name: &[u8]) -> usize
-    ensures is { result ≡ exchange_place topology.now.exchanges name.now }
+/// Returns the index of the exchange `name`, or the number of exchanges if there is none.
+fn exchange_index(topology: &Topology, name: &[u8]) -> usize
+    ensures is { result ≡ exchange_index topology.now.exchanges name.now }
     ensures within { result ≤ length topology.now.exchanges }
 {
     match topology.exchange_at(name) {
@@ -20,19 +20,19 @@ fn exchange_place(topology: &Topology, name: &[u8]) -> usize
     }
 }
 
-/// The number of an exchange.
+/// Returns the node of the exchange `name`: 2 for the default exchange, otherwise its index and 3.
 pub fn node(topology: &Topology, name: &[u8]) -> usize
     ensures is { result ≡ node topology.now.exchanges name.now }
     ensures within { result < length topology.now.exchanges + 4 }
 {
-    topology.is_buildable();
+    topology.ghost_is_buildable();
     if name.is_empty() {
         return 2;
     }
-    exchange_place(topology, name) + 3
+    exchange_index(topology, name) + 3
 }
 
-/// The number of a place where a binding ends: 0 for this queue, 1 for any other.
+/// Returns the node where a binding ends: 0 for `queue`, 1 for any other queue, otherwise the exchange's.
 fn end_node(topology: &Topology, queue: &[u8], to: &Place) -> usize
     ensures { result ≡ end_node topology.now.exchanges queue.now to.now }
 {
@@ -42,7 +42,7 @@ fn end_node(topology: &Topology, queue: &[u8], to: &Place) -> usize
     }
 }
 
-/// Where a binding leads from and to.
+/// Returns the nodes that `binding` connects.
 pub fn link_of(topology: &Topology, queue: &[u8], binding: &Binding) -> Hop
     ensures { result ≡ link_of topology.now.exchanges queue.now binding.now }
 {
@@ -52,7 +52,7 @@ pub fn link_of(topology: &Topology, queue: &[u8], binding: &Binding) -> Hop
     }
 }
 
-/// Where the bindings lead from and to.
+/// Returns the nodes that each of `bindings` connects. Fails only if an allocation fails.
 fn links_of(
     alloc: Global,
     topology: &Topology,
@@ -68,7 +68,7 @@ fn links_of(
     Ok(links)
 }
 
-/// Where the alternate exchange of each of these exchanges leads from and to.
+/// Returns the nodes that the alternate exchange of each of `exchanges` connects. Fails only if an allocation fails.
 pub fn alternate_links(
     alloc: Global,
     topology: &Topology,
@@ -88,7 +88,7 @@ pub fn alternate_links(
     Ok(links)
 }
 
-/// Where any binding or alternate exchange leads from and to.
+/// Returns the links of all bindings and alternate exchanges. Fails only if an allocation fails.
 pub fn any_links(alloc: Global, topology: &Topology, queue: &[u8]) -> Result<Vec<Hop>, AllocError>
     ensures { IfOk result (λ links. links.items ≡ any_links topology.now queue.now) }
 {

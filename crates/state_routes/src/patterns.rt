@@ -1,4 +1,4 @@
-//! Patterns in the order in which they are met, each once.
+//! A list of patterns, each once, in the order in which they were added.
 
 ghost use Rattle.std.specs.Prelude.{◌≡◌, [], OnOk};
 ghost use Rattle.model.specs.Tracking.{once_more, same_tracked};
@@ -9,7 +9,7 @@ use std::alloc::{AllocError, Global};
 use std::marker::Model;
 use word_automata::Tracked;
 
-/// Patterns, each once.
+/// A list of patterns, each once, with a set of their texts.
 #[derive(Drop)]
 pub struct Patterns {
     list: Vec<Tracked>,
@@ -29,7 +29,7 @@ impl Model for Patterns {
 }
 
 impl Patterns {
-    /// None yet.
+    /// Returns an empty list. Never allocates.
     #[tactic(auto, using(crate::proofs::Keying::none_known))]
     pub fn none(alloc: Global) -> Patterns
         ensures { result ≡ [] }
@@ -40,7 +40,7 @@ impl Patterns {
         }
     }
 
-    /// Adds a pattern at the end, unless it is among them.
+    /// Appends a pattern, unless the list has it. Fails only if an allocation fails.
     pub fn add(&mut self, alloc: Global, kind: ExchangeKind, text: &Text) -> Result<(), AllocError>
         ensures { OnOk result (self.new ≡ once_more same_tracked self.old (record { kind = kind; text = text.now })) }
     {
@@ -54,7 +54,7 @@ impl Patterns {
         Ok(())
     }
 
-    /// They, in their order.
+    /// Returns the patterns, in order.
     pub fn into_list(self) -> Vec<Tracked>
         ensures { result.items ≡ self }
     {

@@ -1,4 +1,4 @@
-//! Which patterns a slice keeps track of.
+//! Chooses the patterns that a slice of a certificate tracks. Start with `indices_to`.
 
 ghost use Rattle.std.specs.Prelude.{◌<◌, ◌+◌, length, IfOk, OnOk};
 ghost use Rattle.model.specs.Certificates.{ArePlaces};
@@ -15,7 +15,7 @@ use paths::Hop;
 use std::alloc::{AllocError, Global};
 use word_automata::Tracked;
 
-/// Whether the place is marked.
+/// Returns whether node `place` is marked.
 fn is_marked(marks: &[bool], place: usize) -> bool {
     match marks.get(place) {
         Some(mark) => *mark,
@@ -23,14 +23,14 @@ fn is_marked(marks: &[bool], place: usize) -> bool {
     }
 }
 
-/// Marks the place.
+/// Marks node `place`, if it exists.
 fn mark(marks: &mut [bool], place: usize) {
     if place < marks.len() {
         marks[place] = true;
     }
 }
 
-/// The number of the exchange where dead letters of this queue go, whatever their key; 1 if they go nowhere.
+/// Returns the node of the dead-letter exchange of queue `last`, whatever its key, or 1 if it has none.
 fn death_end(topology: &Topology, last: &DeclaredQueue) -> usize {
     match &last.dead_letter_exchange {
         Some(exchange) => node(topology, exchange.as_bytes()),
@@ -38,8 +38,8 @@ fn death_end(topology: &Topology, last: &DeclaredQueue) -> usize {
     }
 }
 
-/// Where what comes to the queue of this name may go on: 0 for the guarantee's own, 1 for one from which nothing goes on
-/// that matters to a promise of this mode.
+/// Returns where a message in queue `name` may go on: 0 for the guarantee's queue, and 1 if it goes nowhere that matters to a promise of
+/// mode `mode`.
 fn queue_end(topology: &Topology, mode: Mode, queue: &[u8], name: &[u8]) -> usize {
     if name == queue {
         return 0;
@@ -53,7 +53,7 @@ fn queue_end(topology: &Topology, mode: Mode, queue: &[u8], name: &[u8]) -> usiz
     }
 }
 
-/// Where a binding may lead from and to.
+/// Returns the nodes that `binding` may connect, with dead letters followed.
 fn binding_way(topology: &Topology, mode: Mode, queue: &[u8], binding: &Binding) -> Hop {
     let to = match &binding.to {
         Place::Exchange(name) => node(topology, name.as_bytes()),
@@ -65,7 +65,7 @@ fn binding_way(topology: &Topology, mode: Mode, queue: &[u8], binding: &Binding)
     }
 }
 
-/// Where each binding may lead from and to, in the order of the file.
+/// Returns the same for each binding, in the order of the file. Fails only if an allocation fails.
 fn binding_ways(
     alloc: Global,
     topology: &Topology,
@@ -79,7 +79,7 @@ fn binding_ways(
     Ok(ways)
 }
 
-/// Where the default exchange may lead, by each queue in the order of the file.
+/// Returns the nodes that the default exchange may connect, for each queue in the order of the file. Fails only if an allocation fails.
 fn default_ways(
     alloc: Global,
     topology: &Topology,
@@ -94,7 +94,7 @@ fn default_ways(
     Ok(ways)
 }
 
-/// Marks where a way starts that ends at a mark, and tells whether it was not marked yet.
+/// Marks the node where `way` starts if it ends at a marked one. Returns whether a mark is new.
 fn mark_start(way: &Hop, marks: &mut [bool]) -> bool {
     let is_new = is_marked(marks, way.to) && !is_marked(marks, way.from);
     if is_new {
@@ -103,7 +103,7 @@ fn mark_start(way: &Hop, marks: &mut [bool]) -> bool {
     is_new
 }
 
-/// Marks where the ways start that end at marks, and tells whether one was not marked yet.
+/// Does the same for each of `ways`. Returns whether a mark is new.
 fn mark_starts(ways: &[Hop], marks: &mut [bool]) -> bool {
     let mut is_new = false;
     for way in ways {
@@ -112,7 +112,8 @@ fn mark_starts(ways: &[Hop], marks: &mut [bool]) -> bool {
     is_new
 }
 
-/// Marks the guarantee's queue, and every place from which ways lead to it.
+/// Returns a mark for each of `count` nodes: whether ways lead from there to node 0, the guarantee's queue.
+/// Fails only if an allocation fails.
 fn leading(alloc: Global, ways: &[Hop], count: usize) -> Result<Vec<bool>, AllocError> {
     let mut marks = vec![in alloc; false; count]?;
     mark(marks.as_mut_slice(), 0);
@@ -124,7 +125,7 @@ fn leading(alloc: Global, ways: &[Hop], count: usize) -> Result<Vec<bool>, Alloc
     Ok(marks)
 }
 
-/// Whether the way starts where a covered message may be, and leads on to the guarantee's queue.
+/// Returns whether the way at index `at` starts where a covered message may be, and ends where ways lead to the guarantee's queue.
 fn counts(ways: &[Hop], at: usize, met: &[bool], leading: &[bool]) -> bool {
     match ways.get(at) {
         Some(way) => is_marked(met, way.from) && is_marked(leading, way.to),
@@ -132,7 +133,7 @@ fn counts(ways: &[Hop], at: usize, met: &[bool], leading: &[bool]) -> bool {
     }
 }
 
-/// Adds the keys of the bindings that count.
+/// Adds the binding keys of the ways that count. Fails only if an allocation fails.
 fn add_binding_keys(
     alloc: Global,
     keys: &mut Keys,
@@ -152,7 +153,7 @@ fn add_binding_keys(
     Ok(())
 }
 
-/// Adds the names of the queues that count.
+/// Adds the names of the queues whose ways count. Fails only if an allocation fails.
 fn add_queue_names(
     alloc: Global,
     keys: &mut Keys,
@@ -170,7 +171,7 @@ fn add_queue_names(
     Ok(())
 }
 
-/// Adds the patterns that take keys out.
+/// Adds the patterns of `except`. Fails only if an allocation fails.
 fn add_excepts(alloc: Global, keys: &mut Keys, guarantee: &Guarantee) -> Result<(), AllocError> {
     for except in guarantee.excepts() {
         keys.enter(alloc, ExchangeKind::Topic, except.as_bytes())?;
@@ -178,8 +179,8 @@ fn add_excepts(alloc: Global, keys: &mut Keys, guarantee: &Guarantee) -> Result<
     Ok(())
 }
 
-/// The keys by which a message may come nearer to the guarantee's queue, of a `never` also as a dead letter under any key;
-/// and those that take keys out. Every binding and every alternate exchange is taken as possible.
+/// Returns the keys by which a message may come nearer to the guarantee's queue (for a `never` also as a dead letter, under any key), and
+/// the patterns of `except`. Each binding and each alternate exchange is taken as possible. Fails only if an allocation fails.
 fn keys_of(alloc: Global, topology: &Topology, guarantee: &Guarantee) -> Result<Keys, AllocError> {
     let mode = guarantee.mode();
     let queue = guarantee.queue().as_bytes();
@@ -217,12 +218,12 @@ fn keys_of(alloc: Global, topology: &Topology, guarantee: &Guarantee) -> Result<
     Ok(keys)
 }
 
-/// Whether the pattern is one of these keys.
+/// Returns whether `pattern` is one of `keys`.
 fn is_key(keys: &Keys, pattern: &Tracked) -> bool {
     keys.has(pattern.kind(), pattern.text().as_bytes())
 }
 
-/// Adds a place behind the others, if it is to be there.
+/// Appends `place` if `there` is set. Fails only if an allocation fails.
 #[tactic(auto, using(crate::proofs::Placing::placed, crate::proofs::Placing::passed))]
 fn add_place(places: &mut Vec<u64>, place: usize, there: bool) -> Result<(), AllocError>
     requires { RiseBelow place places.old.items }
@@ -235,7 +236,7 @@ fn add_place(places: &mut Vec<u64>, place: usize, there: bool) -> Result<(), All
     Ok(())
 }
 
-/// The first place, and that of each pattern that is one of these keys.
+/// Returns index 0, and that of each pattern of `list` that is one of `keys`. Fails only if an allocation fails.
 fn places_of(alloc: Global, list: &[Tracked], keys: &Keys) -> Result<Vec<u64>, AllocError>
     requires { 0 < length list.now }
     ensures { IfOk result (λ places. ArePlaces list.now places.items) }
@@ -248,9 +249,9 @@ fn places_of(alloc: Global, list: &[Tracked], keys: &Keys) -> Result<Vec<u64>, A
     Ok(places)
 }
 
-/// The places that a slice keeps track of: those of the guarantee's pattern, of the patterns that take keys out, and of the
-/// keys whose destination is the guarantee's queue or may lead to it.
-pub fn places_to(
+/// Returns the indices of the patterns that a slice tracks: that of the guarantee, those of `except`, and the keys of bindings whose
+/// destination is the guarantee's queue or may lead to it. Fails only if an allocation fails.
+pub fn indices_to(
     alloc: Global,
     topology: &Topology,
     guarantee: &Guarantee,

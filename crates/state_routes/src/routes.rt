@@ -1,4 +1,4 @@
-//! Whether a promise is kept, by a state.
+//! Decides whether a promise is kept in a state. Start with [`Routes`].
 
 ghost use Rattle.std.specs.Prelude.{◌≡◌, IfOk, Decides};
 ghost use Rattle.model.specs.Words.{Text};
@@ -22,7 +22,7 @@ use std::alloc::{AllocError, Global};
 use std::marker::Model;
 use word_automata::{Letters, accepts};
 
-/// Where keys lead, by which tracked patterns accept them.
+/// Where messages go, depending on which tracked patterns accept their keys.
 #[derive(Drop)]
 pub struct Routes {
     mode: Mode,
@@ -41,7 +41,7 @@ impl Model for Routes {
     ghost invariant = { λ r. IsBounded r.exits.items r.start };
 }
 
-/// Which patterns accept the words of a state.
+/// Returns for each pattern whether it accepts the words of `state`. Fails only if an allocation fails.
 fn accepted(alloc: Global, letters: &Letters, state: &[u64]) -> Result<Vec<bool>, AllocError>
     requires { FitsEach letters.now state.now }
     ensures { IfOk result (λ found. found.items ≡ accepted letters.now state.now) }
@@ -53,7 +53,7 @@ fn accepted(alloc: Global, letters: &Letters, state: &[u64]) -> Result<Vec<bool>
     Ok(found)
 }
 
-/// Whether open links lead from the start to the queue.
+/// Returns whether open links lead from `start` to the guarantee's queue. Fails only if an allocation fails.
 fn leads_there(
     alloc: Global,
     mode: Mode,
@@ -68,7 +68,7 @@ fn leads_there(
     Ok(marks[0])
 }
 
-/// Whether a promise of this mode is kept, by whether messages arrive.
+/// Returns whether a promise of mode `mode` is kept if messages do or don't `arrive`.
 fn keeps(mode: Mode, arrive: bool) -> bool
     ensures { result ≡ keeps mode arrive }
 {
@@ -79,7 +79,8 @@ fn keeps(mode: Mode, arrive: bool) -> bool
 }
 
 impl Routes {
-    /// Where keys lead that are sent to this exchange, as far as it matters to a promise of this mode of this queue.
+    /// Prepares the links of messages to `exchange`, as far as they matter to a promise of mode `mode` about `queue`.
+    /// Fails only if an allocation fails.
     pub fn new(
         alloc: Global,
         topology: &Topology,
@@ -90,7 +91,7 @@ impl Routes {
     ) -> Result<Routes, AllocError>
         ensures { IfOk result (λ r. IsKnown topology.now mode exchange.now queue.now letters.now r) }
     {
-        topology.is_well_formed();
+        topology.ghost_is_well_formed();
         let exchanges = topology.exchanges();
         let gates = all_gates(alloc, topology, mode, queue, letters.patterns())?;
         let alternates = alternate_links(alloc, topology, exchanges)?;
@@ -102,7 +103,7 @@ impl Routes {
         })
     }
 
-    /// Whether open links lead to the queue, by what the patterns accept at this state.
+    /// Returns whether links that are open in `state` lead to the queue. Fails only if an allocation fails.
     fn leads(&self, alloc: Global, letters: &Letters, state: &[u64]) -> Result<bool, AllocError>
         requires { FitsEach letters.now state.now }
         ensures { IfOk result (λ yes. Decides yes (LeadsBy letters.now self.now state.now)) }
@@ -118,7 +119,7 @@ impl Routes {
         Ok(yes)
     }
 
-    /// Whether the promise is kept, by whether open links lead to the queue.
+    /// Returns whether the promise is kept, by these links. Fails only if an allocation fails.
     fn keeps(&self, alloc: Global, letters: &Letters, state: &[u64]) -> Result<bool, AllocError>
         requires { FitsEach letters.now state.now }
         ensures { IfOk result (λ yes. Decides yes (IsKeptBy letters.now self.now state.now)) }
@@ -127,7 +128,8 @@ impl Routes {
         Ok(keeps(self.mode, arrive))
     }
 
-    /// Whether the promise is sure to be kept for a key of this state.
+    /// Returns whether the promise is kept for each key of `state`, as far as the tracked patterns decide.
+    /// Fails only if an allocation fails.
     pub fn is_kept(
         &self,
         alloc: Global,

@@ -1,4 +1,4 @@
-//! Which patterns a certificate of a guarantee keeps track of.
+//! Collects the patterns that a certificate of a guarantee tracks. Start with `tracked_patterns`.
 
 ghost use Rattle.std.specs.Prelude.{◌≡◌, ◌<◌, length, IfOk, OnOk};
 ghost use Rattle.model.specs.Tracking.{IsTrackedList};
@@ -16,7 +16,7 @@ use paths::reached;
 use std::alloc::{AllocError, Global};
 use word_automata::Tracked;
 
-/// Adds the keys of the bindings of the exchange of this name.
+/// Adds the binding keys of those of `bindings` whose source is the exchange `name`. Fails only if an allocation fails.
 fn add_keys(
     alloc: Global,
     list: &mut Patterns,
@@ -34,7 +34,7 @@ fn add_keys(
     Ok(())
 }
 
-/// Adds the binding keys of an exchange; a fanout exchange looks at none.
+/// Adds the binding keys of `exchange`, but none for a fanout exchange, which compares no key. Fails only if an allocation fails.
 fn add_exchange(
     alloc: Global,
     list: &mut Patterns,
@@ -62,7 +62,7 @@ fn add_exchange(
     }
 }
 
-/// Adds the names of the queues.
+/// Adds the names of `queues`. Fails only if an allocation fails.
 fn add_names(alloc: Global, list: &mut Patterns, queues: &[DeclaredQueue]) -> Result<(), AllocError>
     ensures { OnOk result (list.new ≡ names_onto list.old queues.now) }
 {
@@ -72,7 +72,7 @@ fn add_names(alloc: Global, list: &mut Patterns, queues: &[DeclaredQueue]) -> Re
     Ok(())
 }
 
-/// Adds each of these texts as a topic pattern.
+/// Adds each of `texts` as a topic pattern. Fails only if an allocation fails.
 fn add_topics(alloc: Global, list: &mut Patterns, texts: &[Text]) -> Result<(), AllocError>
     ensures { OnOk result (list.new ≡ topics_onto list.old texts.now) }
 {
@@ -82,7 +82,7 @@ fn add_topics(alloc: Global, list: &mut Patterns, texts: &[Text]) -> Result<(), 
     Ok(())
 }
 
-/// Adds the names of the queues where the default exchange is met.
+/// Adds the names of `queues` if the default exchange is `met`. Fails only if an allocation fails.
 fn add_default(
     alloc: Global,
     list: &mut Patterns,
@@ -97,7 +97,7 @@ fn add_default(
     Ok(())
 }
 
-/// Adds the binding keys of each of these exchanges that is marked.
+/// Adds the binding keys of each of `exchanges` whose node is marked. Fails only if an allocation fails.
 fn add_met(
     alloc: Global,
     list: &mut Patterns,
@@ -116,7 +116,8 @@ fn add_met(
     Ok(())
 }
 
-/// The places of the exchanges that a covered message may meet under its own key, of a `never` also as a dead letter.
+/// Returns a mark for each node: whether a message may reach it from `exchange` with its own key, of a `never` also as a dead letter that
+/// keeps its key. Fails only if an allocation fails.
 pub fn met(
     alloc: Global,
     topology: &Topology,
@@ -135,8 +136,8 @@ pub fn met(
     Ok(marks)
 }
 
-/// The pattern, then those that take keys out, then the queue names where the default exchange is
-/// marked, then the binding keys of each marked exchange.
+/// Returns the pattern, the patterns of `excepts`, the queue names if the default exchange is marked, and the binding keys of each marked exchange.
+/// Fails only if an allocation fails.
 fn collected(
     alloc: Global,
     topology: &Topology,
@@ -155,9 +156,9 @@ fn collected(
     Ok(list.into_list())
 }
 
-/// The patterns that a certificate keeps track of: its own, those that take keys out, the queue names where the default
-/// exchange is met, and the binding keys of each exchange that a covered message may meet, of a `never` also as a dead
-/// letter with its own key.
+/// Returns the patterns that a certificate tracks: that of `guarantee`, those of its `except`, the queue names if the default exchange may
+/// be reached, and the binding keys of each exchange that a covered message may reach, of a `never` also as a dead letter that keeps its
+/// key. Fails only if an allocation fails.
 pub fn tracked_patterns(
     alloc: Global,
     topology: &Topology,
@@ -167,9 +168,9 @@ pub fn tracked_patterns(
     ensures patterns { IfOk result (λ list. HavePatterns list.items) }
     ensures some { IfOk result (λ list. 0 < length list.items) }
 {
-    topology.is_well_formed();
-    topology.is_buildable();
-    guarantee.are_patterns();
+    topology.ghost_is_well_formed();
+    topology.ghost_is_buildable();
+    guarantee.ghost_are_patterns();
     let mode = guarantee.mode();
     let exchange = guarantee.exchange().as_bytes();
     let marks = met(

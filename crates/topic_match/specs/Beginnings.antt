@@ -1,24 +1,24 @@
--- The beginnings of patterns that match the first words of a key.
+-- The pairs of a beginning of a pattern and a number `n` for which it matches the first `n` words of a key, and their count.
 use Rattle.std.specs.Prelude.{◌≡◌, ◌≤◌, ℕ, List, [], ◌∷◌, ◌++◌, length, take}
 use Rattle.model.specs.Words.{Text, words, Matches}
 use Rattle.model.specs.Topology.{IsIn}
 use Rattle.model.specs.declared.texts.Token.{Token}
 
--- no two are the same
+-- no element occurs twice
 abbrev pub AllApart : {A : Type 0} → List A → Type 0
 AllApart [] = Unit {0}
 AllApart (x ∷ xs) = (IsIn x xs → ⊥) × AllApart xs
 
--- these tokens begin so (own)
+-- `Begins b ts`: the tokens `ts` begin with `b` (own)
 abbrev pub Begins : List Token → List Token → Type 0
 Begins b ts = (rest : List Token) × (ts ≡ b ++ rest)
 
--- some tokens, and a number of words
+-- a beginning of a pattern, and a number of words
 pub record Pair : Type 0 where
   pub start : List Token
   pub taken : ℕ
 
--- A beginning of one of these patterns, and how many words of the key it matches, from the first on (own).
+-- `pair` is a beginning of one of `patterns`, and a number `n` for which it matches the first `n` words of `key` (own).
 pub record IsPair (patterns : List (List Token)) (key : Text) (pair : Pair) : Type 0 where
   pub pattern : List Token
   pub is_in : IsIn pattern patterns
@@ -26,7 +26,7 @@ pub record IsPair (patterns : List (List Token)) (key : Text) (pair : Pair) : Ty
   pub within : pair.taken ≤ length (words key)
   pub matches : Matches pair.start (take pair.taken (words key))
 
--- This is the number of such pairs: they stand in a list, each once.
+-- `count` is the number of pairs for which `IsPair` holds: a list has exactly these, each once.
 pub record IsCounted (patterns : List (List Token)) (key : Text) (count : ℕ) : Type 0 where
   pub pairs : List Pair
   pub apart : AllApart pairs

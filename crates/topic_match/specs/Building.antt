@@ -1,15 +1,15 @@
--- How nodes are added.
+-- How nodes are added (own).
 use Rattle.std.specs.Prelude.{◌≡◌, ◌<◌, ℕ, List, [], length, slice_index_or}
 use Rattle.model.specs.declared.texts.Token.{Token}
 use Rattle.topic_match.specs.Nodes.{beginning_at}
 use Rattle.topic_match.specs.declared.nodes.Node.{Node}
 
--- the nodes stay what they were, and there are no fewer
+-- each of the `old` nodes is still there and has the same beginning
 pub record AreGrown (patterns : List (List Token)) (old new : List Node) : Type 0 where
   pub kept : (c : ℕ) → c < length old → c < length new
   pub same : (c : ℕ) → c < length old → beginning_at patterns new c ≡ beginning_at patterns old c
 
--- the first so many patterns end at these nodes
+-- `ends` has an entry for each of the first `n` patterns: the node whose beginning is the whole pattern
 pub record EndAt (patterns : List (List Token)) (nodes : List Node) (n : ℕ) (ends : List ℕ) : Type 0 where
   pub size : length ends ≡ n
   pub within : (p : ℕ) → p < n → slice_index_or ends p 0 < length nodes

@@ -1,4 +1,4 @@
--- By which tokens beginnings of patterns go on.
+-- By which kinds of tokens beginnings of patterns continue (own).
 use Rattle.std.specs.Prelude.{◌≡◌, ◌<◌, ℕ, List, Bool, true, false, length, slice_index_or}
 use Rattle.model.specs.declared.texts.Token.{Token}
 use Rattle.model.specs.declared.texts.Token.TheVariants.{Word, One, Any}
@@ -6,28 +6,28 @@ use Rattle.topic_match.specs.Nodes.{node_at, last_token, IsDeep}
 use Rattle.topic_match.specs.declared.nodes.Node.{Node}
 use Rattle.topic_match.specs.declared.nodes.Exits.{Exits}
 
--- what stands where no node is
+-- the value read for an index at which no node is
 abbrev pub no_exit : Exits
 no_exit = record { word = false; one = false; any = false }
 
--- one goes on by such a token
+-- the exits have the kind of the token: a word, `*` or `#`
 abbrev pub has_exit : Exits → Token → Bool
 has_exit exits (Word w) = exits.word
 has_exit exits One = exits.one
 has_exit exits Any = exits.any
 
--- and now by this one
+-- the exits with the kind of the token added
 abbrev pub with_exit : Exits → Token → Exits
 with_exit exits (Word w) = record exits { word = true }
 with_exit exits One = record exits { one = true }
 with_exit exits Any = record exits { any = true }
 
--- each node behind the root has a last token, and comes from a node before it
+-- each node but the root has a last token, and its parent has a smaller index
 pub record AreDeep (patterns : List (List Token)) (nodes : List Node) : Type 0 where
   pub deep : (c : ℕ) → 0 < c → c < length nodes → IsDeep patterns (node_at nodes c)
   pub parent : (c : ℕ) → 0 < c → c < length nodes → (node_at nodes c).parent < c
 
--- the exits of each node, as far as the first n nodes come from it
+-- `exits` has an entry for each node, and the last token of each of the first `n` nodes but the root is an exit of its parent
 pub record AreExits (patterns : List (List Token)) (nodes : List Node) (n : ℕ) (exits : List Exits) : Type 0 where
   pub size : length exits ≡ length nodes
   pub each : (c : ℕ) → 0 < c → c < n → has_exit (slice_index_or exits (node_at nodes c).parent no_exit) (last_token patterns (node_at nodes c)) ≡ true

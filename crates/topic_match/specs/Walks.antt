@@ -1,4 +1,4 @@
--- The nodes whose beginnings match some of the first words of a key.
+-- The nodes whose beginnings match the first `n` words of a key for some `n` (own).
 use Rattle.std.specs.Prelude.{◌≡◌, ◌+◌, ◌≤◌, ◌<◌, ℕ, Bool, List, [], ◌∷◌, ◌++◌, length, take}
 use Rattle.model.specs.Words.{Text, Matches}
 use Rattle.model.specs.Topology.{IsIn}
@@ -10,22 +10,24 @@ use Rattle.topic_match.specs.Nodes.{beginning_at}
 use Rattle.topic_match.specs.declared.nodes.Node.{Node}
 use Rattle.topic_match.specs.declared.nodes.Met.{Met}
 
--- the tokens that can take these words, each once
+-- `steps` has no token twice, and has `#`, `*` and each of `words`
 pub record AreSteps (steps : List Token) (words : List Text) : Type 0 where
   pub apart : AllApart steps
   pub any : IsIn Any steps
   pub one : IsIn One steps
   pub each : (w : Text) → IsIn w words → IsIn (Word w) steps
 
--- they go on by one of these
+-- `GoesOn b steps ts`: the tokens `ts` begin with `b`, followed by a token of `steps`
 abbrev pub GoesOn : List Token → List Token → List Token → Type 0
 GoesOn b steps ts = (t : Token) × (rest : List Token) × IsIn t steps × (ts ≡ b ++ t ∷ rest)
 
+-- the nodes of these entries
 abbrev pub nodes_of : List Met → List ℕ
 nodes_of [] = []
 nodes_of (m ∷ ms) = m.node ∷ nodes_of ms
 
--- These are the nodes, each once, whose beginnings are such and match some of the first words, and of each is told how many.
+-- `met` has exactly the nodes whose beginnings are `Such` and match some first words, each once, with the numbers of words that they match.
+-- It may also have a node that is `Such` and matches none.
 pub record AreMet (patterns : List (List Token)) (nodes : List Node) (words : List Text) (Such : List Token → Type 0) (met : List Met) : Type 0 where
   pub apart : AllApart (nodes_of met)
   pub within : (m : Met) → IsIn m met → m.node < length nodes
@@ -34,26 +36,26 @@ pub record AreMet (patterns : List (List Token)) (nodes : List Node) (words : Li
   pub all : (c i : ℕ) → c < length nodes → i ≤ length words → Matches (beginning_at patterns nodes c) (take i words)
       → Such (beginning_at patterns nodes c) → IsIn c (nodes_of met)
 
--- such are added
+-- `new` is `old` and these nodes behind it
 pub record AreAdded (patterns : List (List Token)) (nodes : List Node) (words : List Text) (Such : List Token → Type 0) (old new : List Met) : Type 0 where
   pub more : List Met
   pub is_added : new ≡ old ++ more
   pub are : AreMet patterns nodes words Such more
 
--- the node that a token leads to, and how many words its beginning matches
+-- `next` is a later node, whose beginning is that of `at` and `token`, and `counts` says how many words it matches
 pub record IsStep (patterns : List (List Token)) (nodes : List Node) (words : List Text) (at : ℕ) (token : Token) (next : ℕ) (counts : List Bool) : Type 0 where
   pub later : at < next
   pub within : next < length nodes
   pub begins : beginning_at patterns nodes next ≡ beginning_at patterns nodes at ++ token ∷ []
   pub are : AreCounts (beginning_at patterns nodes next) words counts
 
--- by this token no word of the key goes on
+-- no beginning that continues that of node `at` by `token` matches any first words
 abbrev pub IsBarren : List (List Token) → List Node → List Text → ℕ → Token → Type 0
 IsBarren patterns nodes words at token = (c i : ℕ) (rest : List Token) → c < length nodes
     → beginning_at patterns nodes c ≡ beginning_at patterns nodes at ++ token ∷ rest → Matches (beginning_at patterns nodes c) (take i words)
     → i ≤ length words → ⊥
 
--- how many numbers of words are told of all these nodes together
+-- how many numbers of words match, over all these nodes
 abbrev pub told_in : List Met → ℕ
 told_in [] = 0
 told_in (m ∷ ms) = trues m.counts.items + told_in ms

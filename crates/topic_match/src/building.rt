@@ -1,4 +1,4 @@
-//! The nodes of the beginnings of patterns.
+//! Builds the nodes of the beginnings of patterns, each once. Start with `nodes_of`.
 
 ghost use Rattle.std.specs.Prelude.{◌≡◌, ◌+◌, ◌<◌, ℕ, [], length, take, IfOk, OnOk, slice_index_or};
 ghost use Rattle.model.specs.declared.texts.Token.TheVariants.{Any};
@@ -11,7 +11,8 @@ use crate::patterns::Pattern;
 use crate::steps::Step;
 use std::alloc::{AllocError, Global};
 
-/// Adds the node of a pattern's first tokens, one more than its parent has, in its slot.
+/// Adds the node of the first `depth + 1` tokens of pattern `pattern` behind `parent`, into slot `place`.
+/// Fails only if an allocation fails.
 fn add_node(
     patterns: &[Pattern],
     nodes: &mut Vec<Node>,
@@ -21,14 +22,17 @@ fn add_node(
     pattern: usize,
     depth: usize,
 ) -> Result<usize, AllocError>
+    // The parent has the first `depth` tokens of the pattern, which has one more.
     requires linked { AreLinked patterns.now nodes.old.items slots.old.items }
     requires parent { parent < length nodes.old.items }
     requires pattern { pattern < length patterns.now }
     requires depth { depth < length (slice_index_or patterns.now pattern []) }
     requires fits { depth + 1 < 18446744073709551616 }
     requires before { beginning_at patterns.now nodes.old.items parent ≡ take depth (slice_index_or patterns.now pattern []) }
+    // Slot `place` is the one for the node, and empty.
     requires place { IsPlace patterns.now nodes.old.items slots.old.items parent (slice_index_or (slice_index_or patterns.now pattern []) depth Any) place }
     requires empty { slice_index_or slots.old.items place 0 ≡ 0 }
+    // The nodes stay linked and keep their beginnings, and the result is the node of one token more.
     ensures linked { OnOk result (AreLinked patterns.now nodes.new.items slots.new.items) }
     ensures grown { OnOk result (AreGrown patterns.now nodes.old.items nodes.new.items) }
     ensures made { IfOk result (λ c. (c < length nodes.new.items)
@@ -46,7 +50,8 @@ fn add_node(
     Ok(node)
 }
 
-/// The node of a pattern's first tokens, one more than its parent has.
+/// Returns the node of the first `depth + 1` tokens of pattern `pattern`, and adds it behind `parent` if there is none yet.
+/// Fails only if an allocation fails.
 fn node_behind(
     patterns: &[Pattern],
     nodes: &mut Vec<Node>,
@@ -55,11 +60,13 @@ fn node_behind(
     pattern: usize,
     depth: usize,
 ) -> Result<usize, AllocError>
+    // The parent has the first `depth` tokens of the pattern, which has one more.
     requires linked { AreLinked patterns.now nodes.old.items slots.old.items }
     requires parent { parent < length nodes.old.items }
     requires pattern { pattern < length patterns.now }
     requires depth { depth < length (slice_index_or patterns.now pattern []) }
     requires before { beginning_at patterns.now nodes.old.items parent ≡ take depth (slice_index_or patterns.now pattern []) }
+    // The nodes stay linked and keep their beginnings, and the result is the node of one token more.
     ensures linked { OnOk result (AreLinked patterns.now nodes.new.items slots.new.items) }
     ensures grown { OnOk result (AreGrown patterns.now nodes.old.items nodes.new.items) }
     ensures made { IfOk result (λ c. (c < length nodes.new.items)
@@ -79,7 +86,7 @@ fn node_behind(
     add_node(patterns, nodes, slots, place, parent, pattern, depth)
 }
 
-/// The node of a whole pattern.
+/// Returns the node of the whole pattern `pattern`, and adds those that are missing. Fails only if an allocation fails.
 fn node_of(
     patterns: &[Pattern],
     nodes: &mut Vec<Node>,
@@ -99,7 +106,7 @@ fn node_of(
     Ok(node)
 }
 
-/// How many slots there are at first: one for each token, and two behind the root.
+/// Returns the number of slots to begin with: one first slot more than there are tokens, and two behind the root.
 fn first_slots(patterns: &[Pattern]) -> usize
     ensures { 2 < result }
 {
@@ -110,7 +117,7 @@ fn first_slots(patterns: &[Pattern]) -> usize
     count
 }
 
-/// The nodes of these patterns, their slots, and the node at which each pattern ends.
+/// Returns the nodes of `patterns`, their slots, and the node at which each pattern ends. Fails only if an allocation fails.
 pub fn nodes_of(
     alloc: Global,
     patterns: &[Pattern],

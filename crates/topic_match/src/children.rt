@@ -1,5 +1,6 @@
-//! How a node is found from the node before it. The node before and a mark of the token tell a first slot. Those that fall on the
-//! same one stand in a tree, in which the bits of both tell the way: however the words of a file are chosen, the way is short.
+//! Finds a node from its parent and a token.
+//! The parent and the token's mark give a first slot. Nodes that share it form a binary tree, in which the bits of both choose the branch,
+//! so that no choice of words makes the way long.
 
 ghost use Rattle.std.specs.Prelude.{◌≡◌, ◌+◌, ◌*◌, ◌<◌, ℕ, length, Decides, MatchOption, slice_index_or};
 ghost use Rattle.topic_match.specs.Nodes.{
@@ -20,7 +21,7 @@ use crate::nodes::Node;
 use crate::patterns::Pattern;
 use crate::steps::Step;
 
-/// These bytes mixed into a number.
+/// Returns a 32-bit hash of `bytes`.
 pub fn mixed(bytes: &[u8]) -> u64
     ensures { result ≡ mixed 0 bytes.now }
 {
@@ -31,7 +32,7 @@ pub fn mixed(bytes: &[u8]) -> u64
     number
 }
 
-/// The slot, of so many, from which on the nodes behind this one by a token of this mark are looked for.
+/// Returns the slot, below `heads`, at which to begin to look for the node behind `parent` by a token with mark `mark`.
 fn first_slot(heads: usize, parent: usize, mark: u64) -> usize
     requires { 0 < heads }
     ensures is { result ≡ first_slot heads parent mark }
@@ -41,14 +42,14 @@ fn first_slot(heads: usize, parent: usize, mark: u64) -> usize
     number as usize % heads
 }
 
-/// A node and a mark as one number. No two pairs have the same, as long as there are fewer than 2^32 nodes.
+/// Returns a node and a mark as one number. No two pairs have the same number if there are fewer than 2^32 nodes and marks are below 2^32.
 fn bits_of(parent: usize, mark: u64) -> u64
     ensures { result ≡ bits_of parent mark }
 {
     (parent as u64 % 4294967296) * 4294967296 + mark % 4294967296
 }
 
-/// The slot behind this node that the lowest bit tells.
+/// Returns the slot behind `node` that the lowest of `bits` chooses.
 fn slot_behind(heads: usize, node: usize, bits: u64) -> usize
     requires { heads + 2 * node + 1 < 18446744073709551616 }
     ensures { result ≡ slot_behind heads node bits }
@@ -56,7 +57,7 @@ fn slot_behind(heads: usize, node: usize, bits: u64) -> usize
     heads + 2 * node + (bits % 2) as usize
 }
 
-/// How many of these slots are first ones.
+/// Returns how many of `slots` are first slots.
 fn heads_of(nodes: &[Node], slots: &[usize]) -> usize
     requires { 2 * length nodes.now < length slots.now }
     ensures { result ≡ heads_of nodes.now slots.now }
@@ -64,18 +65,18 @@ fn heads_of(nodes: &[Node], slots: &[usize]) -> usize
     slots.len() - 2 * nodes.len()
 }
 
-/// The node in this slot, if there is one.
-pub fn node_in(slots: &[usize], place: usize) -> Option<usize>
-    requires { place < length slots.now }
-    ensures { MatchOption result (slice_index_or slots.now place 0 ≡ 0) (λ c. (0 < c) × (c ≡ slice_index_or slots.now place 0)) }
+/// Returns the node in slot `index`, or `None` if it is empty.
+pub fn node_in(slots: &[usize], index: usize) -> Option<usize>
+    requires { index < length slots.now }
+    ensures { MatchOption result (slice_index_or slots.now index 0 ≡ 0) (λ c. (0 < c) × (c ≡ slice_index_or slots.now index 0)) }
 {
-    match slots[place] {
+    match slots[index] {
         0 => None,
         node => Some(node),
     }
 }
 
-/// Whether a beginning ends with this token.
+/// Returns whether the beginning of `node` ends with `token`.
 fn ends_with(patterns: &[Pattern], node: &Node, token: &Step<'_>) -> bool
     requires { IsDeep patterns.now node.now }
     ensures { Decides result (last_token patterns.now node.now ≡ token.now) }
@@ -83,7 +84,7 @@ fn ends_with(patterns: &[Pattern], node: &Node, token: &Step<'_>) -> bool
     token.is_by(&patterns[node.pattern].tokens()[node.depth - 1])
 }
 
-/// Whether a beginning is this one with this token behind it.
+/// Returns whether `node` has the parent `parent` and ends with `token`.
 fn is_behind(patterns: &[Pattern], node: &Node, parent: usize, token: &Step<'_>) -> bool
     requires { IsDeep patterns.now node.now }
     ensures { Decides result (IsLast patterns.now node.now parent token.now) }
@@ -91,8 +92,8 @@ fn is_behind(patterns: &[Pattern], node: &Node, parent: usize, token: &Step<'_>)
     node.parent == parent && ends_with(patterns, node, token)
 }
 
-/// The slot of the node behind this one by this token, or the one for it if there is none. At most 64 others are on the way whose
-/// bits differ, and those behind the same node whose tokens have the same mark.
+/// Returns the slot of the node behind `at` by `token`, or the empty slot for it if there is none.
+/// At most 64 nodes on the way have other bits; the rest are behind the same node, by tokens with the same mark.
 pub fn place_of(
     patterns: &[Pattern],
     nodes: &[Node],
@@ -116,7 +117,7 @@ pub fn place_of(
     slot
 }
 
-/// The node behind this one by this token, if there is one.
+/// Returns the node behind `at` by `token`, or `None`.
 pub fn child(
     patterns: &[Pattern],
     nodes: &[Node],

@@ -1,4 +1,4 @@
-//! How many words of a key some tokens match: for each number of words whether they match so many, from the first on.
+//! Which numbers of first words of a key some tokens match.
 
 ghost use Rattle.std.specs.Prelude.{◌≡◌, ◌+◌, ◌<◌, ◌∷◌, ◌++◌, [], List, length, IfOk, if◌then◌else◌};
 ghost use Rattle.model.specs.declared.texts.Token.{Token};
@@ -9,10 +9,10 @@ use crate::steps::Step;
 use smallvec::SmallVec;
 use std::alloc::{AllocError, Global};
 
-/// How many words of a key some tokens match. Those of 31 words take no memory.
+/// For each number of words, from 0, whether some tokens match that many first words of a key. Up to 31 words need no allocation.
 pub type Counts = SmallVec<bool, 32>;
 
-/// How many words some tokens match with one token more behind them.
+/// Returns the counts of some tokens with `token` behind them, from their counts `before`. Fails only if an allocation fails.
 pub fn counts_after(
     alloc: Global,
     token: &Step<'_>,
@@ -33,7 +33,7 @@ pub fn counts_after(
     Ok(after)
 }
 
-/// Whether there is such a number of words at all.
+/// Returns whether one of `counts` is true.
 pub fn has_some(counts: &[bool]) -> bool
     ensures { HasSome counts.now result }
 {
@@ -45,7 +45,7 @@ pub fn has_some(counts: &[bool]) -> bool
     false
 }
 
-/// One more, if it is told.
+/// Returns `count`, or `count + 1` if `told` is set.
 fn with_one(count: usize, told: bool) -> usize
     requires { count < 18446744073709551615 }
     ensures { result ≡ count + (if told then 1 else 0) }
@@ -53,7 +53,7 @@ fn with_one(count: usize, told: bool) -> usize
     if told { count + 1 } else { count }
 }
 
-/// How many of these are true.
+/// Returns how many of `counts` are true.
 pub fn trues(counts: &[bool]) -> usize
     ensures { result ≡ trues counts.now }
 {

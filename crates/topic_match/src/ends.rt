@@ -1,4 +1,4 @@
-//! Which patterns end at a node, and the places of those that match.
+//! Lists the patterns that end at each node, and collects the indices of those that match.
 
 ghost use Rattle.std.specs.Prelude.{◌≡◌, ◌<◌, ◌++◌, ◌∷◌, ℕ, [], All, length, IfOk, OnOk, slice_index_or, slice_set, if◌then◌else◌, false};
 ghost use Rattle.model.specs.Topology.{IsIn};
@@ -8,7 +8,7 @@ use crate::nodes::Met;
 use crate::places::Places;
 use std::alloc::{AllocError, Global};
 
-/// One place more in the list of a node.
+/// Appends `place` to the list of `node`. Fails only if an allocation fails.
 fn add_at(lists: &mut Vec<Places>, node: usize, place: usize) -> Result<(), AllocError>
     requires { node < length lists.old.items }
     ensures { OnOk result (lists.new.items ≡ slice_set lists.old.items node (slice_index_or lists.old.items node [] ++ place ∷ [])) }
@@ -16,7 +16,7 @@ fn add_at(lists: &mut Vec<Places>, node: usize, place: usize) -> Result<(), Allo
     lists[node].add(place)
 }
 
-/// As many lists that have no place.
+/// Returns `count` empty lists. Fails only if an allocation fails.
 fn no_places(alloc: Global, count: usize) -> Result<Vec<Places>, AllocError>
     ensures size { IfOk result (λ lists. length lists.items ≡ count) }
     ensures none { IfOk result (λ lists. (c : ℕ) → slice_index_or lists.items c [] ≡ []) }
@@ -28,7 +28,8 @@ fn no_places(alloc: Global, count: usize) -> Result<Vec<Places>, AllocError>
     Ok(lists)
 }
 
-/// The patterns that end at each node, by their places.
+/// Returns for each of `count` nodes the indices of the patterns that end at it.
+/// `ends` has the node of each pattern. Fails only if an allocation fails.
 pub fn ending(alloc: Global, count: usize, ends: &[usize]) -> Result<Vec<Places>, AllocError>
     requires { (p : ℕ) → p < length ends.now → slice_index_or ends.now p 0 < count }
     ensures { IfOk result (λ lists. AreEnding ends.now count (length ends.now) lists.items) }
@@ -40,7 +41,7 @@ pub fn ending(alloc: Global, count: usize, ends: &[usize]) -> Result<Vec<Places>
     Ok(lists)
 }
 
-/// Adds the patterns that end at a node, where its beginning matches so many words.
+/// Appends the patterns that end at the node of `met` if its beginning matches `count` words. Fails only if an allocation fails.
 fn add_places(
     found: &mut Vec<usize>,
     lists: &[Places],
@@ -58,7 +59,7 @@ fn add_places(
     Ok(())
 }
 
-/// The patterns that end at these nodes and match so many words.
+/// Returns the indices of the patterns that end at a node of `met` and match `count` words. Fails only if an allocation fails.
 fn found_at(
     alloc: Global,
     lists: &[Places],
@@ -75,7 +76,7 @@ fn found_at(
     Ok(found)
 }
 
-/// The patterns that end at these nodes and match so many words, rising.
+/// Returns the same indices in increasing order. Fails only if an allocation fails.
 pub fn rising_at(
     alloc: Global,
     lists: &[Places],

@@ -1,4 +1,4 @@
-//! By which tokens the beginnings of patterns go on: where none does by a token, no node is looked for.
+//! By which kinds of tokens beginnings continue. A walk looks for no node behind one that has no such exit.
 
 ghost use Rattle.std.specs.Prelude.{◌≡◌, ◌<◌, length, IfOk, slice_index_or, slice_set};
 ghost use Rattle.topic_match.specs.Exits.{AreDeep, AreExits, no_exit, with_exit};
@@ -9,7 +9,7 @@ use crate::patterns::Pattern;
 use model::Token;
 use std::alloc::{AllocError, Global};
 
-/// These exits, and one by this token.
+/// Returns `exits` with the kind of `token` added.
 fn with_exit(exits: Exits, token: &Token) -> Exits
     ensures { result ≡ with_exit exits token.now }
 {
@@ -32,7 +32,7 @@ fn with_exit(exits: Exits, token: &Token) -> Exits
     }
 }
 
-/// The beginning of this node goes on from the one before it by its last token.
+/// Adds the last token of `node` to the exits of its parent.
 fn open(patterns: &[Pattern], node: &Node, exits: &mut [Exits])
     requires deep { IsDeep patterns.now node.now }
     requires within { node.now.parent < length exits.old }
@@ -43,7 +43,7 @@ fn open(patterns: &[Pattern], node: &Node, exits: &mut [Exits])
     exits[node.parent] = with_exit(exits[node.parent], token);
 }
 
-/// As many nodes from which no beginning goes on.
+/// Returns `count` entries without an exit. Fails only if an allocation fails.
 fn no_exits(alloc: Global, count: usize) -> Result<Vec<Exits>, AllocError>
     ensures { IfOk result (λ exits. length exits.items ≡ count) }
 {
@@ -57,7 +57,7 @@ fn no_exits(alloc: Global, count: usize) -> Result<Vec<Exits>, AllocError>
     Ok(exits)
 }
 
-/// By which tokens the beginnings of these nodes go on.
+/// Returns the exits of each of `nodes`. Fails only if an allocation fails.
 pub fn exits_of(
     alloc: Global,
     patterns: &[Pattern],

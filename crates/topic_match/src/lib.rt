@@ -1,4 +1,4 @@
-//! Words of keys, topic patterns, and which of them match.
+//! Matches routing keys against topic patterns. Start with [`Matcher`], which [`Trie`] and [`Plain`] implement.
 #![tactic(auto)]
 
 mod attempts;

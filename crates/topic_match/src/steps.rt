@@ -1,4 +1,4 @@
-//! The tokens that can take the words of a key.
+//! The tokens by which a walk over a trie goes on.
 
 ghost use Rattle.std.specs.Prelude.{◌≡◌, ◌<◌, Decides, IfOk};
 ghost use Rattle.model.specs.Topology.{IsIn};
@@ -13,18 +13,18 @@ use smallvec::SmallVec;
 use std::alloc::{AllocError, Global};
 use std::marker::Model;
 
-/// What a token takes.
+/// What a token matches.
 #[derive(Clone, Copy, Drop)]
 enum Taken<'a> {
     /// The word of these bytes.
     Exactly(&'a [u8]),
-    /// One word.
+    /// Any one word.
     Single,
     /// Any number of words.
     Several,
 }
 
-/// A token that stands elsewhere, and its mark.
+/// A token borrowed from a key or a pattern, with its mark.
 #[derive(Drop)]
 pub struct Step<'a> {
     taken: Taken<'a>,
@@ -45,7 +45,6 @@ impl<'a> Model for Step<'a> {
     ghost invariant = { λ s. s.mark ≡ mark_of (elim s.taken [ Exactly w ↦ Word w.now | Single ↦ One | Several ↦ Any ]) };
 }
 
-/// A step by `#`.
 impl<'a> Default for Step<'a> {
     ghost use Rattle.std.specs.Prelude.{◌≡◌};
     ghost use Rattle.model.specs.declared.texts.Token.TheVariants.{Any};
@@ -64,7 +63,7 @@ impl<'a> Step<'a> {
     ghost use Rattle.topic_match.specs.Counts.{stands_after, stands_first};
     ghost use Rattle.topic_match.specs.Exits.{has_exit};
 
-    /// A step by `#`.
+    /// Returns the step by `#`.
     pub fn any() -> Step<'a>
         ensures { result ≡ Any }
     {
@@ -74,7 +73,7 @@ impl<'a> Step<'a> {
         }
     }
 
-    /// A step by `*`.
+    /// Returns the step by `*`.
     pub fn one() -> Step<'a>
         ensures { result ≡ One }
     {
@@ -84,7 +83,7 @@ impl<'a> Step<'a> {
         }
     }
 
-    /// A step by this word.
+    /// Returns the step by the word `bytes`.
     pub fn word(bytes: &'a [u8]) -> Step<'a>
         ensures { result ≡ Word bytes.now }
     {
@@ -94,7 +93,7 @@ impl<'a> Step<'a> {
         }
     }
 
-    /// A step by this token.
+    /// Returns the step by `token`.
     pub fn by(token: &'a Token) -> Step<'a>
         ensures { result ≡ token.now }
     {
@@ -105,14 +104,14 @@ impl<'a> Step<'a> {
         }
     }
 
-    /// The mark of its token.
+    /// Returns the mark of the token, below 2^32.
     pub fn mark(&self) -> u64
         ensures { result ≡ mark_of self.now }
     {
         self.mark
     }
 
-    /// Whether it is a step by this token.
+    /// Returns whether the token is `token`.
     pub fn is_by(&self, token: &Token) -> bool
         ensures { Decides result (token.now ≡ self.now) }
     {
@@ -124,7 +123,7 @@ impl<'a> Step<'a> {
         }
     }
 
-    /// Whether it is a step by this word.
+    /// Returns whether the token is the word `word`.
     fn is_by_word(&self, word: &KeyWord<'_>) -> bool
         ensures { Decides result (Word word.now ≡ self.now) }
     {
@@ -135,7 +134,7 @@ impl<'a> Step<'a> {
         }
     }
 
-    /// Whether it may go by one of these exits.
+    /// Returns whether `exits` has the kind of this token.
     pub fn may_go(&self, exits: Exits) -> bool
         ensures { result ≡ has_exit exits self.now }
     {
@@ -146,7 +145,7 @@ impl<'a> Step<'a> {
         }
     }
 
-    /// Whether tokens that end with this one match no word, by what those before it do.
+    /// Returns whether tokens that end with this one match the empty key. `before` says whether those before it do.
     pub fn stands_first(&self, before: bool) -> bool
         ensures { result ≡ stands_first self.now before }
     {
@@ -157,7 +156,9 @@ impl<'a> Step<'a> {
         }
     }
 
-    /// Whether tokens that end with this one match the words up to this one.
+    /// Returns whether tokens that end with this one match the words up to and with `word`.
+    /// `before_was` and `before_is` say whether the tokens before it match the words without `word` and with it, `was` whether all match
+    /// the words without it.
     pub fn stands_after(
         &self,
         word: &KeyWord<'_>,
@@ -175,10 +176,10 @@ impl<'a> Step<'a> {
     }
 }
 
-/// Some tokens, each once. Ten of them take no memory.
+/// Tokens, each once. Up to ten of them need no allocation.
 pub type Steps<'a> = SmallVec<Step<'a>, 10>;
 
-/// Whether these tokens have the word.
+/// Returns whether `steps` has the word `word`.
 fn has_word(steps: &[Step<'_>], word: &KeyWord<'_>) -> bool
     ensures { Decides result (IsIn (Word word.now) steps.now) }
 {
@@ -190,7 +191,7 @@ fn has_word(steps: &[Step<'_>], word: &KeyWord<'_>) -> bool
     false
 }
 
-/// The tokens that can take these words, each once.
+/// Returns `#`, `*` and each of `words`, each once. Fails only if an allocation fails.
 pub fn steps_of<'a>(alloc: Global, words: &[KeyWord<'a>]) -> Result<Steps<'a>, AllocError>
     ensures { IfOk result (λ steps. AreSteps steps.items words.now) }
 {

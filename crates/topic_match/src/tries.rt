@@ -1,4 +1,4 @@
-//! A list of patterns as the tree of their beginnings.
+//! The matcher that keeps its patterns as the tree of their beginnings.
 
 ghost use Rattle.std.specs.Prelude.{◌≡◌, [], length, IfOk};
 ghost use Rattle.topic_match.specs.Beginnings.{Begins, IsCounted};
@@ -23,7 +23,7 @@ use smallvec::SmallVec;
 use std::alloc::{AllocError, Global};
 use std::marker::Model;
 
-/// How many words no token matches: none.
+/// Returns the counts of the empty beginning, which matches only the empty key. Fails only if an allocation fails.
 fn first_counts(alloc: Global, words: &[KeyWord<'_>]) -> Result<Counts, AllocError>
     ensures { IfOk result (λ counts. AreCounts [] words.now counts.items) }
 {
@@ -35,7 +35,7 @@ fn first_counts(alloc: Global, words: &[KeyWord<'_>]) -> Result<Counts, AllocErr
     Ok(counts)
 }
 
-/// How many numbers of words are told of all these nodes together.
+/// Returns how many numbers of words match, over all nodes of `met`.
 fn told_in(met: &[Met]) -> u128
     ensures { result ≡ told_in met.now }
 {
@@ -46,7 +46,7 @@ fn told_in(met: &[Met]) -> u128
     count
 }
 
-/// The nodes whose beginnings match some of these words, from the first on.
+/// Returns the nodes whose beginnings match some of the first words. Fails only if an allocation fails.
 fn met_by(
     alloc: Global,
     patterns: &[Pattern],
@@ -75,7 +75,7 @@ fn met_by(
     Ok(met)
 }
 
-/// Patterns of which each beginning is kept once.
+/// A matcher that keeps each beginning of its patterns once, and visits only those that match some first words of a key.
 #[derive(Drop)]
 pub struct Trie {
     patterns: Vec<Pattern>,
@@ -102,8 +102,8 @@ impl Model for Trie {
 }
 
 impl Trie {
-    /// The places, rising, of the patterns that match the key, and the number of pairs of a beginning of a pattern and a
-    /// number of first words of the key that it matches.
+    /// Returns the indices of the patterns that match `key`, in increasing order, and the number of pairs of a beginning of a pattern and a
+    /// number of first words of the key that it matches. Fails only if an allocation fails.
     pub fn matches_counted(
         &self,
         alloc: Global,

@@ -1,4 +1,4 @@
-//! The walk over the beginnings that match some of the first words of a key.
+//! Walks over the beginnings that match some of the first words of a key. Start with `walk`.
 
 ghost use Rattle.std.specs.Prelude.{◌≡◌, ◌<◌, length, IfOk, IfSome, IfNone, OnOk};
 ghost use Rattle.topic_match.specs.Counts.{AreCounts};
@@ -15,7 +15,7 @@ use crate::pieces::KeyWord;
 use crate::steps::Step;
 use std::alloc::{AllocError, Global};
 
-/// The node that a token leads to, where its beginning matches some of the first words.
+/// Returns the node behind `from` by the token `by` if its beginning matches some of the first words. Fails only if an allocation fails.
 fn step(
     alloc: Global,
     patterns: &[Pattern],
@@ -24,10 +24,12 @@ fn step(
     from: &Met,
     by: &Step<'_>,
 ) -> Result<Option<Met>, AllocError>
+    // `from` is a node, with the numbers of first words that its beginning matches.
     requires linked { AreLinked patterns.now links.now.nodes.now links.now.slots.now }
     requires exits { AreExits patterns.now links.now.nodes.now (length links.now.nodes.now) links.now.exits.now }
     requires within { from.now.node < length links.now.nodes.now }
     requires counted { AreCounts (beginning_at patterns.now links.now.nodes.now from.now.node) words.now from.now.counts.items }
+    // Either no beginning behind `from` by this token matches any first words, or the result is the node behind it.
     ensures none { IfOk result (λ o. IfNone o (IsBarren patterns.now links.now.nodes.now words.now from.now.node by.now)) }
     ensures next { IfOk result (λ o. IfSome o (λ next.
         IsStep patterns.now links.now.nodes.now words.now from.now.node by.now next.node next.counts.items)) }
@@ -45,7 +47,7 @@ fn step(
     Ok(Some(Met { node, counts }))
 }
 
-/// Adds this node, and those behind it whose beginnings match some of the first words.
+/// Appends `from` and each node behind it whose beginning matches some of the first words. Fails only if an allocation fails.
 pub fn walk(
     alloc: Global,
     patterns: &[Pattern],
@@ -55,6 +57,7 @@ pub fn walk(
     from: Met,
     met: &mut Vec<Met>,
 ) -> Result<(), AllocError>
+    // `from` is a node, with the numbers of first words that its beginning matches, and `steps` has each token that can go on.
     requires linked { AreLinked patterns.now links.now.nodes.now links.now.slots.now }
     requires exits { AreExits patterns.now links.now.nodes.now (length links.now.nodes.now) links.now.exits.now }
     requires within { from.node < length links.now.nodes.now }

@@ -1,4 +1,5 @@
--- What a topology must keep to be built, and what is told where it does not. Source: RabbitMQ, "Definition Export and Import"; the limits are own.
+-- The conditions on a topology that can be built, and the reason that is reported otherwise. Source: RabbitMQ, "Definition
+-- Export and Import"; the limits are own.
 use Rattle.std.specs.Prelude.{◌≡◌, ◌≤◌, List, [], Some, None, length, All, Result, Ok, Err, ◌⊎◌}
 use Rattle.model.specs.Words.{Text}
 use Rattle.model.specs.Topology.{Topology, queue_names, exchange_names, IsIn, AreApart}
@@ -11,35 +12,35 @@ use Rattle.topic_match.specs.Patterns.{IsPattern}
 use Rattle.topology_drafts.specs.declared.bad.BadTopology.{BadTopology}
 use Rattle.topology_drafts.specs.declared.bad.BadTopology.TheVariants.{Repeated, Absent, Argument, Worded, TooMany, NoExchange, Memory}
 
--- no two queues and no two exchanges have one name
+-- the queues have distinct names, and the exchanges have
 pub record NamesApart (t : Topology) : Type 0 where
   pub queues : AreApart (queue_names t.queues)
   pub exchanges : AreApart (exchange_names t.exchanges)
 
--- one of these exchanges has this name; the default exchange is none of them
+-- `name` is one of these exchanges, and not empty: the default exchange isn't one of them
 pub record IsExchange (exchanges : List Text) (name : Text) : Type 0 where
   pub some : name ≡ [] → ⊥
   pub there : IsIn name exchanges
 
--- a place is one of these exchanges or queues
+-- the place is one of these exchanges or queues
 abbrev pub IsPlace : List Text → List Text → Place → Type 0
 IsPlace exchanges queues (place.Exchange name) = IsExchange exchanges name
 IsPlace exchanges queues (place.Queue name) = IsIn name queues
 
--- the exchange and the place that a binding names are there
+-- the source and the destination of the binding exist
 pub record Joins (exchanges queues : List Text) (b : Binding) : Type 0 where
   pub source : IsExchange exchanges b.source
   pub end : IsPlace exchanges queues b.to
 
--- every binding does
+-- the source and the destination of every binding exist
 abbrev pub AllJoin : Topology → Type 0
 AllJoin t = All (Joins (exchange_names t.exchanges) (queue_names t.queues)) t.bindings
 
--- a queue with a dead-letter key has a dead-letter exchange
+-- the queue has a dead-letter exchange, if it has a dead-letter key
 abbrev pub KeyHasExchange : DeclaredQueue → Type 0
 KeyHasExchange q = (key : Text) → q.dead_letter_key ≡ Some key → q.dead_letter_exchange ≡ None → ⊥
 
--- every queue does
+-- every queue with a dead-letter key has a dead-letter exchange
 abbrev pub KeysHaveExchanges : Topology → Type 0
 KeysHaveExchanges t = All KeyHasExchange t.queues
 
@@ -48,38 +49,38 @@ pub record IsNamed (x : Exchange) : Type 0 where
   pub some : x.name ≡ [] → ⊥
   pub short : length x.name ≤ 255
 
--- a queue's name is a pattern of at least one word, and its dead-letter key a pattern
+-- a queue's name is a topic pattern and not empty, and its dead-letter key is a topic pattern
 pub record IsWorded (q : DeclaredQueue) : Type 0 where
   pub some : q.name ≡ [] → ⊥
   pub name : IsPattern q.name
   pub key : (key : Text) → q.dead_letter_key ≡ Some key → IsPattern key
 
--- every name and key has its form
+-- every name and key is well-formed; binding keys are topic patterns
 pub record AllWorded (t : Topology) : Type 0 where
   pub exchanges : All IsNamed t.exchanges
   pub queues : All IsWorded t.queues
   pub bindings : All (λ (b : Binding). IsPattern b.key) t.bindings
 
--- at most 256 exchanges, 256 queues and 4,096 bindings
+-- there are at most 256 exchanges, 256 queues and 4,096 bindings
 pub record IsSmall (t : Topology) : Type 0 where
   pub exchanges : length t.exchanges ≤ 256
   pub queues : length t.queues ≤ 256
   pub bindings : length t.bindings ≤ 4096
 
--- an alternate exchange is one of these
+-- the alternate exchange, if there is one, is one of these
 abbrev pub AlternateIsThere : List Text → Exchange → Type 0
 AlternateIsThere exchanges x = (other : Text) → x.alternate ≡ Some other → IsIn other exchanges
 
--- a dead-letter exchange is one of these, or is the default one
+-- the dead-letter exchange, if there is one, is one of these or the default one
 abbrev pub DeadLettersLead : List Text → DeclaredQueue → Type 0
 DeadLettersLead exchanges q = (x : Text) → q.dead_letter_exchange ≡ Some x → (x ≡ []) ⊎ IsIn x exchanges
 
--- all of these are
+-- every alternate and dead-letter exchange exists, or is the default one if it is for dead letters
 pub record NamesLead (t : Topology) : Type 0 where
   pub alternates : All (AlternateIsThere (exchange_names t.exchanges)) t.exchanges
   pub dead : All (DeadLettersLead (exchange_names t.exchanges)) t.queues
 
--- Nothing stands against this topology.
+-- the topology meets every condition
 pub record IsBuildable (t : Topology) : Type 0 where
   pub apart : NamesApart t
   pub join : AllJoin t
@@ -88,7 +89,7 @@ pub record IsBuildable (t : Topology) : Type 0 where
   pub small : IsSmall t
   pub lead : NamesLead t
 
--- This stands against it, and nothing that is looked for before. Want of memory is nothing that stands against it.
+-- this is the first condition that the topology doesn't meet; an allocation failure is no such condition
 abbrev pub StandsAgainst : BadTopology → Topology → Type 0
 StandsAgainst Repeated t = NamesApart t → ⊥
 StandsAgainst Absent t = NamesApart t × (AllJoin t → ⊥)
@@ -98,7 +99,7 @@ StandsAgainst TooMany t = NamesApart t × AllJoin t × KeysHaveExchanges t × Al
 StandsAgainst NoExchange t = NamesApart t × AllJoin t × KeysHaveExchanges t × AllWorded t × IsSmall t × (NamesLead t → ⊥)
 StandsAgainst Memory t = ⊥
 
--- It is refused for what stands against it; memory is wanting only for what can be built.
+-- the topology is refused for the first condition that it doesn't meet; an allocation failure is reported only if it meets all
 abbrev pub IsTopologyRefused : BadTopology → Topology → Type 0
 IsTopologyRefused Repeated t = StandsAgainst Repeated t
 IsTopologyRefused Absent t = StandsAgainst Absent t
@@ -108,7 +109,7 @@ IsTopologyRefused TooMany t = StandsAgainst TooMany t
 IsTopologyRefused NoExchange t = StandsAgainst NoExchange t
 IsTopologyRefused Memory t = IsBuildable t
 
--- What is handed in is built as it is, or refused.
+-- the topology is built as it was given if it meets every condition, and refused otherwise or if an allocation fails
 abbrev pub Builds : Result Topology BadTopology → Topology → Type 0
 Builds (Ok t) given = (t ≡ given) × IsBuildable given
 Builds (Err e) given = IsTopologyRefused e given

@@ -1,24 +1,26 @@
-//! Why a topology is not built.
+//! Why a topology can't be built.
 
 use std::alloc::AllocError;
 
-/// What stands against a topology. Of several the first of these is told.
+/// Why a topology can't be built. Of several reasons the first in this order is reported.
 #[derive(Clone, Copy, PartialEq, Eq, Debug, Drop)]
 pub enum BadTopology {
-    /// Two queues or two exchanges have one name.
+    /// Two queues or two exchanges have the same name.
     Repeated,
-    /// The source or the destination of a binding is not there.
+    /// The source or the destination of a binding doesn't exist.
     Absent,
     /// A queue has a dead-letter key and no dead-letter exchange.
     Argument,
+    /// A name or a key is malformed.
+    ///
     /// A binding key, dead-letter key or queue name has an empty word, over 31 words or over 255 bytes; an exchange or a
-    /// queue has no name; or an exchange's name is over 255 bytes.
+    /// queue has no name; or an exchange's name has over 255 bytes.
     Worded,
     /// There are over 256 exchanges, 256 queues or 4,096 bindings.
     TooMany,
-    /// An alternate exchange is not there, or a dead-letter exchange is neither there nor the default one.
+    /// An alternate exchange doesn't exist, or a dead-letter exchange doesn't exist and isn't the default one.
     NoExchange,
-    /// A growth was refused.
+    /// An allocation failed.
     Memory,
 }
 

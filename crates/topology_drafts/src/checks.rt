@@ -1,4 +1,4 @@
-//! What stands against a topology.
+//! The conditions on a topology, one by one.
 
 ghost use Rattle.std.specs.Prelude.{Decides, ℕ, List, MatchResult, All, ◌≡◌, Some};
 ghost use Rattle.model.specs.declared.topologies.Binding.{Binding as Bound};
@@ -18,14 +18,14 @@ use crate::directory::Directory;
 use model::{Binding, DeclaredQueue, Exchange, Place, limits};
 use topic_match::is_pattern;
 
-/// Whether an exchange of this name is there. The default exchange is not.
+/// Returns whether `name` is one of `exchanges`. The default exchange is not.
 fn is_exchange(exchanges: &Directory<'_, Exchange>, name: &[u8]) -> bool
     ensures { Decides result (IsExchange exchanges.now name.now) }
 {
     !name.is_empty() && exchanges.has(name)
 }
 
-/// Whether the place is there.
+/// Returns whether the exchange or queue `to` exists.
 fn is_place(
     exchanges: &Directory<'_, Exchange>,
     queues: &Directory<'_, DeclaredQueue>,
@@ -39,7 +39,7 @@ fn is_place(
     }
 }
 
-/// Whether what a binding names is there.
+/// Returns whether the source and the destination of `binding` exist.
 fn joins(
     exchanges: &Directory<'_, Exchange>,
     queues: &Directory<'_, DeclaredQueue>,
@@ -50,21 +50,21 @@ fn joins(
     is_exchange(exchanges, binding.source.as_bytes()) && is_place(exchanges, queues, &binding.to)
 }
 
-/// Whether a queue with a dead-letter key has a dead-letter exchange.
+/// Returns whether `queue` has a dead-letter exchange, if it has a dead-letter key.
 fn key_has_exchange(queue: &DeclaredQueue) -> bool
     ensures { Decides result (KeyHasExchange queue.now) }
 {
     queue.dead_letter_key.is_none() || queue.dead_letter_exchange.is_some()
 }
 
-/// Whether an exchange's name has its form.
+/// Returns whether the exchange's name has from 1 to 255 bytes.
 fn is_named(exchange: &Exchange) -> bool
     ensures { Decides result (IsNamed exchange.now) }
 {
     exchange.name.len() != 0 && exchange.name.len() <= limits::SHORT_BYTES
 }
 
-/// Whether a dead-letter key is a pattern, if there is one.
+/// Returns whether the queue's dead-letter key, if it has one, is a topic pattern.
 fn key_is_pattern(queue: &DeclaredQueue) -> bool
     ensures { Decides result ((key : List ℕ) → queue.now.dead_letter_key ≡ Some key → IsPattern key) }
 {
@@ -74,21 +74,21 @@ fn key_is_pattern(queue: &DeclaredQueue) -> bool
     }
 }
 
-/// Whether a queue's name and key have their form.
+/// Returns whether the queue's name is a topic pattern of at least one word, and its dead-letter key a topic pattern.
 fn is_worded(queue: &DeclaredQueue) -> bool
     ensures { Decides result (IsWorded queue.now) }
 {
     queue.name.len() != 0 && is_pattern(queue.name.as_bytes()) && key_is_pattern(queue)
 }
 
-/// Whether a binding key is a pattern.
+/// Returns whether the binding key is a topic pattern.
 fn is_keyed(binding: &Binding) -> bool
     ensures { Decides result (IsPattern binding.now.key) }
 {
     is_pattern(binding.key.as_bytes())
 }
 
-/// Whether an alternate exchange is there.
+/// Returns whether the alternate exchange of `exchange`, if it has one, is one of `exchanges`.
 fn alternate_is_there(exchanges: &Directory<'_, Exchange>, exchange: &Exchange) -> bool
     ensures { Decides result (AlternateIsThere exchanges.now exchange.now) }
 {
@@ -98,7 +98,7 @@ fn alternate_is_there(exchanges: &Directory<'_, Exchange>, exchange: &Exchange) 
     }
 }
 
-/// Whether a dead-letter exchange is there, or is the default one.
+/// Returns whether the dead-letter exchange of `queue`, if it has one, is one of `exchanges` or the default one.
 fn dead_letters_lead(exchanges: &Directory<'_, Exchange>, queue: &DeclaredQueue) -> bool
     ensures { Decides result (DeadLettersLead exchanges.now queue.now) }
 {
@@ -108,7 +108,7 @@ fn dead_letters_lead(exchanges: &Directory<'_, Exchange>, queue: &DeclaredQueue)
     }
 }
 
-/// Whether what the bindings name is there.
+/// Returns whether the sources and destinations of all `bindings` exist.
 pub fn all_join(
     exchanges: &Directory<'_, Exchange>,
     queues: &Directory<'_, DeclaredQueue>,
@@ -121,35 +121,35 @@ pub fn all_join(
         .all(|binding| joins(exchanges, queues, binding))
 }
 
-/// Whether the queues with a dead-letter key have a dead-letter exchange.
+/// Returns whether all `queues` with a dead-letter key have a dead-letter exchange.
 pub fn keys_have_exchanges(queues: &[DeclaredQueue]) -> bool
     ensures { Decides result (All KeyHasExchange queues.now) }
 {
     queues.iter().all(|queue| key_has_exchange(queue))
 }
 
-/// Whether the exchanges' names have their form.
+/// Returns whether the names of all `exchanges` have from 1 to 255 bytes.
 pub fn all_named(exchanges: &[Exchange]) -> bool
     ensures { Decides result (All IsNamed exchanges.now) }
 {
     exchanges.iter().all(|exchange| is_named(exchange))
 }
 
-/// Whether the queues' names and keys have their form.
+/// Returns whether the names and dead-letter keys of all `queues` are well-formed.
 pub fn all_worded(queues: &[DeclaredQueue]) -> bool
     ensures { Decides result (All IsWorded queues.now) }
 {
     queues.iter().all(|queue| is_worded(queue))
 }
 
-/// Whether the binding keys are patterns.
+/// Returns whether the keys of all `bindings` are topic patterns.
 pub fn all_keyed(bindings: &[Binding]) -> bool
     ensures { Decides result (All (λ (b : Bound). IsPattern b.key) bindings.now) }
 {
     bindings.iter().all(|binding| is_keyed(binding))
 }
 
-/// Whether the alternate exchanges are there.
+/// Returns whether the alternate exchanges of all `entries` are among `exchanges`.
 pub fn alternates_are_there(exchanges: &Directory<'_, Exchange>, entries: &[Exchange]) -> bool
     ensures { Decides result (All (AlternateIsThere exchanges.now) entries.now) }
 {
@@ -158,7 +158,7 @@ pub fn alternates_are_there(exchanges: &Directory<'_, Exchange>, entries: &[Exch
         .all(|exchange| alternate_is_there(exchanges, exchange))
 }
 
-/// Whether the dead-letter exchanges are there.
+/// Returns whether the dead-letter exchanges of all `queues` are among `exchanges` or the default one.
 pub fn all_dead_letters_lead(exchanges: &Directory<'_, Exchange>, queues: &[DeclaredQueue]) -> bool
     ensures { Decides result (All (DeadLettersLead exchanges.now) queues.now) }
 {

@@ -1,4 +1,4 @@
-//! Names in the order of their list, and where each stands.
+//! Looks up exchanges and queues by name: [`Names`] is an index, [`Directory`] works without memory, too.
 
 ghost use Rattle.std.specs.Prelude.{◌≡◌, ◌<◌, [], List, ℕ, length, Decides, IfOk, IfSome, MatchOption, OnErr, map, position};
 ghost use Rattle.std.specs.Str.{bytes_eq};
@@ -10,7 +10,7 @@ use model::{DeclaredQueue, Exchange};
 use std::alloc::{AllocError, Global};
 use std::marker::Model;
 
-/// What has a name.
+/// An entry of a list that has a name.
 pub trait Named {
     ghost named: { Self → List ℕ };
 
@@ -34,12 +34,12 @@ impl Named for DeclaredQueue {
     }
 }
 
-/// Names that are apart, in their order, each known by its place.
+/// Distinct names in insertion order, with an index from name to position.
 pub struct Names {
     set: IndexSet<Vec<u8>>,
 }
 
-/// Written out, so that a drop is one call.
+/// Written out, so that dropping is one call.
 impl Drop for Names {
     fn drop(self) {
         let Names { set: _ } = self;
@@ -55,7 +55,7 @@ impl Model for Names {
 }
 
 impl Names {
-    /// No names.
+    /// Returns an empty list of names.
     pub fn none(alloc: Global) -> Names
         ensures { result ≡ [] }
     {
@@ -64,8 +64,8 @@ impl Names {
         }
     }
 
-    /// Puts a name behind the others, unless it is among them, and tells whether it is a new one. Where memory is wanting,
-    /// the names are as before.
+    /// Adds `name` after the others, unless it is there already. Returns whether it was new. Fails only if an allocation
+    /// fails; nothing has changed then.
     pub fn enter(&mut self, alloc: Global, name: &[u8]) -> Result<bool, AllocError>
         ensures entered { IfOk result (λ new. EntersName name.now self.old self.new new) }
         ensures same { OnErr result (self.new ≡ self.old) }
@@ -75,7 +75,7 @@ impl Names {
         Ok(new)
     }
 
-    /// The names of these, or `None` where two of them have one name.
+    /// Returns the names of `entries` in order, or `None` if two of them have the same name. Fails only if an allocation fails.
     pub fn of<N: Named>(alloc: Global, entries: &[N]) -> Result<Option<Names>, AllocError>
         ensures { IfOk result (λ o. MatchOption o (AreApart (map N.named entries.now) → ⊥) (λ names. AreNames names (map N.named entries.now))) }
     {
@@ -89,7 +89,7 @@ impl Names {
         Ok(Some(names))
     }
 
-    /// The names of these, which are apart.
+    /// Returns the names of `entries`, which are distinct, in order. Fails only if an allocation fails.
     pub fn apart<N: Named>(alloc: Global, entries: &[N]) -> Result<Names, AllocError>
         requires { AreApart (map N.named entries.now) }
         ensures { IfOk result (λ names. names ≡ map N.named entries.now) }
@@ -100,7 +100,7 @@ impl Names {
         }
     }
 
-    /// The place of the name, if it is there.
+    /// Returns the index of `name`, from 0, if it is there.
     pub fn place(&self, name: &[u8]) -> Option<usize>
         ensures place { result ≡ position (λ k. bytes_eq name.now k) self.now }
         ensures within { IfSome result (λ i. i < length self.now) }
@@ -108,7 +108,7 @@ impl Names {
         self.set.get_index_of(name)
     }
 
-    /// Whether the name is among them.
+    /// Returns whether `name` is there.
     pub fn has(&self, name: &[u8]) -> bool
         ensures { Decides result (IsIn name.now self.now) }
     {
@@ -116,7 +116,7 @@ impl Names {
     }
 }
 
-/// Whether one of these has the name.
+/// Returns whether one of `entries` is called `name`, by going over them.
 fn is_listed<N: Named>(entries: &[N], name: &[u8]) -> bool
     ensures { Decides result (IsIn name.now (map N.named entries.now)) }
 {
@@ -130,7 +130,7 @@ fn is_listed<N: Named>(entries: &[N], name: &[u8]) -> bool
     false
 }
 
-/// Whether no two of these have one name.
+/// Returns whether the names of `entries` are distinct, by comparing each pair.
 fn are_apart<N: Named>(entries: &[N]) -> bool
     ensures { Decides result (AreApart (map N.named entries.now)) }
 {
@@ -144,14 +144,14 @@ fn are_apart<N: Named>(entries: &[N]) -> bool
     true
 }
 
-/// The names of a list. They are looked up by an index; where memory for it was refused, the list is gone over.
+/// The names of a list. They are looked up by an index, or by going over the list if an allocation for the index failed.
 pub struct Directory<'a, N: Named> {
     entries: &'a [N],
     index: Option<Names>,
     apart: bool,
 }
 
-/// Written out, so that a drop is one call.
+/// Written out, so that dropping is one call.
 impl<'a, N: Named> Drop for Directory<'a, N> {
     fn drop(self) {
         let Directory {
@@ -174,7 +174,7 @@ impl<'a, N: Named> Model for Directory<'a, N> {
 }
 
 impl<'a, N: Named> Directory<'a, N> {
-    /// The names of these, in their order.
+    /// Returns the directory of `entries`. Never fails: without memory for an index its calls take longer.
     pub fn of(alloc: Global, entries: &'a [N]) -> Directory<'a, N>
         ensures { result ≡ map N.named entries.entry.now }
     {
@@ -197,14 +197,14 @@ impl<'a, N: Named> Directory<'a, N> {
         }
     }
 
-    /// Whether no two of them are the same.
+    /// Returns whether the names are distinct.
     pub fn is_apart(&self) -> bool
         ensures { Decides result (AreApart self.now) }
     {
         self.apart
     }
 
-    /// Whether the name is among them.
+    /// Returns whether `name` is one of the names.
     pub fn has(&self, name: &[u8]) -> bool
         ensures { Decides result (IsIn name.now self.now) }
     {

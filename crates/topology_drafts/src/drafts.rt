@@ -1,4 +1,4 @@
-//! Topologies that are still to be found good.
+//! Checks a topology before it is built. Start with [`judge`].
 
 ghost use Rattle.std.specs.Prelude.{◌≡◌, All, Decides, MatchResult};
 ghost use Rattle.model.specs.Topology.{exchange_names};
@@ -25,8 +25,8 @@ use model::{Binding, DeclaredQueue, Exchange};
 use std::alloc::Global;
 use std::marker::Model;
 
-/// Exchanges, queues and bindings, of which can be asked what stands against them. It takes memory where there is some,
-/// and answers the same without.
+/// Exchanges, queues and bindings whose conditions can be checked one by one. It uses memory for indexes if there is some,
+/// and returns the same without.
 pub struct Draft<'a> {
     exchanges: &'a [Exchange],
     queues: &'a [DeclaredQueue],
@@ -35,7 +35,7 @@ pub struct Draft<'a> {
     queue_names: Directory<'a, DeclaredQueue>,
 }
 
-/// Written out, so that a drop is one call.
+/// Written out, so that dropping is one call.
 impl<'a> Drop for Draft<'a> {
     fn drop(self) {
         let Draft {
@@ -60,7 +60,7 @@ impl<'a> Model for Draft<'a> {
 }
 
 impl<'a> Draft<'a> {
-    /// A draft of these.
+    /// Returns the draft of these lists. Never fails.
     pub fn of(
         alloc: Global,
         exchanges: &'a [Exchange],
@@ -78,63 +78,63 @@ impl<'a> Draft<'a> {
         }
     }
 
-    /// Whether no two exchanges and no two queues have one name.
+    /// Returns whether all exchanges have distinct names, and all queues have.
     pub fn is_apart(&self) -> bool
         ensures { Decides result (NamesApart self.now) }
     {
         self.queue_names.is_apart() && self.exchange_names.is_apart()
     }
 
-    /// Whether what the bindings name is there.
+    /// Returns whether the sources and destinations of all bindings exist.
     pub fn joins(&self) -> bool
         ensures { Decides result (AllJoin self.now) }
     {
         all_join(&self.exchange_names, &self.queue_names, self.bindings)
     }
 
-    /// Whether each queue with a dead-letter key has a dead-letter exchange.
+    /// Returns whether each queue with a dead-letter key has a dead-letter exchange.
     pub fn has_exchanges_for_keys(&self) -> bool
         ensures { Decides result (KeysHaveExchanges self.now) }
     {
         keys_have_exchanges(self.queues)
     }
 
-    /// Whether every name and key has its form.
+    /// Returns whether all names and keys are well-formed.
     pub fn is_worded(&self) -> bool
         ensures { Decides result (AllWorded self.now) }
     {
         all_named(self.exchanges) && all_worded(self.queues) && all_keyed(self.bindings)
     }
 
-    /// Whether there are at most 256 exchanges, 256 queues and 4,096 bindings.
+    /// Returns whether there are at most 256 exchanges, 256 queues and 4,096 bindings.
     pub fn is_small(&self) -> bool
         ensures { Decides result (IsSmall self.now) }
     {
         self.exchanges.len() <= 256 && self.queues.len() <= 256 && self.bindings.len() <= 4096
     }
 
-    /// Whether the alternate exchanges are there.
+    /// Returns whether all alternate exchanges exist.
     fn has_alternates(&self) -> bool
         ensures { Decides result (All (AlternateIsThere (exchange_names self.now.exchanges)) self.now.exchanges) }
     {
         alternates_are_there(&self.exchange_names, self.exchanges)
     }
 
-    /// Whether the dead-letter exchanges are there.
+    /// Returns whether all dead-letter exchanges exist or are the default one.
     fn has_dead_letter_exchanges(&self) -> bool
         ensures { Decides result (All (DeadLettersLead (exchange_names self.now.exchanges)) self.now.queues) }
     {
         all_dead_letters_lead(&self.exchange_names, self.queues)
     }
 
-    /// Whether the alternate and the dead-letter exchanges are there.
+    /// Returns whether all alternate and dead-letter exchanges exist; a dead-letter exchange may also be the default one.
     pub fn leads(&self) -> bool
         ensures { Decides result (NamesLead self.now) }
     {
         self.has_alternates() && self.has_dead_letter_exchanges()
     }
 
-    /// What stands against these first, if anything does. It takes no memory.
+    /// Returns the first reason why the topology can't be built, if there is one. Never allocates.
     fn judge(&self) -> Result<(), BadTopology>
         ensures { MatchResult result (λ _. IsBuildable self.now) (λ e. StandsAgainst e self.now) }
     {
@@ -160,7 +160,8 @@ impl<'a> Draft<'a> {
     }
 }
 
-/// What stands against these first, if anything does. Memory is never wanting: without it, it takes longer.
+/// Returns the first reason why these lists can't be built as a topology, if there is one. Never returns
+/// [`BadTopology::Memory`]: without memory it only takes longer.
 pub fn judge(
     alloc: Global,
     exchanges: &[Exchange],

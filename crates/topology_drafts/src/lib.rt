@@ -1,4 +1,6 @@
-//! Topologies that are still to be found good: the names of exchanges and queues, and what stands against a topology.
+//! Checks a topology before it is built, and looks up exchanges and queues by name.
+//!
+//! Start with [`judge`]; [`BadTopology`] has the reasons.
 #![tactic(auto)]
 
 mod bad;

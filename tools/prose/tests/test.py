@@ -45,6 +45,41 @@ class Dialect(unittest.TestCase):
         self.assertEqual(told, ['PAGE:5: "stands"; instead: is, lies, waits; or the verb of what it does'])
 
 
+class PublicDocs(unittest.TestCase):
+    def kept(self, text):
+        """The lines that are kept, by their numbers."""
+        return {number: line for number, line in enumerate(prose.public_docs(text).split("\n"), 1) if line}
+
+    def test_a_public_item(self):
+        self.assertEqual(self.kept("/// One.\n///\n/// Two.\npub fn f() {}\n"), {1: "One.", 3: "Two."})
+        self.assertEqual(self.kept("    /// One.\n    pub(crate) fn f() {}\n"), {1: "One."})
+        self.assertEqual(self.kept("pub struct S {\n    /// One.\n    pub one: u8,\n    /// Two.\n    two: u8,\n}\n"), {2: "One."})
+
+    def test_a_private_item(self):
+        self.assertEqual(self.kept("/// One.\nfn f() {}\npub fn g() {}\n"), {})
+        self.assertEqual(self.kept("/// One.\nenum E {\n    /// Two.\n    Two,\n}\n"), {})
+
+    def test_what_is_between(self):
+        self.assertEqual(self.kept("/// One.\n#[derive(Clone)]\n// a remark\n\npub struct S;\n"), {1: "One."})
+
+    def test_a_public_enum_and_what_comes_behind_it(self):
+        text = "/// One.\npub enum E {\n    /// Two.\n    Two {\n        /// Three.\n        three: u8,\n    },\n}\n\n/// Four.\nfn f() {}\n"
+        self.assertEqual(self.kept(text), {1: "One.", 3: "Two.", 5: "Three."})
+
+    def test_a_public_trait(self):
+        self.assertEqual(self.kept("pub trait T {\n    /// One.\n    fn f(&self);\n}\n"), {2: "One."})
+
+    def test_the_head_of_a_module(self):
+        self.assertEqual(self.kept("//! One.\n\nuse it;\n"), {1: "One."})
+
+    def test_other_comments_and_code(self):
+        self.assertEqual(self.kept("// One.\npub fn so_many() {}\n//// Two.\npub fn f() {}\n"), {})
+
+    def test_the_line_is_told(self):
+        told = list(prose.dialect("SOURCE", prose.public_docs("\n/// As `it stands`:\n/// so many.\npub fn f() {}\n")))
+        self.assertEqual(told, ['SOURCE:3: "so many"; instead: the number, by its name'])
+
+
 class Calling(unittest.TestCase):
     CALLER = "//! A caller.\n\n/// Returns one.\npub fn one() -> u64\n    ensures { result ≡ 1 }\n{\n    1\n}\n"
     PAGE = "# Calling `it`\n\n```rust\npub fn one() -> u64\n    ensures { result ≡ 1 }\n{\n    1\n}\n```\n"
@@ -87,6 +122,7 @@ class Pages(unittest.TestCase):
         shutil.copytree(os.path.join(ROOT, "docs"), os.path.join(self.root, "docs"))
         for name in ("crates", "examples", "tools"):
             os.symlink(os.path.join(ROOT, name), os.path.join(self.root, name))
+        self.crates = os.path.join(self.root, "crates")
 
     def tearDown(self):
         self.work.cleanup()
@@ -111,7 +147,21 @@ class Pages(unittest.TestCase):
     def test_pages_are_found(self):
         found = prose.found(self.root, prose.PAGES)
         self.assertLessEqual({"README.md", "docs/COSTS.md", "docs/inside/DECISIONS.md", "tools/README.md", "examples/shop/README.md",
-                              "crates/queue/CALLING.md"}, set(found))
+                              "crates/queue/CALLING.md", "crates/queue/README.md"}, set(found))
+
+    def test_sources_are_found(self):
+        every = {os.path.relpath(os.path.join(folder, it), ROOT)
+                 for folder, _, files in os.walk(os.path.join(ROOT, "crates")) for it in files if it.endswith(".rt") and "/src" in folder}
+        self.assertEqual(set(prose.found(self.root, prose.SOURCES)), every)
+
+    def test_a_word_of_the_dialect_in_a_source(self):
+        os.remove(self.crates)
+        source = os.path.join(self.crates, "one/src/lib.rt")
+        os.makedirs(os.path.dirname(source))
+        with open(source, "w", encoding="utf-8") as file:
+            file.write("//! Here it stands.\n\n/// so many\nfn f() {}\n")
+        self.assertSays('crates/one/src/lib.rt:1: "stands"')
+        self.assertNotIn('"so many"', self.said()[1])
 
     def test_a_word_of_the_dialect(self):
         self.add("docs/LIMITS.md", "Here it stands.")
@@ -127,7 +177,7 @@ class Pages(unittest.TestCase):
 
     def test_a_heading_of_the_same_page(self):
         self.add("docs/LIMITS.md", "See [this](#every-limit).")
-        self.assertEqual(self.said()[0], 0)
+        self.assertNotIn("leads nowhere", self.said()[1])
         self.add("docs/LIMITS.md", "See [that](#no-limit).")
         self.assertSays("docs/LIMITS.md: #no-limit leads nowhere")
 
@@ -142,7 +192,7 @@ class Pages(unittest.TestCase):
     def test_a_row_with_a_name(self):
         self.add("docs/LIMITS.md", '| <a id="a-row"></a>a row |')
         self.add("docs/CLIENTS.md", "See [this](LIMITS.md#a-row).")
-        self.assertEqual(self.said()[0], 0)
+        self.assertNotIn("leads nowhere", self.said()[1])
 
     def test_a_page_that_is_named_and_not_there(self):
         self.add("docs/inside/TESTING.md", "As docs/PROOFS.md says.")

@@ -111,7 +111,7 @@ class Sentences(unittest.TestCase):
             lines = out.splitlines()
             self.assertEqual(lines[0], "1: every `orders.#` of `shop` reaches `audit`: NO: `orders` goes to `lost` alone")
             self.assertEqual(lines[1], "2: `paid` of `payments` reaches `audit`: yes")
-            self.assertIn("only keys of more than 255 bytes", lines[2])
+            self.assertIn("a key of more than 255 bytes", lines[2])
             self.assertEqual(lines[3], "4: everything of `news` reaches `mail`: UNDECIDED by `check`; no key breaks it by matching alone, and yet there is no certificate")
             self.assertEqual(run(names[0], guarantees, names[1], "--only", "2"), (0, lines[1] + "\n", ""))
             self.assertEqual(run(names[0], guarantees, names[1], "--only", "4")[0], 2)
@@ -250,7 +250,7 @@ class Junit(unittest.TestCase):
         self.assertEqual((status, said, counts), (1, "", "4:3:0:0"))
         missed = ("everything of `X` reaches `q`", "NO: the empty key goes nowhere")
         entered = ("nothing under `c` of `X` comes to `q`", "NO: `c` goes from `X` to `r`; rejected there, it goes on as `b.c` to `X` and so to `q`")
-        undecided = "UNDECIDED: only keys of more than 255 bytes, which no client can send, were found to break it; take a shorter pattern"
+        undecided = "UNDECIDED: a key of more than 255 bytes, which no client can send, breaks it, and no key of fewer words does; take a shorter pattern"
         open_one = ("nothing under `d` of `X` comes to `q`", undecided)
         failed = [(name, [("failure", kind, why, f"{name}: {why}")]) for (name, why), kind in ((missed, "broken"), (entered, "broken"), (open_one, "undecided"))]
         self.assertEqual(cases, [("every `a.#` of `X` reaches `q`", []), *failed])

@@ -61,9 +61,9 @@ impl AckLoad {
     }
 }
 
-/// Returns the load at index `place`, or `None` after the last.
-pub fn load_at(place: u32) -> Option<AckLoad> {
-    let (name, order, outstanding) = match place {
+/// Returns the load at `index`, or `None` after the last.
+pub fn load_at(index: u32) -> Option<AckLoad> {
+    let (name, order, outstanding) = match index {
         0 => ("pairs swapped, 10,000 outstanding", Order::Swapped, 10_000),
         1 => (
             "pairs swapped, 100,000 outstanding",

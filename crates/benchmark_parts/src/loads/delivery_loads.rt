@@ -66,7 +66,7 @@ fn one(name: &'static str, prefetch: u16, waiting: u64) -> DeliveryLoad {
     }
 }
 
-/// Returns the load of a drain: `messages` messages are ready, and no more come.
+/// Returns the load of a drain: `messages` messages are ready, and none is published later.
 pub fn drain_of(messages: u64) -> DeliveryLoad {
     one("drain", 0, messages)
 }
@@ -76,9 +76,9 @@ pub fn beside(waiting: u64) -> DeliveryLoad {
     one("beside", 0, waiting)
 }
 
-/// Returns the load at index `place`, or `None` after the last.
-pub fn load_at(place: u32) -> Option<DeliveryLoad> {
-    let load = match place {
+/// Returns the load at `index`, or `None` after the last.
+pub fn load_at(index: u32) -> Option<DeliveryLoad> {
+    let load = match index {
         0 => one("one consumer, prefetch 0", 0, 0),
         1 => one("one consumer, prefetch 1", 1, 0),
         2 => one("one consumer, prefetch 100", 100, 0),

@@ -86,9 +86,9 @@ fn large(name: &'static str, publishes: u64, body: usize) -> Load {
     }
 }
 
-/// Returns the load at index `place`, or `None` after the last.
-pub fn load_at(place: u32) -> Option<Load> {
-    let load = match place {
+/// Returns the load at `index`, or `None` after the last.
+pub fn load_at(index: u32) -> Option<Load> {
+    let load = match index {
         0 => plain("direct, 12 bytes", Shape::Direct, 1_000_000, 12),
         1 => plain(
             "direct, 12 bytes, limit of bytes",

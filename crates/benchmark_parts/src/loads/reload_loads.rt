@@ -68,15 +68,16 @@ fn guarded(name: &'static str, key: Option<&'static str>) -> ReloadLoad {
             queues: 1,
             forbidden: 1,
             key,
+            limit: None,
         },
         guarantees: 1,
         ..same(name)
     }
 }
 
-/// Returns the load at index `place`, or `None` after the last.
-pub fn load_at(place: u32) -> Option<ReloadLoad> {
-    let load = match place {
+/// Returns the load at `index`, or `None` after the last.
+pub fn load_at(index: u32) -> Option<ReloadLoad> {
+    let load = match index {
         0 => same("the same configuration"),
         1 => guarded("a guarantee, a fixed key that leads elsewhere", Some("e")),
         2 => ReloadLoad {
@@ -100,6 +101,7 @@ pub fn load_at(place: u32) -> Option<ReloadLoad> {
                 queues: 250,
                 forbidden: 6,
                 key: None,
+                limit: None,
             },
             guarantees: 64,
             publishes: WAITING_EACH,

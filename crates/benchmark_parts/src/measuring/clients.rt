@@ -25,7 +25,7 @@ pub struct Client {
     properties: &'static [u8],
     /// The number of publishes written so far.
     count: u64,
-    /// The last window.
+    /// The bytes of the last window of publishes.
     bytes: Written,
 }
 

@@ -18,11 +18,12 @@ pub enum Shape {
     /// A direct exchange with this number of queues, `q0`, `q1` .., each bound with a key of its own, `k.0`, `k.1` ..
     Keyed(u32),
     /// A topic exchange with `queues` queues, `q0`, `q1` .., bound with `k.#`. Their dead letters go to the topic exchange `d`,
-    /// under `key` if there is one, which is bound to `forbidden` queues, `f0`, `f1` .., with `d.#`.
+    /// under `key` if there is one, which is bound to `forbidden` queues, `f0`, `f1` .., with `d.#`. These have `limit` messages at most.
     Lettered {
         queues: u32,
         forbidden: u32,
         key: Option<&'static str>,
+        limit: Option<u32>,
     },
     /// An exchange bound to the queue `q`. At 0 it is a fanout exchange; otherwise a topic exchange, bound with `#` and with each
     /// pattern of at most this number of words, each of which is `a` or `*`.

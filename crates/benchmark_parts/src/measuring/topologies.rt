@@ -187,23 +187,29 @@ fn lettered_queue(plan: &mut Plan, number: u32, key: Option<&str>) {
     plan.bind_to("x", queue, "k.#");
 }
 
-/// Adds forbidden queue `number`, bound to `d` with `d.#`.
-fn forbidden_queue(plan: &mut Plan, number: u32) {
-    let queue = plan.texts.numbered("f", number);
-    plan.put_queue(queue);
+/// Adds forbidden queue `number` with this limit, bound to `d` with `d.#`.
+fn forbidden_queue(plan: &mut Plan, number: u32, limit: Option<u32>) {
+    let name = plan.texts.numbered("f", number);
+    plan.put_declared(DeclaredQueue {
+        name,
+        limit,
+        byte_limit: None,
+        dead_letter_exchange: None,
+        dead_letter_key: None,
+    });
     let queue = plan.texts.numbered("f", number);
     plan.bind_to("d", queue, "d.#");
 }
 
 /// Adds the topic exchange `x` with queues whose dead letters go to the topic exchange `d`, and that one with forbidden queues.
-fn lettered(plan: &mut Plan, queues: u32, forbidden: u32, key: Option<&str>) {
+fn lettered(plan: &mut Plan, queues: u32, forbidden: u32, key: Option<&str>, limit: Option<u32>) {
     plan.exchange("x", ExchangeKind::Topic);
     plan.exchange("d", ExchangeKind::Topic);
     for number in 0..queues {
         lettered_queue(plan, number, key);
     }
     for number in 0..forbidden {
-        forbidden_queue(plan, number);
+        forbidden_queue(plan, number, limit);
     }
 }
 
@@ -416,7 +422,8 @@ fn put_shape(plan: &mut Plan, shape: Shape) {
             queues,
             forbidden,
             key,
-        } => lettered(plan, queues, forbidden, key),
+            limit,
+        } => lettered(plan, queues, forbidden, key, limit),
         Shape::Worded(words) => worded(plan, words),
         Shape::Starred => starred(plan),
         Shape::Linked(links) => linked(plan, links),

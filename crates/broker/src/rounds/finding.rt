@@ -31,7 +31,7 @@ pub(crate) fn is_able(found: Found) -> bool
 pub(crate) fn is_of(core: &Core, queue: usize, pick: Pick) -> bool
     ensures { result ≡ is_of core.now queue pick }
 {
-    core.is_kept();
+    core.ghost_is_kept();
     match core.taking(pick) {
         Taking::Gone => false,
         Taking::Nothing(place) => place == queue,
@@ -56,7 +56,7 @@ pub(crate) fn find(core: &Core, queue: usize, waiter: Waiter) -> Found
     if waiter.asleep {
         return Found::Over;
     }
-    core.is_kept();
+    core.ghost_is_kept();
     match core.taking(waiter.pick) {
         Taking::Gone => Found::Over,
         Taking::Nothing(place) => found_at(place, queue, Found::Unable),

@@ -389,20 +389,20 @@ impl QueueRounds {
         }
     }
 
-    /// Moves each round of `old`, its waiters awake, to the index that `places` has for it. Those of a round whose new index is past the end are
+    /// Moves each round of `old`, its waiters awake, to the index that `indices` has for it. Those of a round whose new index is past the end are
     /// removed. Never allocates.
-    pub fn take_over(&mut self, old: QueueRounds, places: &[usize])
-        requires len { length places.now ≡ length old }
-        requires apart { ArePlacesApart places.now (length self.old) }
-        ensures moved { RoundsAreMoved places.now old self.new }
-        ensures came { LinesCome places.now old self.old self.new }
+    pub fn take_over(&mut self, old: QueueRounds, indices: &[usize])
+        requires len { length indices.now ≡ length old }
+        requires apart { ArePlacesApart indices.now (length self.old) }
+        ensures moved { RoundsAreMoved indices.now old self.new }
+        ensures came { LinesCome indices.now old self.old self.new }
         ensures len { length self.new ≡ length self.old }
     {
         let QueueRounds {
             rounds: mut left,
             awake: _,
         } = old;
-        move_rounds(&mut self.rounds, &mut self.awake, &mut left, places);
+        move_rounds(&mut self.rounds, &mut self.awake, &mut left, indices);
     }
 
     /// Picks from the first queue from which a delivery can be made, from index `next` on and then from the front.

@@ -53,7 +53,7 @@ fn place_of(waiters: &[Waiter], consumer: Pick, guess: usize) -> Option<usize>
 }
 
 /// Wakes the waiter at index `place`.
-fn rouse(waiters: &mut [Waiter], awake: &mut PlaceMarks, place: usize)
+fn wake_up(waiters: &mut [Waiter], awake: &mut PlaceMarks, place: usize)
     requires within { place < length waiters.old }
     requires room { length waiters.old ≤ length awake.old * 64 }
     ensures len { length awake.new ≡ length awake.old }
@@ -76,7 +76,7 @@ fn wake_waiter(waiters: &mut [Waiter], awake: &mut PlaceMarks, consumer: Pick, g
 {
     match place_of(waiters, consumer, guess) {
         Some(place) => {
-            rouse(waiters, awake, place);
+            wake_up(waiters, awake, place);
             true
         }
         None => false,
@@ -84,7 +84,7 @@ fn wake_waiter(waiters: &mut [Waiter], awake: &mut PlaceMarks, consumer: Pick, g
 }
 
 /// Wakes each waiter.
-fn rouse_each(waiters: &mut [Waiter])
+fn wake_all_up(waiters: &mut [Waiter])
     ensures { waiters.new ≡ all_awake waiters.old }
 {
     for waiter in waiters.iter_mut() {
@@ -136,7 +136,7 @@ fn grow(waiters: &mut Vec<Waiter>, awake: &mut PlaceMarks) -> Result<(), AllocEr
 
 /// Removes the waiters of those consumers of `connection` that are gone or take from another queue than that at index `queue`. The order of the
 /// others is unchanged, and picks look at them. Never allocates.
-fn let_go(
+fn remove_gone(
     waiters: &mut Vec<Waiter>,
     awake: &mut PlaceMarks,
     next: &mut usize,
@@ -205,7 +205,7 @@ fn any_marked(awake: &PlaceMarks, count: usize) -> bool
 
 /// Puts the waiter at index `place` to sleep, which is awake and whose consumer can't take a message now, and marks its listing. Never
 /// allocates.
-fn doze(
+fn put_to_sleep(
     core: &Core,
     queue: usize,
     waiters: &mut [Waiter],
@@ -262,7 +262,7 @@ fn rest(
 {
     match found {
         Found::Able => {}
-        Found::Unable => doze(core, queue, waiters, awake, sleepers, place),
+        Found::Unable => put_to_sleep(core, queue, waiters, awake, sleepers, place),
         Found::Over => awake.clear(place),
     }
 }
@@ -430,7 +430,7 @@ impl Round {
         ensures kept { KeepsRound core.now queue self.old self.new }
         ensures line { LeaveLine core.now queue connection self.old self.new }
     {
-        let_go(
+        remove_gone(
             &mut self.waiters,
             &mut self.awake,
             &mut self.next,
@@ -453,7 +453,7 @@ impl Round {
         ensures roused { AllRoused self.old self.new }
         ensures same { order self.new ≡ order self.old }
     {
-        rouse_each(&mut self.waiters);
+        wake_all_up(&mut self.waiters);
         mark_between(&mut self.awake, 0, self.waiters.len());
     }
 

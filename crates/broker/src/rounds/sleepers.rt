@@ -152,7 +152,7 @@ fn sweep(listed: &mut Vec<Listed>, core: &Core)
 
 /// Removes the listings whose consumer is gone. If there are any, all that are left are marked as sleeping, so that they are woken. Never
 /// allocates.
-fn let_go(listed: &mut Vec<Listed>, asleep: &mut PlaceMarks, core: &Core)
+fn remove_gone(listed: &mut Vec<Listed>, asleep: &mut PlaceMarks, core: &Core)
     requires { length listed.old.items ≤ length asleep.old * 64 }
     ensures marks { length listed.new.items ≤ length asleep.new * 64 }
     ensures all { listed.new.items ≡ filter (is_listed_there core.now) listed.old.items }
@@ -245,7 +245,7 @@ impl ChannelSleepers {
         ensures all { self.new.all ≡ filter (is_listed_there core.now) self.old.all }
         ensures kept { KeepsListings core.now self.old self.new }
     {
-        let_go(&mut self.listed, &mut self.asleep, core);
+        remove_gone(&mut self.listed, &mut self.asleep, core);
     }
 
     /// Marks the listing of `consumer` in the round of `queue` as sleeping; its waiter is at index `place` of the round.
@@ -428,15 +428,15 @@ pub(crate) fn leave_lists(sleepers: &mut Sleepers, core: &Core, connection: u64)
     }
 }
 
-/// Marks the listing of `consumer` in the round of `queue` as sleeping; its waiter is at index `place` of the round. Never
+/// Marks the listing of `consumer` in the round of `queue` as sleeping; its waiter is at `index` of the round. Never
 /// allocates.
-pub(crate) fn mark_waiter(sleepers: &mut Sleepers, queue: usize, consumer: Pick, place: usize)
+pub(crate) fn mark_waiter(sleepers: &mut Sleepers, queue: usize, consumer: Pick, index: usize)
     requires { IsNoted sleepers.old.entries (listing queue consumer) }
     ensures listed { IsListed sleepers.new.entries (listing queue consumer) }
     ensures more { ListsMore sleepers.old.entries sleepers.new.entries }
 {
     if let Some(channels) = sleepers.get_mut(&consumer.connection) {
-        channels.mark(queue, consumer, place);
+        channels.mark(queue, consumer, index);
     }
 }
 

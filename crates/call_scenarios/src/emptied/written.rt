@@ -1,4 +1,4 @@
-//! What the client that empties a broker writes on channel 1, and what it has to get, by the tables of AMQP 0-9-1.
+//! What the client that empties a broker writes on channel 1, and what it has to receive, by the tables of AMQP 0-9-1.
 
 use std::alloc::AllocError;
 

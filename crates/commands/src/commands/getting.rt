@@ -35,7 +35,7 @@ pub(crate) fn get(
     ensures err { OnErr result ((depot.new ≡ depot.old) × (channel.new ≡ channel.old)) }
 {
     let place = check_queue(depot.topology(), &get.queue)?;
-    depot.is_named(place);
+    depot.ghost_is_named(place);
     let remaining = depot.ready_at(place).saturating_sub(1);
     let Some(entry) = depot.first_ready_at(place) else {
         return Ok(Step::sending(alloc, get_empty(id.connection, id.number))?);

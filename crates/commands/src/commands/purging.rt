@@ -31,7 +31,7 @@ pub(crate) fn purge(
     let count = depot.ready_at(place);
     let mut step = answer_purge(alloc, id.connection, id.number, purge.no_wait, count)?;
     step.notes = depot.notes(alloc);
-    depot.is_named(place);
+    depot.ghost_is_named(place);
     depot.purge_at(place, &mut step.notes)?;
     Ok(step)
 }

@@ -14,24 +14,24 @@ impl Core {
     ghost use Rattle.commands.specs.Judged.{IsQueuePlace};
     ghost use Rattle.replies.specs.Sent.{AreAddressed};
 
-    /// Replies with `queue.declare-ok` for the queue at index `place` unless `no_wait` is set: with the number of its ready messages and of its
+    /// Replies with `queue.declare-ok` for the queue at `index` unless `no_wait` is set: with the number of its ready messages and of its
     /// consumers, on all channels together.
     pub(crate) fn find_queue(
         &self,
         alloc: Global,
         connection: u64,
         channel: u16,
-        place: usize,
+        index: usize,
         declare: &QueueDeclare,
     ) -> Result<Step, AllocError>
-        requires { IsQueuePlace (topology_kept self.now) declare.now.queue place }
+        requires { IsQueuePlace (topology_kept self.now) declare.now.queue index }
         ensures ok { IfOk result (λ s. Finds (broker_of self.now) connection channel declare.now s.sends.items s.notes.items (broker_of self.now)) }
         ensures addressed { IfOk result (λ s. IsMethod (DeclaresQueue declare.now) → AreAddressed connection s.sends.items) }
     {
-        self.depot.is_whole();
-        self.depot.is_named(place);
-        let ready = self.depot.ready_at(place);
-        let consumers = self.connections.count_consumers(place);
+        self.depot.ghost_is_whole();
+        self.depot.ghost_is_named(index);
+        let ready = self.depot.ready_at(index);
+        let consumers = self.connections.count_consumers(index);
         answer_queue_declare(alloc, connection, channel, declare, ready, consumers)
     }
 }

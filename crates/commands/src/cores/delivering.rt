@@ -3,8 +3,8 @@
 use crate::cores::Core;
 use crate::delivering::deliver_on;
 use crate::picks::{Pick, Taking};
-use channels::lent_channels_are_put;
-use depot::places_are_named;
+use channels::ghost_lent_channels_are_put;
+use depot::ghost_indices_are_named;
 use replies::Step;
 use std::alloc::{AllocError, Global};
 
@@ -26,8 +26,8 @@ impl Core {
     pub fn next_ready(&self, from: usize) -> Option<usize>
         ensures { IsNextPicked self.now from result }
     {
-        self.depot.is_whole();
-        places_are_named();
+        self.depot.ghost_is_whole();
+        ghost_indices_are_named();
         self.depot.next_ready(from)
     }
 
@@ -61,7 +61,7 @@ impl Core {
         ensures topology { topology_kept self.new ≡ topology_kept self.old }
         ensures err { OnErr result (self.new ≡ self.old) }
     {
-        lent_channels_are_put();
+        ghost_lent_channels_are_put();
         match self.connections.channel_mut(pick.connection, pick.channel) {
             Some(channel) => deliver_on(alloc, pick, channel, &mut self.depot),
             None => Ok(Step::nothing(alloc)),

@@ -1,7 +1,7 @@
 //! The obstacle to a reload.
 
 use crate::cores::Core;
-use depot::places_are_named;
+use depot::ghost_indices_are_named;
 use exchange_graph::Topology;
 use guarantees::Guarantee;
 use model::Obstacle;
@@ -44,9 +44,9 @@ impl Core {
         ensures told { IfOk result (TellsObstacle (topology_kept self.now) (broker_of self.now) topology.now guarantees.now) }
         ensures wants { OnErr result (MayWant (topology_kept self.now) topology.now (broker_of self.now)) }
     {
-        self.depot.is_whole();
-        places_are_named();
-        self.connections.takers_are_found();
+        self.depot.ghost_is_whole();
+        ghost_indices_are_named();
+        self.connections.ghost_takers_are_found();
         obstacle(alloc, self, self.depot.topology(), topology, guarantees)
     }
 }

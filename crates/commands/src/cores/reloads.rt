@@ -1,7 +1,7 @@
 //! Puts another topology in force.
 
 use crate::cores::Core;
-use channels::moves_are_unseen;
+use channels::ghost_moves_are_unseen;
 use depot::Depot;
 use exchange_graph::Topology;
 use std::alloc::{AllocError, Global};
@@ -11,18 +11,18 @@ impl Core {
     ghost use Rattle.std.specs.Prelude.{◌≡◌, IfOk, OnOk, OnErr};
     ghost use Rattle.model.specs.Topology.{queue_names};
     ghost use Rattle.model.specs.Agreement.{IsAgreed};
-    ghost use Rattle.model.specs.Reloading.{NoneIsStranded, with_all_stood};
+    ghost use Rattle.model.specs.Reloading.{NoneIsOrphaned, with_all_stood};
     ghost use Rattle.model.specs.Step.{Is};
     ghost use Rattle.depot.specs.Store.{IsStoreWhole};
     ghost use Rattle.depot.specs.Moving.{AreMoved};
     ghost use Rattle.commands.specs.State.{broker_of, topology_kept, names_of, ArePlaced};
 
     /// Shows the invariant of a core. Does nothing at run time.
-    pub fn is_kept(&self)
+    pub fn ghost_is_kept(&self)
         ensures whole { IsStoreWhole self.now.store }
         ensures placed { ArePlaced self.now }
     {
-        self.depot.is_whole();
+        self.depot.ghost_is_whole();
     }
 
     /// Puts `topology` in force, and returns the new index of each queue; each queue in use is declared in it. Each message stays in the queue of its
@@ -30,7 +30,7 @@ impl Core {
     /// changed then.
     pub fn reload(&mut self, alloc: Global, topology: Topology) -> Result<Vec<usize>, AllocError>
         requires agreed { IsAgreed (broker_of self.old) }
-        requires kept { NoneIsStranded (topology_kept self.old) topology (broker_of self.old) }
+        requires kept { NoneIsOrphaned (topology_kept self.old) topology (broker_of self.old) }
         // The new topology is in force, messages are marked, and queues have their new indices.
         ensures topology { OnOk result (topology_kept self.new ≡ topology) }
         ensures stood { OnOk result (Is (with_all_stood (broker_of self.old)) (broker_of self.new)) }
@@ -38,9 +38,9 @@ impl Core {
         // A failure changes nothing.
         ensures err { OnErr result (self.new ≡ self.old) }
     {
-        let places = self.depot.places_in(alloc, &topology)?;
+        let places = self.depot.indices_in(alloc, &topology)?;
         let depot = Depot::new(alloc, topology)?;
-        moves_are_unseen();
+        ghost_moves_are_unseen();
         let old = mem::replace(&mut self.depot, depot);
         self.depot.take_over(old, &places);
         self.connections.renumber(&places);

@@ -32,8 +32,8 @@ fn check_asking(consume: &Consume) -> Result<(), Refusal>
 }
 
 /// Refuses a consume if the channel can't have this consumer.
-fn check_seat(channel: &Channel, consume: &Consume) -> Result<(), Refusal>
-    ensures { (names : List Name) → refused_by result ≡ said.refusal_of_seat (open_in names channel.now) consume.now }
+fn check_consumer(channel: &Channel, consume: &Consume) -> Result<(), Refusal>
+    ensures { (names : List Name) → refused_by result ≡ said.refusal_of_consumer (open_in names channel.now) consume.now }
 {
     match channel.refusal(consume) {
         Some(seat) => Err(Refusal::from(seat)),
@@ -53,6 +53,6 @@ pub fn check_consume(
 {
     let place = check_queue(topology, &consume.queue)?;
     check_asking(consume)?;
-    check_seat(channel, consume)?;
+    check_consumer(channel, consume)?;
     Ok(place)
 }

@@ -1,4 +1,4 @@
-//! The properties of a content, listed.
+//! Lists the properties of a content.
 
 use super::payloads::put_header_refusal;
 use headers::{Header, fields_of, read_header};
@@ -54,7 +54,7 @@ fn put_others(out: &mut LineAnswer, p: &Fields) {
     put_text(out, "reserved", &p.reserved);
 }
 
-/// Appends the size of a body, and ` NAME=VALUE` for each property that is there, in the order of their flags.
+/// Appends the size of the body, and ` NAME=VALUE` for each property, in the order of their flags.
 fn put_listed(out: &mut LineAnswer, header: &Header) {
     out.put_number(header.size);
     match fields_of(out.alloc(), &header.properties) {
@@ -66,7 +66,7 @@ fn put_listed(out: &mut LineAnswer, header: &Header) {
     }
 }
 
-/// Appends the size of the body and the properties that are there, or the reply code.
+/// Appends the size of the body and the properties, or the reply code.
 pub fn put_properties(out: &mut LineAnswer, payload: &[u8]) {
     match read_header(out.alloc(), payload) {
         Ok(header) => put_listed(out, &header),

@@ -3,10 +3,10 @@
 use frame::{Frame, Read, read_frame, write_frame};
 use line_parts::{LineAnswer, Unanswered, bytes_of, cut};
 
-/// The longest payload that stands in a line, in bytes.
+/// The length of the longest payload in a line, in bytes.
 const LONGEST: usize = 131_072;
 
-/// Appends what a frame of so many bytes has.
+/// Appends the parts of a frame of `size` bytes.
 fn put_whole(out: &mut LineAnswer, frame: &Frame<'_>, size: usize) {
     out.put_number(size as u64);
     out.put(" bytes, type ");
@@ -19,7 +19,7 @@ fn put_whole(out: &mut LineAnswer, frame: &Frame<'_>, size: usize) {
     }
 }
 
-/// Appends what stands at the front of the bytes: a frame, `more`, or the reply code.
+/// Appends what the bytes begin with: a frame, `more`, or the reply code.
 pub fn put_front(out: &mut LineAnswer, bytes: &[u8]) {
     match read_frame(bytes, 4096) {
         Read::Whole(frame, size) => put_whole(out, &frame, size),
@@ -28,7 +28,7 @@ pub fn put_front(out: &mut LineAnswer, bytes: &[u8]) {
     }
 }
 
-/// Appends a frame in hex. `Form` says that its payload is too long for a line.
+/// Appends a frame in hex. Records [`Unanswered::Form`] if its payload is too long for a line.
 pub fn put_frame(out: &mut LineAnswer, frame: &Frame<'_>) {
     if frame.payload.len() > LONGEST {
         return out.fail(Unanswered::Form);
@@ -40,7 +40,7 @@ pub fn put_frame(out: &mut LineAnswer, frame: &Frame<'_>) {
     }
 }
 
-/// Appends the frame of a type, a channel and a payload.
+/// Appends the frame of a type, a channel and a payload, which `asked` names.
 pub fn put_written(out: &mut LineAnswer, asked: &str) {
     let (kind, rest) = cut(out, asked);
     let (channel, payload) = cut(out, rest);

@@ -8,10 +8,10 @@ use line_parts::{LineAnswer, Unanswered, bytes_of};
 use methods::write_method;
 use model::{Command, Content, Method};
 
-/// How many commands are taken at a time, at most.
+/// The largest number of commands that are taken at a time.
 const MOST: u8 = 100;
 
-/// What a stream gave when it was asked for its next command.
+/// What a stream returned as its next command.
 #[derive(Clone, Copy, Drop)]
 enum Took {
     Command,
@@ -54,7 +54,7 @@ fn put_header(out: &mut LineAnswer, channel: u16, content: &Content) {
     );
 }
 
-/// Appends a body in one frame, if it has bytes.
+/// Appends a body in one frame, unless it is empty.
 fn put_body(out: &mut LineAnswer, channel: u16, content: &Content) {
     let payload = content.body.as_bytes();
     if !payload.is_empty() {
@@ -88,7 +88,7 @@ fn put_head(out: &mut LineAnswer, bytes: &[u8]) {
     out.put_hex(bytes);
 }
 
-/// Appends a command as it is spelled.
+/// Appends a command as its frames are written.
 fn put_command(out: &mut LineAnswer, command: Command) {
     match command {
         Command::Head { bytes } => put_head(out, bytes.as_slice()),
@@ -110,7 +110,7 @@ fn put_fault(out: &mut LineAnswer, fault: Fault) {
     }
 }
 
-/// Appends the next command, or the fault that stands in its place.
+/// Takes the next command from the stream, and appends it or the fault.
 fn take_one(out: &mut LineAnswer, stream: &mut Stream) -> Took {
     match stream.next() {
         Ok(None) => Took::Nothing,
@@ -125,7 +125,7 @@ fn take_one(out: &mut LineAnswer, stream: &mut Stream) -> Took {
     }
 }
 
-/// Appends the commands that are there, and a fault behind them. Tells whether there is none.
+/// Appends the commands that are complete, and a fault after them, if there is one. Returns whether there is none.
 fn take_all(out: &mut LineAnswer, stream: &mut Stream) -> bool {
     for _ in 0..MOST {
         match take_one(out, stream) {
@@ -138,14 +138,14 @@ fn take_all(out: &mut LineAnswer, stream: &mut Stream) -> bool {
     false
 }
 
-/// Hands a piece to a stream.
+/// Feeds a piece to a stream.
 fn feed(out: &mut LineAnswer, stream: &mut Stream, piece: &[u8]) {
     if stream.feed(piece).is_err() {
         out.fail(Unanswered::Memory);
     }
 }
 
-/// Hands the pieces of one group to a stream.
+/// Feeds the pieces of a group to a stream.
 fn feed_group(out: &mut LineAnswer, stream: &mut Stream, group: &str) {
     for piece in group.split(" + ") {
         let bytes = bytes_of(out, piece);
@@ -153,7 +153,7 @@ fn feed_group(out: &mut LineAnswer, stream: &mut Stream, group: &str) {
     }
 }
 
-/// Appends what is said after a group.
+/// Appends what the stream returns after a group: its commands, a fault, or `nothing`, and the number of bytes left.
 fn put_said(out: &mut LineAnswer, stream: &mut Stream) {
     let before = out.len();
     let is_sound = take_all(out, stream);
@@ -168,7 +168,7 @@ fn put_said(out: &mut LineAnswer, stream: &mut Stream) {
     }
 }
 
-/// Appends what is said after one more group.
+/// Feeds one more group, and appends what the stream returns after it.
 fn put_group(out: &mut LineAnswer, stream: &mut Stream, group: &str) {
     feed_group(out, stream, group);
     if out.len() != 0 {
@@ -177,7 +177,7 @@ fn put_group(out: &mut LineAnswer, stream: &mut Stream, group: &str) {
     put_said(out, stream);
 }
 
-/// Appends what is said after each group of pieces.
+/// Appends what the stream returns after each group of pieces.
 pub fn put_stream(out: &mut LineAnswer, asked: &str) {
     let mut stream = Stream::running(out.alloc());
     for group in asked.split(" / ") {
@@ -185,13 +185,13 @@ pub fn put_stream(out: &mut LineAnswer, asked: &str) {
     }
 }
 
-/// Appends the commands that are there once a piece was heard.
+/// Feeds a piece, and appends the commands that are complete then.
 fn hear(out: &mut LineAnswer, stream: &mut Stream, piece: &[u8]) {
     feed(out, stream, piece);
     take_all(out, stream);
 }
 
-/// The commands of two pieces.
+/// Returns the commands of two pieces.
 fn heard(out: &mut LineAnswer, first: &[u8], second: &[u8]) -> String {
     let mut stream = Stream::running(out.alloc());
     let mut said = LineAnswer::new(out.alloc());
@@ -200,7 +200,7 @@ fn heard(out: &mut LineAnswer, first: &[u8], second: &[u8]) -> String {
     said.into_part_of(out)
 }
 
-/// The commands of single bytes.
+/// Returns the commands of single bytes.
 fn heard_by_bytes(out: &mut LineAnswer, bytes: &[u8]) -> String {
     let mut stream = Stream::running(out.alloc());
     let mut said = LineAnswer::new(out.alloc());
@@ -210,7 +210,7 @@ fn heard_by_bytes(out: &mut LineAnswer, bytes: &[u8]) -> String {
     said.into_part_of(out)
 }
 
-/// The place of a cut in two at which the commands are others, if there is one.
+/// Returns the first index at which a cut in two changes the commands, or `None`.
 fn odd_cut(out: &mut LineAnswer, bytes: &[u8], whole: &str) -> Option<usize> {
     for cut in 0..bytes.len() {
         let (first, second) = bytes.split_at(cut);
@@ -221,7 +221,7 @@ fn odd_cut(out: &mut LineAnswer, bytes: &[u8], whole: &str) -> Option<usize> {
     None
 }
 
-/// Appends `read`, where the commands are spelled as the bytes are, and else the commands.
+/// Appends `read` if the commands are written with the same bytes, otherwise the commands.
 fn put_spelled_again(out: &mut LineAnswer, bytes: &[u8], whole: &str) {
     let mut given = LineAnswer::new(out.alloc());
     given.put_hex(bytes);
@@ -233,7 +233,7 @@ fn put_spelled_again(out: &mut LineAnswer, bytes: &[u8], whole: &str) {
     });
 }
 
-/// Appends the commands of the bytes, or at which place they are others if the bytes are cut there.
+/// Appends the commands of the bytes, or the index at which a cut changes them.
 fn put_uncut(out: &mut LineAnswer, bytes: &[u8], whole: &str) {
     match odd_cut(out, bytes, whole) {
         Some(cut) => {
@@ -244,8 +244,8 @@ fn put_uncut(out: &mut LineAnswer, bytes: &[u8], whole: &str) {
     }
 }
 
-/// Appends the commands of the bytes, whole, in single bytes and cut in two at every place: `read`, where they are spelled
-/// as the bytes are.
+/// Appends the commands of the bytes, which have to be the same whole, in single bytes and cut in two at every index:
+/// `read` if they are written with the same bytes.
 pub fn put_commands(out: &mut LineAnswer, bytes: &[u8]) {
     let whole = heard(out, bytes, &[]);
     let single = heard_by_bytes(out, bytes);

@@ -12,7 +12,7 @@ fn put_written(out: &mut LineAnswer, table: &Table, bytes: &[u8]) {
     }
 }
 
-/// Appends `read`, where the bytes are a table that is written as they are, or the reply code.
+/// Appends `read` if the bytes are a table that is written with the same bytes, or the reply code.
 pub fn put_table(out: &mut LineAnswer, bytes: &[u8]) {
     match read_table(out.alloc(), bytes) {
         Ok(table) => put_written(out, &table, bytes),

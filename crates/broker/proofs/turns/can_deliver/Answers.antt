@@ -11,7 +11,7 @@ returns-in-Nothing-clause-no c = λ e pick. none_picked c.args.core.now c.args.p
 pub returns-in-From-clause-yes : goal.returns-in-From-clause-yes
 returns-in-From-clause-yes c = λ e.
     let t = c.in-From.ensures in
-    (able c.args.core.now c.in-From.place c.args.pick t.0 c.is_kept.ensures.whole (c.is_ready.ensures.yes e) t.1 t.2).pick
+    (able c.args.core.now c.in-From.place c.args.pick t.0 c.ghost_is_kept.ensures.whole (c.is_ready.ensures.yes e) t.1 t.2).pick
 
 pub returns-in-From-clause-no : goal.returns-in-From-clause-no
 returns-in-From-clause-no c = λ e pick.

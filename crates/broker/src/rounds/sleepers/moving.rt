@@ -61,12 +61,12 @@ impl ConnectionSleepers {
     }
 }
 
-/// Sets each listing's queue to the index that `places` has for it. Never allocates.
-pub(crate) fn move_sleepers(sleepers: &mut Sleepers, places: &[usize])
-    ensures { sleepers.new.entries ≡ all_moved places.now sleepers.old.entries }
+/// Sets each listing's queue to the index that `indices` has for it. Never allocates.
+pub(crate) fn move_sleepers(sleepers: &mut Sleepers, indices: &[usize])
+    ensures { sleepers.new.entries ≡ all_moved indices.now sleepers.old.entries }
 {
     sleepers.retain(|_, channels| {
-        channels.relocate(places);
+        channels.relocate(indices);
         true
     });
 }

@@ -5,8 +5,8 @@ pub returns-in-Some : goal.returns-in-Some
 returns-in-Some c =
     let t = c.args.topology.now in (
       λ e. target_routed t c.args.exchange.now c.args.key.now c.as_slice.result.now c.in-Some.place c.args.queue.now (rw c.as_slice.ensures.value c.in_ok-targets.ensures) c.in-Some.ensures.named (c.has_place.ensures.0 e),
-      λ r. c.has_place.ensures.1 (routed_target t c.args.exchange.now c.args.key.now c.as_slice.result.now c.in-Some.place c.args.queue.now c.is_well_formed.ensures (rw c.as_slice.ensures.value c.in_ok-targets.ensures) c.in-Some.ensures.within c.in-Some.ensures.named r),
+      λ r. c.has_place.ensures.1 (routed_target t c.args.exchange.now c.args.key.now c.as_slice.result.now c.in-Some.place c.args.queue.now c.ghost_is_well_formed.ensures (rw c.as_slice.ensures.value c.in_ok-targets.ensures) c.in-Some.ensures.within c.in-Some.ensures.named r),
     )
 
 pub returns : goal.returns
-returns c = (λ e. absurd (cc), λ r. absurd (c.in-None.ensures.absent (routed_there c.args.topology.now c.args.exchange.now c.args.key.now c.args.queue.now c.is_well_formed.ensures r)))
+returns c = (λ e. absurd (cc), λ r. absurd (c.in-None.ensures.absent (routed_there c.args.topology.now c.args.exchange.now c.args.key.now c.args.queue.now c.ghost_is_well_formed.ensures r)))

@@ -1,5 +1,6 @@
-use Rattle.depot.proofs.Names.{◌≡◌, ◌<◌, ◌++◌, ◌∷◌, [], ℕ, List, length, ap, sym, subst, ◌∙◌, arith, append_assoc, All, Bool, ◌||◌, list_any, Note, Entry, PlannedTurn, entries_of, places, outcome, outcomes, notes_of_outcomes, is_refusal, all_entered, times, IsRoomy}
+use Rattle.depot.proofs.Names.{◌≡◌, ◌<◌, ◌+◌, ◌++◌, ◌∷◌, [], ℕ, List, length, ap, sym, subst, ◌∙◌, arith, append_assoc, All, Bool, ◌||◌, list_any, Note, Entry, PlannedTurn, entries_of, places, outcome, outcomes, notes_of_outcomes, is_refusal, all_entered, times, CanTakeAt}
 use Rattle.depot.proofs.Turning.{within_rest, or_assoc, here_once}
+use Rattle.depot.proofs.Rooms.{gains_more, takes_less}
 use Rattle.depot.proofs.entering.enter_all.Goals as goal
 
 pub enter_at-is_some_refused-requires-clause-within : goal.enter_at-is_some_refused-requires-clause-within
@@ -10,11 +11,15 @@ enter_at-is_some_refused-requires-clause-within c =
 
 pub enter_at-is_some_refused-requires-clause-room : goal.enter_at-is_some_refused-requires-clause-room
 enter_at-is_some_refused-requires-clause-room c =
-    let room : IsRoomy c.loop-turn.queues (places (c.in-Some.turn ∷ c.next.new.self.rest.items))
-    = subst (λ (ts : List PlannedTurn). IsRoomy c.loop-turn.queues (places ts)) c.in-Some.ensures.steps.0 c.loop-turn.invariant.room in
-    let here = room c.in-Some.turn.place in
-    let once = here_once c.in-Some.turn.place (places c.next.new.self.rest.items) in
-    omega (arith, here, once)
+    let place = c.in-Some.turn.place in
+    let rest = places c.next.new.self.rest.items in
+    let asked : CanTakeAt c.args.declared.now c.args.queues.now place (0 + times place (places c.args.turns.items)) = subst (λ (m : ℕ). CanTakeAt c.args.declared.now c.args.queues.now place m) (omega arith) (c.requires.room place) in
+    let had : CanTakeAt c.args.declared.now c.loop-turn.queues place (0 + times place (place ∷ rest)) = subst (λ (ts : List PlannedTurn). CanTakeAt c.args.declared.now c.loop-turn.queues place (0 + times place (places ts))) c.in-Some.ensures.steps.0 (c.loop-turn.invariant.spent place 0 asked) in
+    let once = here_once place rest in
+    takes_less c.args.declared.now c.loop-turn.queues place (0 + times place (place ∷ rest)) 1 (omega (arith, once)) had
+
+pub returns-clause-spent : goal.returns-clause-spent
+returns-clause-spent c = λ k n had. takes_less c.args.declared.now c.loop-turn.queues k _ n (omega arith) (c.loop-turn.invariant.spent k n had)
 
 pub enter_at-is_some_refused-requires-clause-notes : goal.enter_at-is_some_refused-requires-clause-notes
 enter_at-is_some_refused-requires-clause-notes c =
@@ -39,17 +44,14 @@ loop-turn-preserved c =
     let same = c.enter_at-is_some_refused.ensures.len in
     let before = inv.len in
     let within : All (λ (i : ℕ). i < length c.loop-turn.queues) (places (t ∷ rest)) = subst (λ (ts : List PlannedTurn). All (λ (i : ℕ). i < length c.loop-turn.queues) (places ts)) next inv.within in
-    let room : IsRoomy c.loop-turn.queues (places (t ∷ rest)) = subst (λ (ts : List PlannedTurn). IsRoomy c.loop-turn.queues (places ts)) next inv.room in
     let moved : entries_of c.enter_at-is_some_refused.new.queues ≡ all_entered (outcome way declared es t ∷ []) es = c.enter_at-is_some_refused.ensures.entries in
     record {
       len = same ∙ before;
       within = subst (λ (n : ℕ). All (λ (i : ℕ). i < n) (places rest)) (sym same) (within_rest _ t.place (places rest) within);
-      room = λ k. let had = room k in let less = c.enter_at-is_some_refused.ensures.spent k in omega (arith, had, less);
-      spent = λ k.
-          let had = inv.spent k in
-          let less = c.enter_at-is_some_refused.ensures.spent k in
-          let step = ap (λ (ts : List PlannedTurn). times k (places ts)) next in
-          omega (arith, had, less, step);
+      spent = λ k n had.
+          let before : CanTakeAt declared c.loop-turn.queues k (n + times k (places (t ∷ rest))) = subst (λ (ts : List PlannedTurn). CanTakeAt declared c.loop-turn.queues k (n + times k (places ts))) next (inv.spent k n had) in
+          c.enter_at-is_some_refused.ensures.spent k (n + times k (places rest)) (subst (λ (m : ℕ). CanTakeAt declared c.loop-turn.queues k m) (omega arith) before);
+      gains = gains_more c.args.queues.now c.loop-turn.queues c.enter_at-is_some_refused.new.queues inv.gains c.enter_at-is_some_refused.ensures.gains;
       refused =
           ap (λ (xs : List (List Entry)). (c.loop-turn.is_some_refused || c.enter_at-is_some_refused.result) || list_any is_refusal (outcomes way declared rest xs)) moved
           ∙ ap (λ (b : Bool). (c.loop-turn.is_some_refused || b) || list_any is_refusal (outcomes way declared rest (all_entered (outcome way declared es t ∷ []) es))) c.enter_at-is_some_refused.ensures.refused

@@ -1,4 +1,5 @@
-use Rattle.depot.proofs.Names.{◌≡◌, ◌++◌, ◌∷◌, ℕ, suc, List, length, ap, sym, subst, ◌∙◌, arith, append_assoc, All, Note, Entry, Death, entries_of, died, death_notes, died_all, all_notes, IsSoundDeath, notes_in, times_in}
+use Rattle.depot.proofs.Names.{◌≡◌, ◌++◌, ◌∷◌, ℕ, suc, List, length, ap, sym, subst, ◌∙◌, arith, append_assoc, All, Note, Entry, Death, entries_of, died, death_notes, died_all, all_notes, IsSoundDeath, notes_in, times, times_in, places, CanTakeAt}
+use Rattle.depot.proofs.Rooms.{gains_more, takes_less}
 use Rattle.depot.proofs.rejecting.perform.Goals as goal
 
 pub die-requires-clause-sound : goal.die-requires-clause-sound
@@ -9,9 +10,8 @@ die-requires-clause-sound c =
 
 pub die-requires-clause-room : goal.die-requires-clause-room
 die-requires-clause-room c = λ k.
-    let room = c.loop-death.invariant.room k in
-    let step = ap (λ (ds : List Death). times_in k ds) c.in-Some.ensures.steps.0 in
-    omega (arith, room, step)
+    let had = subst (λ (ds : List Death). CanTakeAt c.args.declared.now c.loop-death.queues k (times_in k ds)) c.in-Some.ensures.steps.0 (c.loop-death.invariant.room k) in
+    takes_less c.args.declared.now c.loop-death.queues k (times_in k (c.in-Some.death ∷ c.next.new.self.rest.items)) (times k (places c.in-Some.death.turns.items)) (omega arith) had
 
 pub die-requires-clause-notes : goal.die-requires-clause-notes
 die-requires-clause-notes c =
@@ -34,10 +34,9 @@ loop-death-preserved c =
       len = same ∙ inv.len;
       sound = subst (λ (n : ℕ). All (IsSoundDeath n) rest) (sym same) (λ i e lt. sound (suc i) e (omega (arith, lt)));
       room = λ k.
-          let had = inv.room k in
-          let step = ap (λ (ds : List Death). times_in k ds) next in
-          let less = c.die.ensures.spent k in
-          omega (arith, had, step, less);
+          let had : CanTakeAt declared c.loop-death.queues k (times_in k (d ∷ rest)) = subst (λ (ds : List Death). CanTakeAt declared c.loop-death.queues k (times_in k ds)) next (inv.room k) in
+          c.die.ensures.spent k (times_in k rest) (subst (λ (m : ℕ). CanTakeAt declared c.loop-death.queues k m) (omega arith) had);
+      gains = gains_more c.args.queues.now c.loop-death.queues c.die.new.queues inv.gains c.die.ensures.gains;
       entries =
           ap (λ (xs : List (List Entry)). died_all declared rest xs) moved
           ∙ ap (λ (ds : List Death). died_all declared ds es) (sym next)

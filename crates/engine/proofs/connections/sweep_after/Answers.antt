@@ -3,4 +3,4 @@ use Rattle.engine.proofs.Swept.{swept_standing}
 use Rattle.engine.proofs.connections.sweep_after.Goals as goal
 
 pub returns-else-has_performed : goal.returns-else-has_performed
-returns-else-has_performed c = λ l there. swept_standing c.args.connections.now.items c.args.place l (c.requires.stands (sym c.if-has_performed.ensures) l there)
+returns-else-has_performed c = λ l there. swept_standing c.args.connections.now.items c.args.index l (c.requires.stands (sym c.if-has_performed.ensures) l there)

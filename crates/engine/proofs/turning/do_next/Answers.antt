@@ -24,7 +24,7 @@ returns-in-Ok c =
     let performed : Performed (rules_of (topology_kept b) c.args.users.now) (broker_of b) l.number l.session l.output.bytes event step.notes.items (broker_of c.put_out.new.broker) c.perform.new.session c.put_out.new.output.bytes =
     performed_put (rules_of (topology_kept b) c.args.users.now) (broker_of b) (broker_of mid) (broker_of c.put_out.new.broker) l.number l.session c.perform.new.session l.output.bytes c.put_out.new.output.bytes event
     step.notes.items c.deref.result.now step.sends.items c.frame_max-max.result (topology_kept mid) c.deref.ensures.value max.value max.most c.in-Ok.ensures.ok put.own put.spelled output c.perform.ensures.topology put.pauses in
-    let new : Connection = record { number = l.number; session = c.perform.new.session; stream = c.follow.new.stream; kept = c.forget.new.kept; output = c.put_out.new.output } in
+    let new : Connection = record { number = l.number; session = c.perform.new.session; stream = c.follow.new.stream; kept = c.forget.new.kept; output = c.put_out.new.output; allowance = c.allowance_after-allowance.result } in
     record {
       ok = subst (λ (k : Option Event). DidNext (rules_of (topology_kept b) c.args.users.now) b l k (turn.Did step.notes) c.put_out.new.broker new) (sym c.in-Some.is)
           (record { performed = performed; number = refl; none_kept = c.forget.ensures; stream = c.follow.ensures }, back_then b mid c.put_out.new.broker c.in-Ok.ensures.later put.later);
@@ -34,5 +34,6 @@ returns-in-Ok c =
       topology = put.topology ∙ c.perform.ensures.topology;
       turn = put.turn ∙ c.perform.ensures.turn;
       whole = subst (λ (k : Option Event). IfSome k (λ e. brings_message e ≡ true → 8 ≤ c.perform.new.spares)) (sym c.in-Some.is) c.in-Ok.ensures.whole;
+      after = subst (λ (k : Option Event). IfSome k (λ e. brings_message e ≡ true → c.allowance_after-allowance.result ≡ 0)) (sym c.in-Some.is) c.allowance_after-allowance.ensures.none;
       last = tt;
     }

@@ -19,7 +19,7 @@ returns-in-Ok c =
     let r = rules_of (topology_kept b) c.args.users.now in
     let open_still : is_ended old.session.phase ≡ false = sym c.if-is_over.ensures.value in
     let below : is_past_bound old.output.bytes ≡ false = search rules in
-    let mid : Connection = record { number = old.number; session = old.session; stream = c.read_next.new.stream; kept = c.read_next.new.kept; output = old.output } in
+    let mid : Connection = record { number = old.number; session = old.session; stream = c.read_next.new.stream; kept = c.read_next.new.kept; output = old.output; allowance = old.allowance } in
     let is : IsRead old mid = record { number = refl; session = refl; output = refl } in
     let h = c.in-Ok.ensures.ok in
     let did = c.do_next.ensures in

@@ -7,7 +7,7 @@ returns-in-Some c =
     let t = c.args.topology.now in
     on_ok_weaker c.mark_one.result
     (λ e. subst (λ (bs : List Bool). AreFound t [] c.args.key.now bs) (sym (e ∙ ap (λ (qs : List DeclaredQueue). set (replicate (length qs) false) c.in-Some.place true) c.queues.ensures))
-    (default_one t c.args.key.now (length t.queues) c.in-Some.place refl c.is_well_formed.ensures c.in-Some.ensures.within c.in-Some.ensures.named))
+    (default_one t c.args.key.now (length t.queues) c.in-Some.place refl c.ghost_is_well_formed.ensures c.in-Some.ensures.within c.in-Some.ensures.named))
     c.mark_one.ensures
 
 pub returns-in-None : goal.returns-in-None
@@ -15,5 +15,5 @@ returns-in-None c =
     let t = c.args.topology.now in
     on_ok_weaker c.unmark.result
     (λ e. subst (λ (bs : List Bool). AreFound t [] c.args.key.now bs) (sym (e ∙ ap (λ (qs : List DeclaredQueue). replicate (length qs) false) c.queues-in-None.ensures))
-    (default_none t c.args.key.now (length t.queues) refl c.is_well_formed.ensures c.in-None.ensures.absent))
+    (default_none t c.args.key.now (length t.queues) refl c.ghost_is_well_formed.ensures c.in-None.ensures.absent))
     c.unmark.ensures

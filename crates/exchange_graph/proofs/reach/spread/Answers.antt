@@ -16,4 +16,4 @@ passes-preserved c =
 
 pub returns : goal.returns
 returns c =
-    all_met c.args.topology.now c.args.start.now c.args.key.now c.passes.seen c.passes.found c.passes.done c.is_well_formed.ensures c.passes.invariant c.in_default.ensures
+    all_met c.args.topology.now c.args.start.now c.args.key.now c.passes.seen c.passes.found c.passes.done c.ghost_is_well_formed.ensures c.passes.invariant c.in_default.ensures

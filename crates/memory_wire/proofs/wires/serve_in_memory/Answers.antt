@@ -6,4 +6,4 @@ pub returns-clause-tells : goal.returns-clause-tells
 returns-clause-tells g c = λ f fresh none empty whole.
     let before : Told = told_with (told_by c.args.wire.now.log) c.args.wire.now.come in
     let after : Told = told_with (told_by c.serve.new.wire.log) c.serve.new.wire.come in
-    tells_bytes g.M.Machine.lacks f before after c.serve.new.wire.log (served (g.M.Machine.world c.serve.new.server.machine) c.serve.new.server.peers after) refl empty refl whole (c.serve.ensures.served f before (c.new_is_served.ensures f fresh none))
+    tells_bytes g.M.Machine.lacks f before after c.serve.new.wire.log (served (g.M.Machine.world c.serve.new.server.machine) c.serve.new.server.peers after) refl empty refl whole (c.serve.ensures.served f before (c.ghost_new_is_served.ensures f fresh none))

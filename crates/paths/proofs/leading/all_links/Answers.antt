@@ -1,4 +1,3 @@
-use Rattle.paths.proofs.Names.{◌≡◌, ℕ, length, subst, arith, AreLinked}
 use Rattle.paths.proofs.Leads.{linked_none, linked_more}
 use Rattle.paths.proofs.leading.all_links.Goals as goal
 

@@ -1,4 +1,4 @@
-use Rattle.paths.proofs.Names.{◌<◌, length, None, arith, in_get, Visit}
+use Rattle.paths.proofs.Names.{None, arith, in_get, Visit}
 use Rattle.paths.specs.declared.stands.Spot.TheVariants as spot
 use Rattle.paths.proofs.Leads.{links_none, links_more, links_all}
 use Rattle.paths.proofs.leading.link_all.Goals as goal

@@ -1,4 +1,4 @@
-use Rattle.paths.proofs.Names.{◌<◌, length, None, arith, in_get, Visit}
+use Rattle.paths.proofs.Names.{None, arith, in_get, Visit}
 use Rattle.paths.specs.declared.stands.Spot.TheVariants as spot
 use Rattle.paths.proofs.Leads.{none_more, none_leads, one_leads}
 use Rattle.paths.proofs.leading.some_leads.Goals as goal

@@ -11,5 +11,5 @@ returns c =
     let t = c.args.topology.now in
     let is : (s : KeyedPlace) → NextStand t c.args.name.now c.args.next.now (Queue c.args.key.now) s ↔ ((c.leads_dead.result ≡ true) × (s ≡ Exchange c.in_ok-dead_key.field-0)) =
     rw c.in_ok-dead_key.ensures
-    (dies_at t c.args.name.now c.args.next.now c.args.key.now c.in-Some.place c.queue-queue.result.now c.leads_dead.result c.is_well_formed.ensures c.in-Some.ensures.within c.in-Some.ensures.named c.queue-queue.ensures c.leads_dead.ensures) in
+    (dies_at t c.args.name.now c.args.next.now c.args.key.now c.in-Some.place c.queue-queue.result.now c.leads_dead.result c.ghost_is_well_formed.ensures c.in-Some.ensures.within c.in-Some.ensures.named c.queue-queue.ensures c.leads_dead.ensures) in
     on_ok_weaker c.add_if.result (λ a. add_same _ _ c.args.stands.now.items c.add_if.new.stands.items is a) c.add_if.ensures

@@ -1,5 +1,5 @@
-use Rattle.queue.proofs.Names.{◌≡◌, ◌∙◌, ◌<◌, ◌+◌, ◌-◌, ◌++◌, ◌∷◌, [], ℕ, rules, arith, length, ap, sym, subst, List, vec_len, Entry, Ready}
-use Rattle.queue.proofs.Filled.{filled_last}
+use Rattle.queue.proofs.Names.{◌≡◌, ◌∙◌, ◌<◌, ◌+◌, ◌-◌, ◌++◌, ◌∷◌, [], ℕ, rules, arith, length, ap, sym, subst, List, vec_len, length-append, Entry, Ready}
+use Rattle.queue.proofs.Filled.{filled_last, short_held}
 use Rattle.queue.proofs.Signed.{parts-written, room_is, room_at_last, room_somewhere}
 use Rattle.queue.proofs.blocks.push_last.Goals as goal
 
@@ -33,3 +33,12 @@ returns-clause-filled c most f =
     let n = c.len-last.ensures in
     let s = c.push.ensures.slots in
     filled_last most c.args.blocks.now.items (c.len-last.result - 1) c.index_mut.result.now c.push.new.self (omega (arith, some)) (search rules) (λ m. omega (arith, m, s)) f
+
+pub returns-clause-short : goal.returns-clause-short
+returns-clause-short c =
+    let some = room_somewhere c.args.blocks.now.items c.requires in
+    let l : vec_len c.args.blocks.now ≡ length c.args.blocks.now.items = search rules in
+    let n = c.len-last.ensures in
+    let e = ap length c.push.ensures.entries in
+    let one = length-append c.index_mut.result.now.entries (record { message = c.args.message; mark = Ready } ∷ []) in
+    short_held c.args.blocks.now.items (c.len-last.result - 1) c.push.new.self (omega (arith, some)) (omega (arith, e, one))

@@ -25,6 +25,6 @@ returns-clause-full c =
     subst (λ (r : ℕ). OnErr c.reserve.result (r < c.args.more)) (sym (room_is c.args.blocks.now.items (c.len-last.result - 1) c.index_mut.result.now last (search rules))) c.reserve.ensures.full
 
 pub returns-clause-filled : goal.returns-clause-filled
-returns-clause-filled c most u m f =
+returns-clause-filled c f =
     let last = last_place (vec_len c.args.blocks.now) c.len-last.result (length c.args.blocks.now.items) (search rules) (cc (c.is_empty.ensures, c.if-is_empty.false)) c.len-last.ensures in
-    filled_last most c.args.blocks.now.items (c.len-last.result - 1) c.index_mut.result.now c.reserve.new.self last (search rules) (c.reserve.ensures.slots most u m) f
+    filled_last 1024 c.args.blocks.now.items (c.len-last.result - 1) c.index_mut.result.now c.reserve.new.self last (search rules) c.reserve.ensures.slots f

@@ -24,8 +24,7 @@ loop-entry-preserved c =
     let l = c.push_reserved.ensures.len in
     let k = c.push_reserved.ensures.capacity in
     let room = i.1.1.0 in
-    let kept = i.1.1.1.1 in
-    let left = c.in-Some.ensures.room in (
+    let kept = i.1.1.1.1 in (
       ap (λ (ns : List ℕ). ns ++ map number_of (filter is_ready c.take_first.new.self.entries)) c.push_reserved.ensures.items
           ∙ ap (λ (n : ℕ). (c.loop-entry.numbers.items ++ n ∷ []) ++ map number_of (filter is_ready c.take_first.new.self.entries)) c.number.ensures
           ∙ ap (λ (es : List Entry). (c.loop-entry.numbers.items ++ number_of c.in-Some.entry ∷ []) ++ map number_of (filter is_ready es)) q
@@ -34,7 +33,7 @@ loop-entry-preserved c =
         ap (filter (λ e. not (is_ready e))) q ∙ rest_filtered is_ready c.loop-entry.queue.entries ∙ i.1.0,
         (
           omega arith,
-          (k ∙ i.1.1.1.0, omega arith),
+          (k ∙ i.1.1.1.0, c.in-Some.ensures.room ∙ kept),
         ),
       ),
     )

@@ -8,7 +8,7 @@ invariant-loop-entry l =
     (l.numbers.items ++ map number_of (filter is_ready l.queue.entries) ≡ l.initial.numbers.items ++ map number_of (filter is_ready l.initial.queue.entries))
     × ((filter (λ e. not (is_ready e)) l.queue.entries ≡ filter (λ e. not (is_ready e)) l.initial.queue.entries)
     × ((vec_len l.numbers + ready_count l.queue.entries ≤ vec_capacity l.numbers)
-    × ((vec_capacity l.numbers ≡ vec_capacity l.initial.numbers) × (l.initial.queue.room ≤ l.queue.room))))
+    × ((vec_capacity l.numbers ≡ vec_capacity l.initial.numbers) × (l.queue.room ≡ l.initial.queue.room))))
 
 abbrev pub decreases-loop-entry : goal.decreases-loop-entry
 decreases-loop-entry l = ready_count l.queue.entries

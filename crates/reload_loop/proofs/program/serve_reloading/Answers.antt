@@ -10,4 +10,4 @@ returns-clause-ends g c =
     rw c.status_of.ensures
     (reloading (serves_reloading _ _ _ _ _ _ _ _ _ _ _ _ _ _ _ _ c.take-kept.ensures.read c.in-Ok.ensures.ready c.turns_of-turns.ensures c.every_of-every.ensures
     (serves_kept _ _ _ _ _ _ _ c.take-kept.ensures.files c.serve_and_reload-whole.ensures.serves)
-    (λ f fresh none. c.serve_and_reload-whole.ensures.served f _ (c.new_is_served.ensures f fresh none))))
+    (λ f fresh none. c.serve_and_reload-whole.ensures.served f _ (c.ghost_new_is_served.ensures f fresh none))))

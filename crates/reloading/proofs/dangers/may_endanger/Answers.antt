@@ -1,8 +1,16 @@
-use Rattle.reloading.proofs.Names.{◌∙◌, subst, sym, IfOk-weaker, Text, Later, AreLeading}
+use Rattle.reloading.proofs.Names.{[], subst, Option, List, IsFixedFor}
+use Rattle.std.specs.Borrow.{Bor}
+use Rattle.std.specs.Prelude.{IfSome}
+use Rattle.paths.specs.declared.visits.Visit.{Visit}
+use Rattle.reloading.proofs.Leading.{exploration_of, fixed_spares}
 use Rattle.reloading.proofs.dangers.may_endanger.Goals as goal
 
-pub may_lead-requires : goal.may_lead-requires
-may_lead-requires c = subst (λ (z : Text). AreLeading c.args.topology.now z c.args.leading.now) (sym (c.as_bytes.ensures ∙ c.queue.ensures)) c.requires
+pub leads_there-requires-clause-explored : goal.leads_there-requires-clause-explored
+leads_there-requires-clause-explored c =
+    let fixed = subst (λ (z : Option (Bor (List Visit))). IfSome z (λ e. IsFixedFor c.args.topology.now c.args.queue.now e.now)) c.in-Some-fixed.is c.requires.fixed in
+    exploration_of c.args.topology.now c.args.queue.now [] c.in-Some-fixed.explored.now (fixed [])
 
-pub returns-in-Never : goal.returns-in-Never
-returns-in-Never c = IfOk-weaker c.may_lead.result _ _ (λ yes d no m danger. d no m.key (subst (λ (z : Text). Later c.args.topology.now c.args.queue.now m.key z) (sym (c.as_bytes.ensures ∙ c.queue.ensures)) danger.later)) c.may_lead.ensures
+pub returns-in-Some-fixed : goal.returns-in-Some-fixed
+returns-in-Some-fixed c off =
+    let fixed = subst (λ (z : Option (Bor (List Visit))). IfSome z (λ e. IsFixedFor c.args.topology.now c.args.queue.now e.now)) c.in-Some-fixed.is c.requires.fixed in
+    fixed_spares c.args.topology.now c.args.guarantee.now c.args.queue.now c.in-Some-fixed.explored.now c.leads_there.result fixed c.leads_there.ensures off

@@ -10,7 +10,7 @@ returns-in-Ok g c =
     let offered = g.M.Machine.config c.args.setup in
     on_ok c.note_one.result (c.note_one.new.self ≡ record old { notes = old.notes ++ Reloaded ∷ [] })
     (AnswersAndTells (world c.args.machine.now) (arrival.Reload offered) old (world c.reload.new.self) c.note_one.new.self)
-    (λ e. reloads_done (world c.args.machine.now) (world c.reload.new.self) offered old c.note_one.new.self c.offers_sound.ensures c.in-Ok.ensures.told e)
+    (λ e. reloads_done (world c.args.machine.now) (world c.reload.new.self) offered old c.note_one.new.self c.ghost_offers_sound.ensures c.in-Ok.ensures.told e)
     c.note_one.ensures.ok
 
 pub returns-in-Some : goal.returns-in-Some
@@ -21,5 +21,5 @@ returns-in-Some g c =
     let told = subst (λ (o : Option Obstacle). TellsWhyNot (world c.args.machine.now) offered o (world c.reload.new.self)) (sym c.obstacle.ensures ∙ c.in-Some.is) c.in-Err.ensures.told in
     on_ok c.note_one-in-Some.result (c.note_one-in-Some.new.self ≡ record old { notes = old.notes ++ ReloadRefused c.in-Some.obstacle ∷ [] })
     (AnswersAndTells (world c.args.machine.now) (arrival.Reload offered) old (world c.reload.new.self) c.note_one-in-Some.new.self)
-    (λ e. reloads_refused (world c.args.machine.now) (world c.reload.new.self) offered c.in-Some.obstacle old c.note_one-in-Some.new.self c.offers_sound.ensures told.0 told.1 e)
+    (λ e. reloads_refused (world c.args.machine.now) (world c.reload.new.self) offered c.in-Some.obstacle old c.note_one-in-Some.new.self c.ghost_offers_sound.ensures told.0 told.1 e)
     c.note_one-in-Some.ensures.ok

@@ -6,4 +6,4 @@ pub returns-in-Err-clause-ends : goal.returns-in-Err-clause-ends
 returns-in-Err-clause-ends g c = rw c.without_clients.ensures c.in-Err.ensures.ready
 
 pub returns-clause-ends : goal.returns-clause-ends
-returns-clause-ends g c = (serves_clients _ _ _ _ _ _ _ _ _ _ _ c.in-Ok.ensures.ready c.turns_of-turns.ensures c.serve.ensures.rounds (λ f fresh none. c.serve.ensures.served f _ (c.new_is_served.ensures f fresh none)), refl)
+returns-clause-ends g c = (serves_clients _ _ _ _ _ _ _ _ _ _ _ c.in-Ok.ensures.ready c.turns_of-turns.ensures c.serve.ensures.rounds (λ f fresh none. c.serve.ensures.served f _ (c.ghost_new_is_served.ensures f fresh none)), refl)

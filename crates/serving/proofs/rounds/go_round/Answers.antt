@@ -6,7 +6,14 @@ use Rattle.serving.proofs.rounds.go_round.Goals as goal
 pub read_all-has_heard-requires : goal.read_all-has_heard-requires
 read_all-has_heard-requires g c = record {
   seated = seated_on _ _ _ _ _ _ c.accept_one-has_met.ensures.serves c.requires.settled.seated c.accept_one-has_met.ensures.quiet;
+  full = c.accept_one-has_met.ensures.full c.args.full.now c.requires.full;
   room = c.requires.room;
+}
+
+pub settle_all-has_settled-requires : goal.settle_all-has_settled-requires
+settle_all-has_settled-requires g c = record {
+  seated = c.pump_all-has_pumped.ensures.seated;
+  full = c.pump_all-has_pumped.ensures.full c.args.full.now c.read_all-has_heard.ensures.full;
 }
 
 pub returns : goal.returns
@@ -25,6 +32,7 @@ returns g c =
         ended = c.settle_all-has_settled.ensures.ended;
         most = subst (λ (n : ℕ). most_peers ≤ n) (sym capacity) c.requires.settled.most;
       };
+      full = c.settle_all-has_settled.ensures.full;
       capacity = capacity;
       round = record {
         met = met;

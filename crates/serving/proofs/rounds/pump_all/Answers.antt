@@ -3,11 +3,12 @@ use Rattle.serving.proofs.Pumping.{pumped_not, pumped_more, pumped_last, pumped_
 use Rattle.serving.proofs.rounds.pump_all.Goals as goal
 
 pub loop-init : goal.loop-init
-loop-init g c = record { seated = c.requires; so_far = λ ps told. pumped_not most_pumps (served (g.M.Machine.world c.args.machine.now) ps told) }
+loop-init g c = record { seated = c.requires; full = λ marks full. full; so_far = λ ps told. pumped_not most_pumps (served (g.M.Machine.world c.args.machine.now) ps told) }
 
 pub loop-preserved : goal.loop-preserved
 loop-preserved g c = record {
   seated = c.pump_once.ensures.seated;
+  full = λ marks full. c.pump_once.ensures.full marks (c.loop.invariant.full marks full);
   so_far = λ ps told.
       let world = g.M.Machine.world in
       let here = served (world c.loop.machine) ps told in
@@ -28,3 +29,6 @@ pub returns-clause-pumps : goal.returns-clause-pumps
 returns-clause-pumps g c = λ ps told.
     let world = g.M.Machine.world in
     pumped_all most_pumps c.loop.counter (served (world c.args.machine.now) ps told) (served (world c.loop.machine) ps told) c.loop.done (omega (arith, c.loop-test.false)) (c.loop.invariant.so_far ps told)
+
+pub returns-then-not-pump_once-clause-full : goal.returns-then-not-pump_once-clause-full
+returns-then-not-pump_once-clause-full g c = λ marks full. c.pump_once.ensures.full marks (c.loop.invariant.full marks full)

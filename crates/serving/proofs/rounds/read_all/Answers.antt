@@ -1,14 +1,14 @@
-use Rattle.serving.proofs.Names.{◌≡◌, ◌<◌, ◌-◌, ◌∙◌, ◌++◌, List, [], None, length, refl, sym, ap, subst, append-nil, count_by, drop, flat_map, slice_index_or, is_some, arith, Ask, Serves, served, read_of, reads_due}
-use Rattle.serving.proofs.Onward.{serves_then}
-use Rattle.serving.proofs.Apart.{later_on, due_on}
+use Rattle.serving.proofs.Names.{◌≡◌, ◌<◌, ◌+◌, ◌-◌, ◌∙◌, ◌++◌, List, [], None, length, refl, sym, ap, subst, append-nil, count_by, drop, flat_map, slice_index_or, is_some, arith, Ask, Serves, served, read_of, reads_due}
 use Rattle.serving.proofs.Fits.{seated_on}
-use Rattle.serving.proofs.Seating.{left_behind, none_due, taken_from, taken_within}
-use Rattle.serving.proofs.Waiting.{passes_none, passes_on, waits_left}
+use Rattle.serving.proofs.Seating.{none_due, taken_from, taken_within}
+use Rattle.serving.proofs.Waiting.{passes_none, passes_on, passes_read, waits_left}
+use Rattle.serving.proofs.Passing.{full_left, passes_full}
 use Rattle.serving.proofs.rounds.read_all.Goals as goal
 
 pub loop-left-init : goal.loop-left-init
 loop-left-init g c = record {
   seated = c.requires.seated;
+  full = c.requires.full;
   capacity = refl;
   passes = passes_none (g.M.Machine.world c.args.machine.now) c.args.peers.now.slots (g.W.Wire.told c.args.wire.now) c.len-left.result (sym c.len-left.ensures);
 }
@@ -42,6 +42,22 @@ overflow_sub-left-in-loop-left-2 g c =
     let taken = taken_from ps j in
     omega (arith, left, taken, c.count_at-left.ensures.count)
 
+-- and no more are full than are left behind it
+pub overflow_sub-left-in-loop-left-4 : goal.overflow_sub-left-in-loop-left-4
+overflow_sub-left-in-loop-left-4 g c =
+    let world = g.M.Machine.world in
+    let told = g.W.Wire.told in
+    let inv = c.loop-left.invariant in
+    let j = c.pass_quiet-next.result in
+    let start = served (world c.args.machine.now) c.args.peers.now.slots (told c.args.wire.now) in
+    let mid = served (world c.loop-left.machine) c.loop-left.peers.slots (told c.pass_quiet-next.new.wire) in
+    let next = served (world c.read_slot-done.new.machine) c.read_slot-done.new.peers.slots (told c.read_slot-done.new.wire) in
+    let run = c.pass_quiet-next.ensures in
+    let one = c.read_slot-done.ensures in
+    let here = passes_on start mid.world mid.peers c.loop-left.quiet c.loop-left.slot j c.loop-left.left (told c.loop-left.wire) mid.told c.loop-left.done run.least inv.seated.quiet run.marked run.told inv.passes in
+    let read = passes_read start mid next j _ c.count_at-left.result c.loop-left.done c.read_slot-done.result c.count_at-left.ensures.count one.serves one.later one.due here in
+    full_left start next.world next.peers c.args.full.now (j + 1) c.next_loud-slot.result _ next.told _ (one.full c.args.full.now inv.full) c.next_loud-slot.ensures read
+
 pub loop-left-preserved : goal.loop-left-preserved
 loop-left-preserved g c =
     let world = g.M.Machine.world in
@@ -54,16 +70,13 @@ loop-left-preserved g c =
     let run = c.pass_quiet-next.ensures in
     let one = c.read_slot-done.ensures in
     let here = passes_on start mid.world mid.peers c.loop-left.quiet c.loop-left.slot j c.loop-left.left (told c.loop-left.wire) mid.told c.loop-left.done run.least inv.seated.quiet run.marked run.told inv.passes in
+    let read = passes_read start mid next j _ c.count_at-left.result c.loop-left.done c.read_slot-done.result c.count_at-left.ensures.count one.serves one.later one.due here in
+    let full = one.full c.args.full.now inv.full in
     record {
       seated = seated_on mid next _ _ _ _ one.serves inv.seated one.quiet;
+      full = full;
       capacity = one.capacity ∙ inv.capacity;
-      passes = record {
-        later = one.later ∙ later_on start.peers mid.peers j here.later;
-        asked = here.asked ++ read_of mid.world (slice_index_or mid.peers j None);
-        serves = serves_then start mid next _ _ _ _ here.serves one.serves;
-        so_far = due_on (read_of mid.world) (read_of next.world) refl start.peers mid.peers j here.asked (reads_due start) here.later one.due here.so_far;
-        left = left_behind mid.peers next.peers j _ c.count_at-left.result c.count_at-left.ensures.count one.later here.left;
-      };
+      passes = passes_full start next.world next.peers c.args.full.now (j + 1) c.next_loud-slot.result _ next.told _ full c.next_loud-slot.ensures read;
     }
 
 -- no slot is left that is taken, so that nothing is due of those behind

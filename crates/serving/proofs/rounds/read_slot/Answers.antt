@@ -1,6 +1,7 @@
 use Rattle.serving.proofs.Names.{◌∙◌, sym, subst, refl, List, Bool, At, AreQuiet}
 use Rattle.serving.proofs.Apart.{reads_behind}
 use Rattle.serving.proofs.Quieting.{quiet_idle, quiet_apart, still_marked}
+use Rattle.serving.proofs.Fullness.{full_read}
 use Rattle.serving.proofs.rounds.read_slot.Goals as goal
 
 pub returns-clause-due : goal.returns-clause-due
@@ -27,3 +28,17 @@ returns-clause-quiet g c =
     subst (λ (ms : List Bool). AreQuiet (world c.read_one.new.machine) c.read_one.new.peers.slots ms) (sym c.mark.ensures)
     (quiet_apart (world c.args.machine.now) (world c.read_one.new.machine) ps c.read_one.new.peers.slots c.args.slot c.in-Some.peer c.args.quiet.now _
     c.requires.seated.fit at c.read_one.ensures.others c.read_one.ensures.slots (still_marked c.args.quiet.now c.args.slot) c.requires.seated.quiet)
+
+pub returns-then-not-read_one-clause-full : goal.returns-then-not-read_one-clause-full
+returns-then-not-read_one-clause-full g c = λ marks full.
+    let world = g.M.Machine.world in
+    let at : At c.args.peers.now.slots c.args.slot c.in-Some.peer = sym c.get.ensures ∙ sym c.copied.ensures ∙ c.in-Some.is in
+    full_read (world c.args.machine.now) (world c.read_one.new.machine) c.args.peers.now.slots c.read_one.new.peers.slots c.args.slot c.in-Some.peer marks
+    c.requires.seated.fit at (sym c.is_slot_awake.ensures ∙ c.if-not-is_slot_awake.false) c.read_one.ensures.others c.read_one.ensures.slots full
+
+pub returns-clause-full : goal.returns-clause-full
+returns-clause-full g c = λ marks full.
+    let world = g.M.Machine.world in
+    let at : At c.args.peers.now.slots c.args.slot c.in-Some.peer = sym c.get.ensures ∙ sym c.copied.ensures ∙ c.in-Some.is in
+    full_read (world c.args.machine.now) (world c.read_one.new.machine) c.args.peers.now.slots c.read_one.new.peers.slots c.args.slot c.in-Some.peer marks
+    c.requires.seated.fit at (sym c.is_slot_awake.ensures ∙ c.if-not-is_slot_awake.false) c.read_one.ensures.others c.read_one.ensures.slots full

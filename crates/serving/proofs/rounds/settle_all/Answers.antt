@@ -1,8 +1,9 @@
-use Rattle.serving.proofs.Names.{◌<◌, ◌≤◌, ◌+◌, ◌∙◌, ◌++◌, ℕ, [], List, None, length, refl, sym, subst, inl, inr, slice_index_or, arith, cases_eq, Ask, Serves, served, HasEnded, write_of, writes_due}
-use Rattle.serving.proofs.Onward.{serves_not, serves_then}
+use Rattle.serving.proofs.Names.{◌<◌, ◌≤◌, ◌+◌, ◌∙◌, ◌++◌, ℕ, [], List, None, length, refl, sym, subst, inl, inr, slice_index_or, arith, cases_eq, cases_lt, Bool, false, ◌||◌, Ask, Serves, served, HasEnded, write_of, writes_due}
+use Rattle.serving.proofs.Onward.{or_false, serves_then}
 use Rattle.serving.proofs.Apart.{later_on, due_on}
 use Rattle.serving.proofs.Fits.{seated_on, slot_within}
-use Rattle.serving.proofs.Loudness.{passes_by, all_passed, passed_ended}
+use Rattle.serving.proofs.Loudness.{all_passed}
+use Rattle.serving.proofs.Passing.{passed_on, passes_writes}
 use Rattle.serving.proofs.rounds.settle_all.Goals as goal
 
 pub loop-slot-init : goal.loop-slot-init
@@ -10,14 +11,21 @@ loop-slot-init g c =
     let world = g.M.Machine.world in
     let told = g.W.Wire.told in
     let start = served (world c.args.machine.now) c.args.peers.now.slots (told c.args.wire.now) in
-    let next = c.next_loud-slot.ensures in
+    let j = c.pass_marked-slot.result in
+    let next = c.pass_marked-slot.ensures in
+    let passes = passes_writes {L = g.M.Machine.lacks} start.world start.peers 0 j start.told (told c.pass_marked-slot.new.wire) (omega arith) (next.told start.world c.requires.seated.quiet) in
     record {
-      seated = c.requires;
+      seated = c.requires.seated;
+      full = c.requires.full;
       length = refl;
       capacity = refl;
       loud = next.loud;
-      ended = passed_ended start.world start.peers c.args.quiet.now 0 c.next_loud-slot.result c.requires.quiet (λ k lt. absurd (omega (arith, lt))) next.before;
-      so_far = ([], serves_not start, passes_by start.world start.peers start.peers c.args.quiet.now 0 c.next_loud-slot.result [] (writes_due start) (omega arith) c.requires.quiet next.before refl refl);
+      ended = λ k lt. next.ended start.world c.requires.seated.quiet c.requires.full k (omega arith) lt;
+      so_far = (
+        passes.asked,
+        passes.serves,
+        passed_on start.world start.peers start.peers 0 j [] (writes_due start) start.told (told c.pass_marked-slot.new.wire) (omega arith) passes refl refl,
+      );
     }
 
 pub loop-slot-preserved : goal.loop-slot-preserved
@@ -26,12 +34,14 @@ loop-slot-preserved g c =
     let told = g.W.Wire.told in
     let inv = c.loop-slot.invariant in
     let i = c.loop-slot.slot in
+    let j = c.pass_marked-slot-in-loop-slot.result in
     let start = served (world c.args.machine.now) c.args.peers.now.slots (told c.args.wire.now) in
     let here = served (world c.loop-slot.machine) c.loop-slot.peers.slots (told c.loop-slot.wire) in
     let settled = served (world c.settle_slot-done.new.machine) c.settle_slot-done.new.peers.slots (told c.settle_slot-done.new.wire) in
-    let marks = c.settle_slot-done.new.quiet in
+    let passed = served settled.world settled.peers (told c.pass_marked-slot-in-loop-slot.new.wire) in
     let one = c.settle_slot-done.ensures in
-    let next = c.next_loud-slot-in-loop-slot.ensures in
+    let next = c.pass_marked-slot-in-loop-slot.ensures in
+    let passes = passes_writes {L = g.M.Machine.lacks} settled.world settled.peers (i + 1) j settled.told passed.told next.least (next.told settled.world one.quiet) in
     let asked = inv.so_far.0 ++ write_of here.world (slice_index_or here.peers i None) in
     let before : (k : ℕ) → k < i + 1 → HasEnded settled.world settled.peers k = λ k lt. elim (cases_eq k i) [
       | inl e ↦ subst (λ (n : ℕ). HasEnded settled.world settled.peers n) (sym e) one.ended
@@ -39,16 +49,22 @@ loop-slot-preserved g c =
     ] in
     let later = one.later ∙ later_on start.peers here.peers i inv.so_far.2.later in
     let due = due_on (write_of here.world) (write_of settled.world) refl start.peers here.peers i inv.so_far.0 (writes_due start) inv.so_far.2.later one.due inv.so_far.2.so_far in
+    let acted = c.loop-slot.done || c.settle_slot-done.result in
+    let all = serves_then start settled passed asked passes.asked acted false (serves_then start here settled _ _ _ _ inv.so_far.1 one.serves) passes.serves in
     record {
       seated = seated_on here settled _ _ _ _ one.serves inv.seated one.quiet;
+      full = one.full;
       length = one.length ∙ inv.length;
       capacity = one.capacity ∙ inv.capacity;
       loud = next.loud;
-      ended = passed_ended settled.world settled.peers marks (i + 1) c.next_loud-slot-in-loop-slot.result one.quiet before next.before;
+      ended = λ k lt. elim (cases_lt k (i + 1)) [
+        | inl less ↦ before k less
+        | inr from ↦ next.ended settled.world one.quiet one.full k from lt
+      ];
       so_far = (
-        asked,
-        serves_then start here settled _ _ _ _ inv.so_far.1 one.serves,
-        passes_by settled.world start.peers settled.peers marks (i + 1) c.next_loud-slot-in-loop-slot.result asked (writes_due start) next.least one.quiet next.before later due,
+        asked ++ passes.asked,
+        subst (λ (x : Bool). Serves g.M.Machine.lacks start (asked ++ passes.asked) x passed) (or_false acted) all,
+        passed_on settled.world start.peers settled.peers (i + 1) j asked (writes_due start) settled.told passed.told next.least passes later due,
       );
     }
 

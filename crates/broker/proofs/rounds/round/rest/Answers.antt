@@ -3,11 +3,11 @@ use Rattle.broker.proofs.Sleeping.{passed_over, set_less}
 use Rattle.broker.proofs.Takers.{of_has}
 use Rattle.broker.proofs.rounds.round.rest.Goals as goal
 
-pub doze-requires-clause-cannot : goal.doze-requires-clause-cannot
-doze-requires-clause-cannot c = λ d. (subst (λ (f : Found). FindsWaiter c.args.core.now c.args.queue (get_or c.args.waiters.now c.args.place d) f) c.in-Unable.is (c.requires.found d)).1
+pub put_to_sleep-requires-clause-cannot : goal.put_to_sleep-requires-clause-cannot
+put_to_sleep-requires-clause-cannot c = λ d. (subst (λ (f : Found). FindsWaiter c.args.core.now c.args.queue (get_or c.args.waiters.now c.args.place d) f) c.in-Unable.is (c.requires.found d)).1
 
-pub doze-requires-clause-up : goal.doze-requires-clause-up
-doze-requires-clause-up c = λ d. (subst (λ (f : Found). FindsWaiter c.args.core.now c.args.queue (get_or c.args.waiters.now c.args.place d) f) c.in-Unable.is (c.requires.found d)).0
+pub put_to_sleep-requires-clause-up : goal.put_to_sleep-requires-clause-up
+put_to_sleep-requires-clause-up c = λ d. (subst (λ (f : Found). FindsWaiter c.args.core.now c.args.queue (get_or c.args.waiters.now c.args.place d) f) c.in-Unable.is (c.requires.found d)).0
 
 pub returns-in-Over-clause-kept : goal.returns-in-Over-clause-kept
 returns-in-Over-clause-kept c =
@@ -17,8 +17,8 @@ returns-in-Over-clause-kept c =
     (λ d. same_default c.args.waiters.now c.args.place d none c.requires.within)
     (subst (λ (f : Found). FindsWaiter c.args.core.now c.args.queue s f) c.in-Over.is (c.requires.found none)) c.clear.ensures.cleared.others
 
-pub doze-requires-clause-noted : goal.doze-requires-clause-noted
-doze-requires-clause-noted c = λ d. c.requires.noted c.args.queue (get_or c.args.waiters.now c.args.place d).pick (of_has c.args.core.now c.args.queue _ (subst (λ (f : Found). FindsWaiter c.args.core.now c.args.queue (get_or c.args.waiters.now c.args.place d) f) c.in-Unable.is (c.requires.found d)).2)
+pub put_to_sleep-requires-clause-noted : goal.put_to_sleep-requires-clause-noted
+put_to_sleep-requires-clause-noted c = λ d. c.requires.noted c.args.queue (get_or c.args.waiters.now c.args.place d).pick (of_has c.args.core.now c.args.queue _ (subst (λ (f : Found). FindsWaiter c.args.core.now c.args.queue (get_or c.args.waiters.now c.args.place d) f) c.in-Unable.is (c.requires.found d)).2)
 
 pub returns-in-Able-clause-passed : goal.returns-in-Able-clause-passed
 returns-in-Able-clause-passed c = absurd (false≢true (sym c.requires.unable ∙ ap is_able c.in-Able.is))

@@ -5,7 +5,7 @@ use Rattle.broker.proofs.rounds.round.wake_waiter.Goals as goal
 pub returns-in-Some-clause-yes : goal.returns-in-Some-clause-yes
 returns-in-Some-clause-yes c = λ e.
     let any = asleep_waiter c.args.consumer in
-    (c.in-Some.place, subst (IsAwakeAt (round_of c.rouse.new.waiters c.rouse.new.awake) c.in-Some.place) (c.in-Some.ensures.there any) (c.rouse.ensures.up any))
+    (c.in-Some.place, subst (IsAwakeAt (round_of c.wake_up.new.waiters c.wake_up.new.awake) c.in-Some.place) (c.in-Some.ensures.there any) (c.wake_up.ensures.up any))
 
 pub returns-in-None-clause-no : goal.returns-in-None-clause-no
 returns-in-None-clause-no c = λ e i. c.in-None.ensures.none refl (asleep_waiter c.args.consumer) i refl

@@ -1,4 +1,4 @@
-use Rattle.channels.proofs.Imports.{◌∙◌, refl, sym, ap, subst, Some, Text, Given, AddsConsumer, JudgesSeat, MaySeat, Open, IsConsumerSeated}
+use Rattle.channels.proofs.Imports.{◌∙◌, refl, sym, ap, subst, Some, Text, Given, AddsConsumer, JudgesNamed, MaySeat, Open, IsConsumerSeated}
 use Rattle.std.proofs.lemmas.Result.{err_from_is_err_and}
 use Rattle.channels.proofs.Seating.{named_free, named_refused, named_seated, unnamed_seats}
 use Rattle.channels.proofs.channels.Channel.consume.Goals as goal
@@ -12,7 +12,7 @@ returns-then-len-eq0 c =
 pub returns-in-Some : goal.returns-in-Some
 returns-in-Some c =
     let old : Open = record { confirm = c.self.inside.confirm; is_closing = c.self.inside.is_closing; given = c.self.inside.deliveries } in
-    let why = subst (λ (t : Text). JudgesSeat old.given t (Some c.in-Some.refusal)) c.as_bytes.ensures c.in-Some.ensures in
+    let why = subst (λ (t : Text). JudgesNamed old.given t (Some c.in-Some.refusal)) c.as_bytes.ensures c.in-Some.ensures in
     rw (← c.self.view_is) (named_refused old c.args.consume.now c.in-Some.refusal (λ z. c.if-len-eq0.false (c.len.ensures ∙ z)) why, refl)
 
 pub returns-in_err-tag : goal.returns-in_err-tag

@@ -1,4 +1,4 @@
-use Rattle.channels.proofs.Imports.{◌∙◌, sym, subst, Text, JudgesSeat, Open}
+use Rattle.channels.proofs.Imports.{◌∙◌, sym, subst, Text, JudgesNamed, Open}
 use Rattle.channels.proofs.Seating.{named_judged, unnamed_judged}
 use Rattle.channels.proofs.channels.Channel.refusal.Goals as goal
 
@@ -12,4 +12,4 @@ returns c =
     let old : Open = record { confirm = c.self.inside.confirm; is_closing = c.self.inside.is_closing; given = c.self.inside.deliveries } in
     rw (← c.self.view_is)
     (named_judged old c.args.consume.now c.refusal.result (λ z. c.if-len-eq0.false (c.len.ensures ∙ z))
-    (subst (λ (t : Text). JudgesSeat old.given t c.refusal.result) c.as_bytes.ensures c.refusal.ensures))
+    (subst (λ (t : Text). JudgesNamed old.given t c.refusal.result) c.as_bytes.ensures c.refusal.ensures))

@@ -1,4 +1,4 @@
-use Rattle.channels.proofs.Imports.{◌<◌, ◌∙◌, ℕ, number_given, List, ap, refl, sym, subst, arith, length, length-append, All, NoneAbove, SeatsAreCounted, AreNumbered, Delivery}
+use Rattle.channels.proofs.Imports.{◌<◌, ◌∙◌, ℕ, number_given, List, ap, refl, sym, subst, arith, length, length-append, All, NoneAbove, CountsAgree, AreNumbered, Delivery}
 use Rattle.std.specs.Prelude.{max}
 use Rattle.channels.proofs.Counting.{counts_small, none_above_give}
 use Rattle.channels.proofs.deliveries.Deliveries.give.Goals as goal
@@ -16,7 +16,7 @@ invariant_of-self c =
     let one : Delivery = record { tag = c.self.inside.next_tag; queue = c.args.queue; arrival = c.args.arrival; by = c.args.by } in
     let most = c.max-self-inside.ensures in (
       omega (arith, c.push.ensures.last),
-      subst (SeatsAreCounted c.count_in.new.self) (sym c.push.ensures.outstanding) (c.count_in.ensures.counted os one refl c.self.invariant.1),
+      subst (CountsAgree c.count_in.new.self) (sym c.push.ensures.outstanding) (c.count_in.ensures.counted os one refl c.self.invariant.1),
       subst (AreNumbered c.self.inside.next_number) (sym c.count_in.ensures.consumers) c.self.invariant.2,
       subst (λ (m : ℕ). NoneAbove m c.push.new.self.outstanding) (sym (most ∙ ap (max c.self.inside.most_given) c.number_of.ensures))
           (subst (NoneAbove (max c.self.inside.most_given (number_given c.args.by))) (sym c.push.ensures.outstanding) (none_above_give c.self.inside.most_given os one c.self.invariant.3)),

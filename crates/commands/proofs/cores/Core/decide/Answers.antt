@@ -20,7 +20,7 @@ invariant_of-self-in-Some c =
     let new : Kept = record { store = c.on_channel.new.depot; connections = c.running_mut.follows.lender (with_channel_in running c.args.id.number ch) } in
     let found : running_in old.connections c.args.id.connection ≡ Some running = sym c.running_mut.ensures.value ∙ ap option_copied_mut c.in_ok-running.was in
     let there : channel_in running c.args.id.number ≡ Some c.in-Some.channel.now = sym c.channel_mut.ensures.value ∙ ap option_copied_mut c.in-Some.is in
-    let lent = is_lent c.lent_channels_are_put.ensures old new c.args.id.connection c.args.id.number running c.in-Some.channel.now ch found there (c.running_mut.follows.holds (with_channel_in running c.args.id.number ch)) c.on_channel.ensures.topology in
+    let lent = is_lent c.ghost_lent_channels_are_put.ensures old new c.args.id.connection c.args.id.number running c.in-Some.channel.now ch found there (c.running_mut.follows.holds (with_channel_in running c.args.id.number ch)) c.on_channel.ensures.topology in
     lent_placed old new c.args.id.connection c.args.id.number running c.in-Some.channel.now ch lent c.on_channel.ensures.placed c.self.invariant
 
 pub returns-in-Some : goal.returns-in-Some
@@ -31,7 +31,7 @@ returns-in-Some c =
     let new : Kept = record { store = c.on_channel.new.depot; connections = c.running_mut.follows.lender (with_channel_in running c.args.id.number ch) } in
     let found : running_in old.connections c.args.id.connection ≡ Some running = sym c.running_mut.ensures.value ∙ ap option_copied_mut c.in_ok-running.was in
     let there : channel_in running c.args.id.number ≡ Some c.in-Some.channel.now = sym c.channel_mut.ensures.value ∙ ap option_copied_mut c.in-Some.is in
-    let lent = is_lent c.lent_channels_are_put.ensures old new c.args.id.connection c.args.id.number running c.in-Some.channel.now ch found there (c.running_mut.follows.holds (with_channel_in running c.args.id.number ch)) c.on_channel.ensures.topology in
+    let lent = is_lent c.ghost_lent_channels_are_put.ensures old new c.args.id.connection c.args.id.number running c.in-Some.channel.now ch found there (c.running_mut.follows.holds (with_channel_in running c.args.id.number ch)) c.on_channel.ensures.topology in
     record {
       answers = subst (λ (k : Kept). AnswersOn k c.args.id.connection c.args.id.number c.args.method.now c.args.content.now (Some c.on_channel.result) new) c.self.view_is
           (answers_on old new c.args.id.connection c.args.id.number c.channel_max-channel_max.result running c.in-Some.channel.now ch c.args.method.now c.args.content.now c.on_channel.result lent (sym c.channel_max-channel_max.ensures) c.on_channel.ensures.answers);

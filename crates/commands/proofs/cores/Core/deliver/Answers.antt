@@ -26,7 +26,7 @@ returns-in-Some c =
     let there : channel_of old.connections c.args.pick.connection c.args.pick.channel ≡ Some c.in-Some.channel.now = sym c.channel_mut.ensures.value ∙ ap option_copied_mut c.in-Some.is in
     record {
       ok = IfOk-weaker c.deliver_on.result _ _ (λ s delivers.
-          delivered_on c.lent_channels_are_put.ensures old c.args.self.now new c.args.pick c.in-Some.channel.now ch s.sends.items s.notes.items c.self.view_is there (c.channel_mut.follows.holds ch) c.deliver_on.ensures.topology c.requires.picked delivers) c.deliver_on.ensures.ok;
+          delivered_on c.ghost_lent_channels_are_put.ensures old c.args.self.now new c.args.pick c.in-Some.channel.now ch s.sends.items s.notes.items c.self.view_is there (c.channel_mut.follows.holds ch) c.deliver_on.ensures.topology c.requires.picked delivers) c.deliver_on.ensures.ok;
       addressed = IfOk-weaker c.deliver_on.result _ _ (λ s own carried named.
           own (side_of old) (ap (option_map (open_in (names_of old))) there) (subst (λ (k : Kept). AreCarried (broker_of k)) (sym c.self.view_is) carried)
           (subst (λ (k : Kept). AreNamed (topology_kept k) (broker_of k)) (sym c.self.view_is) named)) c.deliver_on.ensures.addressed;
@@ -40,4 +40,4 @@ invariant_of-self c =
     let ch = c.deliver_on.new.channel in
     let new : Kept = record { store = c.deliver_on.new.depot; connections = c.channel_mut.follows.lender ch } in
     let there : channel_of old.connections c.args.pick.connection c.args.pick.channel ≡ Some c.in-Some.channel.now = sym c.channel_mut.ensures.value ∙ ap option_copied_mut c.in-Some.is in
-    put_placed c.lent_channels_are_put.ensures old new c.args.pick.connection c.args.pick.channel c.in-Some.channel.now ch there (c.channel_mut.follows.holds ch) c.deliver_on.ensures.topology c.deliver_on.ensures.placed c.self.invariant
+    put_placed c.ghost_lent_channels_are_put.ensures old new c.args.pick.connection c.args.pick.channel c.in-Some.channel.now ch there (c.channel_mut.follows.holds ch) c.deliver_on.ensures.topology c.deliver_on.ensures.placed c.self.invariant

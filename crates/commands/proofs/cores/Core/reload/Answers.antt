@@ -32,5 +32,5 @@ returns-clause-stood c =
     let topology : topology_kept new ≡ t = c.take_over.ensures.topology ∙ ap (λ (s : Store). s.topology) (c.replace-old.ensures.after ∙ c.in_ok-depot.ensures) in
     let made : new.connections ≡ connections_moved places old.connections = c.renumber.ensures ∙ ap (λ (ps : List ℕ). connections_moved ps old.connections) c.deref-2.ensures.value in
     let published : new.store.published ≡ old.store.published = c.take_over.ensures.published ∙ ap (λ (s : Store). s.published) c.replace-old.ensures.value in
-    rw (← c.self.view_is) (all_stood old t places c.self.invariant can.0 can.1 c.in_ok-places.ensures c.moves_are_unseen.ensures new topology made published
+    rw (← c.self.view_is) (all_stood old t places c.self.invariant can.0 can.1 c.in_ok-places.ensures c.ghost_moves_are_unseen.ensures new topology made published
     (λ q. c.take_over.ensures.entries q ∙ ap (λ (s : Store). map stood_now (entries_named s q)) c.replace-old.ensures.value))

@@ -31,7 +31,7 @@ returns-clause-ok c =
     let now : Store = store_of t (entries_of c.leave.new.queues) n in
     let waits : is_waiting d ≡ true = search rules in
     let one : length c.args.gone.now ≡ 1 = search rules in
-    let whole : IsStoreWhole (store_of t old n) = record { formed = subst IsWellFormed c.topology-topology.ensures c.is_well_formed.ensures; len = entries_of-length c.self.inside.queues ∙ c.self.invariant } in
+    let whole : IsStoreWhole (store_of t old n) = record { formed = subst IsWellFormed c.topology-topology.ensures c.ghost_is_well_formed.ensures; len = entries_of-length c.self.inside.queues ∙ c.self.invariant } in
     let within : AreWithin t (waiting c.args.gone.now) = subst (λ (s : Store). AreWithin s.topology (waiting c.args.gone.now)) (sym c.self.view_is) c.requires.within in
     let apart : IsApart (store_of t old n) = subst IsApart (sym c.self.view_is) c.requires.apart in
     let noted : c.leave.new.notes.items ≡ before ++ left_note Acked (queue_name t d.queue) (given_at k h old d) =

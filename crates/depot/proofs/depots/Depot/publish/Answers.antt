@@ -23,7 +23,7 @@ returns-then-targets-ne1-clause-ok c =
     let same : t ≡ was.topology = c.topology-topology.ensures ∙ c.route_of.ensures.same in
     let routed = targets_here was.topology t p.exchange p.routing_key c.deref-targets.result.now c.in_ok-route.route.value same (cc (c.deref-targets.ensures, c.deref.ensures)) c.in_ok-route.ensures.route in
     published_as was now c.args.self.now c.args.id.connection c.args.id.number p c.args.content.now c.args.confirm c.args.notes.now.items c.publish_to_many.new.notes.items c.in_ok-routed.routed t c.in_ok-message.message c.in_ok-first.first
-    c.self.view_is same c.in_ok-message.ensures c.in_ok-first.ensures c.is_well_formed.ensures (entries_of-length c.self.inside.queues ∙ c.self.invariant) refl c.route_of.ensures.same (c.in_ok-routed.ensures.ok p routed)
+    c.self.view_is same c.in_ok-message.ensures c.in_ok-first.ensures c.ghost_is_well_formed.ensures (entries_of-length c.self.inside.queues ∙ c.self.invariant) refl c.route_of.ensures.same (c.in_ok-routed.ensures.ok p routed)
 
 pub returns-in_err-reserve-clause-store : goal.returns-in_err-reserve-clause-store
 returns-in_err-reserve-clause-store c =
@@ -61,7 +61,7 @@ returns-clause-ok c =
     let is : c.reserve.new.self.entries ≡ get_or (entries_of lines) place [] = c.reserve.ensures.entries ∙ lent_entries lines place c.queue_mut-queue.result.now (omega (arith, lt, len)) c.queue_mut-queue.ensures.value in
     let there = outcome_there way.Publish t.queues (entries_of lines) turn q _ lt c.queue-declared.ensures is in
     published_as was now c.args.self.now c.args.id.connection c.args.id.number p c.args.content.now c.args.confirm c.args.notes.now.items c.enter-is_some_full.new.notes.items _ t m first
-    c.self.view_is same c.in_ok-message.ensures c.in_ok-first.ensures c.is_well_formed.ensures (entries_of-length lines ∙ c.self.invariant) refl c.route_of.ensures.same
+    c.self.view_is same c.in_ok-message.ensures c.in_ok-first.ensures c.ghost_is_well_formed.ensures (entries_of-length lines ∙ c.self.invariant) refl c.route_of.ensures.same
     (one_enters t p m place first c.args.notes.now.items c.push_reserved.new.self.items _ t.queues (entries_of lines) (entries_of lines) _ turn _ routed refl turned refl
     (ap entries_of c.count_coming.ensures ∙ entered_there way.Publish t.queues lines turn q _ c.enter-is_some_full.new.queue lt c.queue-declared.ensures is c.enter-is_some_full.ensures.entries)
     (c.push_reserved.ensures.items ∙ ap (λ (ns : List Note). ns ++ first ∷ []) c.reserve_exact.ensures.items)

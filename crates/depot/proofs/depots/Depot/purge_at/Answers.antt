@@ -17,7 +17,7 @@ returns-clause-ok c =
     let was : Store = store_of t (entries_of lines) c.self.inside.published in
     let now : Store = store_of t (entries_of (set lines place w)) c.self.inside.published in
     let same : c.topology-topology.result.now ≡ t = c.topology-topology.ensures in
-    let whole : IsStoreWhole was = record { formed = subst IsWellFormed same c.is_well_formed.ensures; len = entries_of-length lines ∙ c.self.invariant } in
+    let whole : IsStoreWhole was = record { formed = subst IsWellFormed same c.ghost_is_well_formed.ensures; len = entries_of-length lines ∙ c.self.invariant } in
     let lt : place < length t.queues = subst (λ (s : Store). place < length s.topology.queues) (sym c.self.view_is) c.requires in
     let len = c.self.invariant in
     let within : place < length lines = omega (arith, lt, len) in

@@ -10,7 +10,7 @@ returns-clause-ok c =
     let now : Store = record { topology = c.reject_in.new.router; queues = entries_of c.reject_in.new.queues; published = c.self.inside.published } in
     let long : length c.self.inside.queues ≡ length c.self.inside.router.queues = c.self.invariant in
     let all = entries_of-length c.self.inside.queues in
-    let whole : IsStoreWhole was = record { formed = subst IsWellFormed c.topology.ensures c.is_well_formed.ensures; len = omega (arith, long, all) } in
+    let whole : IsStoreWhole was = record { formed = subst IsWellFormed c.topology.ensures c.ghost_is_well_formed.ensures; len = omega (arith, long, all) } in
     let within : AreWithin was.topology (waiting c.args.gone.now) = subst (λ (s : Store). AreWithin s.topology (waiting c.args.gone.now)) (sym c.self.view_is) c.requires.within in
     let apart : IsApart was = subst IsApart (sym c.self.view_is) c.requires.apart in
     subst (λ (s : Store). OnOk c.reject_in.result (AreSettledBy given.Rejects s c.args.id.connection c.args.id.number (waiting c.args.gone.now) c.args.notes.now.items c.reject_in.new.notes.items now)) c.self.view_is

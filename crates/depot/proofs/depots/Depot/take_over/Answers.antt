@@ -8,14 +8,14 @@ pub returns-clause-entries : goal.returns-clause-entries
 returns-clause-entries c q =
     let self : Store = record { topology = c.self.inside.router; queues = entries_of c.self.inside.queues; published = c.self.inside.published } in
     let old : Store = record { topology = c.old.inside.router; queues = entries_of c.old.inside.queues; published = c.old.inside.published } in
-    let moved : AreMoved (queue_names old.topology.queues) (queue_names self.topology.queues) c.args.places.now
-    = subst (λ (s : Store). AreMoved (queue_names s.topology.queues) (queue_names self.topology.queues) c.args.places.now) (sym c.old.view_is)
-    (subst (λ (s : Store). AreMoved (queue_names c.args.old.topology.queues) (queue_names s.topology.queues) c.args.places.now) (sym c.self.view_is) c.requires.moved) in
+    let moved : AreMoved (queue_names old.topology.queues) (queue_names self.topology.queues) c.args.indices.now
+    = subst (λ (s : Store). AreMoved (queue_names s.topology.queues) (queue_names self.topology.queues) c.args.indices.now) (sym c.old.view_is)
+    (subst (λ (s : Store). AreMoved (queue_names c.args.old.topology.queues) (queue_names s.topology.queues) c.args.indices.now) (sym c.self.view_is) c.requires.moved) in
     let empty : self.queues ≡ replicate (length self.topology.queues) [] = subst (λ (s : Store). s.queues ≡ replicate (length s.topology.queues) []) (sym c.self.view_is) c.requires.empty in
     let gone : GoneAreEmpty old (queue_names self.topology.queues)
     = subst (λ (s : Store). GoneAreEmpty s (queue_names self.topology.queues)) (sym c.old.view_is) (subst (λ (s : Store). GoneAreEmpty c.args.old (queue_names s.topology.queues)) (sym c.self.view_is) c.requires.gone) in
-    store_taken old self c.args.places.now (entries_of c.take_over.new.self)
-    (subst (λ (t : Topology). AreApart (queue_names t.queues)) c.topology-2.ensures c.is_well_formed-2.ensures.queues_apart)
-    (subst (λ (t : Topology). AreApart (queue_names t.queues)) c.topology.ensures c.is_well_formed.ensures.queues_apart)
+    store_taken old self c.args.indices.now (entries_of c.take_over.new.self)
+    (subst (λ (t : Topology). AreApart (queue_names t.queues)) c.topology-2.ensures c.ghost_is_well_formed-2.ensures.queues_apart)
+    (subst (λ (t : Topology). AreApart (queue_names t.queues)) c.topology.ensures c.ghost_is_well_formed.ensures.queues_apart)
     (entries_of-length c.old.inside.queues ∙ c.old.invariant) moved empty gone c.take_over.ensures.entries q
     ∙ ap (λ (s : Store). map stood_now (entries_named s q)) c.old.view_is

@@ -6,8 +6,8 @@ use Rattle.engine.proofs.Delivered.{picked_there, picked_engine, picked_none, pu
 use Rattle.engine.proofs.Waiting.{tells_one, serves_one}
 use Rattle.engine.proofs.engines.Engine.pump.Goals as goal
 
-pub known_place-place-requires-clause-there : goal.known_place-place-requires-clause-there
-known_place-place-requires-clause-there c =
+pub known_index-place-requires-clause-there : goal.known_index-place-requires-clause-there
+known_index-place-requires-clause-there c =
     let i = c.self.inside in
     let old : Parts = record { broker = i.broker; guarantees = i.guarantees.items; users = i.users.items; given = i.given; connections = i.connections.items } in
     subst (λ (ls : List Connection). HasConnection ls c.in-Some.pick.connection) (sym c.deref.ensures.value) (picked_there old c.in-Some.pick.connection c.self.invariant c.in-Some.ensures.some.0)
@@ -22,26 +22,26 @@ pub invariant_of-self-in_err-notes : goal.invariant_of-self-in_err-notes
 invariant_of-self-in_err-notes c =
     let i = c.self.inside in
     let old : Parts = record { broker = i.broker; guarantees = i.guarantees.items; users = i.users.items; given = i.given; connections = i.connections.items } in
-    (pumped_at c.pump_connection.result (λ v. v.items) old c.pick.new.self c.pump_connection.new.broker c.in-Some.pick c.known_place-place.result c.index_mut.result.now c.pump_connection.new.connection
-    c.self.invariant c.in-Some.ensures.kept c.pump_connection.ensures.topology c.in-Some.ensures.some.0 (rw (← c.deref.ensures.value) c.known_place-place.ensures.place) (sym c.index_mut.ensures.value)
+    (pumped_at c.pump_connection.result (λ v. v.items) old c.pick.new.self c.pump_connection.new.broker c.in-Some.pick c.known_index-place.result c.index_mut.result.now c.pump_connection.new.connection
+    c.self.invariant c.in-Some.ensures.kept c.pump_connection.ensures.topology c.in-Some.ensures.some.0 (rw (← c.deref.ensures.value) c.known_index-place.ensures.place) (sym c.index_mut.ensures.value)
     c.pump_connection.ensures.rest c.pump_connection.ensures.ok c.pump_connection.ensures.broker_kept c.pump_connection.ensures.output_kept).engine
 
 pub invariant_of-self-2 : goal.invariant_of-self-2
 invariant_of-self-2 c =
     let i = c.self.inside in
     let old : Parts = record { broker = i.broker; guarantees = i.guarantees.items; users = i.users.items; given = i.given; connections = i.connections.items } in
-    (pumped_at c.pump_connection.result (λ v. v.items) old c.pick.new.self c.pump_connection.new.broker c.in-Some.pick c.known_place-place.result c.index_mut.result.now c.pump_connection.new.connection
-    c.self.invariant c.in-Some.ensures.kept c.pump_connection.ensures.topology c.in-Some.ensures.some.0 (rw (← c.deref.ensures.value) c.known_place-place.ensures.place) (sym c.index_mut.ensures.value)
+    (pumped_at c.pump_connection.result (λ v. v.items) old c.pick.new.self c.pump_connection.new.broker c.in-Some.pick c.known_index-place.result c.index_mut.result.now c.pump_connection.new.connection
+    c.self.invariant c.in-Some.ensures.kept c.pump_connection.ensures.topology c.in-Some.ensures.some.0 (rw (← c.deref.ensures.value) c.known_index-place.ensures.place) (sym c.index_mut.ensures.value)
     c.pump_connection.ensures.rest c.pump_connection.ensures.ok c.pump_connection.ensures.broker_kept c.pump_connection.ensures.output_kept).engine
 
 pub returns-in_err-notes-clause-err : goal.returns-in_err-notes-clause-err
 returns-in_err-notes-clause-err c =
     let i = c.self.inside in
     let old : Parts = record { broker = i.broker; guarantees = i.guarantees.items; users = i.users.items; given = i.given; connections = i.connections.items } in
-    let did = pumped_at {E = Unit {0}} (Err tt) (λ (v : List Note). v) old c.pick.new.self c.pump_connection.new.broker c.in-Some.pick c.known_place-place.result c.index_mut.result.now c.pump_connection.new.connection
-    c.self.invariant c.in-Some.ensures.kept c.pump_connection.ensures.topology c.in-Some.ensures.some.0 (rw (← c.deref.ensures.value) c.known_place-place.ensures.place) (sym c.index_mut.ensures.value)
+    let did = pumped_at {E = Unit {0}} (Err tt) (λ (v : List Note). v) old c.pick.new.self c.pump_connection.new.broker c.in-Some.pick c.known_index-place.result c.index_mut.result.now c.pump_connection.new.connection
+    c.self.invariant c.in-Some.ensures.kept c.pump_connection.ensures.topology c.in-Some.ensures.some.0 (rw (← c.deref.ensures.value) c.known_index-place.ensures.place) (sym c.index_mut.ensures.value)
     c.pump_connection.ensures.rest tt c.in_err-notes.ensures.broker_kept c.in_err-notes.ensures.output_kept in
-    on_err c.from_residual.result _ (subst (λ (p : Parts). Same (world_of p) (world_of (record old { broker = c.pump_connection.new.broker; connections = set i.connections.items c.known_place-place.result c.pump_connection.new.connection }))) c.self.view_is did.err)
+    on_err c.from_residual.result _ (subst (λ (p : Parts). Same (world_of p) (world_of (record old { broker = c.pump_connection.new.broker; connections = set i.connections.items c.known_index-place.result c.pump_connection.new.connection }))) c.self.view_is did.err)
 
 pub returns-in_err-notes-clause-wanted : goal.returns-in_err-notes-clause-wanted
 returns-in_err-notes-clause-wanted c =
@@ -59,19 +59,19 @@ returns-clause-ok c =
     let i = c.self.inside in
     let old : Parts = record { broker = i.broker; guarantees = i.guarantees.items; users = i.users.items; given = i.given; connections = i.connections.items } in
     let notes = c.in_ok-notes.notes.items in
-    let did = pumped_at {E = Unit {0}} (Ok notes) (λ (v : List Note). v) old c.pick.new.self c.pump_connection.new.broker c.in-Some.pick c.known_place-place.result c.index_mut.result.now c.pump_connection.new.connection
-    c.self.invariant c.in-Some.ensures.kept c.pump_connection.ensures.topology c.in-Some.ensures.some.0 (rw (← c.deref.ensures.value) c.known_place-place.ensures.place) (sym c.index_mut.ensures.value)
+    let did = pumped_at {E = Unit {0}} (Ok notes) (λ (v : List Note). v) old c.pick.new.self c.pump_connection.new.broker c.in-Some.pick c.known_index-place.result c.index_mut.result.now c.pump_connection.new.connection
+    c.self.invariant c.in-Some.ensures.kept c.pump_connection.ensures.topology c.in-Some.ensures.some.0 (rw (← c.deref.ensures.value) c.known_index-place.ensures.place) (sym c.index_mut.ensures.value)
     c.pump_connection.ensures.rest c.in_ok-notes.ensures.ok tt tt in
-    subst (λ (p : Parts). IsPump (world_of p) c.in-Some.pick.connection notes (world_of (record old { broker = c.pump_connection.new.broker; connections = set i.connections.items c.known_place-place.result c.pump_connection.new.connection }))) c.self.view_is did.ok.pump
+    subst (λ (p : Parts). IsPump (world_of p) c.in-Some.pick.connection notes (world_of (record old { broker = c.pump_connection.new.broker; connections = set i.connections.items c.known_index-place.result c.pump_connection.new.connection }))) c.self.view_is did.ok.pump
 
 pub returns-clause-in_turn : goal.returns-clause-in_turn
 returns-clause-in_turn c =
     let i = c.self.inside in
     let old : Parts = record { broker = i.broker; guarantees = i.guarantees.items; users = i.users.items; given = i.given; connections = i.connections.items } in
-    let now : Parts = record old { broker = c.pump_connection.new.broker; connections = set i.connections.items c.known_place-place.result c.pump_connection.new.connection } in
+    let now : Parts = record old { broker = c.pump_connection.new.broker; connections = set i.connections.items c.known_index-place.result c.pump_connection.new.connection } in
     let notes = c.in_ok-notes.notes.items in
-    let did = pumped_at {E = Unit {0}} (Ok notes) (λ (v : List Note). v) old c.pick.new.self c.pump_connection.new.broker c.in-Some.pick c.known_place-place.result c.index_mut.result.now c.pump_connection.new.connection
-    c.self.invariant c.in-Some.ensures.kept c.pump_connection.ensures.topology c.in-Some.ensures.some.0 (rw (← c.deref.ensures.value) c.known_place-place.ensures.place) (sym c.index_mut.ensures.value)
+    let did = pumped_at {E = Unit {0}} (Ok notes) (λ (v : List Note). v) old c.pick.new.self c.pump_connection.new.broker c.in-Some.pick c.known_index-place.result c.index_mut.result.now c.pump_connection.new.connection
+    c.self.invariant c.in-Some.ensures.kept c.pump_connection.ensures.topology c.in-Some.ensures.some.0 (rw (← c.deref.ensures.value) c.known_index-place.ensures.place) (sym c.index_mut.ensures.value)
     c.pump_connection.ensures.rest c.in_ok-notes.ensures.ok tt tt in
     subst (λ (p : Parts). ServesOne p c.in-Some.pick.connection notes now) c.self.view_is
     (serves_one old c.pick.new.self now c.in-Some.pick notes c.in-Some.ensures.kept c.in-Some.ensures.in_turn c.in-Some.ensures.turn c.in-Some.ensures.again did.ok

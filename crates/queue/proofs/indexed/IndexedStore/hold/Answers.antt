@@ -1,5 +1,6 @@
-use Rattle.queue.proofs.Names.{◌≡◌, ◌∙◌, [], sym, ap, subst, arith, rules, length, false, List, None, find, get_or, is_some, vec_len, is_ready, body_bytes, is_held_as, held_as, change_first, Entry, Line, num, BitTurned, Stretch, parts, joined, some_pass, size_of}
+use Rattle.queue.proofs.Names.{◌≡◌, ◌∙◌, [], sym, ap, subst, arith, rules, length, false, List, None, find, get_or, is_some, vec_len, is_ready, body_bytes, is_held_as, held_as, change_first, Entry, Line, num, BitTurned, Stretch, parts, joined, some_pass, size_of, last_room}
 use Rattle.queue.proofs.Filled.{bounded}
+use Rattle.queue.proofs.Room.{room_same, spare_same}
 use Rattle.queue.proofs.Joined.{FirstIn, first_within, joined_found, joined_changed, joined_none, none_changed_in}
 use Rattle.queue.proofs.Signed.{first_signed, none_signed, signed_now, parts-length}
 use Rattle.queue.proofs.Slotted.{same_places}
@@ -33,14 +34,17 @@ invariant_of-self c =
     let size : c.ready_bytes_at.result ≡ size_of body_bytes (find is_ready (get_or (parts c.self.inside.blocks.items) c.in-Some.place []))
     = c.ready_bytes_at.ensures ∙ ap (λ (bs : List Stretch). size_of body_bytes (find is_ready (get_or (parts bs) c.in-Some.place []))) c.deref.ensures.value in
     let least = ready_there (parts c.self.inside.blocks.items) c.self.inside.ready_count c.self.inside.live c.self.inside.ready_bytes c.in-Some.place c.self.invariant.2 first in
+    let has = room_same c.self.inside.room (last_room c.self.inside.blocks.items) (last_room c.hold_at-arrival.new.blocks.items) (vec_len c.self.inside.spares) c.self.inside.live c.self.inside.live (λ some. c.hold_at-arrival.ensures.room) (omega arith) c.self.invariant.3 in
+    let count : vec_len c.self.inside.spares ≡ length c.self.inside.spares.items = search rules in
     let turned : BitTurned c.self.inside.signs c.sign.new.signs c.in-Some.place (num (some_pass is_ready (get_or (parts c.hold_at-arrival.new.blocks.items) c.in-Some.place [])))
     = subst (λ (bs : List Stretch). BitTurned c.self.inside.signs c.sign.new.signs c.in-Some.place (num (some_pass is_ready (get_or (parts bs) c.in-Some.place [])))) c.deref-in-Some.ensures.value c.sign.ensures in (
       signed_now (parts c.self.inside.blocks.items) _ _ c.self.inside.signs c.sign.new.signs c.in-Some.place (first_within is_ready (parts c.self.inside.blocks.items) c.in-Some.place first.there) c.self.invariant.0 c.hold_at-arrival.ensures.parts turned,
       same_places _ _ _ _ _ _ c.self.invariant.1 c.hold_at-arrival.ensures.len c.hold_at-arrival.ensures.capacity c.sign.ensures.places,
       hold_there (parts c.self.inside.blocks.items) (parts c.hold_at-arrival.new.blocks.items) _ _ _ _ _ c.ready_bytes_at.result c.in-Some.place c.args.holder c.self.invariant.2 first
           (subst (λ (l : Line). find (is_held_as c.args.holder) l.entries ≡ None) (sym c.self.view_is) c.requires) c.hold_at-arrival.ensures.parts size (omega (arith, least.0)) (let b = least.1.1 in omega (arith, size, b)),
-      record { there = (let t = c.self.invariant.3.there in let r = c.hold_at-arrival.ensures.room in omega (arith, t, r)); few = (let f = c.self.invariant.3.few in omega (arith, f)) },
-      bounded c.self.inside.most c.hold_at-arrival.new.blocks.items c.self.invariant.4.usual (c.hold_at-arrival.ensures.filled c.self.inside.most c.self.invariant.4.filled),
+      has,
+      bounded c.self.inside.room c.self.inside.live _ c.hold_at-arrival.new.blocks.items _ count (c.hold_at-arrival.ensures.filled 1024 c.self.invariant.4.filled) (λ z. c.hold_at-arrival.ensures.short (c.self.invariant.4.short z)) c.self.invariant.5.whole has,
+      spare_same c.self.inside.spares.items (vec_len c.self.inside.spares) (vec_len c.self.inside.blocks) (vec_len c.hold_at-arrival.new.blocks) c.self.inside.signs.places c.sign.new.signs.places (let n = c.hold_at-arrival.ensures.len in omega (arith, n)) c.sign.ensures.places c.self.invariant.5,
     )
 
 pub returns-in-None-clause-told : goal.returns-in-None-clause-told

@@ -1,5 +1,6 @@
-use Rattle.queue.proofs.Names.{◌≡◌, ◌∙◌, [], sym, ap, refl, subst, arith, rules, length, List, true, false, find, is_some, get_or, vec_len, is_ready, body_bytes, is_under, is_held_as, Entry, Line, requeued, num, BitTurned, Stretch, parts, joined, some_pass, size_of}
+use Rattle.queue.proofs.Names.{◌≡◌, ◌∙◌, [], sym, ap, refl, subst, arith, rules, length, List, true, false, find, is_some, get_or, vec_len, is_ready, body_bytes, is_under, is_held_as, Entry, Line, requeued, num, BitTurned, Stretch, parts, joined, some_pass, size_of, last_room}
 use Rattle.queue.proofs.Filled.{bounded}
+use Rattle.queue.proofs.Room.{room_same, spare_same}
 use Rattle.queue.proofs.Joined.{first_within, joined_found}
 use Rattle.queue.proofs.Signed.{signed_now, parts-length}
 use Rattle.queue.proofs.Slotted.{same_places}
@@ -44,13 +45,16 @@ invariant_of-self c =
     let t = subst (λ (bs : List Stretch). some_pass (is_held_as c.args.holder.now) (get_or (parts bs) c.in-Some.field-0.block []) ≡ true) c.deref.ensures.value c.in-Some.ensures.some in
     let size : c.held_bytes_at.result ≡ size_of body_bytes (find (is_held_as c.args.holder.now) (get_or (parts c.self.inside.blocks.items) c.in-Some.field-0.block []))
     = c.held_bytes_at.ensures ∙ ap (λ (bs : List Stretch). size_of body_bytes (find (is_held_as c.args.holder.now) (get_or (parts bs) c.in-Some.field-0.block []))) c.deref-in-Some.ensures.value in
+    let has = room_same c.self.inside.room (last_room c.self.inside.blocks.items) (last_room c.free_at.new.blocks.items) (vec_len c.self.inside.spares) c.self.inside.live c.self.inside.live (λ some. c.free_at.ensures.room) (omega arith) c.self.invariant.3 in
+    let count : vec_len c.self.inside.spares ≡ length c.self.inside.spares.items = search rules in
     let turned : BitTurned c.self.inside.signs c.sign.new.signs c.in-Some.field-0.block (num (some_pass is_ready (get_or (parts c.free_at.new.blocks.items) c.in-Some.field-0.block [])))
     = subst (λ (bs : List Stretch). BitTurned c.self.inside.signs c.sign.new.signs c.in-Some.field-0.block (num (some_pass is_ready (get_or (parts bs) c.in-Some.field-0.block [])))) c.deref-in-Some-2.ensures.value c.sign.ensures in (
       signed_now (parts c.self.inside.blocks.items) _ _ c.self.inside.signs c.sign.new.signs c.in-Some.field-0.block (first_within (is_held_as c.args.holder.now) (parts c.self.inside.blocks.items) c.in-Some.field-0.block t) c.self.invariant.0 c.free_at.ensures.parts turned,
       same_places _ _ _ _ _ _ c.self.invariant.1 c.free_at.ensures.len c.free_at.ensures.capacity c.sign.ensures.places,
       release_there (parts c.self.inside.blocks.items) (parts c.free_at.new.blocks.items) _ _ _ _ _ c.held_bytes_at.result c.in-Some.field-0.block c.args.holder.now c.self.invariant.2 t c.free_at.ensures.parts size refl refl,
-      record { there = (let t = c.self.invariant.3.there in let r = c.free_at.ensures.room in omega (arith, t, r)); few = (let f = c.self.invariant.3.few in omega (arith, f)) },
-      bounded c.self.inside.most c.free_at.new.blocks.items c.self.invariant.4.usual (c.free_at.ensures.filled c.self.inside.most c.self.invariant.4.filled),
+      has,
+      bounded c.self.inside.room c.self.inside.live _ c.free_at.new.blocks.items _ count (c.free_at.ensures.filled 1024 c.self.invariant.4.filled) (λ z. c.free_at.ensures.short (c.self.invariant.4.short z)) c.self.invariant.5.whole has,
+      spare_same c.self.inside.spares.items (vec_len c.self.inside.spares) (vec_len c.self.inside.blocks) (vec_len c.free_at.new.blocks) c.self.inside.signs.places c.sign.new.signs.places (let n = c.free_at.ensures.len in omega (arith, n)) c.sign.ensures.places c.self.invariant.5,
     )
 
 pub returns-in-None-clause-told : goal.returns-in-None-clause-told

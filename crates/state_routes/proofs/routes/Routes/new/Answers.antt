@@ -26,7 +26,7 @@ invariant_of-result c =
 pub returns : goal.returns
 returns c =
     known_as c.args.topology.now c.args.mode c.args.exchange.now c.args.queue.now c.args.letters.now c.as_slice.result.now c.as_slice-2.result.now (length c.exchanges-exchanges.result.now + 4) c.node.result c.in_ok-exits_of.field-0.items
-    c.is_well_formed.ensures
+    c.ghost_is_well_formed.ensures
     (gates_as c.args.topology.now c.args.mode c.args.queue.now c.args.letters.now _ _ _ c.patterns.ensures c.as_slice.ensures.value c.in_ok-gates.ensures)
     (c.as_slice-2.ensures.value ∙ c.in_ok-alternates.ensures ∙ ap (λ (xs : List Exchange). alternate_links c.args.topology.now.exchanges xs) c.exchanges-exchanges.ensures)
     (ap (λ (xs : List Exchange). length xs + 4) c.exchanges-exchanges.ensures)

@@ -10,22 +10,22 @@ returns-clause-roused c = λ p stands.
     let waiters = c.deref_mut.result.now in
     let count = c.len.ensures in
     let long = c.deref_mut.ensures.len in
-    subst (λ (xs : List Waiter). IsAwake (round_of xs new) p) (sym (take_at c.rouse_each.new.waiters _ c.self.inside.waiters.len (c.rouse_each.auto.waiters ∙ long) ∙ c.rouse_each.ensures))
+    subst (λ (xs : List Waiter). IsAwake (round_of xs new) p) (sym (take_at c.wake_all_up.new.waiters _ c.self.inside.waiters.len (c.wake_all_up.auto.waiters ∙ long) ∙ c.wake_all_up.ensures))
     (all_roused waiters old new (λ i lt. c.mark_between.ensures.marked i (omega arith) (omega (arith, lt, count, long))) p
     (subst (λ (xs : List Waiter). StandsIn (round_of xs old) p) (sym c.deref_mut.ensures.value) (subst (λ (r : Waiters). StandsIn r p) (sym c.self.view_is) stands)))
 
 pub returns-clause-same : goal.returns-clause-same
 returns-clause-same c =
-    let back = take_at c.rouse_each.new.waiters _ c.self.inside.waiters.len (c.rouse_each.auto.waiters ∙ c.deref_mut.ensures.len) in
-    let same = ap picks (back ∙ c.rouse_each.ensures) ∙ picks_awake c.deref_mut.result.now ∙ ap picks c.deref_mut.ensures.value in
+    let back = take_at c.wake_all_up.new.waiters _ c.self.inside.waiters.len (c.wake_all_up.auto.waiters ∙ c.deref_mut.ensures.len) in
+    let same = ap picks (back ∙ c.wake_all_up.ensures) ∙ picks_awake c.deref_mut.result.now ∙ ap picks c.deref_mut.ensures.value in
     ap (turned c.self.inside.next) same ∙ ap order c.self.view_is
 
 pub invariant_of-self : goal.invariant_of-self
 invariant_of-self c =
-    let back = take_at c.rouse_each.new.waiters _ c.self.inside.waiters.len (c.rouse_each.auto.waiters ∙ c.deref_mut.ensures.len) in
-    let same = ap picks (back ∙ c.rouse_each.ensures) ∙ picks_awake c.deref_mut.result.now ∙ ap picks c.deref_mut.ensures.value in
+    let back = take_at c.wake_all_up.new.waiters _ c.self.inside.waiters.len (c.wake_all_up.auto.waiters ∙ c.deref_mut.ensures.len) in
+    let same = ap picks (back ∙ c.wake_all_up.ensures) ∙ picks_awake c.deref_mut.result.now ∙ ap picks c.deref_mut.ensures.value in
     let one = ap (λ (xs : List Waiter). length xs) back in
-    let two = c.rouse_each.auto.waiters in
+    let two = c.wake_all_up.auto.waiters in
     let three = ap (λ (xs : List Waiter). length xs) c.deref_mut.ensures.value in
     let room = c.self.invariant.0 in
     let marks = c.mark_between.ensures.len in

@@ -1,5 +1,0 @@
-use Rattle.channels.proofs.ConnectionsMoving.{unseen}
-use Rattle.channels.proofs.connections.moves_are_unseen.Goals as goal
-
-pub returns : goal.returns
-returns c = unseen

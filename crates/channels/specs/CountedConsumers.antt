@@ -1,0 +1,98 @@
+-- The consumers of a channel, each with the number of its unacknowledged messages (own).
+use Rattle.std.specs.Prelude.{◌≡◌, ◌<◌, ◌+◌, ◌-◌, ℕ, List, [], ◌∷◌, map, count_by, length, slice_index_or}
+use Rattle.std.specs.Prelude.{Bool, false, ◌==◌, ◌&&◌, ◌||◌, if◌then◌else◌, Option, Some, None}
+use Rattle.std.specs.List.{AllByRecursion}
+use Rattle.std.specs.Str.{bytes_eq}
+use Rattle.model.specs.Words.{Text}
+use Rattle.model.specs.Prefetch.{is_to, is_below, count_to, count_given}
+use Rattle.model.specs.declared.messages.Taker.{Taker}
+use Rattle.model.specs.declared.messages.Taker.TheVariants.{Get, Consumer as To_consumer}
+use Rattle.channels.specs.Outstanding.{taker_of}
+use Rattle.model.specs.declared.deliveries.Delivery.{Delivery}
+use Rattle.channels.specs.declared.consumers.Consumer.{Consumer}
+use Rattle.channels.specs.declared.consumers.CountedConsumer.{CountedConsumer}
+
+-- the consumers; the number of each one's unacknowledged messages, and that of all together; and the spare capacity for consumers
+pub record ConsumerCounts : Type 0 where
+  pub consumers : List Consumer
+  pub held : List ℕ
+  pub given : ℕ
+  pub room : ℕ
+
+-- the consumers, without their counts
+abbrev pub consumers_of : List CountedConsumer → List Consumer
+consumers_of seats = map (λ (s : CountedConsumer). s.consumer) seats
+
+-- their counts
+abbrev pub counts_of : List CountedConsumer → List ℕ
+counts_of seats = map (λ (s : CountedConsumer). s.held) seats
+
+-- the consumer has this number
+abbrev pub is_numbered : ℕ → CountedConsumer → Bool
+is_numbered number s = s.consumer.number == number
+
+-- the consumer has this tag
+abbrev pub is_named : Text → Consumer → Bool
+is_named name c = bytes_eq c.tag name
+
+-- the consumer takes from the queue at this index
+abbrev pub takes_from : ℕ → Consumer → Bool
+takes_from queue c = c.queue == queue
+
+-- the counted consumer has this tag
+abbrev pub has_name : Text → CountedConsumer → Bool
+has_name name s = is_named name s.consumer
+
+-- the consumer's count after one more delivery to the taker `by`
+abbrev pub counted_in : Taker → CountedConsumer → CountedConsumer
+counted_in by s = if is_to s.consumer.number by then record s { held = s.held + 1 } else s
+
+-- the consumer's count after the deliveries `gone` were settled
+abbrev pub counted_out : List Delivery → CountedConsumer → CountedConsumer
+counted_out gone s = record s { held = s.held - count_to taker_of s.consumer.number gone }
+
+-- the consumer's count after one delivery to the taker `by` was settled
+abbrev pub uncounted : Taker → CountedConsumer → CountedConsumer
+uncounted by s = if is_to s.consumer.number by then record s { held = s.held - 1 } else s
+
+-- the consumer exists, and neither its own prefetch nor `limit`, the channel's, is used up
+abbrev pub may_held : ℕ → ℕ → Option CountedConsumer → Bool
+may_held limit given None = false
+may_held limit given (Some s) = s.consumer.no_ack || (is_below s.consumer.limit s.held && is_below limit given)
+
+-- the consumer, if it exists and `may_held` says that it may be given one more message
+abbrev pub taker_held : ℕ → ℕ → Option CountedConsumer → Option Consumer
+taker_held limit given None = None
+taker_held limit given (Some s) = if may_held limit given (Some s) then Some s.consumer else None
+
+-- The counts are those of the unacknowledged deliveries.
+pub record CountsAgree (s : ConsumerCounts) (outstanding : List Delivery) : Type 0 where
+  pub each : s.held ≡ map (λ (c : Consumer). count_to taker_of c.number outstanding) s.consumers
+  pub all : s.given ≡ count_given taker_of outstanding
+
+-- their numbers ascend, and each is below the next one
+abbrev pub AreNumbered : ℕ → List Consumer → Type 0
+AreNumbered next [] = Unit {0}
+AreNumbered next (c ∷ cs) = (c.number < next) × (AllByRecursion (λ (d : Consumer). c.number < d.number) cs × AreNumbered next cs)
+
+-- their numbers ascend
+abbrev pub NumbersRise : List Consumer → Type 0
+NumbersRise cs = (next : ℕ) × AreNumbered next cs
+
+-- The consumer at this index has this number.
+pub record IsConsumerAt (seats : List CountedConsumer) (number place : ℕ) : Type 0 where
+  pub within : place < length seats
+  pub numbered : (d : CountedConsumer) → (slice_index_or seats place d).consumer.number ≡ number
+
+-- the number of the consumer to which something was given; 0 for a get (own)
+abbrev pub number_given : Taker → ℕ
+number_given Get = 0
+number_given (To_consumer number) = number
+
+-- none of these was given to a consumer with a number above `most`
+abbrev pub NoneAbove : ℕ → List Delivery → Type 0
+NoneAbove most given = (number : ℕ) → most < number → count_to taker_of number given ≡ 0
+
+-- the unacknowledged deliveries are those that are gone and those that are left: of each kind there are as many in both as there were
+abbrev pub AreParts : List Delivery → List Delivery → List Delivery → Type 0
+AreParts outstanding gone left = (p : Delivery → Bool) → count_by p outstanding ≡ count_by p gone + count_by p left

@@ -1,0 +1,179 @@
+//! The consumers of a channel, with counts of their unacknowledged messages.
+
+ghost use Rattle.std.specs.Prelude.{◌≡◌};
+
+use crate::consumers::{
+    Consumer, CountedConsumer, consumer_of, count_from, count_in, count_out, given_to_all,
+    is_in_use, may_one, one_if_consumed, remove_tagged, renumber, taker_of,
+};
+use model::{Delivery, Taker};
+use std::alloc::{AllocError, Global};
+use std::marker::Model;
+
+/// The consumers, in the order in which they were made, each with the number of its unacknowledged messages. Another count is that of all
+/// consumers together, including cancelled ones.
+#[derive(Drop)]
+pub(crate) struct CountedConsumers {
+    seats: Vec<CountedConsumer>,
+    given: usize,
+}
+
+impl Model for CountedConsumers {
+    ghost use Rattle.std.specs.Prelude.{◌-◌, vec_len, vec_capacity};
+    ghost use Rattle.channels.specs.CountedConsumers.{ConsumerCounts, consumers_of, counts_of};
+
+    ghost Value = { ConsumerCounts };
+
+    ghost view = { λ s. record {
+      consumers = consumers_of s.seats.items;
+      held = counts_of s.seats.items;
+      given = s.given;
+      room = vec_capacity s.seats - vec_len s.seats;
+    } };
+}
+
+impl CountedConsumers {
+    ghost use Rattle.std.specs.Prelude.{◌≡◌, ◌+◌, ◌-◌, ◌<◌, ◌≤◌, ◌^◌, ◌++◌, ◌∷◌, [], ℕ, List, length, find, filter, count_by, map};
+    ghost use Rattle.std.specs.Prelude.{not, ◌==◌, option_map, OnOk, OnErr};
+    ghost use Rattle.std.specs.List.{list_any, All};
+    ghost use Rattle.model.specs.Prefetch.{count_to};
+    ghost use Rattle.channels.specs.Outstanding.{taker_of};
+    ghost use Rattle.model.specs.Placed.{waiting};
+    ghost use Rattle.channels.specs.CountedConsumers.{CountsAgree, AreParts, NumbersRise, consumers_of, is_named, takes_from};
+    ghost use Rattle.channels.specs.Deliveries.{may_of, taker_among};
+    ghost use Rattle.channels.specs.Moving.{consumer_moved, outstanding_moved};
+    ghost use Rattle.channels.specs.declared.consumers.Consumer.{Consumer as One};
+    ghost use Rattle.model.specs.declared.deliveries.Delivery.{Delivery as Given};
+
+    /// Makes an empty list. Never allocates.
+    pub(crate) fn new(alloc: Global) -> CountedConsumers
+        ensures consumers { result.consumers ≡ [] }
+        ensures room { result.room ≡ 0 }
+        ensures counted { CountsAgree result [] }
+    {
+        CountedConsumers {
+            seats: Vec::new(alloc),
+            given: 0,
+        }
+    }
+
+    /// Returns all consumers with their counts.
+    pub(crate) fn all(&self) -> &[CountedConsumer]
+        ensures { consumers_of result.now ≡ self.now.consumers }
+    {
+        &self.seats
+    }
+
+    /// Returns the number of consumers.
+    pub(crate) fn len(&self) -> usize
+        ensures { result ≡ length self.now.consumers }
+    {
+        self.seats.len()
+    }
+
+    /// Returns whether some consumer has this tag.
+    pub(crate) fn has(&self, tag: &[u8]) -> bool
+        ensures { result ≡ list_any (is_named tag.now) self.now.consumers }
+    {
+        is_in_use(&self.seats, tag)
+    }
+
+    /// Returns how many take from the queue at index `queue`.
+    pub(crate) fn count_from(&self, queue: usize) -> usize
+        ensures { result ≡ count_by (takes_from queue) self.now.consumers }
+    {
+        count_from(&self.seats, queue)
+    }
+
+    /// Returns the consumer with this number.
+    pub(crate) fn numbered(&self, number: u64) -> Option<&Consumer>
+        requires { NumbersRise self.now.consumers }
+        ensures { option_map (λ k. k.now) result ≡ find (λ (c : One). c.number == number) self.now.consumers }
+    {
+        consumer_of(&self.seats, number)
+    }
+
+    /// Returns whether consumer `number` exists and neither its own prefetch nor the channel's `limit` is used up.
+    pub(crate) fn may_take(&self, number: u64, limit: u16) -> bool
+        requires { NumbersRise self.now.consumers }
+        ensures { (given : List Given) → CountsAgree self.now given
+            → result ≡ may_of limit given (find (λ (c : One). c.number == number) self.now.consumers) }
+    {
+        may_one(&self.seats, number, limit, self.given)
+    }
+
+    /// Returns consumer `number` if it exists and neither its own prefetch nor the channel's `limit` is used up.
+    pub(crate) fn taker(&self, number: u64, limit: u16) -> Option<&Consumer>
+        requires { NumbersRise self.now.consumers }
+        ensures { (given : List Given) → CountsAgree self.now given
+            → option_map (λ k. k.now) result ≡ taker_among limit given (find (λ (c : One). c.number == number) self.now.consumers) }
+    {
+        taker_of(&self.seats, number, limit, self.given)
+    }
+
+    /// Reserves capacity for one more. Nothing else changes, even if the allocation fails.
+    pub(crate) fn reserve(&mut self) -> Result<(), AllocError>
+        ensures same { self.new ≡ record self.old { room = self.new.room } }
+        ensures kept { self.old.room ≤ self.new.room }
+        ensures room { OnOk result (0 < self.new.room) }
+        ensures full { OnErr result (self.old.room ≡ 0) }
+        ensures err { OnErr result (self.new.room ≡ self.old.room) }
+    {
+        self.seats.reserve(1)
+    }
+
+    /// Appends a consumer, to which `held` messages were given already.
+    pub(crate) fn push(&mut self, consumer: Consumer, held: usize)
+        requires { 0 < self.old.room }
+        ensures consumers { self.new.consumers ≡ self.old.consumers ++ consumer ∷ [] }
+        ensures room { self.new.room + 1 ≡ self.old.room }
+        ensures counted { (given : List Given) → CountsAgree self.old given
+            → held ≡ count_to taker_of consumer.number given → CountsAgree self.new given }
+    {
+        self.seats.push_reserved(CountedConsumer { consumer, held });
+    }
+
+    /// Removes the consumers with this tag. What they were given still counts in the count of all.
+    pub(crate) fn remove_by_tag(&mut self, tag: &[u8])
+        ensures consumers { self.new.consumers ≡ filter (λ c. not (is_named tag.now c)) self.old.consumers }
+        ensures room { self.old.room ≤ self.new.room }
+        ensures counted { (given : List Given) → CountsAgree self.old given → CountsAgree self.new given }
+    {
+        remove_tagged(&mut self.seats, tag);
+    }
+
+    /// Sets each queue's index to the one that `indices` has for it. Never allocates.
+    pub(crate) fn renumber(&mut self, indices: &[usize])
+        ensures consumers { self.new.consumers ≡ map (consumer_moved indices.now) self.old.consumers }
+        ensures room { self.new.room ≡ self.old.room }
+        ensures counted { (given : List Given) → CountsAgree self.old given → CountsAgree self.new (map (outstanding_moved indices.now) given) }
+    {
+        renumber(&mut self.seats, indices);
+    }
+
+    /// Counts a message that is given out.
+    pub(crate) fn count_in(&mut self, by: &Taker)
+        // What the caller knows: no count overflows.
+        requires each { All (λ n. n < 2 ^ 64 - 1) self.old.held }
+        requires all { self.old.given < 2 ^ 64 - 1 }
+        requires rise { NumbersRise self.old.consumers }
+        // The consumers are unchanged, and the counts are right.
+        ensures consumers { self.new.consumers ≡ self.old.consumers }
+        ensures room { self.new.room ≡ self.old.room }
+        ensures counted { (given : List Given) (o : Given) → o.by ≡ by.now → CountsAgree self.old given → CountsAgree self.new (given ++ o ∷ []) }
+    {
+        count_in(&mut self.seats, by);
+        self.given += one_if_consumed(by);
+    }
+
+    /// Uncounts those of `gone` that wait, which are settled now.
+    pub(crate) fn count_out(&mut self, gone: &[Delivery])
+        requires { NumbersRise self.old.consumers }
+        ensures consumers { self.new.consumers ≡ self.old.consumers }
+        ensures room { self.new.room ≡ self.old.room }
+        ensures counted { (given left : List Given) → AreParts given (waiting gone.now) left → CountsAgree self.old given → CountsAgree self.new left }
+    {
+        count_out(&mut self.seats, gone);
+        self.given = self.given.saturating_sub(given_to_all(gone));
+    }
+}

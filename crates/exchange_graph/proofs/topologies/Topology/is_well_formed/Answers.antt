@@ -1,5 +1,0 @@
-use Rattle.exchange_graph.proofs.Good.{well_formed}
-use Rattle.exchange_graph.proofs.topologies.Topology.is_well_formed.Goals as goal
-
-pub returns : goal.returns
-returns c = well_formed _ c.is_buildable.ensures

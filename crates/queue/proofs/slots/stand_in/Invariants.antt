@@ -1,6 +1,0 @@
-use Rattle.queue.proofs.Names.{◌≡◌, ◌++◌, map, take, drop, stood_now, contents, changed}
-use Rattle.queue.proofs.slots.stand_in.Given as goal
-
--- those before the index are done
-abbrev pub invariant-loop-slot : goal.invariant-loop-slot
-invariant-loop-slot l = contents l.slots ≡ map (changed stood_now) (take l.slot-index (contents l.fn.slots)) ++ drop l.slot-index (contents l.fn.slots)

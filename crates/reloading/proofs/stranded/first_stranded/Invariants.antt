@@ -1,5 +1,0 @@
-use Rattle.reloading.proofs.Names.{queue_names, TellsNoneBelow, TellsQueue}
-use Rattle.reloading.proofs.stranded.first_stranded.Given as goal
-
-abbrev pub invariant-loop-place : goal.invariant-loop-place
-invariant-loop-place g l = TellsNoneBelow (TellsQueue l.topology (g.S.LiveQueues.entries l.live) (g.S.LiveQueues.consumed l.live)) (queue_names l.old.queues) l.place
